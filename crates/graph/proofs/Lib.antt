@@ -1,0 +1,6 @@
+pub mod Lists
+pub mod Update
+pub mod Chain
+pub mod Proper
+pub mod Paths
+pub mod Compose
