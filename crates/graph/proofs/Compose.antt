@@ -21,7 +21,7 @@ module _ (g₁ g₂ h : Graph) (f₁ f₂ : ℕ → ℕ) (w₁ : Proper g₁) (w
         dangling-fixed = ap f₂ (e₁ .images .dangling-fixed) ∙ e₂ .images .dangling-fixed;
         cells = λ c k. e₂ .images .cells (f₁ c) (e₁ .images .cells c k);
         distinct =
-          λ c d k l e. e₁ .images .distinct c d k l (e₂ .images .distinct (f₁ c) (f₁ d) (e₁ .images .cells c k) (e₁ .images .cells d l) e);
+            λ c d k l e. e₁ .images .distinct c d k l (e₂ .images .distinct (f₁ c) (f₁ d) (e₁ .images .cells c k) (e₁ .images .cells d l) e);
       }
 
   vars : Vars (g₁ .var) (h .var) f
@@ -44,7 +44,7 @@ module _ (g₁ g₂ h : Graph) (f₁ f₂ : ℕ → ℕ) (w₁ : Proper g₁) (w
   via-chain c [] p e l = rw e at (e₂ .paths .path c (l c (List·Memᴰ·head refl)))
   via-chain c (d ∷ ds) p (e, r) l =
       chain-append (h .link) (f₂ c) (between₂ c) (f₂ d) (via d ds) (f₂ p) (rw e at (e₂ .paths .path c (l c (List·Memᴰ·head refl))))
-        (via-chain d ds p r (λ x m. l x (List·Memᴰ·tail m)))
+      (via-chain d ds p r (λ x m. l x (List·Memᴰ·tail m)))
 
   -- what is on it is between for a place of the chain, or the image of a place between
   abbrev Via : ℕ → List ℕ → ℕ → Type 0
@@ -58,6 +58,7 @@ module _ (g₁ g₂ h : Graph) (f₁ f₂ : ℕ → ℕ) (w₁ : Proper g₁) (w
       down : Via d ds x → Via c (d ∷ ds) x
       down (inl (b, k, l)) = inl (b, List·Memᴰ·tail k, l)
       down (inr (b, k, l)) = inr (b, List·Memᴰ·tail k, l)
+
       go : (x ∈ between₂ c) ⊎ (x ∈ (f₂ d ∷ via d ds)) → (x ∈ via d ds → Via d ds x) → Via c (d ∷ ds) x
       go (inl a) r = inl (c, List·Memᴰ·head refl, a)
       go (inr (List·Memᴰ·head e)) r = inr (d, List·Memᴰ·head refl, e)

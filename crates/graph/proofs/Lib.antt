@@ -4,3 +4,4 @@ pub mod Chain
 pub mod Proper
 pub mod Paths
 pub mod Compose
+pub mod Extend

@@ -1,6 +1,17 @@
 -- Laws of lists of numbers.
-use mathlib.Core.List.{List, [], _∷_, _++_, List·Memᴰ·head, List·Memᴰ·tail, List·Memᴰ·not-nil, Memᴰ·cast, Memᴰ·append-left,
-  Memᴰ·append-right, List·Memᴰ·append-cases}
+use mathlib.Core.List.{
+  List,
+  [],
+  _∷_,
+  _++_,
+  List·Memᴰ·head,
+  List·Memᴰ·tail,
+  List·Memᴰ·not-nil,
+  Memᴰ·cast,
+  Memᴰ·append-left,
+  Memᴰ·append-right,
+  List·Memᴰ·append-cases,
+}
 use mathlib.Core.Logic.{_≢_, _⊎_, inl, inr}
 use mathlib.Core.Path.{_≡_, refl, sym, ap, subst}
 use Prim.Native.Nat.{ℕ, zero, suc, _+_, _≤_, _<_}
@@ -33,6 +44,7 @@ mem? x (y ∷ ys) = go (ℕ-discrete x y) (mem? x ys)
     out : x ≢ y → ¬ (x ∈ ys) → ¬ (x ∈ (y ∷ ys))
     out a b (List·Memᴰ·head e) = a e
     out a b (List·Memᴰ·tail m) = b m
+
     go : Dec (x ≡ y) → Dec (x ∈ ys) → Dec (x ∈ (y ∷ ys))
     go (yes e) d = yes (List·Memᴰ·head e)
     go (no a) (yes m) = yes (List·Memᴰ·tail m)
@@ -59,6 +71,7 @@ drop-one (x ∷ xs) y ys (a, b) =
     widen : (x ∈ xs) ⊎ (x ∈ ys) → x ∈ (xs ++ (y ∷ ys))
     widen (inl i) = Memᴰ·append-left (y ∷ ys) i
     widen (inr i) = Memᴰ·append-right xs (List·Memᴰ·tail i)
+
     out : ¬ (y ∈ (xs ++ ys)) → ¬ (y ∈ (x ∷ (xs ++ ys)))
     out o (List·Memᴰ·head i) = a (Memᴰ·append-right xs (List·Memᴰ·head (sym i)))
     out o (List·Memᴰ·tail i) = o i
@@ -71,6 +84,7 @@ pigeonhole (suc n) l d b = go (mem? (cell n) l) (pigeonhole n)
   where
     under : (x : ℕ) → x ∈ l → x ≢ cell n → (cell 0 ≤ x) × (x < cell n)
     under x i z = let (u, v) = b x i in (u, omega arith)
+
     go : Dec (cell n ∈ l) → ((k : List ℕ) → Distinct k → ((x : ℕ) → x ∈ k → (cell 0 ≤ x) × (x < cell n)) → length k ≤ n) → length l ≤ suc n
     go (no o) ih = let r = ih l d (λ x i. under x i (λ z. o (Memᴰ·cast (sym z) i))) in omega arith
     go (yes i) ih =

@@ -15,7 +15,7 @@ module _ (g h : Graph) (f : ℕ → ℕ) (w : Proper h) (cl : Closed g) (e : Emb
   pub path-linked : (x : ℕ) → x ∈ (f c ∷ e .paths .between c) → h .link x ≢ nowhere
   path-linked =
       chain-linked (h .link) (link-low h w nowhere (omega arith)) (f c) (e .paths .between c) (f (g .link c)) (e .paths .path c l)
-        (image-somewhere g h f w (e .images) (g .link c) (cl .link-place c l))
+      (image-somewhere g h f w (e .images) (g .link c) (cl .link-place c l))
 
   -- the image of a place is not between
   pub place-off-path : (p : ℕ) → IsPlace g p → ¬ (f p ∈ e .paths .between c)
@@ -23,6 +23,7 @@ module _ (g h : Graph) (f : ℕ → ℕ) (w : Proper h) (cl : Closed g) (e : Emb
     where
       low : (q : ℕ) → q < cell 0 → f p ≡ q → ⊥
       low q b z = path-linked (f p) (List·Memᴰ·tail m) (ap (h .link) z ∙ link-low h w q b)
+
       go : Dec (p ≡ null) → Dec (p ≡ dangling) → ⊥
       go (yes z) d = low null (omega arith) (ap f z ∙ e .images .null-fixed)
       go (no a) (yes z) = low dangling (omega arith) (ap f z ∙ e .images .dangling-fixed)
@@ -45,7 +46,7 @@ pub path-unique : (g h : Graph) (f : ℕ → ℕ) → Proper h → Closed g → 
     → e .paths .between c ≡ e′ .paths .between c
 path-unique g h f w cl e e′ c l =
     chain-unique (h .link) (f c) (e .paths .between c) (e′ .paths .between c) (f (g .link c)) (e .paths .path c l) (e′ .paths .path c l)
-      (place-off-path g h f w cl e c l (g .link c) (cl .link-place c l)) (place-off-path g h f w cl e′ c l (g .link c) (cl .link-place c l))
+    (place-off-path g h f w cl e c l (g .link c) (cl .link-place c l)) (place-off-path g h f w cl e′ c l (g .link c) (cl .link-place c l))
 
 -- a place is on at most one path, as its first cell or between
 pub one-path : (g h : Graph) (f : ℕ → ℕ) → Proper g → (e : Embeds g h f) (c d x : ℕ) → g .link c ≢ nowhere → g .link d ≢ nowhere
