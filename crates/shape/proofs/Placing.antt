@@ -43,6 +43,7 @@ closed-more g g′ k cl up st vs ls = record { var-place = λ v n. var v n (vs v
     var : (v : ℕ) → g′ .var v ≢ nowhere → (g′ .var v ≡ k) ⊎ ((w : ℕ) × (g′ .var v ≡ g .var w)) → IsPlace g′ (g′ .var v)
     var v n (inl e) = rw e st
     var v n (inr (w, e)) = rw e (λ a b. up (g .var w) (cl .var-place w (λ z. n (e ∙ z)) a b))
+
     link : (c : ℕ) → g′ .link c ≢ nowhere → (g′ .link c ≡ k) ⊎ ((d : ℕ) × (g′ .link c ≡ g .link d)) → IsPlace g′ (g′ .link c)
     link c n (inl e) = rw e st
     link c n (inr (d, e)) = rw e (λ a b. up (g .link d) (cl .link-place d (λ z. n (e ∙ z)) a b))
@@ -64,7 +65,7 @@ module _ (v p : ℕ) (l : List ℕ) (v≢0 : v ≢ 0) (v≤ : v ≤ length l) wh
       go (no z) = let o = var-set-other v p l u z in e u (λ q. n (o ∙ q)) ∙ ap f (sym o)
 
 module _ (h : Heap) (s : Shape) (f : ℕ → ℕ) (wh : Proper (heapGraph h)) (cl : Closed (shapeGraph s)) (e : Embeds (shapeGraph s) (heapGraph h) f)
-  (v : ℕ) (v≢0 : v ≢ 0) (v≤ : v ≤ length (s .vars)) where
+    (v : ℕ) (v≢0 : v ≢ 0) (v≤ : v ≤ length (s .vars)) where
   -- the variable stands at the image of a place of the shape: only the variable changes
   at-place : (list : List Shape) (p : ℕ) → p ≢ nowhere → IsPlace (shapeGraph s) p → h .var v ≡ f p → setVar v p s ∈ list → Placed h s v list
   at-place list p nz st hv m =
@@ -105,8 +106,8 @@ module _ (h : Heap) (s : Shape) (f : ℕ → ℕ) (wh : Proper (heapGraph h)) (c
           listed = m;
           embeds = b;
           closed =
-            closed-more (shapeGraph s) (shapeGraph (with-links l)) (fresh s) cl (λ c (i, j). (i, omega arith)) (λ _ _. (omega arith, omega arith))
-            (set-cases v (fresh s) (s .vars) v≢0 v≤) ls;
+              closed-more (shapeGraph s) (shapeGraph (with-links l)) (fresh s) cl (λ c (i, j). (i, omega arith)) (λ _ _. (omega arith, omega arith))
+              (set-cases v (fresh s) (s .vars) v≢0 v≤) ls;
           variables = vars-set-length v (fresh s) (s .vars);
           placed = λ q. let r = var-set-same v (fresh s) (s .vars) v≢0 v≤ in omega arith;
           others = var-set-other v (fresh s) (s .vars);
@@ -118,12 +119,13 @@ module _ (h : Heap) (s : Shape) (f : ℕ → ℕ) (wh : Proper (heapGraph h)) (c
     unfolding with-links
     unlinked list off m =
         grown list l len
-          (extend-unlinked (shapeGraph s) (shapeGraph (with-links l)) (heapGraph h) f (fresh s) y (shape-proper s) wh cl e not-cell (omega arith)
-            (cells l len) hy free (link-unlinked (s .links)) off v (var-set-same v (fresh s) (s .vars) v≢0 v≤) (var-set-other v (fresh s) (s .vars)) hv)
-          (λ c. inr (c, link-unlinked (s .links) c)) m
+        (extend-unlinked (shapeGraph s) (shapeGraph (with-links l)) (heapGraph h) f (fresh s) y (shape-proper s) wh cl e not-cell (omega arith)
+        (cells l len) hy free (link-unlinked (s .links)) off v (var-set-same v (fresh s) (s .vars) v≢0 v≤) (var-set-other v (fresh s) (s .vars)) hv)
+        (λ c. inr (c, link-unlinked (s .links) c)) m
       where
         l : List ℕ
         l = s .links ++ (nowhere ∷ [])
+
         len : length l ≡ suc (size s)
         len = length-snoc (s .links) nowhere
 
@@ -133,25 +135,32 @@ module _ (h : Heap) (s : Shape) (f : ℕ → ℕ) (wh : Proper (heapGraph h)) (c
     unfolding with-links
     middle list i b li mi m =
         grown list l len
-          (extend-split (shapeGraph s) (shapeGraph (with-links l)) (heapGraph h) f (fresh s) y (shape-proper s) wh cl e not-cell (omega arith)
-            (cells l len) hy free (cell i) li mi at-i at-fresh other v (var-set-same v (fresh s) (s .vars) v≢0 v≤)
-            (var-set-other v (fresh s) (s .vars)) hv)
-          (λ c. sort c (ℕ-discrete c (cell i)) (ℕ-discrete c (fresh s))) m
+        (extend-split (shapeGraph s) (shapeGraph (with-links l)) (heapGraph h) f (fresh s) y (shape-proper s) wh cl e not-cell (omega arith)
+        (cells l len) hy free (cell i) li mi at-i at-fresh other v (var-set-same v (fresh s) (s .vars) v≢0 v≤)
+        (var-set-other v (fresh s) (s .vars)) hv)
+        (λ c. sort c (ℕ-discrete c (cell i)) (ℕ-discrete c (fresh s))) m
       where
         t : List ℕ
         t = set (s .links) i (fresh s)
+
         l : List ℕ
         l = t ++ (getD (s .links) i nowhere ∷ [])
+
         lt : length t ≡ size s
         lt = length-set (s .links) i (fresh s)
+
         len : length l ≡ suc (size s)
         len = length-snoc t (getD (s .links) i nowhere) ∙ ap suc lt
+
         at-i : linkIn l (cell i) ≡ fresh s
         at-i = link-snoc t (getD (s .links) i nowhere) (cell i) (omega (arith, lt)) ∙ getD-set-same (s .links) i (fresh s) nowhere b
+
         at-fresh : linkIn l (fresh s) ≡ linkAt s (cell i)
         at-fresh = getD-at t (getD (s .links) i nowhere) [] nowhere (size s) lt
+
         other : (c : ℕ) → c ≢ cell i → c ≢ fresh s → linkIn l c ≡ linkAt s c
         other c p q = link-snoc t (getD (s .links) i nowhere) c (omega (arith, lt)) ∙ setLink-other (cell i) (fresh s) (s .links) c p
+
         sort : (c : ℕ) → Dec (c ≡ cell i) → Dec (c ≡ fresh s) → (linkIn l c ≡ fresh s) ⊎ ((d : ℕ) × (linkIn l c ≡ linkAt s d))
         sort c (yes p) q = inl (ap (linkIn l) p ∙ at-i)
         sort c (no p) (yes q) = inr (cell i, ap (linkIn l) q ∙ at-fresh)
@@ -163,31 +172,38 @@ module _ (h : Heap) (s : Shape) (f : ℕ → ℕ) (wh : Proper (heapGraph h)) (c
     where
       y : ℕ
       y = h .var v
+
       OnPath : ℕ → Type 0
       OnPath i = (linkAt s (cell i) ≢ nowhere) × (y ∈ e .paths .between (cell i))
+
       onPath? : (i : ℕ) → Dec (OnPath i)
       onPath? i = Dec·and (Dec·not (ℕ-discrete (linkAt s (cell i)) nowhere)) (mem? y (e .paths .between (cell i)))
+
       cells : List Shape
       cells = map (λ i. setVar v (cell i) s) (range 0 (size s))
+
       middles : ℕ → List Shape
       middles i = keep (not (eqb (getD (s .links) i nowhere) nowhere)) (setVar v (fresh s) (split i s))
+
       free : ((i : ℕ) → i < size s → f (cell i) ≢ y) → (d : ℕ) → shapeGraph s .Cell d → f d ≢ y
       free a = by-number (size s) (λ d. f d ≢ y) a
+
       off : ((i : ℕ) → i < size s → ¬ OnPath i) → (c : ℕ) → linkAt s c ≢ nowhere → ¬ (y ∈ e .paths .between c)
       off a c l m = by-number (size s) (λ c. linkAt s c ≢ nowhere → ¬ (y ∈ e .paths .between c)) (λ i b l m. a i b (l, m)) c (shape-proper s .linked c l) l m
+
       go : Dec (y ≡ null) → ((i : ℕ) × (i < size s) × (f (cell i) ≡ y)) ⊎ ((i : ℕ) → i < size s → f (cell i) ≢ y)
           → ((i : ℕ) × (i < size s) × OnPath i) ⊎ ((i : ℕ) → i < size s → ¬ OnPath i) → Placed h s v (choices v s)
       go (yes o) a b =
           at-place (choices v s) null (omega arith) (λ p q. absurd (p refl)) (o ∙ sym (e .images .null-fixed)) (Memᴰ·append-right cells (List·Memᴰ·head refl))
       go (no o) (inl (i, b, q)) c =
           at-place (choices v s) (cell i) (omega arith) (λ p q. (omega arith, omega arith)) (sym q)
-            (Memᴰ·append-left _ (Memᴰ·map (λ (i : ℕ). setVar v (cell i) s) (mem-below (size s) i b)))
+          (Memᴰ·append-left _ (Memᴰ·map (λ (i : ℕ). setVar v (cell i) s) (mem-below (size s) i b)))
       go (no o) (inr a) (inl (i, b, (l, m))) =
           middle y refl (st o) (free a) (choices v s) i b l m
-            (Memᴰ·append-right cells (List·Memᴰ·tail (List·Memᴰ·tail
-              (mem-concatMap middles (setVar v (fresh s) (split i s)) (mem-below (size s) i b)
-                (mem-keep (not (eqb (getD (s .links) i nowhere) nowhere)) (setVar v (fresh s) (split i s))
-                  (r-not (r-eq (getD (s .links) i nowhere) nowhere) .tests l))))))
+          (Memᴰ·append-right cells (List·Memᴰ·tail (List·Memᴰ·tail
+          (mem-concatMap middles (setVar v (fresh s) (split i s)) (mem-below (size s) i b)
+          (mem-keep (not (eqb (getD (s .links) i nowhere) nowhere)) (setVar v (fresh s) (split i s))
+          (r-not (r-eq (getD (s .links) i nowhere) nowhere) .tests l))))))
       go (no o) (inr a) (inr b) =
           unlinked y refl (st o) (free a) (choices v s) (off b) (Memᴰ·append-right cells (List·Memᴰ·tail (List·Memᴰ·head refl)))
 
@@ -198,6 +214,7 @@ placing h s f wh cl e v v≤ st = go (varAt s v) refl
   where
     self : varAt s v ≢ nowhere → s ∈ place v s → Placed h s v (place v s)
     self n m = record { shape = s; map = f; listed = m; embeds = e; closed = cl; variables = refl; placed = n; others = λ u _. refl }
+
     go : (q : ℕ) → varAt s v ≡ q → Placed h s v (place v s)
     go zero z = rw z (unplaced h s f wh cl e v (λ o. let w : _≡_ {A = ℕ} 1 0 = ap (varAt s) (sym o) ∙ z in omega arith) v≤ st)
     go (suc zero) z = self (omega arith) (rw z (List·Memᴰ·head refl))

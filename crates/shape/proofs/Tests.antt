@@ -70,5 +70,5 @@ r-linkFits c p s = r-and (r-lt dangling c) (r-or (r-eq (linkAt s c) nowhere) (r-
 
 pub r-isNew : (a c : ℕ) (s : Shape)
     → Reflect (((dangling < c) × (linkAt s c ≢ nowhere → linkAt s c ≡ dangling)) × ((¬ (c ∈ s .links)) × (¬ (c ∈ setVarIn a nowhere (s .vars)))))
-        (isNew a c s)
+    (isNew a c s)
 r-isNew a c s = r-and (r-linkFits c dangling s) (r-and (r-absent c (s .links)) (r-absent c (setVarIn a nowhere (s .vars))))
