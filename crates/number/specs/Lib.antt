@@ -1,2 +1,4 @@
+pub mod Outcome
 pub mod Number
-pub mod List
+pub mod NumberList
+pub mod Range

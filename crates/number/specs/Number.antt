@@ -5,6 +5,7 @@ use mathlib.Core.List.{List, [], _∷_}
 use Prim.Native.Nat.{ℕ, _+_, _-_, _*_, _/_, _%_}
 use lib.Dec.{eqb, leb, ltb}
 use lib.ListN.{length, getD}
+use Rattle.number.specs.Outcome.{Outcome}
 use Rattle.number.specs.declared.Read.{Read}
 use Rattle.number.specs.declared.Read.the-variants.{Number, Unreadable}
 
@@ -33,12 +34,7 @@ numberIn at left a b c =
 abbrev pub numberAt : List ℕ → ℕ → Read
 numberAt s at = numberIn at (length s - at) (getD s at 0) (getD s (at + 1) 0) (getD s (at + 2) 0)
 
--- what a read says in document 01's numbers: 0, the number and the next place; or refusal 3 and its place
-pub record Outcome : Type 0 where
-  pub code : ℕ
-  pub first : ℕ
-  pub second : ℕ
-
+-- 0 with the number and the next place, or refusal 3 with its place
 abbrev pub readOutcome : Read → Outcome
-readOutcome (Number n next) = record { code = 0; first = n; second = next }
-readOutcome (Unreadable at) = record { code = 3; first = at; second = 0 }
+readOutcome (Number n next) = record { code = 0; values = n ∷ next ∷ [] }
+readOutcome (Unreadable at) = record { code = 3; values = at ∷ 0 ∷ [] }

@@ -1,0 +1,56 @@
+use Prim.Native.Nat.{_-_}
+use native.Mathlib.Omega.{arith}
+use lib.ListN.{length}
+use Rattle.number.proofs.Writing.{length-left, small, Filling, fill-none, fill-more, fill-all}
+use borrow.Author.Needs.{needs}
+use Rattle.number.proofs.fill.Statement.{statement}
+use Rattle.number.proofs.fill.Tie as tie
+
+abbrev Inv-loop : tie.InvT-loop
+Inv-loop numbers bytes₀ at₀ i₀ bytes at i = Filling numbers bytes₀ bytes at i
+
+abbrev μ-loop : tie.MeasureT-loop
+μ-loop numbers bytes₀ at₀ i₀ bytes at i = length numbers - i
+
+loop-holds : tie.Need-loop-holds Inv-loop μ-loop
+loop-holds c = fill-none _ _
+
+mul-put-number : tie.Need-mul-put-number Inv-loop μ-loop
+mul-put-number c = search needs
+
+shared-slice-read-put-number : tie.Need-shared-slice-read-put-number Inv-loop μ-loop
+shared-slice-read-put-number c = search needs
+
+put-number-requires : tie.Need-put-number-requires Inv-loop μ-loop
+put-number-requires c κs = let ns = c .before .before .before .before .before .before .args .numbers .now in let i = c .before .before .before .loop .i in (omega (arith, length-left ns i (omega arith)), small ns i (c .before .before .before .before .before .before .pre .0) (omega arith))
+
+add-i : tie.Need-add-i Inv-loop μ-loop
+add-i c = search needs
+
+loop-less : tie.Need-loop-less Inv-loop μ-loop
+loop-less c = search needs
+
+loop-again : tie.Need-loop-again Inv-loop μ-loop
+loop-again c = rw (c .before .before .put-number .ensures .0) (fill-more _ _ _ _ _ (c .before .before .before .before .before .before .loop .inv) _ (omega arith) (c .before .before .before .before .before .before .before .before .before .pre .1) (c .before .before .put-number .ensures .1))
+
+same-length : tie.Need-same-length Inv-loop μ-loop
+same-length c = c .before .loop .inv .same
+
+returns : tie.Need-returns Inv-loop μ-loop
+returns c = fill-all _ _ _ _ _ (c .before .loop .inv) (omega arith)
+
+pub fill-spec : {M : Type 1} → statement M
+fill-spec =
+    tie.close
+    (tie.spec
+    Inv-loop
+    μ-loop
+    loop-holds
+    mul-put-number
+    shared-slice-read-put-number
+    put-number-requires
+    add-i
+    loop-less
+    loop-again
+    same-length
+    returns)
