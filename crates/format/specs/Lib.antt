@@ -1,0 +1,4 @@
+pub mod Parser
+pub mod Job
+pub mod Certificate
+pub mod Verdict
