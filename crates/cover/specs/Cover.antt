@@ -1,17 +1,18 @@
 -- Covers: which are owed, and when one holds.
 use mathlib.Core.Bool.{Bool, _&&_, cond}
-use mathlib.Core.List.{List, [], _++_, map}
+use mathlib.Core.List.{List, [], _∷_, _++_, map}
 use mathlib.Core.Option.{some}
 use mathlib.Core.Path.{_≡_}
 use Prim.Native.Nat.{ℕ}
 use lib.Dec.{eqb}
 use lib.ListN.{getElem?}
-use Rattle.lists.specs.List.{concatMap, _∈_}
+use Rattle.lists.specs.List.{concatMap, _∈_, absent}
 use Rattle.heap.specs.Heap.{empty}
 use Rattle.heap.specs.Operation.{Op, operation}
+use Rattle.heap.specs.Place.{null}
 use Rattle.graph.specs.Graph.{Embeds}
 use Rattle.shape.specs.Predecessors.{predecessors}
-use Rattle.shape.specs.Shape.{shapeGraph, Satisfies, InRange}
+use Rattle.shape.specs.Shape.{Shape, size, shapeGraph, Satisfies, InRange}
 use Rattle.run.specs.Run.{Transition, Located, Job}
 use Rattle.cover.specs.Test.{imageMap, embeds?}
 
@@ -42,6 +43,10 @@ pub record Holds (ms : List Located) (c : Cover) (o : Located) : Type 0 where
 -- the same, of a member, as a computation
 abbrev pub holds? : Located → List ℕ → Located → Bool
 holds? m images o = eqb (m .state) (o .state) && embeds? (m .shape) (o .shape) images
+
+-- refusal 8's test: the shape "is satisfied by the empty heap: it has no cells and no variable at #"
+abbrev pub byEmpty : Shape → Bool
+byEmpty s = eqb (size s) 0 && absent null (s .vars)
 
 -- the covers hold, one for each that is owed, in the same order
 abbrev pub AllHold : List Located → List Cover → List Located → Type 0
