@@ -1,1 +1,3 @@
+pub mod List
+pub mod Reflect
 pub mod Test

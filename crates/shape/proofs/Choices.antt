@@ -1,17 +1,19 @@
 -- The results of placing a variable by the number of the choice, which is the form that a loop over choices has.
 use mathlib.Core.Bool.{not, cond}
-use mathlib.Core.List.{List, [], _∷_, _++_, map, append-assoc}
+use mathlib.Core.List.{List, [], _∷_, _++_}
 use mathlib.Core.Logic.{_≢_}
-use mathlib.Core.Path.{_≡_, refl, sym, ap, ap₂, _∙_}
-use Prim.Native.Nat.{ℕ, zero, suc, _+_, _-_, _≤_, _<_}
-use native.Mathlib.Nat.{add-zero, zero-add, suc-add, add-suc}
+use mathlib.Core.Path.{_≡_, refl, ap, ap₂, _∙_}
+use Prim.Native.Nat.{ℕ, suc, _+_, _-_, _≤_, _<_}
+use native.Mathlib.Nat.{zero-add}
 use native.Mathlib.Omega.{arith}
 use lib.Dec.{T, eqb, ltb}
 use lib.ListN.{getD}
+use Rattle.lists.specs.List.{range, concatMap, keep}
+use Rattle.lists.proofs.List.{range-append, concatMap-append, concatMap-range, concatMap-single}
+use Rattle.lists.proofs.Reflect.{r-eq, r-lt, cond-true, cond-false}
 use Rattle.heap.specs.Place.{nowhere, null, cell}
-use Rattle.shape.specs.Placing.{range, concatMap, keep, setVar, fresh, grow, split, choices}
+use Rattle.shape.specs.Placing.{setVar, fresh, grow, split, choices}
 use Rattle.shape.specs.Shape.{Shape, size}
-use Rattle.shape.proofs.Tests.{r-eq, r-lt, cond-true, cond-false}
 
 -- choice k: at cell k; then at #; then at a fresh cell; then at a fresh cell in the middle of the link of a cell, if that has a place
 abbrev pub choice : ℕ → Shape → ℕ → List Shape
@@ -22,29 +24,6 @@ choice v s k =
     (cond (eqb k n) (setVar v null s ∷ [])
     (cond (eqb k (suc n)) (setVar v (fresh s) (grow s) ∷ [])
     (keep (not (eqb (getD (s .links) i nowhere) nowhere)) (setVar v (fresh s) (split i s)))))
-
-range-append : (k a b : ℕ) → range k (a + b) ≡ range k a ++ range (k + a) b
-range-append k zero b = ap₂ range (sym (add-zero k)) (zero-add b)
-range-append k (suc a) b =
-    ap (range k) (suc-add a b)
-    ∙ ap (λ (l : List ℕ). k ∷ l) (range-append (suc k) a b ∙ ap (λ (m : ℕ). range (suc k) a ++ range m b) (suc-add k a ∙ sym (add-suc k a)))
-
-pub concatMap-append : {A B : Type 0} (f : A → List B) (l m : List A) → concatMap f (l ++ m) ≡ concatMap f l ++ concatMap f m
-concatMap-append f [] m = refl
-concatMap-append f (x ∷ xs) m = ap (λ l. f x ++ l) (concatMap-append f xs m) ∙ sym (append-assoc (f x) (concatMap f xs) (concatMap f m))
-
--- two functions that agree on a stretch, each counted from its start
-concatMap-range : {B : Type 0} (f g : ℕ → List B) (k j n : ℕ) → ((i : ℕ) → i < n → f (k + i) ≡ g (j + i))
-    → concatMap f (range k n) ≡ concatMap g (range j n)
-concatMap-range f g k j zero h = refl
-concatMap-range f g k j (suc n) h =
-    ap₂ (λ x y. x ++ y) (ap f (sym (add-zero k)) ∙ h 0 (omega arith) ∙ ap g (add-zero j))
-    (concatMap-range f g (suc k) (suc j) n
-    (λ i b. ap f (suc-add k i ∙ sym (add-suc k i)) ∙ h (suc i) (omega arith) ∙ ap g (add-suc j i ∙ sym (suc-add j i))))
-
-concatMap-single : {B : Type 0} (f : ℕ → B) (l : List ℕ) → concatMap (λ i. f i ∷ []) l ≡ map f l
-concatMap-single f [] = refl
-concatMap-single f (x ∷ xs) = ap (λ l. f x ∷ l) (concatMap-single f xs)
 
 -- the choices 0 .. n + 2 + n - 1 are document 01's results in its order
 pub choices-by-number : (v : ℕ) (s : Shape) → concatMap (choice v s) (range 0 (size s + (2 + size s))) ≡ choices v s

@@ -4,43 +4,24 @@ use mathlib.Core.List.{List, [], _∷_, _++_, map}
 use mathlib.Core.List.{List·Memᴰ·head, List·Memᴰ·tail, List·Memᴰ·not-nil, List·Memᴰ·cases-cons, List·Memᴰ·append-cases, List·Memᴰ·eq-of-singleton, Memᴰ·of-map}
 use mathlib.Core.Logic.{_≢_, _⊎_, inl, inr}
 use mathlib.Core.Path.{_≡_, refl, sym, ap, _∙_, subst}
-use Prim.Native.Nat.{ℕ, zero, suc, min, _≤_, _<_}
+use Prim.Native.Nat.{ℕ, zero, suc, _≤_, _<_}
 use native.Mathlib.Omega.{arith}
 use lib.Dec.{T, eqb}
 use lib.ListN.{length, getD, set, take, length-set, length-map, length-take}
+use Rattle.lists.specs.List.{_∈_, range, concatMap, keep}
+use Rattle.lists.proofs.List.{range-mem, concatMap-mem, keep-mem}
+use Rattle.lists.proofs.Reflect.{r-eq, cond-cases}
 use Rattle.heap.specs.Operation.{Op, equal, different, assign, load, store, new, delete}
 use Rattle.heap.specs.Place.{nowhere, null, dangling, cell}
-use Rattle.graph.specs.Graph.{_∈_}
 use Rattle.graph.proofs.Proper.{IsPlace, Closed}
-use Rattle.shape.specs.Placing.{range, concatMap, keep, setVarIn, setVar, fresh, grow, split, choices, placedFrom, place, placeBoth}
-use Rattle.shape.specs.Predecessors.{
-  setLinkIn,
-  setLink,
-  removeAt,
-  removeLink,
-  lower,
-  removeCell,
-  forget,
-  forgetDangling,
-  addHelper,
-  dropHelper,
-  together,
-  linkFits,
-  isNew,
-  retain,
-  beforeLoad,
-  predecessors,
-}
-use Rattle.shape.specs.Shape.{Shape, varIn, linkIn, varAt, linkAt, size, shapeGraph}
+use Rattle.shape.specs.Placing.{setVarIn, setVar, fresh, grow, split, placedFrom, place, placeBoth}
+use Rattle.shape.specs.Predecessors.{setLinkIn, setLink, removeAt, removeLink, lower, removeCell, forget, forgetDangling, addHelper, dropHelper, together, linkFits, isNew, retain, beforeLoad, predecessors}
+use Rattle.shape.specs.Shape.{AllBelow, InRange, Shape, varAt, linkAt, size, shapeGraph}
 use Rattle.shape.proofs.Laws.{CellOf, vars-set-length, links-set-length, length-snoc}
-use Rattle.shape.proofs.Lists.{range-mem, concatMap-mem, keep-mem}
 use Rattle.shape.proofs.Remove.{lower-below, links-remove-length}
-use Rattle.shape.proofs.Tests.{r-eq, r-isNew, cond-cases}
+use Rattle.shape.proofs.Tests.{r-isNew}
 
 -- ---- lists of numbers below k
-
-abbrev pub AllBelow : ℕ → List ℕ → Type 0
-AllBelow k l = (x : ℕ) → x ∈ l → x < k
 
 all-more : (k m : ℕ) (l : List ℕ) → k ≤ m → AllBelow k l → AllBelow m l
 all-more k m l b a x i = let q = a x i in omega arith
@@ -80,13 +61,6 @@ all-take k (suc n) (y ∷ ys) a = all-cons k y (take n ys) (a y (List·Memᴰ·h
 
 -- ---- shapes
 
--- n variables, at most m cells, "codes 0 to 2 + n" of document 01
-pub record InRange (n m : ℕ) (s : Shape) : Type 0 where
-  pub variables : length (s .vars) ≡ n
-  pub cells : size s ≤ m
-  pub vars : AllBelow (cell (size s)) (s .vars)
-  pub links : AllBelow (cell (size s)) (s .links)
-
 pub in-range-closed : (n m : ℕ) (s : Shape) → InRange n m s → Closed (shapeGraph s)
 in-range-closed n m s r = record { var-place = v; link-place = l }
   where
@@ -105,7 +79,7 @@ var-below n m zero s r = omega arith
 var-below n m (suc v) s r = all-at (cell (size s)) (s .vars) v (omega arith) (r .vars)
 
 more : (n m : ℕ) (s : Shape) → InRange n m s → InRange n (suc m) s
-more n m s r = record { variables = r .variables; cells = let c = r .cells in omega arith; vars = r .vars; links = r .links }
+more n m s r = record { variables-number = r .variables-number; cells = let c = r .cells in omega arith; vars = r .vars; links = r .links }
 
 -- ---- the changes of a shape
 
@@ -116,7 +90,7 @@ all-setVar k (suc v) p l b a = all-set k l v p b a
 setVar-range : (n m v p : ℕ) (s : Shape) → p < cell (size s) → InRange n m s → InRange n m (setVar v p s)
 setVar-range n m v p s b r =
     record {
-      variables = vars-set-length v p (s .vars) ∙ r .variables;
+      variables-number = vars-set-length v p (s .vars) ∙ r .variables-number;
       cells = r .cells;
       vars = all-setVar _ v p (s .vars) b (r .vars);
       links = r .links;
@@ -131,7 +105,7 @@ all-setLink k (suc (suc (suc i))) p l b a = all-set k l i p b a
 setLink-range : (n m c p : ℕ) (s : Shape) → p < cell (size s) → InRange n m s → InRange n m (setLink c p s)
 setLink-range n m c p s b r =
     let e = links-set-length c p (s .links) in
-    record { variables = r .variables; cells = rw e (r .cells); vars = rw e (r .vars); links = rw e (all-setLink _ c p (s .links) b (r .links)) }
+    record { variables-number = r .variables-number; cells = rw e (r .cells); vars = rw e (r .vars); links = rw e (all-setLink _ c p (s .links) b (r .links)) }
 
 -- a cell more, with a link p, where the links before it are l
 snoc-range : (n m p : ℕ) (l : List ℕ) (s : Shape) → length l ≡ size s → AllBelow (cell (suc (size s))) l → p < cell (suc (size s)) → InRange n m s
@@ -139,7 +113,7 @@ snoc-range : (n m p : ℕ) (l : List ℕ) (s : Shape) → length l ≡ size s �
 snoc-range n m p l s z a b r =
     let e : length (l ++ (p ∷ [])) ≡ suc (size s) = length-snoc l p ∙ ap suc z in
     record {
-      variables = r .variables;
+      variables-number = r .variables-number;
       cells = let c = r .cells in omega (arith, e);
       vars = rw e (all-more _ _ (s .vars) (omega arith) (r .vars));
       links = rw e (all-snoc _ l p a b);
@@ -172,7 +146,7 @@ removeCell-range n m c s (lo, hi) nl nv r =
     let e : suc (length (map (lower c) (removeLink c (s .links)))) ≡ size s =
     ap suc (length-map (removeLink c (s .links)) (lower c)) ∙ links-remove-length c (s .links) (lo, hi) in
     record {
-      variables = length-map (s .vars) (lower c) ∙ r .variables;
+      variables-number = length-map (s .vars) (lower c) ∙ r .variables-number;
       cells = let q = r .cells in omega arith;
       vars =
           all-map _ (lower c) (s .vars)
@@ -191,7 +165,7 @@ forget-range : (n m : ℕ) (s : Shape) → InRange n m s → InRange n m (forget
 forget-range n m s r =
     let e = length-map (s .links) forget in
     record {
-      variables = length-map (s .vars) forget ∙ r .variables;
+      variables-number = length-map (s .vars) forget ∙ r .variables-number;
       cells = rw e (r .cells);
       vars = rw e (all-map _ forget (s .vars) (λ x i. forget-below _ x (r .vars x i)));
       links = rw e (all-map _ forget (s .links) (λ x i. forget-below _ x (r .links x i)));
@@ -200,7 +174,7 @@ forget-range n m s r =
 addHelper-range : (n m : ℕ) (s : Shape) → InRange n m s → InRange (suc n) m (addHelper s)
 addHelper-range n m s r =
     record {
-      variables = length-snoc (s .vars) nowhere ∙ ap suc (r .variables);
+      variables-number = length-snoc (s .vars) nowhere ∙ ap suc (r .variables-number);
       cells = r .cells;
       vars = all-snoc _ (s .vars) nowhere (r .vars) (omega arith);
       links = r .links;
@@ -210,7 +184,7 @@ dropHelper-range : (n m a : ℕ) (s : Shape) → InRange (suc n) m s → InRange
 dropHelper-range n m a s r =
     let v = setVarIn a (varAt s (suc n)) (s .vars) in
     record {
-      variables = length-take n v ∙ (let p = r .variables in omega (arith, vars-set-length a (varAt s (suc n)) (s .vars)));
+      variables-number = length-take n v ∙ (let p = r .variables-number in omega (arith, vars-set-length a (varAt s (suc n)) (s .vars)));
       cells = r .cells;
       vars = all-take _ n v (all-setVar _ a (varAt s (suc n)) (s .vars) (var-below (suc n) m (suc n) s r) (r .vars));
       links = r .links;
@@ -297,7 +271,7 @@ predecessors-range n m (load a b) s r =
     one p i =
         let (t, j, e) = Memᴰ·of-map (dropHelper a N) (beforeLoad a (suc N) (addHelper s)) i in
         let q = beforeLoad-range (suc n) m a (suc N) (addHelper s) (addHelper-range n m s r) t j in
-        subst (InRange n (suc (suc m))) (ap (λ (k : ℕ). dropHelper a k t) (sym (r .variables)) ∙ e) (dropHelper-range n _ a t q)
+        subst (InRange n (suc (suc m))) (ap (λ (k : ℕ). dropHelper a k t) (sym (r .variables-number)) ∙ e) (dropHelper-range n _ a t q)
 predecessors-range n m (store a b) s r =
     retain-range n _ _ (λ t. linkFits (varAt t a) (varAt t b) t) (λ t. setLink (varAt t a) nowhere t) (placeBoth a b s) (placeBoth-range n m a b s r)
     (λ t _ k. setLink-range n _ (varAt t a) nowhere t (omega arith) k)

@@ -1,17 +1,18 @@
 -- Where variables and links of a shape stand after each of the changes of specs/.
 use mathlib.Core.List.{List, [], _∷_, _++_, map}
-use mathlib.Core.Logic.{_≢_, _⊎_, inl, inr}
+use mathlib.Core.Logic.{_≢_}
 use mathlib.Core.Path.{_≡_, refl, sym, ap, _∙_}
-use Prim.Native.Nat.{ℕ, zero, suc, _+_, _≤_, _<_}
+use Prim.Native.Nat.{ℕ, zero, suc, _≤_, _<_}
 use native.Mathlib.Decide.{ℕ-discrete, decLt}
 use native.Mathlib.Omega.{arith}
 use lib.ListN.{length, getD, set, take, length-set, length-append, length-take, List·getD-append, List·getD-eq-default}
 use lib.Seq.{getD-set-same, getD-set-other, getD-at, getD-take}
+use Rattle.heap.specs.Codes.{varIn, linkIn}
 use Rattle.heap.specs.Place.{nowhere, null, cell}
 use Rattle.graph.proofs.Proper.{Proper}
 use Rattle.shape.specs.Placing.{setVarIn}
 use Rattle.shape.specs.Predecessors.{setLinkIn}
-use Rattle.shape.specs.Shape.{Shape, varIn, linkIn, shapeGraph}
+use Rattle.shape.specs.Shape.{Shape, shapeGraph}
 
 -- p is a cell of a shape with n cells
 abbrev pub CellOf : ℕ → ℕ → Type 0

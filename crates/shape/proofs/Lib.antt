@@ -1,5 +1,4 @@
 pub mod Tests
-pub mod Lists
 pub mod Laws
 pub mod Placing
 pub mod Choices

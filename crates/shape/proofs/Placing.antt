@@ -1,8 +1,7 @@
 -- The placing fact, for shapes of any size: where a heap satisfies a shape and a variable stands at a cell or at #, the heap satisfies one of
 -- the results of placing the variable.
-use mathlib.Core.List.{List, [], _∷_, _++_, map}
-use mathlib.Core.List.{List·Memᴰ·head, List·Memᴰ·tail, Memᴰ·append-left, Memᴰ·append-right, Memᴰ·map}
 use mathlib.Core.Bool.{not}
+use mathlib.Core.List.{List, [], _∷_, _++_, map, List·Memᴰ·head, List·Memᴰ·tail, Memᴰ·append-left, Memᴰ·append-right, Memᴰ·map}
 use mathlib.Core.Logic.{_≢_, _⊎_, inl, inr, Dec·and, Dec·not}
 use mathlib.Core.Path.{_≡_, refl, sym, ap, _∙_}
 use Prim.Native.Nat.{ℕ, zero, suc, _≤_, _<_}
@@ -11,17 +10,18 @@ use native.Mathlib.Omega.{arith}
 use lib.Dec.{eqb}
 use lib.ListN.{length, getD, set, length-set}
 use lib.Seq.{getD-at, getD-set-same}
+use Rattle.lists.specs.List.{_∈_, range, keep}
+use Rattle.lists.proofs.List.{find, mem?, mem-below, mem-concatMap, mem-keep}
+use Rattle.lists.proofs.Reflect.{r-eq, r-not}
+use Rattle.heap.specs.Codes.{varIn, linkIn}
 use Rattle.heap.specs.Heap.{Heap, IsCell, update}
 use Rattle.heap.specs.Place.{nowhere, null, dangling, cell}
-use Rattle.graph.specs.Graph.{_∈_, Graph, Vars, Embeds}
+use Rattle.graph.specs.Graph.{Graph, Vars, Embeds}
 use Rattle.graph.proofs.Extend.{extend-unlinked, extend-split}
-use Rattle.graph.proofs.Lists.{find, mem?}
 use Rattle.graph.proofs.Proper.{Proper, IsPlace, Closed}
-use Rattle.shape.specs.Placing.{range, concatMap, keep, setVarIn, setVar, fresh, grow, split, choices, place}
-use Rattle.shape.specs.Shape.{Shape, varIn, linkIn, varAt, linkAt, size, shapeGraph, heapGraph}
-use Rattle.shape.proofs.Laws.{CellOf, by-number, shape-proper, var-set-same, var-set-other, vars-set-length, setLink-same, setLink-other, length-snoc, link-snoc, link-unlinked}
-use Rattle.shape.proofs.Lists.{mem-below, mem-concatMap, mem-keep}
-use Rattle.shape.proofs.Tests.{r-eq, r-not}
+use Rattle.shape.specs.Placing.{setVarIn, setVar, fresh, grow, split, choices, place}
+use Rattle.shape.specs.Shape.{Shape, varAt, linkAt, size, shapeGraph, heapGraph}
+use Rattle.shape.proofs.Laws.{CellOf, by-number, shape-proper, var-set-same, var-set-other, vars-set-length, setLink-other, length-snoc, link-snoc, link-unlinked}
 
 -- h satisfies a shape of the list, which is s but for v, and v has a place in it
 pub record Placed (h : Heap) (s : Shape) (v : ℕ) (list : List Shape) : Type 0 where

@@ -6,11 +6,11 @@ use Prim.Native.Nat.{ℕ, zero, suc, pred, _≤_, _<_}
 use native.Mathlib.Nat.{not-suc-le-zero}
 use native.Mathlib.Omega.{arith}
 use lib.ListN.{length, getD}
+use Rattle.lists.proofs.Reflect.{r-lt, cond-cases}
+use Rattle.heap.specs.Codes.{linkIn}
 use Rattle.heap.specs.Place.{nowhere, cell}
 use Rattle.shape.specs.Predecessors.{removeAt, removeLink, lower}
-use Rattle.shape.specs.Shape.{linkIn}
 use Rattle.shape.proofs.Laws.{CellOf, by-number}
-use Rattle.shape.proofs.Tests.{r-lt, cond-cases}
 
 -- the number, or the place, that d had before c was taken out
 unfoldable pub raise : ℕ → ℕ → ℕ

@@ -1,31 +1,14 @@
 -- Placing a variable. Document 01: "if it has a place other than *, the one result is the shape itself; at *, none; null is always at #.
 -- Otherwise the results are, in this order: at each cell, lowest first; at #; at a fresh cell without a link; at a fresh cell put into the
 -- middle of each link that has a place, by the link's source cell. A fresh cell takes the next number."
-use mathlib.Core.Bool.{Bool, true, false, not}
+use mathlib.Core.Bool.{not}
 use mathlib.Core.List.{List, [], _∷_, _++_, map}
 use Prim.Native.Nat.{ℕ, zero, suc}
 use lib.Dec.{eqb}
 use lib.ListN.{getD, set}
+use Rattle.lists.specs.List.{range, concatMap, keep}
 use Rattle.heap.specs.Place.{nowhere, null, cell}
 use Rattle.shape.specs.Shape.{Shape, varAt, size}
-
--- ---- lists
-
--- the numbers from k on, n of them
-abbrev pub range : ℕ → ℕ → List ℕ
-range k zero = []
-range k (suc n) = k ∷ range (suc k) n
-
-abbrev pub concatMap : {A B : Type 0} → (A → List B) → List A → List B
-concatMap f [] = []
-concatMap f (x ∷ xs) = f x ++ concatMap f xs
-
--- the one element x if the test holds, else none
-abbrev pub keep : {A : Type 0} → Bool → A → List A
-keep true x = x ∷ []
-keep false x = []
-
--- ---- placing
 
 -- null keeps its place
 abbrev pub setVarIn : ℕ → ℕ → List ℕ → List ℕ

@@ -1,12 +1,13 @@
 -- The predecessors of a shape under an operation, as a list in document 01's order. "Other results are dropped."
-use mathlib.Core.Bool.{Bool, true, _&&_, _||_, not, cond}
+use mathlib.Core.Bool.{Bool, _&&_, _||_, not, cond}
 use mathlib.Core.List.{List, [], _∷_, _++_, map}
 use Prim.Native.Nat.{ℕ, zero, suc, pred}
 use lib.Dec.{eqb, ltb}
 use lib.ListN.{length, set, take}
+use Rattle.lists.specs.List.{absent, concatMap, keep}
 use Rattle.heap.specs.Operation.{Op, equal, different, assign, load, store, new, delete}
 use Rattle.heap.specs.Place.{nowhere, dangling}
-use Rattle.shape.specs.Placing.{concatMap, keep, setVarIn, setVar, fresh, grow, place, placeBoth}
+use Rattle.shape.specs.Placing.{setVarIn, setVar, fresh, grow, place, placeBoth}
 use Rattle.shape.specs.Shape.{Shape, varAt, linkAt}
 
 -- ---- changes of a shape
@@ -66,11 +67,6 @@ together a b s = eqb (varAt s a) (varAt s b)
 -- c is "a cell whose link is nowhere or equals" p
 abbrev pub linkFits : ℕ → ℕ → Shape → Bool
 linkFits c p s = ltb dangling c && (eqb (linkAt s c) nowhere || eqb (linkAt s c) p)
-
--- no place of the list is p
-abbrev pub absent : ℕ → List ℕ → Bool
-absent p [] = true
-absent p (x ∷ xs) = not (eqb x p) && absent p xs
 
 -- c is "a cell that no link and no other variable [than a] stands at and whose link is nowhere or *"
 abbrev pub isNew : ℕ → ℕ → Shape → Bool
