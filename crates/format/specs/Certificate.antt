@@ -1,14 +1,12 @@
 -- Certificates: members, then covers.
-use mathlib.Core.Bool.{Bool, _&&_, not}
+use mathlib.Core.Bool.{_&&_, not}
 use mathlib.Core.List.{List}
 use Prim.Native.Nat.{ℕ}
 use lib.Dec.{eqb}
 use lib.ListN.{getElem?}
-use Rattle.heap.specs.Place.{null}
-use Rattle.shape.specs.Predecessors.{absent}
-use Rattle.shape.specs.Shape.{Shape, size}
+use Rattle.shape.specs.Shape.{size}
 use Rattle.run.specs.Run.{Located}
-use Rattle.cover.specs.Cover.{holds?}
+use Rattle.cover.specs.Cover.{holds?, byEmpty}
 use Rattle.format.specs.Parser.{Parser, _>>=_, _>>_, return, here, require, many, Buffer, readAs, ranged}
 use Rattle.format.specs.Job.{readLocated}
 
@@ -17,13 +15,9 @@ pub record Member : Type 0 where
   pub first : ℕ
   pub located : Located
 
--- "it has no cells and no variable at #"
-abbrev pub satisfiedByEmpty? : Shape → Bool
-satisfiedByEmpty? shape = eqb (size shape) 0 && absent null (shape .vars)
-
 -- "8. A member at the start state is satisfied by the empty heap [..] (the member's first byte)."
 abbrev pub testStart : ℕ → Member → Parser (Unit {0})
-testStart start m = require (not (eqb (m .located .state) start && satisfiedByEmpty? (m .located .shape))) 8 (m .first)
+testStart start m = require (not (eqb (m .located .state) start && byEmpty (m .located .shape))) 8 (m .first)
 
 module _ (s : Buffer) where
   unfoldable pub readMember : ℕ → ℕ → Parser Member

@@ -9,14 +9,20 @@ use Rattle.format.specs.Parser.{Parsed, parsed, fault, onward, Parser, _
 use Rattle.format.specs.Job.{JobFile, readJob}
 use Rattle.format.specs.Certificate.{readMembers, testStart, readCover}
 
--- "an answer carries either the three counts or a refusal with its place": bads, members and covers, or number and place
+-- "The counts are B, N and the covers in the order above."
+pub record Counts : Type 0 where
+  pub bads : ℕ
+  pub members : ℕ
+  pub covers : ℕ
+
+-- "an answer carries either the three counts or a refusal with its place"
 pub data Verdict : Type 0 where
-  accepted : ℕ → ℕ → ℕ → Verdict
+  accepted : Counts → Verdict
   refused : ℕ → ℕ → Verdict
 
 -- "6 and 7 likewise from the certificate's first number to its last member; then 8, the first such member; then cover by cover 6, 7, 9; then
--- 10." "The counts are B, N and the covers in the order above."
-unfoldable pub readCertificate : Buffer → JobFile → Parser Verdict
+-- 10."
+unfoldable pub readCertificate : Buffer → JobFile → Parser Counts
 readCertificate s f = do
   members ← readMembers s (f .job .variables) (f .states)
   let located : List Located = map (λ m. m .located) members
@@ -24,10 +30,10 @@ readCertificate s f = do
   each (testStart (f .job .start)) members
   each (readCover s located) covered
   end s
-  return (accepted (length (f .job .forbidden)) (length members) (length covered))
+  return (record { bads = length (f .job .forbidden); members = length members; covers = length covered })
 
-abbrev pub answer : Parsed Verdict → Verdict
-answer (parsed v next) = v
+abbrev pub answer : Parsed Counts → Verdict
+answer (parsed counts next) = accepted counts
 answer (fault number place) = refused number place
 
 abbrev pub fits : List ℕ → Bool

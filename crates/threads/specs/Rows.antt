@@ -35,7 +35,7 @@ abbrev pub fork : Shape
 fork = shape (0 ∷ []) (5 ∷ 5 ∷ 6 ∷ 0 ∷ [])
 
 abbrev pub Holds : Row → Type 0
-Holds P1 = verdict (J 6) (1 ∷ 1 ∷ 1 ∷ 0 ∷ 1 ∷ 0 ∷ []) ≡ accepted 1 1 1
+Holds P1 = verdict (J 6) (1 ∷ 1 ∷ 1 ∷ 0 ∷ 1 ∷ 0 ∷ []) ≡ accepted (record { bads = 1; members = 1; covers = 1 })
 Holds P2 = verdict (J 6) (1 ∷ 1 ∷ 1 ∷ 0 ∷ 2 ∷ 0 ∷ []) ≡ refused 9 5
 Holds P3 = verdict (J 3) (1 ∷ 1 ∷ 1 ∷ 0 ∷ 1 ∷ 0 ∷ []) ≡ refused 6 6
 Holds P4 = verdict (J 3) (1 ∷ 2 ∷ 1 ∷ 0 ∷ 1 ∷ 0 ∷ 0 ∷ 0 ∷ 0 ∷ []) ≡ refused 8 5
