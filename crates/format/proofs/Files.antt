@@ -1,0 +1,183 @@
+-- What the parsers of shapes, transitions, jobs and members read.
+use mathlib.Core.Bool.{Bool, true, false, _&&_, cond}
+use mathlib.Core.List.{List, [], _∷_, _++_}
+use mathlib.Core.Option.{Option, none, some}
+use mathlib.Core.Path.{_≡_, refl, sym, ap, subst, _∙_}
+use Prim.Native.Nat.{ℕ, zero, suc, _≤_, _<_}
+use native.Mathlib.Omega.{arith}
+use lib.Dec.{T}
+use lib.ListN.{length}
+use Rattle.lists.specs.List.{_∈_, concatMap}
+use Rattle.lists.proofs.Reflect.{Reflect, r-le, r-and, cond-true}
+use Rattle.heap.specs.Operation.{Op, equal, Kind, kindOf, allowsA, allowsB, fromRow, operation}
+use Rattle.heap.specs.Place.{cell}
+use Rattle.shape.specs.Shape.{Shape, size, InRange}
+use Rattle.run.specs.Run.{Transition, Located, Job}
+use Rattle.cover.specs.Cover.{Named}
+use Rattle.format.specs.Parser.{parsed, many, Buffer, such, readAs, ranged}
+use Rattle.format.specs.Job.{JobFile, readShape, readLocated, readTransition, readJob}
+use Rattle.format.specs.Numbers.{opNumbers, transitionNumbers, shapeNumbers, locatedNumbers, jobNumbers}
+use Rattle.format.specs.Conditions.{LocatedInRange, TransitionInRange, JobInRange}
+use Rattle.format.proofs.Sequence.{Reads, reads-append, reads-split}
+use Rattle.format.proofs.Parsing.{then, read-sound, read-complete, Exact, such-exact, ranged-exact, many-exact, codes-exact}
+
+-- ---- the table of kinds
+
+-- what a kind and two operands that name an operation are in the table
+pub record InTable (n kind a b : ℕ) (o : Op) : Type 0 where
+  pub row : Kind
+  pub found : kindOf kind ≡ some row
+  pub first : T (allowsA n row a)
+  pub second : T (allowsB n row b)
+  pub named : row .op a b ≡ o
+
+pub in-table : (n kind a b : ℕ) (o : Op) → operation n kind a b ≡ some o → InTable n kind a b o
+in-table n kind a b o = by-row (kindOf kind) refl
+  where
+    by-tests : (k : Kind) → kindOf kind ≡ some k → (p q : Bool) → allowsA n k a ≡ p → allowsB n k b ≡ q → cond (p && q) (some (k .op a b)) none ≡ some o
+        → InTable n kind a b o
+    by-tests k f true true p q e = record { row = k; found = f; first = rw p tt; second = rw q tt; named = cc }
+    by-tests k f true false p q e = let z : _≡_ {A = ℕ} 0 1 = cc in absurd (omega arith)
+    by-tests k f false q p r e = let z : _≡_ {A = ℕ} 0 1 = cc in absurd (omega arith)
+
+    by-row : (r : Option Kind) → kindOf kind ≡ r → fromRow n r a b ≡ some o → InTable n kind a b o
+    by-row none f e = let z : _≡_ {A = ℕ} 0 1 = cc in absurd (omega arith)
+    by-row (some k) f e = by-tests k f (allowsA n k a) (allowsB n k b) refl refl e
+
+pub table-named : (n kind a b : ℕ) (k : Kind) → kindOf kind ≡ some k → T (allowsA n k a) → T (allowsB n k b) → operation n kind a b ≡ some (k .op a b)
+table-named n kind a b k f p q =
+    ap (λ r. fromRow n r a b) f ∙ cond-true (allowsA n k a && allowsB n k b) (some (k .op a b)) none (both (allowsA n k a) (allowsB n k b) p q)
+  where
+    both : (x y : Bool) → T x → T y → T (x && y)
+    both true y p q = q
+    both false y p q = p
+
+-- the numbers of an operation are those that name it
+pub op-numbers : (n kind a b : ℕ) (o : Op) → operation n kind a b ≡ some o → opNumbers o ≡ kind ∷ a ∷ b ∷ []
+op-numbers n kind a b o e =
+    let t = in-table n kind a b o e in
+    subst (λ (x : Op). opNumbers x ≡ kind ∷ a ∷ b ∷ []) (t .named) (by-kind kind (t .row) (t .found) (t .second))
+  where
+    Numbered : ℕ → Kind → Type 0
+    Numbered kind k = T (allowsB n k b) → opNumbers (k .op a b) ≡ kind ∷ a ∷ b ∷ []
+
+    row : (kind : ℕ) (k k′ : Kind) → Numbered kind k → some k ≡ some k′ → Numbered kind k′
+    row kind k k′ h e = let z : k ≡ k′ = cc in subst (Numbered kind) z h
+
+    no-second : T (allowsB n (record { least-a = 1; least-b = 0; most-b = λ n. 0; op = λ a b. equal a b }) b) → 0 ≡ b
+    no-second t = let (p, q) = r-and (r-le 0 b) (r-le b 0) .holds t in omega arith
+
+    by-kind : (kind : ℕ) (k : Kind) → kindOf kind ≡ some k → Numbered kind k
+    by-kind zero k f = let z : _≡_ {A = ℕ} 0 1 = cc in absurd (omega arith)
+    by-kind (suc zero) k f = row 1 _ k (λ t. refl) f
+    by-kind (suc (suc zero)) k f = row 2 _ k (λ t. refl) f
+    by-kind (suc (suc (suc zero))) k f = row 3 _ k (λ t. refl) f
+    by-kind (suc (suc (suc (suc zero)))) k f = row 4 _ k (λ t. refl) f
+    by-kind (suc (suc (suc (suc (suc zero))))) k f = row 5 _ k (λ t. refl) f
+    by-kind (suc (suc (suc (suc (suc (suc zero)))))) k f = row 6 _ k (λ t. ap (λ (x : ℕ). 6 ∷ a ∷ x ∷ []) (no-second t)) f
+    by-kind (suc (suc (suc (suc (suc (suc (suc zero))))))) k f = row 7 _ k (λ t. ap (λ (x : ℕ). 7 ∷ a ∷ x ∷ []) (no-second t)) f
+    by-kind (suc (suc (suc (suc (suc (suc (suc (suc x)))))))) k f = let z : _≡_ {A = ℕ} 0 1 = cc in absurd (omega arith)
+
+module _ (s : Buffer) (variables : ℕ) where
+  -- ---- shapes
+
+  shape-sound : (at : ℕ) (x : Shape) (next : ℕ) → readShape s variables at ≡ parsed x next → Reads (s .bytes) at (shapeNumbers x) next × InRange variables 12 x
+  unfolding readShape
+  shape-sound at x next =
+      then (ranged s 0 13 at) _
+      (λ n a h₁. then (many variables (ranged s 0 (cell n)) a) _
+      (λ vars b h₂. then (many n (ranged s 0 (cell n)) b) _
+      (λ links c h₃ r.
+      let (g₁, (_, small)) = ranged-exact s 0 13 .sound at n a h₁ in
+      let (g₂, (long, codes)) = codes-exact s variables (cell n) .sound a vars b h₂ in
+      let (g₃, (size-is, codes′)) = codes-exact s n (cell n) .sound b links c h₃ in
+      let x-is : record { vars = vars; links = links } ≡ x = cc in
+      let next-is : c ≡ next = cc in
+      rw (← x-is, ← next-is)
+      (rw size-is (reads-append (s .bytes) at a c (n ∷ []) (vars ++ links) g₁ (reads-append (s .bytes) a b c vars links g₂ g₃)),
+      record { variables-number = long; cells = omega arith; vars = rw size-is codes; links = rw size-is codes′ }))))
+
+  shape-complete : (at : ℕ) (x : Shape) (next : ℕ) → Reads (s .bytes) at (shapeNumbers x) next → InRange variables 12 x → readShape s variables at ≡ parsed x next
+  unfolding readShape
+  shape-complete at x next (a, g₁, g) ok =
+      let (b, g₂, g₃) = reads-split (s .bytes) a next (x .vars) (x .links) g in
+      rw (ranged-exact s 0 13 .complete at (size x) a (a, g₁, refl) (omega arith, omega (arith, ok .cells)),
+      codes-exact s variables (cell (size x)) .complete a (x .vars) b g₂ (ok .variables-number, ok .vars),
+      codes-exact s (size x) (cell (size x)) .complete b (x .links) next g₃ (refl, ok .links))
+
+  pub shape-exact : Exact s (readShape s variables) shapeNumbers (InRange variables 12)
+  shape-exact = record { sound = shape-sound; complete = shape-complete }
+
+  module _ (states : ℕ) where
+    -- ---- a state with a shape
+
+    located-sound : (at : ℕ) (m : Located) (next : ℕ) → readLocated s variables states at ≡ parsed m next
+        → Reads (s .bytes) at (locatedNumbers m) next × LocatedInRange variables states m
+    unfolding readLocated
+    located-sound at m next =
+        then (ranged s 0 states at) _
+        (λ state a h₁. then (readShape s variables a) _
+        (λ shape b h₂ r.
+        let (g₁, (_, below)) = ranged-exact s 0 states .sound at state a h₁ in
+        let (g₂, ok) = shape-sound a shape b h₂ in
+        let m-is : record { state = state; shape = shape } ≡ m = cc in
+        let next-is : b ≡ next = cc in
+        rw (← m-is, ← next-is)
+        (reads-append (s .bytes) at a b (state ∷ []) (shapeNumbers shape) g₁ g₂, record { state = below; shape = ok })))
+
+    located-complete : (at : ℕ) (m : Located) (next : ℕ) → Reads (s .bytes) at (locatedNumbers m) next → LocatedInRange variables states m
+        → readLocated s variables states at ≡ parsed m next
+    unfolding readLocated
+    located-complete at m next (a, g₁, g₂) ok =
+        rw (ranged-exact s 0 states .complete at (m .state) a (a, g₁, refl) (omega arith, ok .state), shape-complete a (m .shape) next g₂ (ok .shape))
+
+    pub located-exact : Exact s (readLocated s variables states) locatedNumbers (LocatedInRange variables states)
+    located-exact = record { sound = located-sound; complete = located-complete }
+
+    -- ---- transitions
+
+    operand-exact : (test : ℕ → Bool) → Exact s (readAs s (such test)) (λ n. n ∷ []) (λ n. T (test n))
+    operand-exact test = such-exact s test (λ n. T (test n)) (λ n. record { holds = λ t. t; tests = λ t. t })
+
+    transition-sound : (at : ℕ) (t : Transition) (next : ℕ) → readTransition s variables states at ≡ parsed t next
+        → Reads (s .bytes) at (transitionNumbers t) next × TransitionInRange variables states t
+    unfolding readTransition
+    transition-sound at t next =
+        then (ranged s 0 states at) _
+        (λ from p₁ h₁. then (readAs s kindOf p₁) _
+        (λ row p₂ h₂. then (readAs s (such (allowsA variables row)) p₂) _
+        (λ a p₃ h₃. then (readAs s (such (allowsB variables row)) p₃) _
+        (λ b p₄ h₄. then (ranged s 0 states p₄) _
+        (λ to p₅ h₅ r.
+        let (g₁, (_, below)) = ranged-exact s 0 states .sound at from p₁ h₁ in
+        let (kind, g₂, found) = read-sound s kindOf p₁ row p₂ h₂ in
+        let (g₃, ta) = operand-exact (allowsA variables row) .sound p₂ a p₃ h₃ in
+        let (g₄, tb) = operand-exact (allowsB variables row) .sound p₃ b p₄ h₄ in
+        let (g₅, (_, below′)) = ranged-exact s 0 states .sound p₄ to p₅ h₅ in
+        let t-is : record { from = from; op = row .op a b; to = to } ≡ t = cc in
+        let next-is : p₅ ≡ next = cc in
+        let named = table-named variables kind a b row found ta tb in
+        let numbers : opNumbers (row .op a b) ≡ kind ∷ a ∷ b ∷ [] = op-numbers variables kind a b (row .op a b) named in
+        rw (← t-is, ← next-is)
+        (rw numbers
+        (reads-append (s .bytes) at p₁ p₅ (from ∷ []) (kind ∷ a ∷ b ∷ to ∷ []) g₁
+        (p₂, g₂, reads-append (s .bytes) p₂ p₃ p₅ (a ∷ []) (b ∷ to ∷ []) g₃ (reads-append (s .bytes) p₃ p₄ p₅ (b ∷ []) (to ∷ []) g₄ g₅))),
+        record { from = below; op = (kind, a, b, named); to = below′ }))))))
+
+    transition-complete : (at : ℕ) (t : Transition) (next : ℕ) → Reads (s .bytes) at (transitionNumbers t) next → TransitionInRange variables states t
+        → readTransition s variables states at ≡ parsed t next
+    unfolding readTransition
+    transition-complete at t next g ok =
+        let (kind, a, b, named) = ok .op in
+        let i = in-table variables kind a b (t .op) named in
+        let g′ : Reads (s .bytes) at (t .from ∷ kind ∷ a ∷ b ∷ t .to ∷ []) next =
+          subst (λ (l : List ℕ). Reads (s .bytes) at (t .from ∷ l ++ (t .to ∷ [])) next) (op-numbers variables kind a b (t .op) named) g in
+        let (p₁, g₁, (p₂, g₂, (p₃, g₃, (p₄, g₄, g₅)))) = g′ in
+        rw (ranged-exact s 0 states .complete at (t .from) p₁ (p₁, g₁, refl) (omega arith, ok .from),
+        read-complete s kindOf p₁ kind p₂ (i .row) g₂ (i .found),
+        operand-exact (allowsA variables (i .row)) .complete p₂ a p₃ (p₃, g₃, refl) (i .first),
+        operand-exact (allowsB variables (i .row)) .complete p₃ b p₄ (p₄, g₄, refl) (i .second),
+        ranged-exact s 0 states .complete p₄ (t .to) next g₅ (omega arith, ok .to), i .named)
+
+    pub transition-exact : Exact s (readTransition s variables states) transitionNumbers (TransitionInRange variables states)
+    transition-exact = record { sound = transition-sound; complete = transition-complete }
