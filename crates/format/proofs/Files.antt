@@ -5,7 +5,8 @@ use mathlib.Core.Option.{Option, none, some}
 use mathlib.Core.Path.{_≡_, refl, sym, ap, subst, _∙_}
 use Prim.Native.Nat.{ℕ, zero, suc, _≤_, _<_}
 use native.Mathlib.Omega.{arith}
-use lib.Dec.{T}
+use borrow.Author.Tests.{leb-true, le-leb}
+use lib.Dec.{T, leb}
 use lib.ListN.{length}
 use Rattle.lists.specs.List.{_∈_, concatMap}
 use Rattle.lists.proofs.Reflect.{Reflect, r-le, r-and, cond-true}
@@ -14,12 +15,12 @@ use Rattle.heap.specs.Place.{cell}
 use Rattle.shape.specs.Shape.{Shape, size, InRange}
 use Rattle.run.specs.Run.{Transition, Located, Job}
 use Rattle.cover.specs.Cover.{Named}
-use Rattle.format.specs.Parser.{parsed, many, Buffer, such, readAs, ranged}
+use Rattle.format.specs.Parser.{parsed, fault, many, Buffer, such, readAs, ranged, end}
 use Rattle.format.specs.Job.{JobFile, readShape, readLocated, readTransition, readJob}
 use Rattle.format.specs.Numbers.{opNumbers, transitionNumbers, shapeNumbers, locatedNumbers, jobNumbers}
 use Rattle.format.specs.Conditions.{LocatedInRange, TransitionInRange, JobInRange}
-use Rattle.format.proofs.Sequence.{Reads, reads-append, reads-split}
-use Rattle.format.proofs.Parsing.{then, read-sound, read-complete, Exact, such-exact, ranged-exact, many-exact, codes-exact}
+use Rattle.format.proofs.Sequence.{Reads, more, one, reads-first, reads-append, reads-split}
+use Rattle.format.proofs.Parsing.{not-fault, then, read-sound, read-complete, Exact, such-exact, ranged-exact, many-exact, codes-exact}
 
 -- ---- the table of kinds
 
@@ -94,14 +95,15 @@ module _ (s : Buffer) (variables : ℕ) where
       let x-is : record { vars = vars; links = links } ≡ x = cc in
       let next-is : c ≡ next = cc in
       rw (← x-is, ← next-is)
-      (rw size-is (reads-append (s .bytes) at a c (n ∷ []) (vars ++ links) g₁ (reads-append (s .bytes) a b c vars links g₂ g₃)),
+      (rw size-is (reads-append g₁ (reads-append g₂ g₃)),
       record { variables-number = long; cells = omega arith; vars = rw size-is codes; links = rw size-is codes′ }))))
 
   shape-complete : (at : ℕ) (x : Shape) (next : ℕ) → Reads (s .bytes) at (shapeNumbers x) next → InRange variables 12 x → readShape s variables at ≡ parsed x next
   unfolding readShape
-  shape-complete at x next (a, g₁, g) ok =
-      let (b, g₂, g₃) = reads-split (s .bytes) a next (x .vars) (x .links) g in
-      rw (ranged-exact s 0 13 .complete at (size x) a (a, g₁, refl) (omega arith, omega (arith, ok .cells)),
+  shape-complete at x next r ok =
+      let (a, g₁, g) = reads-first r in
+      let (b, g₂, g₃) = reads-split (x .vars) g in
+      rw (ranged-exact s 0 13 .complete at (size x) a (one g₁) (omega arith, omega (arith, ok .cells)),
       codes-exact s variables (cell (size x)) .complete a (x .vars) b g₂ (ok .variables-number, ok .vars),
       codes-exact s (size x) (cell (size x)) .complete b (x .links) next g₃ (refl, ok .links))
 
@@ -123,13 +125,14 @@ module _ (s : Buffer) (variables : ℕ) where
         let m-is : record { state = state; shape = shape } ≡ m = cc in
         let next-is : b ≡ next = cc in
         rw (← m-is, ← next-is)
-        (reads-append (s .bytes) at a b (state ∷ []) (shapeNumbers shape) g₁ g₂, record { state = below; shape = ok })))
+        (reads-append g₁ g₂, record { state = below; shape = ok })))
 
     located-complete : (at : ℕ) (m : Located) (next : ℕ) → Reads (s .bytes) at (locatedNumbers m) next → LocatedInRange variables states m
         → readLocated s variables states at ≡ parsed m next
     unfolding readLocated
-    located-complete at m next (a, g₁, g₂) ok =
-        rw (ranged-exact s 0 states .complete at (m .state) a (a, g₁, refl) (omega arith, ok .state), shape-complete a (m .shape) next g₂ (ok .shape))
+    located-complete at m next r ok =
+        let (a, g₁, g₂) = reads-first r in
+        rw (ranged-exact s 0 states .complete at (m .state) a (one g₁) (omega arith, ok .state), shape-complete a (m .shape) next g₂ (ok .shape))
 
     pub located-exact : Exact s (readLocated s variables states) locatedNumbers (LocatedInRange variables states)
     located-exact = record { sound = located-sound; complete = located-complete }
@@ -160,8 +163,8 @@ module _ (s : Buffer) (variables : ℕ) where
         let numbers : opNumbers (row .op a b) ≡ kind ∷ a ∷ b ∷ [] = op-numbers variables kind a b (row .op a b) named in
         rw (← t-is, ← next-is)
         (rw numbers
-        (reads-append (s .bytes) at p₁ p₅ (from ∷ []) (kind ∷ a ∷ b ∷ to ∷ []) g₁
-        (p₂, g₂, reads-append (s .bytes) p₂ p₃ p₅ (a ∷ []) (b ∷ to ∷ []) g₃ (reads-append (s .bytes) p₃ p₄ p₅ (b ∷ []) (to ∷ []) g₄ g₅))),
+        (reads-append g₁
+        (more g₂ (reads-append g₃ (reads-append g₄ g₅)))),
         record { from = below; op = (kind, a, b, named); to = below′ }))))))
 
     transition-complete : (at : ℕ) (t : Transition) (next : ℕ) → Reads (s .bytes) at (transitionNumbers t) next → TransitionInRange variables states t
@@ -172,12 +175,104 @@ module _ (s : Buffer) (variables : ℕ) where
         let i = in-table variables kind a b (t .op) named in
         let g′ : Reads (s .bytes) at (t .from ∷ kind ∷ a ∷ b ∷ t .to ∷ []) next =
           subst (λ (l : List ℕ). Reads (s .bytes) at (t .from ∷ l ++ (t .to ∷ [])) next) (op-numbers variables kind a b (t .op) named) g in
-        let (p₁, g₁, (p₂, g₂, (p₃, g₃, (p₄, g₄, g₅)))) = g′ in
-        rw (ranged-exact s 0 states .complete at (t .from) p₁ (p₁, g₁, refl) (omega arith, ok .from),
+        let (p₁, g₁, r₁) = reads-first g′ in
+        let (p₂, g₂, r₂) = reads-first r₁ in
+        let (p₃, g₃, r₃) = reads-first r₂ in
+        let (p₄, g₄, g₅) = reads-first r₃ in
+        rw (ranged-exact s 0 states .complete at (t .from) p₁ (one g₁) (omega arith, ok .from),
         read-complete s kindOf p₁ kind p₂ (i .row) g₂ (i .found),
-        operand-exact (allowsA variables (i .row)) .complete p₂ a p₃ (p₃, g₃, refl) (i .first),
-        operand-exact (allowsB variables (i .row)) .complete p₃ b p₄ (p₄, g₄, refl) (i .second),
+        operand-exact (allowsA variables (i .row)) .complete p₂ a p₃ (one g₃) (i .first),
+        operand-exact (allowsB variables (i .row)) .complete p₃ b p₄ (one g₄) (i .second),
         ranged-exact s 0 states .complete p₄ (t .to) next g₅ (omega arith, ok .to), i .named)
 
     pub transition-exact : Exact s (readTransition s variables states) transitionNumbers (TransitionInRange variables states)
     transition-exact = record { sound = transition-sound; complete = transition-complete }
+
+-- ---- the end of a buffer
+
+module _ (s : Buffer) where
+  pub end-sound : (at : ℕ) (u : Unit {0}) (next : ℕ) → end s at ≡ parsed u next → (length (s .bytes) ≤ at) × (at ≡ next)
+  unfolding end
+  end-sound at u next = by-test (leb (length (s .bytes)) at) refl
+    where
+      by-test : (b : Bool) → leb (length (s .bytes)) at ≡ b → cond b (parsed tt at) (fault (s .left) at) ≡ parsed u next
+          → (length (s .bytes) ≤ at) × (at ≡ next)
+      by-test true t e = (leb-true (length (s .bytes)) at t, cc)
+      by-test false t e = absurd (not-fault u next (s .left) at e)
+
+  pub end-complete : (at : ℕ) → length (s .bytes) ≤ at → end s at ≡ parsed tt at
+  unfolding end
+  end-complete at h = rw (le-leb (length (s .bytes)) at h)
+
+  -- ---- jobs
+
+  version : (at n next : ℕ) → ranged s 1 2 at ≡ parsed n next → Reads (s .bytes) at (1 ∷ []) next
+  version at n next h =
+      let (g, (low, high)) = ranged-exact s 1 2 .sound at n next h in
+      let n-is : n ≡ 1 = omega arith in
+      subst (λ (k : ℕ). Reads (s .bytes) at (k ∷ []) next) n-is g
+
+  pub job-sound : (at : ℕ) (f : JobFile) (next : ℕ) → readJob s at ≡ parsed f next
+      → Reads (s .bytes) at (jobNumbers f) next × JobInRange f × (length (s .bytes) ≤ next)
+  unfolding readJob
+  job-sound at f next =
+      then (ranged s 1 2 at) _
+      (λ one p₁ h₁. then (ranged s 1 9 p₁) _
+      (λ variables p₂ h₂. then (ranged s 1 65 p₂) _
+      (λ states p₃ h₃. then (ranged s 0 states p₃) _
+      (λ start p₄ h₄. then (ranged s 0 257 p₄) _
+      (λ count p₅ h₅. then (many count (readTransition s variables states) p₅) _
+      (λ transitions p₆ h₆. then (ranged s 1 65 p₆) _
+      (λ bads p₇ h₇. then (many bads (readLocated s variables states) p₇) _
+      (λ forbidden p₈ h₈. then (end s p₈) _
+      (λ u p₉ h₉ r.
+      let (g₂, (low₂, high₂)) = ranged-exact s 1 9 .sound p₁ variables p₂ h₂ in
+      let (g₃, (low₃, high₃)) = ranged-exact s 1 65 .sound p₂ states p₃ h₃ in
+      let (g₄, (_, high₄)) = ranged-exact s 0 states .sound p₃ start p₄ h₄ in
+      let (g₅, (_, high₅)) = ranged-exact s 0 257 .sound p₄ count p₅ h₅ in
+      let (g₆, (long, oks)) = many-exact s (transition-exact s variables states) count .sound p₅ transitions p₆ h₆ in
+      let (g₇, (low₇, high₇)) = ranged-exact s 1 65 .sound p₆ bads p₇ h₇ in
+      let (g₈, (long′, oks′)) = many-exact s (located-exact s variables states) bads .sound p₇ forbidden p₈ h₈ in
+      let (whole, p₉-is) = end-sound p₈ u p₉ h₉ in
+      let f-is : record { states = states; job = record { variables = variables; start = start; transitions = transitions; forbidden = forbidden } } ≡ f = cc in
+      let next-is : p₈ ≡ next = cc in
+      rw (← f-is, ← next-is)
+      (rw (long, long′) (reads-append (version at one p₁ h₁)
+      (reads-append g₂
+      (reads-append g₃
+      (reads-append g₄
+      (reads-append g₅
+      (reads-append g₆
+      (reads-append g₇ g₈))))))),
+      record {
+        variables = (low₂, omega arith);
+        states = (low₃, omega arith);
+        start = high₄;
+        transitions-number = omega arith;
+        transitions = oks;
+        forbidden-number = (omega arith, omega arith);
+        forbidden = oks′;
+      }, whole))))))))))
+
+  pub job-complete : (at : ℕ) (f : JobFile) (next : ℕ) → Reads (s .bytes) at (jobNumbers f) next → JobInRange f → length (s .bytes) ≤ next
+      → readJob s at ≡ parsed f next
+  unfolding readJob
+  job-complete at f next r ok whole =
+      let (p₁, g₁, r₁) = reads-first r in
+      let (p₂, g₂, r₂) = reads-first r₁ in
+      let (p₃, g₃, r₃) = reads-first r₂ in
+      let (p₄, g₄, r₄) = reads-first r₃ in
+      let (p₅, g₅, r₅) = reads-first r₄ in
+      let «V» = f .job .variables in
+      let ts = f .job .transitions in
+      let (p₆, g₆, r₆) = reads-split (concatMap transitionNumbers ts) r₅ in
+      let (p₇, g₇, g₈) = reads-first r₆ in
+      rw (ranged-exact s 1 2 .complete at 1 p₁ (one g₁) (omega arith, omega arith),
+      ranged-exact s 1 9 .complete p₁ «V» p₂ (one g₂) (ok .variables .0, omega (arith, ok .variables .1)),
+      ranged-exact s 1 65 .complete p₂ (f .states) p₃ (one g₃) (ok .states .0, omega (arith, ok .states .1)),
+      ranged-exact s 0 (f .states) .complete p₃ (f .job .start) p₄ (one g₄) (omega arith, ok .start),
+      ranged-exact s 0 257 .complete p₄ (length ts) p₅ (one g₅) (omega arith, omega (arith, ok .transitions-number)),
+      many-exact s (transition-exact s «V» (f .states)) (length ts) .complete p₅ ts p₆ g₆ (refl, ok .transitions),
+      ranged-exact s 1 65 .complete p₆ (length (f .job .forbidden)) p₇ (one g₇) (ok .forbidden-number .0, omega (arith, ok .forbidden-number .1)),
+      many-exact s (located-exact s «V» (f .states)) (length (f .job .forbidden)) .complete p₇ (f .job .forbidden) next g₈ (refl, ok .forbidden),
+      end-complete next whole)

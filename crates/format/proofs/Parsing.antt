@@ -14,7 +14,7 @@ use Rattle.number.specs.declared.Read.{Read}
 use Rattle.number.specs.declared.Read.the-variants.{Number, Unreadable}
 use Rattle.shape.specs.Shape.{AllBelow}
 use Rattle.format.specs.Parser.{Parsed, parsed, fault, Parser, onward, many, each, Buffer, within, such, meant, judged, readAs, ranged}
-use Rattle.format.proofs.Sequence.{Reads, reads-append, reads-split}
+use Rattle.format.proofs.Sequence.{Reads, done, one, reads-none, reads-one, reads-append, reads-split}
 
 pub not-fault : {A : Type 0} (x : A) (next number place : ℕ) → fault number place ≡ parsed x next → ⊥
 not-fault x next number place e = let z : _≡_ {A = ℕ} 0 1 = cc in omega arith
@@ -77,10 +77,10 @@ module _ (s : Buffer) where
       sound at x next e =
           let (n, g, h) = read-sound (such test) at x next e in
           let (t, n-is) = meant-is n x (test n) refl h in
-          ((next, rw n-is at g, refl), subst P n-is (r n .holds t))
+          (one (rw n-is at g), subst P n-is (r n .holds t))
 
       complete : (at x next : ℕ) → Reads (s .bytes) at (x ∷ []) next → P x → readAs s (such test) at ≡ parsed x next
-      complete at x next (mid, g, e) h = read-complete (such test) at x next x (rw e at g) (cond-true (test x) (some x) none (r x .tests h))
+      complete at x next g h = read-complete (such test) at x next x (reads-one g) (cond-true (test x) (some x) none (r x .tests h))
 
   -- "a number from `low` on and below `limit`"
   pub ranged-exact : (low limit : ℕ) → Exact (ranged s low limit) (λ n. n ∷ []) (λ n. (low ≤ n) × (n < limit))
@@ -92,7 +92,8 @@ module _ (s : Buffer) where
     unfolding many
     many-sound zero at xs next h =
         let xs-is : [] ≡ xs = cc in
-        rw (← xs-is) (cc, (refl, λ x i. absurd (List·Memᴰ·not-nil i)))
+        let next-is : at ≡ next = cc in
+        rw (← xs-is, ← next-is) (done, (refl, λ x i. absurd (List·Memᴰ·not-nil i)))
     many-sound (suc k) at xs next h =
         then (p at) _
         (λ x mid h₁. then (many k p mid) _
@@ -101,7 +102,7 @@ module _ (s : Buffer) where
         let (g₂, (long, oks)) = many-sound k mid ys end h₂ in
         let xs-is : x ∷ ys ≡ xs = cc in
         let next-is : end ≡ next = cc in
-        rw (← xs-is, ← next-is) (reads-append (s .bytes) at mid end (numbers x) (concatMap numbers ys) g₁ g₂, (ap suc long, all x ys ok oks))))
+        rw (← xs-is, ← next-is) (reads-append g₁ g₂, (ap suc long, all x ys ok oks))))
         h
       where
         all : (x : A) (ys : List A) → Ok x → ((y : A) → y ∈ ys → Ok y) → (y : A) → y ∈ (x ∷ ys) → Ok y
@@ -111,11 +112,11 @@ module _ (s : Buffer) where
     many-complete : (k at : ℕ) (xs : List A) (next : ℕ) → Reads (s .bytes) at (concatMap numbers xs) next → length xs ≡ k → ((x : A) → x ∈ xs → Ok x)
         → many k p at ≡ parsed xs next
     unfolding many
-    many-complete zero at [] next g long oks = rw g
+    many-complete zero at [] next g long oks = rw (reads-none g)
     many-complete zero at (x ∷ xs) next g long oks = absurd (omega arith)
     many-complete (suc k) at [] next g long oks = absurd (omega arith)
     many-complete (suc k) at (x ∷ xs) next g long oks =
-        let (mid, g₁, g₂) = reads-split (s .bytes) at next (numbers x) (concatMap numbers xs) g in
+        let (mid, g₁, g₂) = reads-split (numbers x) g in
         rw (e .complete at x mid g₁ (oks x (List·Memᴰ·head refl)),
         many-complete k mid xs next g₂ (omega arith) (λ y i. oks y (List·Memᴰ·tail i)))
 
