@@ -5,7 +5,6 @@ use mathlib.Core.Option.{Option, none, some}
 use mathlib.Core.Path.{_≡_, refl, sym, ap, subst, _∙_}
 use Prim.Native.Nat.{ℕ, zero, suc, _≤_, _<_}
 use native.Mathlib.Omega.{arith}
-use borrow.Author.Tests.{leb-true, le-leb}
 use lib.Dec.{T, leb}
 use lib.ListN.{length}
 use Rattle.lists.specs.List.{_∈_, concatMap}
@@ -15,12 +14,12 @@ use Rattle.heap.specs.Place.{cell}
 use Rattle.shape.specs.Shape.{Shape, size, InRange}
 use Rattle.run.specs.Run.{Transition, Located, Job}
 use Rattle.cover.specs.Cover.{Named}
-use Rattle.format.specs.Parser.{parsed, fault, many, Buffer, such, readAs, ranged, end}
+use Rattle.format.specs.Parser.{parsed, many, Buffer, such, readAs, ranged, end}
 use Rattle.format.specs.Job.{JobFile, readShape, readLocated, readTransition, readJob}
 use Rattle.format.specs.Numbers.{opNumbers, transitionNumbers, shapeNumbers, locatedNumbers, jobNumbers}
 use Rattle.format.specs.Conditions.{LocatedInRange, TransitionInRange, JobInRange}
 use Rattle.format.proofs.Sequence.{Reads, more, one, reads-first, reads-append, reads-split}
-use Rattle.format.proofs.Parsing.{not-fault, then, read-sound, read-complete, Exact, such-exact, ranged-exact, many-exact, codes-exact}
+use Rattle.format.proofs.Parsing.{then, require-sound, require-complete, read-sound, read-complete, Exact, such-exact, ranged-exact, many-exact, codes-exact}
 
 -- ---- the table of kinds
 
@@ -191,18 +190,15 @@ module _ (s : Buffer) (variables : ℕ) where
 -- ---- the end of a buffer
 
 module _ (s : Buffer) where
-  pub end-sound : (at : ℕ) (u : Unit {0}) (next : ℕ) → end s at ≡ parsed u next → (length (s .bytes) ≤ at) × (at ≡ next)
+  pub end-sound : (at : ℕ) {u : Unit {0}} {next : ℕ} → end s at ≡ parsed u next → (length (s .bytes) ≤ at) × (at ≡ next)
   unfolding end
-  end-sound at u next = by-test (leb (length (s .bytes)) at) refl
-    where
-      by-test : (b : Bool) → leb (length (s .bytes)) at ≡ b → cond b (parsed tt at) (fault (s .left) at) ≡ parsed u next
-          → (length (s .bytes) ≤ at) × (at ≡ next)
-      by-test true t e = (leb-true (length (s .bytes)) at t, cc)
-      by-test false t e = absurd (not-fault u next (s .left) at e)
+  end-sound at e =
+      let (t, at-is) = require-sound (leb (length (s .bytes)) at) (s .left) at at e in
+      (r-le (length (s .bytes)) at .holds t, at-is)
 
   pub end-complete : (at : ℕ) → length (s .bytes) ≤ at → end s at ≡ parsed tt at
   unfolding end
-  end-complete at h = rw (le-leb (length (s .bytes)) at h)
+  end-complete at h = require-complete (leb (length (s .bytes)) at) (s .left) at at (r-le (length (s .bytes)) at .tests h)
 
   -- ---- jobs
 
@@ -233,7 +229,7 @@ module _ (s : Buffer) where
       let (g₆, (long, oks)) = many-exact s (transition-exact s variables states) count .sound p₅ transitions p₆ h₆ in
       let (g₇, (low₇, high₇)) = ranged-exact s 1 65 .sound p₆ bads p₇ h₇ in
       let (g₈, (long′, oks′)) = many-exact s (located-exact s variables states) bads .sound p₇ forbidden p₈ h₈ in
-      let (whole, p₉-is) = end-sound p₈ u p₉ h₉ in
+      let (whole, p₉-is) = end-sound p₈ h₉ in
       let f-is : record { states = states; job = record { variables = variables; start = start; transitions = transitions; forbidden = forbidden } } ≡ f = cc in
       let next-is : p₈ ≡ next = cc in
       rw (← f-is, ← next-is)

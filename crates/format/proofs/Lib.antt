@@ -1,3 +1,4 @@
 pub mod Sequence
 pub mod Parsing
 pub mod Files
+pub mod Covers

@@ -13,7 +13,7 @@ use Rattle.number.specs.Number.{numberAt}
 use Rattle.number.specs.declared.Read.{Read}
 use Rattle.number.specs.declared.Read.the-variants.{Number, Unreadable}
 use Rattle.shape.specs.Shape.{AllBelow}
-use Rattle.format.specs.Parser.{Parsed, parsed, fault, Parser, onward, many, each, Buffer, within, such, meant, judged, readAs, ranged}
+use Rattle.format.specs.Parser.{Parsed, parsed, fault, Parser, onward, require, many, Buffer, within, such, meant, judged, readAs, ranged}
 use Rattle.format.proofs.Sequence.{Reads, done, one, reads-none, reads-one, reads-append, reads-split}
 
 pub not-fault : {A : Type 0} (x : A) (next number place : ℕ) → fault number place ≡ parsed x next → ⊥
@@ -24,6 +24,15 @@ pub then : {A B Goal : Type 0} (r : Parsed A) (rest : A → Parser B) {y : B} {n
     → ((x : A) (mid : ℕ) → r ≡ parsed x mid → rest x mid ≡ parsed y next → Goal) → onward r rest ≡ parsed y next → Goal
 then (parsed x mid) rest go e = go x mid refl e
 then (fault number place) rest {y} {next} go e = absurd (not-fault y next number place e)
+
+-- ---- tests
+
+pub require-sound : (test : Bool) (number place at : ℕ) {u : Unit {0}} {next : ℕ} → require test number place at ≡ parsed u next → T test × (at ≡ next)
+require-sound true number place at e = (tt, cc)
+require-sound false number place at {u} {next} e = absurd (not-fault u next number place e)
+
+pub require-complete : (test : Bool) (number place at : ℕ) → T test → require test number place at ≡ parsed tt at
+require-complete test number place at t = cond-true test (parsed tt at) (fault number place) t
 
 module _ (s : Buffer) where
   -- ---- one number
