@@ -1,0 +1,1 @@
+// One step backward, for every kind of operation: a theorem alone, in proofs/.
