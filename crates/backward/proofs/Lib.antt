@@ -1,2 +1,4 @@
 pub mod Both
 pub mod Variables
+pub mod Links
+pub mod LoadSame
