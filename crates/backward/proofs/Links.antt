@@ -30,18 +30,23 @@ relink Cell link link′ to to′ f c q s one agree = record { between = between
   where
     between : ℕ → List ℕ
     between = update (q .between) c []
+
     old-link : (d : ℕ) → d ≢ c → link′ d ≢ nowhere → link d ≢ nowhere
     old-link d i l z = l (s d i ∙ z)
+
     path : (d : ℕ) → link′ d ≢ nowhere → Chain to′ (f d) (between d) (f (link′ d))
     path d l =
         update-cases (λ k. Chain to′ (f d) k (f (link′ d))) (q .between) c [] d
         (λ i. ap (λ k. to′ (f k)) i ∙ one (λ z. l (ap link′ i ∙ z)) ∙ ap (λ k. f (link′ k)) (sym i))
         (λ i. chain-agree to to′ (f d) (q .between d) (f (link′ d)) (λ x. agree d x i (old-link d i l)) (rw (s d i) (q .path d (old-link d i l))))
+
     old : (d x : ℕ) → x ∈ between d → (d ≢ c) × (x ∈ q .between d)
     old d x =
         update-cases (λ k. x ∈ k → (d ≢ c) × (x ∈ q .between d)) (q .between) c [] d (λ _ z. absurd (List·Memᴰ·not-nil z)) (λ i z. (i, z))
+
     no-image : (d x b : ℕ) → link′ d ≢ nowhere → x ∈ between d → Cell b → x ≢ f b
     no-image d x b l z = let (i, z′) = old d x z in q .no-image d x b (old-link d i l) z′
+
     unshared : (d b x : ℕ) → link′ d ≢ nowhere → link′ b ≢ nowhere → x ∈ between d → x ∈ between b → d ≡ b
     unshared d b x l k y z = let (i, y′) = old d x y in let (j, z′) = old b x z in q .unshared d b x (old-link d i l) (old-link b j k) y′ z′
 
@@ -59,39 +64,51 @@ setLink-images : (c p : ℕ) (l : List ℕ) (D : ℕ → Type 0) (f : ℕ → �
 setLink-images c p l D f im = rw (links-set-length c p l) im
 
 module _ (h : Heap) (s : Shape) (f : ℕ → ℕ) (w : WellFormed h) (cl : Closed (shapeGraph s)) (a b : ℕ) (nz : a ≢ 0) (la : a ≤ length (s .vars))
-  (lb : b ≤ length (s .vars)) where
+    (lb : b ≤ length (s .vars)) where
   pub step-load : a ≢ b → IsCell h (h .var b) → h .link (h .var b) ≢ dangling → Embeds (shapeGraph s) (heapGraph (after (load a b) 0 h)) f
       → SatisfiesOne h (beforeLoad a b s)
   step-load ab l0 l2 e =
       retained h (placeBoth a b s) (λ s. linkFits (varAt s b) (varAt s a) s) (λ s. setVar a nowhere (setLink (varAt s b) (varAt s a) s)) t (q .listed)
-        (r-linkFits c p t .tests (kc .0, λ l. first-step (shapeGraph t) (heapGraph h′) (q .map) wp (q .closed) (q .embeds) c l p (q .place-a) lp))
-        (q .map, record {
+      (r-linkFits c p t .tests (kc .0, λ l. first-step (shapeGraph t) (heapGraph h′) (q .map) wp (q .closed) (q .embeds) c l p (q .place-a) lp)) (
+        q .map,
+        record {
           images = setLink-images c p (t .links) (IsCell h) (q .map) (q .embeds .images);
           vars = forget-var (h .var) (h′ .var) (q .map) a (t .vars) nz (rw (q .variables) la) (λ u i. update-other (h .var) a _ u i) (q .embeds .vars);
           paths = setLink-paths c p (t .links) (h .link) (h .link) (q .map) kc (q .embeds .paths) (λ _. lp) (λ _ _ _ _ _. refl);
-        })
+        },
+      )
     where
       h′ : Heap
       h′ = after (load a b) 0 h
+
       wp : Proper (heapGraph h′)
       wp = heap-proper h′ (w .low)
+
       at-a : h′ .var a ≡ h .link (h .var b)
       at-a = update-same (h .var) a (h .link (h .var b)) a refl
+
       at-b : h′ .var b ≡ h .var b
       at-b = update-other (h .var) a (h .link (h .var b)) b (λ i. ab (sym i))
+
       q : BothPlaced h′ s a b
       q = place-both h′ s f wp cl e a b la lb (rw at-a (λ i. w .closed .link-place (h .var b) l0 i l2)) (rw at-b (λ _. l0))
+
       t : Shape
       t = q .shape
+
       c : ℕ
       c = varAt t b
+
       p : ℕ
       p = varAt t a
+
       -- c is the cell of b, and its link leads to where a stands
       fc : h .var b ≡ q .map c
       fc = sym at-b ∙ q .at-b
+
       kc : shapeGraph t .Cell c
       kc = cell-of (shapeGraph t) (heapGraph h′) (q .map) wp (q .embeds .images) c (q .place-b) (rw (← fc) l0)
+
       lp : h .link (q .map c) ≡ q .map p
       lp = ap (h .link) (sym fc) ∙ sym at-a ∙ q .at-a
 
@@ -99,43 +116,56 @@ module _ (h : Heap) (s : Shape) (f : ℕ → ℕ) (w : WellFormed h) (cl : Close
       → SatisfiesOne h (predecessors (store a b) s)
   step-store l0 n2 e =
       retained h (placeBoth a b s) (λ s. linkFits (varAt s a) (varAt s b) s) (λ s. setLink (varAt s a) nowhere s) t (q .listed)
-        (r-linkFits c p t .tests (kc .0, λ l. first-step (shapeGraph t) (heapGraph h′) (q .map) wp (q .closed) (q .embeds) c l p (q .place-b) lp))
-        (q .map, record {
+      (r-linkFits c p t .tests (kc .0, λ l. first-step (shapeGraph t) (heapGraph h′) (q .map) wp (q .closed) (q .embeds) c l p (q .place-b) lp)) (
+        q .map,
+        record {
           images = setLink-images c nowhere (t .links) (IsCell h) (q .map)
-            (record {
-              null-fixed = im .null-fixed;
-              dangling-fixed = im .dangling-fixed;
-              distinct = im .distinct;
-              cells = λ d k.
-                update-cases (λ r. r ≢ nowhere → IsCell h (q .map d)) (h .link) (h .var a) (h .var b) (q .map d) (λ i _. rw i l0) (λ _ z. z) (im .cells d k);
-            });
+              (record {
+                null-fixed = im .null-fixed;
+                dangling-fixed = im .dangling-fixed;
+                distinct = im .distinct;
+                cells = λ d k.
+                    update-cases (λ r. r ≢ nowhere → IsCell h (q .map d)) (h .link) (h .var a) (h .var b) (q .map d) (λ i _. rw i l0) (λ _ z. z) (im .cells d k);
+              });
           vars = q .embeds .vars;
           paths = setLink-paths c nowhere (t .links) (h′ .link) (h .link) (q .map) kc (q .embeds .paths) (λ z. absurd (z refl)) agree;
-        })
+        },
+      )
     where
       h′ : Heap
       h′ = after (store a b) 0 h
+
       w′ : WellFormed h′
       w′ = after-formed (length (s .vars)) (store a b) 0 h (nz, la, lb) w (l0, n2)
+
       wp : Proper (heapGraph h′)
       wp = heap-proper h′ (w′ .low)
+
       link-a : h′ .link (h .var a) ≡ h .var b
       link-a = update-same (h .link) (h .var a) (h .var b) (h .var a) refl
+
       q : BothPlaced h′ s a b
       q = place-both h′ s f wp cl e a b la lb (λ _. rw link-a (w .somewhere b)) (not-dangling h′ w′ b n2)
+
       t : Shape
       t = q .shape
+
       im : Images (shapeGraph t .Cell) (IsCell h′) (q .map)
       im = q .embeds .images
+
       c : ℕ
       c = varAt t a
+
       p : ℕ
       p = varAt t b
+
       -- c is the cell of a, and its link leads to where b stands
       kc : shapeGraph t .Cell c
       kc = cell-of (shapeGraph t) (heapGraph h′) (q .map) wp im c (q .place-a) (rw (← q .at-a, link-a) (w .somewhere b))
+
       lp : h′ .link (q .map c) ≡ q .map p
       lp = ap (h′ .link) (sym (q .at-a)) ∙ link-a ∙ q .at-b
+
       -- no other path follows the link of a's cell
       agree : (d x : ℕ) → d ≢ c → linkAt t d ≢ nowhere → x ∈ (q .map d ∷ q .embeds .paths .between d) → h′ .link x ≡ h .link x
       agree d x i l m = update-other (h .link) (h .var a) (h .var b) x (λ z. off m (z ∙ q .at-a))

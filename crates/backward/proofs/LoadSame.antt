@@ -39,44 +39,53 @@ pub step-load-same : (h : Heap) (s : Shape) (f : ℕ → ℕ) → WellFormed h �
     → SatisfiesOne h (map (dropHelper a (length (s .vars))) (beforeLoad a (suc (length (s .vars))) (addHelper s)))
 step-load-same h s f w cl a nz la l0 l2 e =
     let (t, m, (g, b)) =
-          step-load h⁺ (addHelper s) f w⁺ cl⁺ a k nz (omega (arith, more)) (omega (arith, more)) (omega arith) (rw at-k l0) (rw at-k l2) e⁺ in
+    step-load h⁺ (addHelper s) f w⁺ cl⁺ a k nz (omega (arith, more)) (omega (arith, more)) (omega arith) (rw at-k l0) (rw at-k l2) e⁺ in
     (dropHelper a n t, Memᴰ·map (dropHelper a n) m, (g, record { images = b .images; vars = vars t g (b .vars); paths = b .paths }))
   where
     n : ℕ
     n = length (s .vars)
+
     -- the helper
     k : ℕ
     k = suc n
+
     more : length (s .vars ++ (nowhere ∷ [])) ≡ suc n
     more = length-snoc (s .vars) nowhere
+
     -- the heap in which the helper stands where a does
     h⁺ : Heap
     h⁺ = record { link = h .link; var = update (h .var) k (h .var a) }
+
     w⁺ : WellFormed h⁺
     w⁺ = var-formed h k (h .var a) w (omega arith) (w .somewhere a) (w .closed .var-place a (w .somewhere a))
+
     at-k : h⁺ .var k ≡ h .var a
     at-k = update-same (h .var) k (h .var a) k refl
+
     cl⁺ : Closed (shapeGraph (addHelper s))
     cl⁺ =
         record {
           var-place = λ v z. rw (var-helper (s .vars) v) (cl .var-place v (λ i. z (var-helper (s .vars) v ∙ i)));
           link-place = cl .link-place;
         }
+
     old : (u : ℕ) → u ≢ k → after (load a k) 0 h⁺ .var u ≡ after (load a a) 0 h .var u
     old u i =
         update-cases (λ p. p ≡ after (load a a) 0 h .var u) (h⁺ .var) a (h .link (h⁺ .var k)) u
         (λ j. ap (h .link) at-k ∙ sym (update-same (h .var) a (h .link (h .var a)) u j))
         (λ j. update-other (h .var) k (h .var a) u i ∙ sym (update-other (h .var) a (h .link (h .var a)) u j))
+
     e⁺ : Embeds (shapeGraph (addHelper s)) (heapGraph (after (load a k) 0 h⁺)) f
     e⁺ =
         record {
           images = e .images;
           vars = λ u z.
-            let o = var-helper (s .vars) u in
-            let z′ : varAt s u ≢ nowhere = λ i. z (o ∙ i) in
-            old u (let b = var-within (s .vars) u z′ in omega arith) ∙ e .vars u z′ ∙ ap f (sym o);
+              let o = var-helper (s .vars) u in
+              let z′ : varAt s u ≢ nowhere = λ i. z (o ∙ i) in
+              old u (let b = var-within (s .vars) u z′ in omega arith) ∙ e .vars u z′ ∙ ap f (sym o);
           paths = e .paths;
         }
+
     vars : (t : Shape) (g : ℕ → ℕ) → Vars (varAt t) (h⁺ .var) g → Vars (varAt (dropHelper a n t)) (h .var) g
     vars t g v u z =
         let (un, i) = var-take n (setVarIn a (varAt t k) (t .vars)) u z in
