@@ -1,0 +1,1 @@
+// A certified job is safe: theorems alone, in proofs/.
