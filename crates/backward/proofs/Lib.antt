@@ -1,3 +1,7 @@
+pub mod Laws
+pub mod Remove
+pub mod Tests
+pub mod InRange
 pub mod Both
 pub mod Variables
 pub mod Links

@@ -15,12 +15,13 @@ use Rattle.graph.proofs.Paths.{first-step}
 use Rattle.graph.proofs.Proper.{Proper, Closed, cell-of}
 use Rattle.graph.proofs.Update.{update-same, update-other, update-cases}
 use Rattle.shape.specs.Placing.{setVar, placeBoth}
-use Rattle.shape.specs.Predecessors.{setLinkIn, setLink, linkFits, beforeLoad, predecessors}
 use Rattle.shape.specs.Shape.{Shape, varAt, linkAt, shapeGraph, heapGraph}
-use Rattle.shape.proofs.Laws.{CellOf, shape-proper, setLink-same, setLink-other, links-set-length}
-use Rattle.shape.proofs.Tests.{r-linkFits}
+use Rattle.shape.proofs.Laws.{CellOf, shape-proper}
 use Rattle.run.proofs.WellFormed.{WellFormed, heap-proper, not-dangling, after-formed}
+use Rattle.backward.specs.Predecessors.{setLinkIn, setLink, linkFits, beforeLoad, predecessors}
 use Rattle.backward.proofs.Both.{SatisfiesOne, BothPlaced, place-both, retained, forget-var}
+use Rattle.backward.proofs.Laws.{setLink-same, setLink-other, links-set-length}
+use Rattle.backward.proofs.Tests.{r-linkFits}
 
 -- The link of one cell c changes: it leads in one step to its new place, and the other paths follow no link that changed.
 relink : (Cell : ℕ → Type 0) (link link′ to to′ : ℕ → ℕ) (f : ℕ → ℕ) (c : ℕ) (q : Paths Cell link to f) → ((d : ℕ) → d ≢ c → link′ d ≡ link d)

@@ -1,1 +1,0 @@
-// A certified job is safe: theorems alone, in proofs/.
