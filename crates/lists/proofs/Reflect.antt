@@ -1,11 +1,14 @@
 -- Computed tests and what they say.
 use mathlib.Core.Bool.{Bool, true, false, _&&_, _||_, not, cond}
-use mathlib.Core.List.{List, [], _∷_, List·Memᴰ·head, List·Memᴰ·tail, List·Memᴰ·not-nil}
+use mathlib.Core.List.{List, [], _∷_, List·Memᴰ·head, List·Memᴰ·tail, List·Memᴰ·not-nil, Memᴰ·cast}
 use mathlib.Core.Logic.{_≢_}
 use mathlib.Core.Path.{_≡_, refl, sym, subst}
-use Prim.Native.Nat.{ℕ, _≤_, _<_}
+use Prim.Native.Nat.{ℕ, zero, suc, _+_, _≤_, _<_}
+use native.Mathlib.Decide.{ℕ-discrete}
+use native.Mathlib.Omega.{arith}
 use lib.Dec.{T, eqb, eqb-refl, eqb→eq, leb, leb→le, le→leb, ltb, ltb→lt, lt→ltb}
-use Rattle.lists.specs.List.{_∈_, absent}
+use Rattle.lists.specs.List.{_∈_, absent, disjoint}
+use Rattle.lists.specs.Test.{allFrom}
 
 -- the test b holds exactly if P does
 pub record Reflect (P : Type 0) (b : Bool) : Type 0 where
@@ -60,3 +63,29 @@ r-absent c (x ∷ xs) = r-iff out (λ o. (λ e. o (List·Memᴰ·head (sym e)), 
     out : (x ≢ c) × (¬ (c ∈ xs)) → ¬ (c ∈ (x ∷ xs))
     out (a, b) (List·Memᴰ·head e) = a (sym e)
     out (a, b) (List·Memᴰ·tail m) = b m
+
+pub r-disjoint : (xs ys : List ℕ) → Reflect ((x : ℕ) → x ∈ xs → ¬ (x ∈ ys)) (disjoint xs ys)
+r-disjoint [] ys = record { holds = λ _ c m. absurd (List·Memᴰ·not-nil m); tests = λ _. tt }
+r-disjoint (x ∷ xs) ys = r-iff out (λ h. (h x (List·Memᴰ·head refl), λ c m. h c (List·Memᴰ·tail m))) (r-and (r-absent x ys) (r-disjoint xs ys))
+  where
+    out : (¬ (x ∈ ys)) × ((c : ℕ) → c ∈ xs → ¬ (c ∈ ys)) → (c : ℕ) → c ∈ (x ∷ xs) → ¬ (c ∈ ys)
+    out (a, b) c (List·Memᴰ·head e) = λ k. a (Memᴰ·cast (sym e) k)
+    out (a, b) c (List·Memᴰ·tail m) = b c m
+
+-- ---- tests over a run of numbers
+
+r-allFrom : {P : ℕ → Type 0} (test : ℕ → Bool) (k i : ℕ) → ((j : ℕ) → Reflect (P j) (test j))
+    → Reflect ((j : ℕ) → i ≤ j → j < i + k → P j) (allFrom k i test)
+r-allFrom test zero i r = record { holds = λ _ j a b. absurd (omega arith); tests = λ _. tt }
+r-allFrom {P} test (suc k) i r =
+    r-iff both (λ h. (h i (omega arith) (omega arith), λ j a b. h j (omega arith) (omega arith))) (r-and (r i) (r-allFrom test k (suc i) r))
+  where
+    both : P i × ((j : ℕ) → suc i ≤ j → j < suc i + k → P j) → (j : ℕ) → i ≤ j → j < i + suc k → P j
+    both (p, h) j a b = go (ℕ-discrete j i)
+      where
+        go : Dec (j ≡ i) → P j
+        go (yes z) = subst P (sym z) p
+        go (no z) = h j (omega arith) (omega arith)
+
+pub r-all : {P : ℕ → Type 0} (test : ℕ → Bool) (n : ℕ) → ((i : ℕ) → Reflect (P i) (test i)) → Reflect ((i : ℕ) → i < n → P i) (allFrom n 0 test)
+r-all test n r = r-iff (λ h i b. h i (omega arith) (omega arith)) (λ h i a b. h i (omega arith)) (r-allFrom test n 0 r)

@@ -11,7 +11,6 @@ use Rattle.heap.specs.Codes.{varIn, linkIn}
 use Rattle.heap.specs.Place.{nowhere, null, cell}
 use Rattle.graph.proofs.Proper.{Proper}
 use Rattle.shape.specs.Placing.{setVarIn}
-use Rattle.shape.specs.Predecessors.{setLinkIn}
 use Rattle.shape.specs.Shape.{Shape, shapeGraph}
 
 -- p is a cell of a shape with n cells
@@ -62,26 +61,11 @@ vars-set-length (suc v) p l = length-set l v p
 
 -- ---- a link is set
 
-link-set-other : (l : List ℕ) (i p c : ℕ) → c ≢ cell i → linkIn (set l i p) c ≡ linkIn l c
+pub link-set-other : (l : List ℕ) (i p c : ℕ) → c ≢ cell i → linkIn (set l i p) c ≡ linkIn l c
 link-set-other l i p zero n = refl
 link-set-other l i p (suc zero) n = refl
 link-set-other l i p (suc (suc zero)) n = refl
 link-set-other l i p (suc (suc (suc j))) n = getD-set-other l i j p nowhere (omega arith)
-
-pub setLink-other : (c p : ℕ) (l : List ℕ) (d : ℕ) → d ≢ c → linkIn (setLinkIn c p l) d ≡ linkIn l d
-setLink-other zero p l d n = refl
-setLink-other (suc zero) p l d n = refl
-setLink-other (suc (suc zero)) p l d n = refl
-setLink-other (suc (suc (suc i))) p l d n = link-set-other l i p d n
-
-pub setLink-same : (c p : ℕ) (l : List ℕ) → CellOf (length l) c → linkIn (setLinkIn c p l) c ≡ p
-setLink-same c p l k = by-number (length l) (λ c. linkIn (setLinkIn c p l) c ≡ p) (λ i b. getD-set-same l i p nowhere b) c k
-
-pub links-set-length : (c p : ℕ) (l : List ℕ) → length (setLinkIn c p l) ≡ length l
-links-set-length zero p l = refl
-links-set-length (suc zero) p l = refl
-links-set-length (suc (suc zero)) p l = refl
-links-set-length (suc (suc (suc i))) p l = length-set l i p
 
 -- ---- one more at the end
 

@@ -21,7 +21,7 @@ use Rattle.graph.proofs.Extend.{extend-unlinked, extend-split}
 use Rattle.graph.proofs.Proper.{Proper, IsPlace, Closed}
 use Rattle.shape.specs.Placing.{setVarIn, setVar, fresh, grow, split, choices, place}
 use Rattle.shape.specs.Shape.{Shape, varAt, linkAt, size, shapeGraph, heapGraph}
-use Rattle.shape.proofs.Laws.{CellOf, by-number, shape-proper, var-set-same, var-set-other, vars-set-length, setLink-other, length-snoc, link-snoc, link-unlinked}
+use Rattle.shape.proofs.Laws.{CellOf, by-number, shape-proper, var-set-same, var-set-other, vars-set-length, link-set-other, length-snoc, link-snoc, link-unlinked}
 
 -- h satisfies a shape of the list, which is s but for v, and v has a place in it
 pub record Placed (h : Heap) (s : Shape) (v : ℕ) (list : List Shape) : Type 0 where
@@ -159,7 +159,7 @@ module _ (h : Heap) (s : Shape) (f : ℕ → ℕ) (wh : Proper (heapGraph h)) (c
         at-fresh = getD-at t (getD (s .links) i nowhere) [] nowhere (size s) lt
 
         other : (c : ℕ) → c ≢ cell i → c ≢ fresh s → linkIn l c ≡ linkAt s c
-        other c p q = link-snoc t (getD (s .links) i nowhere) c (omega (arith, lt)) ∙ setLink-other (cell i) (fresh s) (s .links) c p
+        other c p q = link-snoc t (getD (s .links) i nowhere) c (omega (arith, lt)) ∙ link-set-other (s .links) i (fresh s) c p
 
         sort : (c : ℕ) → Dec (c ≡ cell i) → Dec (c ≡ fresh s) → (linkIn l c ≡ fresh s) ⊎ ((d : ℕ) × (linkIn l c ≡ linkAt s d))
         sort c (yes p) q = inl (ap (linkIn l) p ∙ at-i)

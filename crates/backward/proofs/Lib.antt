@@ -1,0 +1,11 @@
+pub mod Laws
+pub mod Remove
+pub mod Tests
+pub mod InRange
+pub mod Both
+pub mod Variables
+pub mod Links
+pub mod LoadSame
+pub mod Delete
+pub mod New
+pub mod OneStep

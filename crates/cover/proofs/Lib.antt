@@ -1,0 +1,4 @@
+pub mod Walk
+pub mod Embeds
+pub mod Start
+pub mod Safe
