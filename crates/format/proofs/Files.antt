@@ -202,7 +202,7 @@ module _ (s : Buffer) where
 
   -- ---- jobs
 
-  version : (at n next : ℕ) → ranged s 1 2 at ≡ parsed n next → Reads (s .bytes) at (1 ∷ []) next
+  pub version : (at n next : ℕ) → ranged s 1 2 at ≡ parsed n next → Reads (s .bytes) at (1 ∷ []) next
   version at n next h =
       let (g, (low, high)) = ranged-exact s 1 2 .sound at n next h in
       let n-is : n ≡ 1 = omega arith in

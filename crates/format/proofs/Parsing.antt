@@ -8,6 +8,7 @@ use native.Mathlib.Omega.{arith}
 use lib.Dec.{T}
 use lib.ListN.{length}
 use Rattle.lists.specs.List.{_∈_, concatMap}
+use Rattle.lists.proofs.List.{all-cons}
 use Rattle.lists.proofs.Reflect.{Reflect, r-le, r-lt, r-and, cond-true}
 use Rattle.number.specs.Number.{numberAt}
 use Rattle.number.specs.declared.Read.{Read}
@@ -111,12 +112,8 @@ module _ (s : Buffer) where
         let (g₂, (long, oks)) = many-sound k mid ys end h₂ in
         let xs-is : x ∷ ys ≡ xs = cc in
         let next-is : end ≡ next = cc in
-        rw (← xs-is, ← next-is) (reads-append g₁ g₂, (ap suc long, all x ys ok oks))))
+        rw (← xs-is, ← next-is) (reads-append g₁ g₂, (ap suc long, all-cons Ok ok oks))))
         h
-      where
-        all : (x : A) (ys : List A) → Ok x → ((y : A) → y ∈ ys → Ok y) → (y : A) → y ∈ (x ∷ ys) → Ok y
-        all x ys ok oks y (List·Memᴰ·head i) = subst Ok (sym i) ok
-        all x ys ok oks y (List·Memᴰ·tail i) = oks y i
 
     many-complete : (k at : ℕ) (xs : List A) (next : ℕ) → Reads (s .bytes) at (concatMap numbers xs) next → length xs ≡ k → ((x : A) → x ∈ xs → Ok x)
         → many k p at ≡ parsed xs next

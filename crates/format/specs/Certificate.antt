@@ -1,6 +1,6 @@
 -- Certificates: members, then covers.
 use mathlib.Core.Bool.{_&&_, not}
-use mathlib.Core.List.{List}
+use mathlib.Core.List.{List, map}
 use Prim.Native.Nat.{ℕ}
 use lib.Dec.{eqb}
 use lib.ListN.{getElem?}
@@ -14,6 +14,9 @@ use Rattle.format.specs.Job.{readLocated}
 pub record Member : Type 0 where
   pub first : ℕ
   pub located : Located
+
+abbrev pub withoutPlaces : List Member → List Located
+withoutPlaces = map (λ m. m .located)
 
 -- "8. A member at the start state is satisfied by the empty heap [..] (the member's first byte)."
 abbrev pub testStart : ℕ → Member → Parser (Unit {0})

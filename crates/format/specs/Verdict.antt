@@ -1,13 +1,13 @@
 -- The verdict on a job and a certificate, for every pair of byte lists.
 use mathlib.Core.Bool.{Bool, cond}
-use mathlib.Core.List.{List, map}
+use mathlib.Core.List.{List}
 use Prim.Native.Nat.{ℕ}
 use lib.ListN.{length}
 use Rattle.run.specs.Run.{Located}
 use Rattle.cover.specs.Cover.{owed}
 use Rattle.format.specs.Parser.{Parsed, parsed, fault, onward, Parser, _>>=_, _>>_, return, each, Buffer, jobBuffer, certificateBuffer, within, end}
 use Rattle.format.specs.Job.{JobFile, readJob}
-use Rattle.format.specs.Certificate.{readMembers, testStart, readCover}
+use Rattle.format.specs.Certificate.{withoutPlaces, readMembers, testStart, readCover}
 
 -- "The counts are B, N and the covers in the order above."
 pub record Counts : Type 0 where
@@ -25,7 +25,7 @@ pub data Verdict : Type 0 where
 unfoldable pub readCertificate : Buffer → JobFile → Parser Counts
 readCertificate s f = do
   members ← readMembers s (f .job .variables) (f .states)
-  let located : List Located = map (λ m. m .located) members
+  let located : List Located = withoutPlaces members
   let covered : List Located = owed (f .job) located
   each (testStart (f .job .start)) members
   each (readCover s located) covered

@@ -42,6 +42,11 @@ mem? x (y ∷ ys) = go (ℕ-discrete x y) (mem? x ys)
     go (no a) (yes m) = yes (List·Memᴰ·tail m)
     go (no a) (no b) = no (out a b)
 
+-- what holds of x and of each member of xs
+pub all-cons : {A : Type 0} (P : A → Type 0) {x : A} {xs : List A} → P x → ((y : A) → y ∈ xs → P y) → (y : A) → y ∈ (x ∷ xs) → P y
+all-cons P p ps y (List·Memᴰ·head e) = subst P (sym e) p
+all-cons P p ps y (List·Memᴰ·tail i) = ps y i
+
 -- a list, cut at a member
 pub cut : {A : Type 0} {a : A} {l : List A} → a ∈ l → (xs : List A) × (ys : List A) × (l ≡ xs ++ (a ∷ ys))
 cut (List·Memᴰ·head {xs = t} e) = ([], t, λ i. sym e i ∷ t)
@@ -130,6 +135,15 @@ pub at-mem : (l : List ℕ) (i p : ℕ) → p ≢ 0 → getD l i 0 ≡ p → p �
 at-mem [] i p n e = absurd (n (sym e))
 at-mem (x ∷ xs) zero p n e = List·Memᴰ·head (sym e)
 at-mem (x ∷ xs) (suc i) p n e = List·Memᴰ·tail (at-mem xs i p n e)
+
+pub getD-mem : (l : List ℕ) (i : ℕ) → i < length l → getD l i 0 ∈ l
+getD-mem [] i b = absurd (not-suc-le-zero b)
+getD-mem (x ∷ xs) zero b = List·Memᴰ·head refl
+getD-mem (x ∷ xs) (suc i) b = List·Memᴰ·tail (getD-mem xs i (omega arith))
+
+pub mem-getD : (l : List ℕ) (p : ℕ) → p ∈ l → (i : ℕ) × (i < length l) × (getD l i 0 ≡ p)
+mem-getD l p (List·Memᴰ·head e) = (0, omega arith, sym e)
+mem-getD l p (List·Memᴰ·tail {xs = t} m) = let (i, b, e) = mem-getD t p m in (suc i, omega arith, e)
 
 pub mem-at : (l : List ℕ) (p : ℕ) → p ∈ l → (i : ℕ) × (getD l i 0 ≡ p)
 mem-at l p (List·Memᴰ·head e) = (0, sym e)
