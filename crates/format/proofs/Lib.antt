@@ -2,3 +2,4 @@ pub mod Sequence
 pub mod Parsing
 pub mod Files
 pub mod Covers
+pub mod Exact

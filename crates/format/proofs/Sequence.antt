@@ -1,15 +1,18 @@
 -- Numbers that stand one after the other in a buffer.
-use mathlib.Core.List.{List, [], _∷_, _++_, append-assoc}
-use mathlib.Core.Path.{_≡_, refl, sym, ap, subst, _∙_}
-use Prim.Native.Nat.{ℕ, _+_}
-use native.Mathlib.Nat.{add-zero, add-assoc}
-use lib.ListN.{length, drop, length-append}
-use lib.Seq.{drop-drop, drop-at}
-use Rattle.number.specs.Number.{largest, bytesOf, numberAt}
-use Rattle.number.specs.NumberList.{encode}
-use Rattle.number.specs.Range.{AtMost}
-use Rattle.number.specs.declared.Read.the-variants.{Number}
-use Rattle.number.proofs.RoundTrip.{reads, stands}
+use mathlib.Core.Bool.{cond}
+use mathlib.Core.List.{List, [], _∷_, _++_}
+use mathlib.Core.Path.{_≡_, refl, sym, ap, _∙_}
+use Prim.Native.Nat.{ℕ, zero, suc, _+_, _-_, _≤_, _<_}
+use native.Mathlib.Decide.{decLt}
+use native.Mathlib.Omega.{arith}
+use borrow.Author.Tests.{lt-ltb, le-ltb}
+use lib.Dec.{ltb}
+use lib.ListN.{length, getD}
+use Rattle.lists.proofs.Reflect.{r-le, r-lt, r-eq, cond-cases}
+use Rattle.number.specs.Number.{numberIn, numberAt}
+use Rattle.number.specs.NumberList.{Listed, numbers, refused, before, onward, decodeFrom, decode}
+use Rattle.number.specs.declared.Read.{Read}
+use Rattle.number.specs.declared.Read.the-variants.{Number, Unreadable}
 
 -- the numbers ns are read one after the other from a place to the next
 pub data Reads (s : List ℕ) : ℕ → List ℕ → ℕ → Type 0 where
@@ -40,23 +43,78 @@ module _ {s : List ℕ} where
       let (mid, a, b) = reads-split ns q in
       (mid, more g a, b)
 
-  -- their bytes stand there
-  pub reads-bytes : AtMost 255 s → {at next : ℕ} {ns : List ℕ} → Reads s at ns next → AtMost largest ns × (drop at s ≡ encode ns ++ drop next s)
-  unfolding encode
-  reads-bytes limit done = (tt, refl)
-  reads-bytes limit {next = e} (more {at = a} {n = n} {mid = k} {ns = ns} g r) =
-      let st = stands s a n k g limit in
-      let (small, bytes) = reads-bytes limit r in
-      ((st .small, small), st .bytes ∙ ap (λ (l : List ℕ). bytesOf n ++ l) bytes ∙ sym (append-assoc (bytesOf n) (encode ns) (drop e s)))
 
-  -- and where their bytes stand they are read
-  pub bytes-reads : (at : ℕ) (ns r : List ℕ) → AtMost largest ns → drop at s ≡ encode ns ++ r → Reads s at ns (at + length (encode ns))
-  unfolding encode
-  bytes-reads at [] r small e = rw add-zero done
-  bytes-reads at (n ∷ ns) r (a, small) e =
-      let k = length (bytesOf n) in
-      let e′ : drop at s ≡ bytesOf n ++ (encode ns ++ r) = e ∙ append-assoc (bytesOf n) (encode ns) r in
-      let rest : drop (at + k) s ≡ encode ns ++ r = sym (drop-drop k at s) ∙ ap (drop k) e′ ∙ drop-at (bytesOf n) (encode ns ++ r) k refl in
-      more (reads s at n (encode ns ++ r) a e′)
-      (subst (λ (m : ℕ). Reads s (at + k) ns m) (add-assoc at k (length (encode ns)) ∙ ap (λ (m : ℕ). at + m) (sym (length-append (bytesOf n) (encode ns))))
-      (bytes-reads (at + k) ns r small rest))
+-- a number has a byte of the buffer, and the next place is further on
+number-in : (at left a b c n next : ℕ) → numberIn at left a b c ≡ Number n next → (0 < left) × (at < next)
+unfolding numberIn
+number-in at left a b c n next =
+    cond-cases Q (r-le left 0) (λ _. unread)
+    (λ l. cond-cases Q (r-lt a 128) (λ _ e. let z : at + 1 ≡ next = cc in (omega arith, omega arith))
+    (λ _. cond-cases Q (r-le left 1) (λ _. unread)
+    (λ _. cond-cases Q (r-eq b 0) (λ _. unread)
+    (λ _. cond-cases Q (r-lt b 128) (λ _ e. let z : at + 2 ≡ next = cc in (omega arith, omega arith))
+    (λ _. cond-cases Q (r-le left 2) (λ _. unread)
+    (λ _. cond-cases Q (r-eq c 0) (λ _. unread)
+    (λ _. cond-cases Q (r-lt c 4) (λ _ e. let z : at + 3 ≡ next = cc in (omega arith, omega arith)) (λ _. unread))))))))
+  where
+    Q : Read → Type 0
+    Q r = r ≡ Number n next → (0 < left) × (at < next)
+
+    unread : Q (Unreadable at)
+    unread e = let z : _≡_ {A = ℕ} 0 1 = cc in absurd (omega arith)
+
+module _ (s : List ℕ) where
+  decode-step : (turns at : ℕ) → at < length s → decodeFrom (suc turns) s at ≡ onward (decodeFrom turns s) (numberAt s at)
+  unfolding decodeFrom
+  decode-step turns at h = ap (λ b. cond b (onward (decodeFrom turns s) (numberAt s at)) (numbers [])) (lt-ltb at (length s) h)
+
+  decode-end : (turns at : ℕ) → length s ≤ at → decodeFrom turns s at ≡ numbers []
+  unfolding decodeFrom
+  decode-end zero at h = rw (le-ltb at (length s) h)
+  decode-end (suc turns) at h = rw (le-ltb at (length s) h)
+
+  reads-from : (turns at : ℕ) (ns : List ℕ) (next : ℕ) → Reads s at ns next → length s ≤ next → length s - at ≤ turns → decodeFrom turns s at ≡ numbers ns
+  reads-from turns at [] next r h t = decode-end turns at (omega (arith, reads-none r))
+  reads-from zero at (n ∷ ns) next r h t =
+      let (mid, g, k) = reads-first r in
+      let (some-left, on) = number-in at (length s - at) _ _ _ n mid g in
+      absurd (omega arith)
+  reads-from (suc turns) at (n ∷ ns) next r h t =
+      let (mid, g, k) = reads-first r in
+      let (some-left, on) = number-in at (length s - at) _ _ _ n mid g in
+      decode-step turns at (omega arith) ∙ ap (onward (decodeFrom turns s)) g ∙ ap (before n) (reads-from turns mid ns next k h (omega arith))
+
+  -- what is read to the end is the list of numbers
+  pub reads-decode : (ns : List ℕ) (next : ℕ) → Reads s 0 ns next → length s ≤ next → decode s ≡ numbers ns
+  reads-decode ns next r h = reads-from (length s) 0 ns next r h (omega arith)
+
+  Done : ℕ → List ℕ → Type 0
+  Done at ns = (next : ℕ) × Reads s at ns next × (length s ≤ next)
+
+  at-end : (at : ℕ) (ns : List ℕ) → ¬ (at < length s) → numbers [] ≡ numbers ns → Done at ns
+  unfolding Done
+  at-end at ns l e = let ns-is : [] ≡ ns = cc in (at, rw (← ns-is) done, omega arith)
+
+  decode-from : (turns at : ℕ) (ns : List ℕ) → decodeFrom turns s at ≡ numbers ns → Done at ns
+  unfolding Done decodeFrom
+  decode-from zero at ns e =
+      cond-cases (λ x. x ≡ numbers ns → Done at ns) (r-lt at (length s)) (λ _ z. let q : _≡_ {A = ℕ} 0 1 = cc in absurd (omega arith)) (at-end at ns) e
+  decode-from (suc turns) at ns e =
+      cond-cases (λ x. x ≡ numbers ns → Done at ns) (r-lt at (length s)) (λ _. by-number (numberAt s at) refl (decode-from turns)) (at-end at ns) e
+    where
+      by-rest : (n mid : ℕ) → numberAt s at ≡ Number n mid → (r : Listed) → decodeFrom turns s mid ≡ r → ((ms : List ℕ) → decodeFrom turns s mid ≡ numbers ms → Done mid ms)
+          → before n r ≡ numbers ns → Done at ns
+      by-rest n mid g (refused p) h rest z = let q : _≡_ {A = ℕ} 0 1 = cc in absurd (omega arith)
+      by-rest n mid g (numbers ms) h rest z =
+          let (next, r, l) = rest ms h in
+          let ns-is : n ∷ ms ≡ ns = cc in
+          (next, rw (← ns-is) (more g r), l)
+
+      by-number : (r : Read) → numberAt s at ≡ r → ((mid : ℕ) (ms : List ℕ) → decodeFrom turns s mid ≡ numbers ms → Done mid ms)
+          → onward (decodeFrom turns s) r ≡ numbers ns → Done at ns
+      by-number (Number n mid) g rest z = by-rest n mid g (decodeFrom turns s mid) refl (rest mid) z
+      by-number (Unreadable p) g rest z = let q : _≡_ {A = ℕ} 0 1 = cc in absurd (omega arith)
+
+  pub decode-reads : (ns : List ℕ) → decode s ≡ numbers ns → (next : ℕ) × Reads s 0 ns next × (length s ≤ next)
+  unfolding Done
+  decode-reads ns e = decode-from (length s) 0 ns e

@@ -1,12 +1,12 @@
--- The conditions of document 01 under which a certificate is accepted, without any reading: the bytes are those of a job and a certificate
--- in range whose covers hold.
+-- The conditions of document 01 under which a certificate is accepted: the bytes are the numbers of a job and of a certificate in range
+-- whose covers hold.
 use mathlib.Core.List.{List}
 use mathlib.Core.Option.{some}
 use mathlib.Core.Path.{_≡_}
 use Prim.Native.Nat.{ℕ, _≤_, _<_}
 use lib.ListN.{length, getElem?}
 use Rattle.lists.specs.List.{_∈_}
-use Rattle.number.specs.NumberList.{encode}
+use Rattle.number.specs.NumberList.{numbers, decode}
 use Rattle.heap.specs.Heap.{empty}
 use Rattle.shape.specs.Shape.{size, Satisfies, InRange}
 use Rattle.run.specs.Run.{Transition, Located, Job}
@@ -57,12 +57,12 @@ pub record Conditions (job certificate : List ℕ) (counts : Counts) : Type 0 wh
   pub certificate-length : Between 1 65536 (length certificate)
   pub file : JobFile
   pub job-range : JobInRange file
-  pub job-bytes : job ≡ encode (jobNumbers file)
+  pub job-reads : decode job ≡ numbers (jobNumbers file)
   pub members : List Located
   pub members-range : MembersInRange file members
   pub covers : List Cover
   pub images : (c : Cover) → c ∈ covers → ImageForEach members c
-  pub certificate-bytes : certificate ≡ encode (certificateNumbers members covers)
+  pub certificate-reads : decode certificate ≡ numbers (certificateNumbers members covers)
   pub start : (m : Located) → m ∈ members → m .state ≡ file .job .start → ¬ Satisfies empty (m .shape)
   pub hold : AllHold members covers (owed (file .job) members)
   pub counts-due : counts ≡ countsOf (file .job) members

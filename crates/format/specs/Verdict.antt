@@ -25,12 +25,12 @@ pub data Verdict : Type 0 where
 unfoldable pub readCertificate : Buffer → JobFile → Parser Counts
 readCertificate s f = do
   members ← readMembers s (f .job .variables) (f .states)
-  let located : List Located = withoutPlaces members
-  let covered : List Located = owed (f .job) located
+  let ms : List Located = withoutPlaces members
+  let covered : List Located = owed (f .job) ms
   each (testStart (f .job .start)) members
-  each (readCover s located) covered
+  each (readCover s ms) covered
   end s
-  return (record { bads = length (f .job .forbidden); members = length members; covers = length covered })
+  return (record { bads = length (f .job .forbidden); members = length ms; covers = length covered })
 
 abbrev pub answer : Parsed Counts → Verdict
 answer (parsed counts next) = accepted counts
