@@ -95,9 +95,11 @@ module _ (s : Buffer) (variables states : ℕ) where
   members-complete at ls next r (low, high) oks =
       let (a, g₁, r₁) = reads-first r in
       let (b, g₂, g₃) = reads-first r₁ in
-      let (ms, same, h) = with-places (length ls) b ls next (many-exact s (located-exact s variables states) (length ls) .complete b ls next g₃ (refl, oks)) in
-      (ms, same,
-      rw (ranged-exact s 1 2 .complete at 1 a (one g₁) (omega arith, omega arith), ranged-exact s 1 513 .complete a (length ls) b (one g₂) (low, omega arith)) h)
+      let (ms, same, h) = with-places (length ls) b ls next (many-exact s (located-exact s variables states) (length ls) .complete b ls next g₃ (refl, oks)) in (
+        ms,
+        same,
+        rw (ranged-exact s 1 2 .complete at 1 a (one g₁) (omega arith, omega arith), ranged-exact s 1 513 .complete a (length ls) b (one g₂) (low, omega arith)) h,
+      )
 
 -- ---- refusal 8
 
@@ -159,9 +161,11 @@ module _ (s : Buffer) (variables : ℕ) (ms : List Located) (oks : (m : Located)
       let i = getElem-mem ms n m numbered in
       let (g₂, (long, below)) = codes-exact s (size (m .shape)) (size (o .shape)) .sound a images b h₂ in
       let (t, next-is) = require-sound (holds? m images o) 9 at b h₃ in
-      let (state, embeds) = holds-reflects m o images i long below .holds t in
-      (record { member = n; images = images }, rw (← next-is) (more g₁ g₂),
-      (record { member = m; numbered = numbered; state = state; embeds = embeds }, λ m′ e. let m-is : m ≡ m′ = cc in rw (← m-is) long))))
+      let (state, embeds) = holds-reflects m o images i long below .holds t in (
+        record { member = n; images = images },
+        rw (← next-is) (more g₁ g₂),
+        (record { member = m; numbered = numbered; state = state; embeds = embeds }, λ m′ e. let m-is : m ≡ m′ = cc in rw (← m-is) long),
+      )))
 
   cover-complete : (o : Located) (at next : ℕ) (c : Cover) → Reads (s .bytes) at (coverNumbers c) next → Fit c o → readCover s ms o at ≡ parsed tt next
   unfolding readCover
@@ -170,12 +174,14 @@ module _ (s : Buffer) (variables : ℕ) (ms : List Located) (oks : (m : Located)
       let i = getElem-mem ms (c .member) m (h .numbered) in
       let long = each-cell m (h .numbered) in
       let below : AllBelow (size (o .shape)) (c .images) = λ x k.
-        let (j, b, e) = mem-getD (c .images) x k in
-        let (_, q) = h .embeds .images .cells (cell j) (omega arith, omega arith) in
-        omega arith in
+      let (j, b, e) = mem-getD (c .images) x k in
+      let (_, q) = h .embeds .images .cells (cell j) (omega arith, omega arith) in
+      omega arith in
       let (a, g₁, g₂) = reads-first r in
-      rw (read-complete s (getElem? ms) at (c .member) a m g₁ (h .numbered),
-      codes-exact s (size (m .shape)) (size (o .shape)) .complete a (c .images) next g₂ (long, below))
+      rw (
+        read-complete s (getElem? ms) at (c .member) a m g₁ (h .numbered),
+        codes-exact s (size (m .shape)) (size (o .shape)) .complete a (c .images) next g₂ (long, below),
+      )
       (require-complete (holds? m (c .images) o) 9 at next (holds-reflects m o (c .images) i long below .tests (h .state, h .embeds)))
 
   pub covers-sound : (os : List Located) (at : ℕ) {us : List (Unit {0})} {next : ℕ} → each (readCover s ms) os at ≡ parsed us next

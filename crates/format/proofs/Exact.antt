@@ -18,7 +18,7 @@ use Rattle.format.specs.Job.{JobFile, readJob}
 use Rattle.format.specs.Certificate.{Member, withoutPlaces, readMembers, testStart, readCover}
 use Rattle.format.specs.Verdict.{Counts, Verdict, accepted, refused, readCertificate, answer, fits, verdict}
 use Rattle.format.specs.Numbers.{jobNumbers, memberNumbers, coverNumbers, certificateNumbers}
-use Rattle.format.specs.Conditions.{Between, LocatedInRange, MembersInRange, ImageForEach, countsOf, Conditions}
+use Rattle.format.specs.Conditions.{Between, LocatedInRange, IsJob, ImageForEach, countsOf, Conditions}
 use Rattle.format.proofs.Sequence.{Reads, reads-append, reads-split, reads-decode, decode-reads}
 use Rattle.format.proofs.Parsing.{then}
 use Rattle.format.proofs.Files.{end-sound, end-complete, job-sound, job-complete}
@@ -26,6 +26,12 @@ use Rattle.format.proofs.Covers.{members-sound, members-complete, tests
 
 r-fits : (s : List ℕ) → Reflect (Between 1 65536 (length s)) (fits s)
 r-fits s = r-iff (λ (a, b). (a, omega arith)) (λ (a, b). (a, omega arith)) (r-and (r-le 1 (length s)) (r-lt (length s) 65537))
+
+-- the job's parser reads what the bytes are
+pub job-read : (job : List ℕ) (f : JobFile) → IsJob job f → (next : ℕ) × (readJob (jobBuffer job) 0 ≡ parsed f next)
+job-read job f i =
+    let (next, g, whole) = decode-reads job (jobNumbers f) (i .reads) in
+    (next, job-complete (jobBuffer job) 0 f next g (i .in-range) whole)
 
 module _ (job certificate : List ℕ) (counts : Counts) where
   -- what both parsers answer
@@ -66,8 +72,7 @@ module _ (job certificate : List ℕ) (counts : Counts) where
         job-length = r-fits job .holds t;
         certificate-length = r-fits certificate .holds t′;
         file = f;
-        job-range = ok;
-        job-reads = reads-decode job (jobNumbers f) next g₁ whole;
+        job-is = record { in-range = ok; reads = reads-decode job (jobNumbers f) next g₁ whole };
         members = ms;
         members-range = record { number = number; members = oks };
         covers = cs;
@@ -100,12 +105,12 @@ module _ (job certificate : List ℕ) (counts : Counts) where
     complete : verdict job certificate ≡ accepted counts
     unfolding verdict both
     complete =
-        let (p₁, g₁, whole) = decode-reads job (jobNumbers (c .file)) (c .job-reads) in
+        let (p₁, h₁) = job-read job (c .file) (c .job-is) in
         let (p₄, g, whole′) = decode-reads certificate (certificateNumbers (c .members) (c .covers)) (c .certificate-reads) in
         let (p₂, g₂, g₄) = reads-split (memberNumbers (c .members)) g in
         let (members, same, h₂) =
-          members-complete (certificateBuffer certificate) (c .file .job .variables) (c .file .states) 0 (c .members) p₂ g₂ (c .members-range .number) (c .members-range .members) in
-        let h = answers members same p₁ p₂ p₄ (job-complete (jobBuffer job) 0 (c .file) p₁ g₁ (c .job-range) whole) h₂ g₄ whole′ in
+        members-complete (certificateBuffer certificate) (c .file .job .variables) (c .file .states) 0 (c .members) p₂ g₂ (c .members-range .number) (c .members-range .members) in
+        let h = answers members same p₁ p₂ p₄ h₁ h₂ g₄ whole′ in
         cond-true (fits job) (cond (fits certificate) (answer both) (refused 2 0)) (refused 1 0) (r-fits job .tests (c .job-length))
         ∙ cond-true (fits certificate) (answer both) (refused 2 0) (r-fits certificate .tests (c .certificate-length))
         ∙ ap answer h

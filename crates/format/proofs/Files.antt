@@ -93,18 +93,21 @@ module _ (s : Buffer) (variables : ℕ) where
       let (g₃, (size-is, codes′)) = codes-exact s n (cell n) .sound b links c h₃ in
       let x-is : record { vars = vars; links = links } ≡ x = cc in
       let next-is : c ≡ next = cc in
-      rw (← x-is, ← next-is)
-      (rw size-is (reads-append g₁ (reads-append g₂ g₃)),
-      record { variables-number = long; cells = omega arith; vars = rw size-is codes; links = rw size-is codes′ }))))
+      rw (← x-is, ← next-is) (
+        rw size-is (reads-append g₁ (reads-append g₂ g₃)),
+        record { variables-number = long; cells = omega arith; vars = rw size-is codes; links = rw size-is codes′ },
+      ))))
 
   shape-complete : (at : ℕ) (x : Shape) (next : ℕ) → Reads (s .bytes) at (shapeNumbers x) next → InRange variables 12 x → readShape s variables at ≡ parsed x next
   unfolding readShape
   shape-complete at x next r ok =
       let (a, g₁, g) = reads-first r in
       let (b, g₂, g₃) = reads-split (x .vars) g in
-      rw (ranged-exact s 0 13 .complete at (size x) a (one g₁) (omega arith, omega (arith, ok .cells)),
-      codes-exact s variables (cell (size x)) .complete a (x .vars) b g₂ (ok .variables-number, ok .vars),
-      codes-exact s (size x) (cell (size x)) .complete b (x .links) next g₃ (refl, ok .links))
+      rw (
+        ranged-exact s 0 13 .complete at (size x) a (one g₁) (omega arith, omega (arith, ok .cells)),
+        codes-exact s variables (cell (size x)) .complete a (x .vars) b g₂ (ok .variables-number, ok .vars),
+        codes-exact s (size x) (cell (size x)) .complete b (x .links) next g₃ (refl, ok .links),
+      )
 
   pub shape-exact : Exact s (readShape s variables) shapeNumbers (InRange variables 12)
   shape-exact = record { sound = shape-sound; complete = shape-complete }
@@ -160,11 +163,12 @@ module _ (s : Buffer) (variables : ℕ) where
         let next-is : p₅ ≡ next = cc in
         let named = table-named variables kind a b row found ta tb in
         let numbers : opNumbers (row .op a b) ≡ kind ∷ a ∷ b ∷ [] = op-numbers variables kind a b (row .op a b) named in
-        rw (← t-is, ← next-is)
-        (rw numbers
-        (reads-append g₁
-        (more g₂ (reads-append g₃ (reads-append g₄ g₅)))),
-        record { from = below; op = (kind, a, b, named); to = below′ }))))))
+        rw (← t-is, ← next-is) (
+          rw numbers
+              (reads-append g₁
+              (more g₂ (reads-append g₃ (reads-append g₄ g₅)))),
+          record { from = below; op = (kind, a, b, named); to = below′ },
+        ))))))
 
     transition-complete : (at : ℕ) (t : Transition) (next : ℕ) → Reads (s .bytes) at (transitionNumbers t) next → TransitionInRange variables states t
         → readTransition s variables states at ≡ parsed t next
@@ -173,16 +177,19 @@ module _ (s : Buffer) (variables : ℕ) where
         let (kind, a, b, named) = ok .op in
         let i = in-table variables kind a b (t .op) named in
         let g′ : Reads (s .bytes) at (t .from ∷ kind ∷ a ∷ b ∷ t .to ∷ []) next =
-          subst (λ (l : List ℕ). Reads (s .bytes) at (t .from ∷ l ++ (t .to ∷ [])) next) (op-numbers variables kind a b (t .op) named) g in
+        subst (λ (l : List ℕ). Reads (s .bytes) at (t .from ∷ l ++ (t .to ∷ [])) next) (op-numbers variables kind a b (t .op) named) g in
         let (p₁, g₁, r₁) = reads-first g′ in
         let (p₂, g₂, r₂) = reads-first r₁ in
         let (p₃, g₃, r₃) = reads-first r₂ in
         let (p₄, g₄, g₅) = reads-first r₃ in
-        rw (ranged-exact s 0 states .complete at (t .from) p₁ (one g₁) (omega arith, ok .from),
-        read-complete s kindOf p₁ kind p₂ (i .row) g₂ (i .found),
-        operand-exact (allowsA variables (i .row)) .complete p₂ a p₃ (one g₃) (i .first),
-        operand-exact (allowsB variables (i .row)) .complete p₃ b p₄ (one g₄) (i .second),
-        ranged-exact s 0 states .complete p₄ (t .to) next g₅ (omega arith, ok .to), i .named)
+        rw (
+          ranged-exact s 0 states .complete at (t .from) p₁ (one g₁) (omega arith, ok .from),
+          read-complete s kindOf p₁ kind p₂ (i .row) g₂ (i .found),
+          operand-exact (allowsA variables (i .row)) .complete p₂ a p₃ (one g₃) (i .first),
+          operand-exact (allowsB variables (i .row)) .complete p₃ b p₄ (one g₄) (i .second),
+          ranged-exact s 0 states .complete p₄ (t .to) next g₅ (omega arith, ok .to),
+          i .named,
+        )
 
     pub transition-exact : Exact s (readTransition s variables states) transitionNumbers (TransitionInRange variables states)
     transition-exact = record { sound = transition-sound; complete = transition-complete }
@@ -232,23 +239,25 @@ module _ (s : Buffer) where
       let (whole, p₉-is) = end-sound p₈ h₉ in
       let f-is : record { states = states; job = record { variables = variables; start = start; transitions = transitions; forbidden = forbidden } } ≡ f = cc in
       let next-is : p₈ ≡ next = cc in
-      rw (← f-is, ← next-is)
-      (rw (long, long′) (reads-append (version at one p₁ h₁)
-      (reads-append g₂
-      (reads-append g₃
-      (reads-append g₄
-      (reads-append g₅
-      (reads-append g₆
-      (reads-append g₇ g₈))))))),
-      record {
-        variables = (low₂, omega arith);
-        states = (low₃, omega arith);
-        start = high₄;
-        transitions-number = omega arith;
-        transitions = oks;
-        forbidden-number = (omega arith, omega arith);
-        forbidden = oks′;
-      }, whole))))))))))
+      rw (← f-is, ← next-is) (
+        rw (long, long′) (reads-append (version at one p₁ h₁)
+            (reads-append g₂
+            (reads-append g₃
+            (reads-append g₄
+            (reads-append g₅
+            (reads-append g₆
+            (reads-append g₇ g₈))))))),
+        record {
+          variables = (low₂, omega arith);
+          states = (low₃, omega arith);
+          start = high₄;
+          transitions-number = omega arith;
+          transitions = oks;
+          forbidden-number = (omega arith, omega arith);
+          forbidden = oks′;
+        },
+        whole,
+      ))))))))))
 
   pub job-complete : (at : ℕ) (f : JobFile) (next : ℕ) → Reads (s .bytes) at (jobNumbers f) next → JobInRange f → length (s .bytes) ≤ next
       → readJob s at ≡ parsed f next
@@ -263,12 +272,14 @@ module _ (s : Buffer) where
       let ts = f .job .transitions in
       let (p₆, g₆, r₆) = reads-split (concatMap transitionNumbers ts) r₅ in
       let (p₇, g₇, g₈) = reads-first r₆ in
-      rw (ranged-exact s 1 2 .complete at 1 p₁ (one g₁) (omega arith, omega arith),
-      ranged-exact s 1 9 .complete p₁ «V» p₂ (one g₂) (ok .variables .0, omega (arith, ok .variables .1)),
-      ranged-exact s 1 65 .complete p₂ (f .states) p₃ (one g₃) (ok .states .0, omega (arith, ok .states .1)),
-      ranged-exact s 0 (f .states) .complete p₃ (f .job .start) p₄ (one g₄) (omega arith, ok .start),
-      ranged-exact s 0 257 .complete p₄ (length ts) p₅ (one g₅) (omega arith, omega (arith, ok .transitions-number)),
-      many-exact s (transition-exact s «V» (f .states)) (length ts) .complete p₅ ts p₆ g₆ (refl, ok .transitions),
-      ranged-exact s 1 65 .complete p₆ (length (f .job .forbidden)) p₇ (one g₇) (ok .forbidden-number .0, omega (arith, ok .forbidden-number .1)),
-      many-exact s (located-exact s «V» (f .states)) (length (f .job .forbidden)) .complete p₇ (f .job .forbidden) next g₈ (refl, ok .forbidden),
-      end-complete next whole)
+      rw (
+        ranged-exact s 1 2 .complete at 1 p₁ (one g₁) (omega arith, omega arith),
+        ranged-exact s 1 9 .complete p₁ «V» p₂ (one g₂) (ok .variables .0, omega (arith, ok .variables .1)),
+        ranged-exact s 1 65 .complete p₂ (f .states) p₃ (one g₃) (ok .states .0, omega (arith, ok .states .1)),
+        ranged-exact s 0 (f .states) .complete p₃ (f .job .start) p₄ (one g₄) (omega arith, ok .start),
+        ranged-exact s 0 257 .complete p₄ (length ts) p₅ (one g₅) (omega arith, omega (arith, ok .transitions-number)),
+        many-exact s (transition-exact s «V» (f .states)) (length ts) .complete p₅ ts p₆ g₆ (refl, ok .transitions),
+        ranged-exact s 1 65 .complete p₆ (length (f .job .forbidden)) p₇ (one g₇) (ok .forbidden-number .0, omega (arith, ok .forbidden-number .1)),
+        many-exact s (located-exact s «V» (f .states)) (length (f .job .forbidden)) .complete p₇ (f .job .forbidden) next g₈ (refl, ok .forbidden),
+        end-complete next whole,
+      )

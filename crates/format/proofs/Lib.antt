@@ -3,3 +3,4 @@ pub mod Parsing
 pub mod Files
 pub mod Covers
 pub mod Exact
+pub mod Guarantee

@@ -123,8 +123,10 @@ module _ (s : Buffer) where
     many-complete (suc k) at [] next g long oks = absurd (omega arith)
     many-complete (suc k) at (x ∷ xs) next g long oks =
         let (mid, g₁, g₂) = reads-split (numbers x) g in
-        rw (e .complete at x mid g₁ (oks x (List·Memᴰ·head refl)),
-        many-complete k mid xs next g₂ (omega arith) (λ y i. oks y (List·Memᴰ·tail i)))
+        rw (
+          e .complete at x mid g₁ (oks x (List·Memᴰ·head refl)),
+          many-complete k mid xs next g₂ (omega arith) (λ y i. oks y (List·Memᴰ·tail i)),
+        )
 
     pub many-exact : (k : ℕ) → Exact (many k p) (concatMap numbers) (λ xs. (length xs ≡ k) × ((x : A) → x ∈ xs → Ok x))
     many-exact k = record { sound = many-sound k; complete = λ at xs next g (long, oks). many-complete k at xs next g long oks }

@@ -43,7 +43,6 @@ module _ {s : List ℕ} where
       let (mid, a, b) = reads-split ns q in
       (mid, more g a, b)
 
-
 -- a number has a byte of the buffer, and the next place is further on
 number-in : (at left a b c n next : ℕ) → numberIn at left a b c ≡ Number n next → (0 < left) × (at < next)
 unfolding numberIn

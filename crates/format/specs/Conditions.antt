@@ -9,7 +9,7 @@ use Rattle.lists.specs.List.{_∈_}
 use Rattle.number.specs.NumberList.{numbers, decode}
 use Rattle.heap.specs.Heap.{empty}
 use Rattle.shape.specs.Shape.{size, Satisfies, InRange}
-use Rattle.run.specs.Run.{Transition, Located, Job}
+use Rattle.run.specs.Run.{Transition, Located, Job, Safe}
 use Rattle.cover.specs.Cover.{Cover, owed, AllHold, Named}
 use Rattle.format.specs.Job.{JobFile}
 use Rattle.format.specs.Numbers.{jobNumbers, certificateNumbers}
@@ -39,6 +39,11 @@ pub record JobInRange (f : JobFile) : Type 0 where
   pub forbidden-number : Between 1 64 (length (f .job .forbidden))
   pub forbidden : (m : Located) → m ∈ f .job .forbidden → LocatedInRange (f .job .variables) (f .states) m
 
+-- the bytes are those of the job f, number after number to the end
+pub record IsJob (bytes : List ℕ) (f : JobFile) : Type 0 where
+  pub in-range : JobInRange f
+  pub reads : decode bytes ≡ numbers (jobNumbers f)
+
 -- "N 1..512; N members (state, shape)"
 pub record MembersInRange (f : JobFile) (ms : List Located) : Type 0 where
   pub number : Between 1 512 (length ms)
@@ -56,8 +61,7 @@ pub record Conditions (job certificate : List ℕ) (counts : Counts) : Type 0 wh
   pub job-length : Between 1 65536 (length job)
   pub certificate-length : Between 1 65536 (length certificate)
   pub file : JobFile
-  pub job-range : JobInRange file
-  pub job-reads : decode job ≡ numbers (jobNumbers file)
+  pub job-is : IsJob job file
   pub members : List Located
   pub members-range : MembersInRange file members
   pub covers : List Cover
@@ -66,3 +70,9 @@ pub record Conditions (job certificate : List ℕ) (counts : Counts) : Type 0 wh
   pub start : (m : Located) → m ∈ members → m .state ≡ file .job .start → ¬ Satisfies empty (m .shape)
   pub hold : AllHold members covers (owed (file .job) members)
   pub counts-due : counts ≡ countsOf (file .job) members
+
+-- demand 3 of the bytes of a job: they are those of a job, and it is safe
+pub record SafeBytes (bytes : List ℕ) : Type 0 where
+  pub file : JobFile
+  pub job-is : IsJob bytes file
+  pub safe : Safe (file .job)
