@@ -14,29 +14,29 @@ use Rattle.shape.specs.Shape.{Satisfies}
 use Rattle.run.specs.Run.{Located}
 use Rattle.cover.specs.Cover.{Cover, owed, AllHold}
 use Rattle.format.specs.Parser.{Parsed, parsed, fault, each, Buffer, jobBuffer, certificateBuffer, within, onward, end}
-use Rattle.format.specs.Job.{JobFile, readJob}
+use Rattle.format.specs.Job.{JobFile, readWholeJob}
 use Rattle.format.specs.Certificate.{Member, withoutPlaces, readMembers, testStart, readCover}
 use Rattle.format.specs.Verdict.{Counts, Verdict, accepted, refused, readCertificate, answer, fits, verdict}
 use Rattle.format.specs.Numbers.{jobNumbers, memberNumbers, coverNumbers, certificateNumbers}
 use Rattle.format.specs.Conditions.{Between, LocatedInRange, IsJob, ImageForEach, countsOf, Conditions}
 use Rattle.format.proofs.Sequence.{Reads, reads-append, reads-split, reads-decode, decode-reads}
 use Rattle.format.proofs.Parsing.{then}
-use Rattle.format.proofs.Files.{end-sound, end-complete, job-sound, job-complete}
+use Rattle.format.proofs.Files.{end-sound, end-complete, job-exact, whole-sound, whole-complete}
 use Rattle.format.proofs.Covers.{members-sound, members-complete, tests-sound, tests-complete, covers-sound, covers-complete}
 
 r-fits : (s : List ℕ) → Reflect (Between 1 65536 (length s)) (fits s)
 r-fits s = r-iff (λ (a, b). (a, omega arith)) (λ (a, b). (a, omega arith)) (r-and (r-le 1 (length s)) (r-lt (length s) 65537))
 
 -- the job's parser reads what the bytes are
-pub job-read : (job : List ℕ) (f : JobFile) → IsJob job f → (next : ℕ) × (readJob (jobBuffer job) 0 ≡ parsed f next)
+pub job-read : (job : List ℕ) (f : JobFile) → IsJob job f → (next : ℕ) × (readWholeJob (jobBuffer job) 0 ≡ parsed f next)
 job-read job f i =
     let (next, g, whole) = decode-reads job (jobNumbers f) (i .reads) in
-    (next, job-complete (jobBuffer job) 0 f next g (i .in-range) whole)
+    (next, whole-complete (jobBuffer job) 0 f next (job-exact (jobBuffer job) .complete 0 f next g (i .in-range)) whole)
 
 module _ (job certificate : List ℕ) (counts : Counts) where
   -- what both parsers answer
   both : Parsed Counts
-  both = onward (readJob (jobBuffer job) 0) (λ f next. readCertificate (certificateBuffer certificate) f 0)
+  both = onward (readWholeJob (jobBuffer job) 0) (λ f next. readCertificate (certificateBuffer certificate) f 0)
 
   read-both : (r : Parsed Counts) → answer r ≡ accepted counts → (next : ℕ) × (r ≡ parsed counts next)
   read-both (parsed c next) e = let c-is : c ≡ counts = cc in (next, ap (λ x. parsed x next) c-is)
@@ -56,14 +56,15 @@ module _ (job certificate : List ℕ) (counts : Counts) where
   sound v =
       let (t, t′, a) = sizes v in
       let (last, h) = read-both both a in
-      then (readJob (jobBuffer job) 0) _
+      then (readWholeJob (jobBuffer job) 0) _
       (λ f next h₁. then (readMembers (certificateBuffer certificate) (f .job .variables) (f .states) 0) _
       (λ members p₂ h₂. then (each (testStart (f .job .start)) members p₂) _
       (λ us p₃ h₃. then (each (readCover (certificateBuffer certificate) (withoutPlaces members)) (owed (f .job) (withoutPlaces members)) p₃) _
       (λ vs p₄ h₄. then (end (certificateBuffer certificate) p₄) _
       (λ u p₅ h₅ r.
       let ms : List Located = withoutPlaces members in
-      let (g₁, ok, whole) = job-sound (jobBuffer job) 0 f next h₁ in
+      let (h₀, whole) = whole-sound (jobBuffer job) 0 f next h₁ in
+      let (g₁, ok) = job-exact (jobBuffer job) .sound 0 f next h₀ in
       let (g₂, number, oks) = members-sound (certificateBuffer certificate) (f .job .variables) (f .states) 0 members p₂ h₂ in
       let (avoid, p₃-is) = tests-sound (f .job .variables) (f .states) (f .job .start) members oks p₂ h₃ in
       let (cs, g₄, hold, images) = covers-sound (certificateBuffer certificate) (f .job .variables) ms (λ m i. oks m i .shape) (owed (f .job) ms) p₃ h₄ in
@@ -85,7 +86,7 @@ module _ (job certificate : List ℕ) (counts : Counts) where
 
   module _ (c : Conditions job certificate counts) where
     -- the parsers go through, whatever the places of the members
-    answers : (members : List Member) → withoutPlaces members ≡ c .members → (p₁ p₂ p₄ : ℕ) → readJob (jobBuffer job) 0 ≡ parsed (c .file) p₁
+    answers : (members : List Member) → withoutPlaces members ≡ c .members → (p₁ p₂ p₄ : ℕ) → readWholeJob (jobBuffer job) 0 ≡ parsed (c .file) p₁
         → readMembers (certificateBuffer certificate) (c .file .job .variables) (c .file .states) 0 ≡ parsed members p₂
         → Reads certificate p₂ (concatMap coverNumbers (c .covers)) p₄ → length certificate ≤ p₄ → both ≡ parsed counts p₄
     unfolding both readCertificate

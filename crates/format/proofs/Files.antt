@@ -15,7 +15,7 @@ use Rattle.shape.specs.Shape.{Shape, size, InRange}
 use Rattle.run.specs.Run.{Transition, Located, Job}
 use Rattle.cover.specs.Cover.{Named}
 use Rattle.format.specs.Parser.{parsed, many, Buffer, such, readAs, ranged, end}
-use Rattle.format.specs.Job.{JobFile, readShape, readLocated, readTransition, readJob}
+use Rattle.format.specs.Job.{JobFile, readShape, readLocated, readTransition, readJob, readWholeJob}
 use Rattle.format.specs.Numbers.{opNumbers, transitionNumbers, shapeNumbers, locatedNumbers, jobNumbers}
 use Rattle.format.specs.Conditions.{LocatedInRange, TransitionInRange, JobInRange}
 use Rattle.format.proofs.Sequence.{Reads, more, one, reads-first, reads-append, reads-split}
@@ -215,8 +215,7 @@ module _ (s : Buffer) where
       let n-is : n ≡ 1 = omega arith in
       subst (λ (k : ℕ). Reads (s .bytes) at (k ∷ []) next) n-is g
 
-  pub job-sound : (at : ℕ) (f : JobFile) (next : ℕ) → readJob s at ≡ parsed f next
-      → Reads (s .bytes) at (jobNumbers f) next × JobInRange f × (length (s .bytes) ≤ next)
+  job-sound : (at : ℕ) (f : JobFile) (next : ℕ) → readJob s at ≡ parsed f next → Reads (s .bytes) at (jobNumbers f) next × JobInRange f
   unfolding readJob
   job-sound at f next =
       then (ranged s 1 2 at) _
@@ -227,8 +226,7 @@ module _ (s : Buffer) where
       (λ count p₅ h₅. then (many count (readTransition s variables states) p₅) _
       (λ transitions p₆ h₆. then (ranged s 1 65 p₆) _
       (λ bads p₇ h₇. then (many bads (readLocated s variables states) p₇) _
-      (λ forbidden p₈ h₈. then (end s p₈) _
-      (λ u p₉ h₉ r.
+      (λ forbidden p₈ h₈ r.
       let (g₂, (low₂, high₂)) = ranged-exact s 1 9 .sound p₁ variables p₂ h₂ in
       let (g₃, (low₃, high₃)) = ranged-exact s 1 65 .sound p₂ states p₃ h₃ in
       let (g₄, (_, high₄)) = ranged-exact s 0 states .sound p₃ start p₄ h₄ in
@@ -236,17 +234,12 @@ module _ (s : Buffer) where
       let (g₆, (long, oks)) = many-exact s (transition-exact s variables states) count .sound p₅ transitions p₆ h₆ in
       let (g₇, (low₇, high₇)) = ranged-exact s 1 65 .sound p₆ bads p₇ h₇ in
       let (g₈, (long′, oks′)) = many-exact s (located-exact s variables states) bads .sound p₇ forbidden p₈ h₈ in
-      let (whole, p₉-is) = end-sound p₈ h₉ in
       let f-is : record { states = states; job = record { variables = variables; start = start; transitions = transitions; forbidden = forbidden } } ≡ f = cc in
       let next-is : p₈ ≡ next = cc in
       rw (← f-is, ← next-is) (
-        rw (long, long′) (reads-append (version at one p₁ h₁)
-            (reads-append g₂
-            (reads-append g₃
-            (reads-append g₄
-            (reads-append g₅
-            (reads-append g₆
-            (reads-append g₇ g₈))))))),
+        rw (long, long′)
+            (reads-append (version at one p₁ h₁)
+            (reads-append g₂ (reads-append g₃ (reads-append g₄ (reads-append g₅ (reads-append g₆ (reads-append g₇ g₈))))))),
         record {
           variables = (low₂, omega arith);
           states = (low₃, omega arith);
@@ -256,13 +249,11 @@ module _ (s : Buffer) where
           forbidden-number = (omega arith, omega arith);
           forbidden = oks′;
         },
-        whole,
-      ))))))))))
+      )))))))))
 
-  pub job-complete : (at : ℕ) (f : JobFile) (next : ℕ) → Reads (s .bytes) at (jobNumbers f) next → JobInRange f → length (s .bytes) ≤ next
-      → readJob s at ≡ parsed f next
+  job-complete : (at : ℕ) (f : JobFile) (next : ℕ) → Reads (s .bytes) at (jobNumbers f) next → JobInRange f → readJob s at ≡ parsed f next
   unfolding readJob
-  job-complete at f next r ok whole =
+  job-complete at f next r ok =
       let (p₁, g₁, r₁) = reads-first r in
       let (p₂, g₂, r₂) = reads-first r₁ in
       let (p₃, g₃, r₃) = reads-first r₂ in
@@ -281,5 +272,23 @@ module _ (s : Buffer) where
         many-exact s (transition-exact s «V» (f .states)) (length ts) .complete p₅ ts p₆ g₆ (refl, ok .transitions),
         ranged-exact s 1 65 .complete p₆ (length (f .job .forbidden)) p₇ (one g₇) (ok .forbidden-number .0, omega (arith, ok .forbidden-number .1)),
         many-exact s (located-exact s «V» (f .states)) (length (f .job .forbidden)) .complete p₇ (f .job .forbidden) next g₈ (refl, ok .forbidden),
-        end-complete next whole,
       )
+
+  pub job-exact : Exact s (readJob s) jobNumbers JobInRange
+  job-exact = record { sound = job-sound; complete = job-complete }
+
+  pub whole-sound : (at : ℕ) (f : JobFile) (next : ℕ) → readWholeJob s at ≡ parsed f next
+      → (readJob s at ≡ parsed f next) × (length (s .bytes) ≤ next)
+  unfolding readWholeJob
+  whole-sound at f next =
+      then (readJob s at) _
+      (λ g mid h₁. then (end s mid) _
+      (λ u last h₂ r.
+      let g-is : g ≡ f = cc in
+      let (whole, mid-is) = end-sound mid h₂ in
+      let next-is : mid ≡ next = cc in
+      rw (← g-is, ← next-is) (h₁, whole)))
+
+  pub whole-complete : (at : ℕ) (f : JobFile) (next : ℕ) → readJob s at ≡ parsed f next → length (s .bytes) ≤ next → readWholeJob s at ≡ parsed f next
+  unfolding readWholeJob
+  whole-complete at f next h whole = rw (h, end-complete next whole)

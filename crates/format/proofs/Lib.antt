@@ -4,3 +4,4 @@ pub mod Files
 pub mod Covers
 pub mod Exact
 pub mod Guarantee
+pub mod Local

@@ -2,7 +2,8 @@
 use mathlib.Core.Bool.{Bool, true, false, cond}
 use mathlib.Core.List.{List, [], _∷_, _++_, List·Memᴰ·head, List·Memᴰ·tail, List·Memᴰ·not-nil}
 use mathlib.Core.Option.{Option, none, some}
-use mathlib.Core.Path.{_≡_, refl, sym, ap, subst, _∙_}
+use mathlib.Core.Logic.{_⊎_, inl, inr}
+use mathlib.Core.Path.{_≡_, refl, sym, ap, ap₂, subst, _∙_}
 use Prim.Native.Nat.{ℕ, zero, suc, _≤_, _<_}
 use native.Mathlib.Omega.{arith}
 use lib.Dec.{T}
@@ -15,7 +16,7 @@ use Rattle.number.specs.declared.Read.{Read}
 use Rattle.number.specs.declared.Read.the-variants.{Number, Unreadable}
 use Rattle.shape.specs.Shape.{AllBelow}
 use Rattle.format.specs.Parser.{Parsed, parsed, fault, Parser, onward, require, many, Buffer, within, such, meant, judged, readAs, ranged}
-use Rattle.format.proofs.Sequence.{Reads, done, one, reads-none, reads-one, reads-append, reads-split}
+use Rattle.format.proofs.Sequence.{unreadable-at, Reads, done, one, reads-none, reads-one, reads-append, reads-split}
 
 pub not-fault : {A : Type 0} (x : A) (next number place : ℕ) → fault number place ≡ parsed x next → ⊥
 not-fault x next number place e = let z : _≡_ {A = ℕ} 0 1 = cc in omega arith
@@ -26,11 +27,25 @@ pub then : {A B Goal : Type 0} (r : Parsed A) (rest : A → Parser B) {y : B} {n
 then (parsed x mid) rest go e = go x mid refl e
 then (fault number place) rest {y} {next} go e = absurd (not-fault y next number place e)
 
+-- one that was refused: at first, or in the rest
+pub then-fault : {A B Goal : Type 0} (r : Parsed A) (rest : A → Parser B) {number place : ℕ}
+    → ((x : A) (mid : ℕ) → r ≡ parsed x mid → rest x mid ≡ fault number place → Goal) → (r ≡ fault number place → Goal)
+    → onward r rest ≡ fault number place → Goal
+then-fault (parsed x mid) rest go stop e = go x mid refl e
+then-fault {A} (fault k q) rest {number} {place} go stop e =
+    let k-is : k ≡ number = cc in
+    let q-is : q ≡ place = cc in
+    stop (ap₂ {A = ℕ} {B = ℕ} {C = Parsed A} fault k-is q-is)
+
 -- ---- tests
 
 pub require-sound : (test : Bool) (number place at : ℕ) {u : Unit {0}} {next : ℕ} → require test number place at ≡ parsed u next → T test × (at ≡ next)
 require-sound true number place at e = (tt, cc)
 require-sound false number place at {u} {next} e = absurd (not-fault u next number place e)
+
+pub require-fault : (test : Bool) (number place at : ℕ) {k q : ℕ} → require test number place at ≡ fault k q → (number ≡ k) × (place ≡ q) × (¬ T test)
+require-fault true number place at {k} {q} e = absurd (not-fault tt at k q (sym e))
+require-fault false number place at e = (cc, cc, λ t. t)
 
 pub require-complete : (test : Bool) (number place at : ℕ) → T test → require test number place at ≡ parsed tt at
 require-complete test number place at t = cond-true test (parsed tt at) (fault number place) t
@@ -55,6 +70,33 @@ module _ (s : Buffer) where
           → (n : ℕ) × (numberAt (s .bytes) at ≡ Number n next) × (meaning n ≡ some x)
       by-read (Number n k) g e = by-meaning n k g (meaning n) refl e
       by-read (Unreadable p) g e = absurd (not-fault x next (s .unreadable) at e)
+
+  -- the number at a place can't be read, or reads as one for which P holds
+  abbrev pub Faulty : (ℕ → Type 0) → ℕ → ℕ → Type 0
+  Faulty P number place =
+      ((number ≡ s .unreadable) × (numberAt (s .bytes) place ≡ Unreadable place))
+      ⊎ ((number ≡ s .outside) × ((n : ℕ) × (next : ℕ) × (numberAt (s .bytes) place ≡ Number n next) × P n))
+
+  pub read-fault : {A : Type 0} (meaning : ℕ → Option A) (at number place : ℕ) → readAs s meaning at ≡ fault number place
+      → (at ≡ place) × Faulty (λ n. meaning n ≡ none) number at
+  unfolding readAs
+  read-fault {A} meaning at number place = by-read (numberAt (s .bytes) at) refl
+    where
+      Result : Type 0
+      Result = (at ≡ place) × Faulty (λ n. meaning n ≡ none) number at
+
+      by-meaning : (n k : ℕ) → numberAt (s .bytes) at ≡ Number n k → (o : Option A) → meaning n ≡ o → judged s at k o ≡ fault number place → Result
+      by-meaning n k g none h e = (cc, inr (cc, (n, k, g, h)))
+      by-meaning n k g (some y) h e = absurd (not-fault y k number place (sym e))
+
+      by-read : (r : Read) → numberAt (s .bytes) at ≡ r → meant s meaning at r ≡ fault number place → Result
+      by-read (Number n k) g e = by-meaning n k g (meaning n) refl e
+      by-read (Unreadable p) g e = (cc, inl (cc, g ∙ ap Unreadable (sym (unreadable-at (s .bytes) at p g))))
+
+  pub read-outside : {A : Type 0} (meaning : ℕ → Option A) (at n next : ℕ) → numberAt (s .bytes) at ≡ Number n next → meaning n ≡ none
+      → readAs s meaning at ≡ fault (s .outside) at
+  unfolding readAs
+  read-outside meaning at n next g h = ap (meant s meaning at) g ∙ ap (judged s at next) h
 
   pub read-complete : {A : Type 0} (meaning : ℕ → Option A) (at n next : ℕ) (x : A) → numberAt (s .bytes) at ≡ Number n next → meaning n ≡ some x
       → readAs s meaning at ≡ parsed x next

@@ -44,7 +44,7 @@ module _ {s : List ℕ} where
       (mid, more g a, b)
 
 -- a number has a byte of the buffer, and the next place is further on
-number-in : (at left a b c n next : ℕ) → numberIn at left a b c ≡ Number n next → (0 < left) × (at < next)
+pub number-in : (at left a b c n next : ℕ) → numberIn at left a b c ≡ Number n next → (0 < left) × (at < next)
 unfolding numberIn
 number-in at left a b c n next =
     cond-cases Q (r-le left 0) (λ _. unread)
@@ -61,6 +61,31 @@ number-in at left a b c n next =
 
     unread : Q (Unreadable at)
     unread e = let z : _≡_ {A = ℕ} 0 1 = cc in absurd (omega arith)
+
+-- what can't be read is refused at the place asked for
+pub unreadable-at : (s : List ℕ) (at p : ℕ) → numberAt s at ≡ Unreadable p → at ≡ p
+unfolding numberIn
+unreadable-at s at p =
+    cond-cases Q (r-le left 0) (λ _. unread)
+    (λ _. cond-cases Q (r-lt (getD s at 0) 128) (λ _. read)
+    (λ _. cond-cases Q (r-le left 1) (λ _. unread)
+    (λ _. cond-cases Q (r-eq (getD s (at + 1) 0) 0) (λ _. unread)
+    (λ _. cond-cases Q (r-lt (getD s (at + 1) 0) 128) (λ _. read)
+    (λ _. cond-cases Q (r-le left 2) (λ _. unread)
+    (λ _. cond-cases Q (r-eq (getD s (at + 2) 0) 0) (λ _. unread)
+    (λ _. cond-cases Q (r-lt (getD s (at + 2) 0) 4) (λ _. read) (λ _. unread))))))))
+  where
+    left : ℕ
+    left = length s - at
+
+    Q : Read → Type 0
+    Q r = r ≡ Unreadable p → at ≡ p
+
+    unread : Q (Unreadable at)
+    unread e = cc
+
+    read : {n next : ℕ} → Q (Number n next)
+    read e = let z : _≡_ {A = ℕ} 0 1 = cc in absurd (omega arith)
 
 module _ (s : List ℕ) where
   decode-step : (turns at : ℕ) → at < length s → decodeFrom (suc turns) s at ≡ onward (decodeFrom turns s) (numberAt s at)

@@ -50,6 +50,12 @@ readJob s = do
   transitions ← many count (readTransition s variables states)
   bads ← ranged s 1 65
   forbidden ← many bads (readLocated s variables states)
-  end s
   let job : Job = record { variables = variables; start = start; transitions = transitions; forbidden = forbidden }
   return (record { states = states; job = job })
+
+-- the job, and nothing after it
+unfoldable pub readWholeJob : Buffer → Parser JobFile
+readWholeJob s = do
+  f ← readJob s
+  end s
+  return f

@@ -6,7 +6,7 @@ use lib.ListN.{length}
 use Rattle.run.specs.Run.{Located}
 use Rattle.cover.specs.Cover.{owed}
 use Rattle.format.specs.Parser.{Parsed, parsed, fault, onward, Parser, _>>=_, _>>_, return, each, Buffer, jobBuffer, certificateBuffer, within, end}
-use Rattle.format.specs.Job.{JobFile, readJob}
+use Rattle.format.specs.Job.{JobFile, readWholeJob}
 use Rattle.format.specs.Certificate.{withoutPlaces, readMembers, testStart, readCover}
 
 -- "The counts are B, N and the covers in the order above."
@@ -42,6 +42,6 @@ fits s = within 1 65537 (length s)
 -- "1. The job's length is 0 or above 65,536 (place 0). 2. The certificate's length is 0 or above 65,536 (place 0)."
 unfoldable pub verdict : List ℕ → List ℕ → Verdict
 verdict job certificate =
-    let read = onward (readJob (jobBuffer job) 0) (λ f next. readCertificate (certificateBuffer certificate) f 0) in
+    let read = onward (readWholeJob (jobBuffer job) 0) (λ f next. readCertificate (certificateBuffer certificate) f 0) in
     let sized = cond (fits certificate) (answer read) (refused 2 0) in
     cond (fits job) sized (refused 1 0)
