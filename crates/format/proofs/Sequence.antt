@@ -62,6 +62,10 @@ number-in at left a b c n next =
     unread : Q (Unreadable at)
     unread e = let z : _≡_ {A = ℕ} 0 1 = cc in absurd (omega arith)
 
+pub reads-on : {s : List ℕ} {at next : ℕ} {ns : List ℕ} → Reads s at ns next → at ≤ next
+reads-on done = omega arith
+reads-on (more {at = a} {n = n} {mid = k} g r) = let (_, b) = number-in a _ _ _ _ n k g in let c = reads-on r in omega arith
+
 -- what can't be read is refused at the place asked for
 pub unreadable-at : (s : List ℕ) (at p : ℕ) → numberAt s at ≡ Unreadable p → at ≡ p
 unfolding numberIn
