@@ -5,3 +5,4 @@ pub mod Covers
 pub mod Exact
 pub mod Guarantee
 pub mod Local
+pub mod Refusals

@@ -7,9 +7,10 @@ use mathlib.Core.Path.{_≡_, refl, sym, ap, subst, _∙_}
 use Prim.Native.Nat.{ℕ, zero, suc, _+_, _-_, _*_, _≤_, _<_, min}
 use native.Mathlib.Omega.{arith}
 use lib.ListN.{length, getD, take, length-take, getElem?}
-use lib.Seq.{getD-take}
+use lib.Seq.{getD-take, take-take}
 use Rattle.lists.proofs.Reflect.{r-le, r-lt, r-eq, cond-cases}
 use Rattle.number.specs.Number.{numberIn, numberAt}
+use Rattle.number.specs.NumberList.{numbers, decode}
 use Rattle.number.specs.declared.Read.{Read}
 use Rattle.number.specs.declared.Read.the-variants.{Number, Unreadable}
 use Rattle.number.proofs.Reading.{one-byte, two-bytes, three-bytes}
@@ -20,7 +21,7 @@ use Rattle.cover.specs.Cover.{holds?}
 use Rattle.format.specs.Parser.{Parsed, parsed, fault, Parser, onward, _>>=_, return, here, require, many, each, Buffer, readAs}
 use Rattle.format.specs.Job.{readShape, readLocated, readTransition, readJob}
 use Rattle.format.specs.Certificate.{readMember, readMembers, readCover}
-use Rattle.format.proofs.Sequence.{Reads, done, one, reads-on, reads-append, number-in}
+use Rattle.format.proofs.Sequence.{Reads, done, more, one, reads-on, reads-append, number-in, reads-decode}
 use Rattle.format.proofs.Parsing.{not-fault, then, then-fault, require-sound, require-fault, read-sound, read-complete, read-outside, Faulty, read-fault}
 
 module _ (s s′ : List ℕ) (e : ℕ) (agree : take e s ≡ take e s′) where
@@ -73,6 +74,16 @@ module _ (s s′ : List ℕ) (e : ℕ) (agree : take e s ≡ take e s′) where
 
       unread : Q (Unreadable at)
       unread r k = let z : _≡_ {A = ℕ} 0 1 = cc in absurd (omega arith)
+
+  reads-local : {at next : ℕ} {ns : List ℕ} → Reads s at ns next → next ≤ e → Reads s′ at ns next
+  reads-local done k = done
+  reads-local (more {at = a} {n = n} {mid = m} g r) k = let l = reads-on r in more (number-local a n m g (omega arith)) (reads-local r k)
+
+-- what is read before a place
+pub reads-before : (s : List ℕ) {place : ℕ} {ns : List ℕ} → Reads s 0 ns place → decode (take place s) ≡ numbers ns
+reads-before s {place} {ns} r =
+    reads-decode (take place s) ns place (reads-local s (take place s) place (sym (take-take place place s (omega arith))) r (omega arith))
+    (rw length-take (omega arith))
 
 -- ---- two buffers that agree up to the place e, and parsers of one and of the other
 
