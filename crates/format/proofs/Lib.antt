@@ -6,3 +6,4 @@ pub mod Exact
 pub mod Guarantee
 pub mod Local
 pub mod Refusals
+pub mod Meaning

@@ -2,7 +2,7 @@
 use mathlib.Core.Bool.{Bool, true, false, not}
 use mathlib.Core.List.{List, [], _∷_, _++_, List·Memᴰ·head, List·Memᴰ·tail, List·Memᴰ·not-nil}
 use mathlib.Core.Logic.{_⊎_, inl, inr}
-use mathlib.Core.Option.{some}
+use mathlib.Core.Option.{Option, some}
 use mathlib.Core.Path.{_≡_, refl, sym, ap, subst, _∙_}
 use Prim.Native.Nat.{ℕ, zero, suc, _≤_, _<_}
 use native.Mathlib.Decide.{decLt}
@@ -17,12 +17,14 @@ use Rattle.shape.specs.Shape.{size, Satisfies, AllBelow, InRange}
 use Rattle.run.specs.Run.{Located}
 use Rattle.run.proofs.Runs.{getElem-mem}
 use Rattle.cover.specs.Cover.{Cover, Holds, holds?, AllHold}
-use Rattle.format.specs.Parser.{Parsed, parsed, fault, many, each, Buffer, readAs, ranged, end}
-use Rattle.format.specs.Certificate.{Member, withoutPlaces, readMember, atStart, testStart, readCover}
+use Rattle.format.specs.Parser.{parsed, fault, Parser, many, each, Buffer, within, such, readAs, ranged, end}
+use Rattle.format.specs.Job.{readJob}
+use Rattle.format.specs.Certificate.{Member, withoutPlaces, readMember, readMembers, atStart, testStart, readCover}
 use Rattle.format.specs.Numbers.{locatedNumbers, coverNumbers}
 use Rattle.format.specs.Conditions.{LocatedInRange, ImageForEach}
 use Rattle.format.proofs.Sequence.{Reads, done, more, reads-append}
-use Rattle.format.proofs.Parsing.{not-fault, then, then-fault, require-sound, require-fault, read-sound, codes-exact}
+use Rattle.format.proofs.Parsing.{not-fault, then, then-fault, require-sound, require-fault, Faulty, read-sound, codes-exact}
+use Rattle.format.proofs.Local.{Local, local-read, local-many, local-members, local-job}
 use Rattle.format.proofs.Files.{located-exact}
 use Rattle.format.proofs.Covers.{member-read, Avoids, Every, r-start, r-avoids, holds-reflects, cover-sound}
 
@@ -35,6 +37,37 @@ end-fault s at e =
     go : Dec (at < length (s .bytes)) → ¬ T (leb (length (s .bytes)) at) → at < length (s .bytes)
     go (yes h) n = h
     go (no h) n = absurd (n (r-le (length (s .bytes)) at .tests (omega arith)))
+
+-- ---- numbers
+
+-- a number at the place, after others, can't be read or breaks its range
+abbrev pub NumberRefused : Buffer → ℕ → ℕ → ℕ → Type 0
+NumberRefused s at number place = (ns : List ℕ) × Reads (s .bytes) at ns place × Faulty s (λ n. Unit {0}) number place
+
+-- the laws of parsers that read numbers alone
+module _ (s : Buffer) where
+  abbrev pub Plain : {A : Type 0} → Parser A → Type 0
+  Plain p = Local (s .bytes) (s .bytes) (s .unreadable) (s .outside) (s .left) 0 refl (λ k. ⊥) (λ k t. absurd t) p p
+
+  pub refused-number : {A : Type 0} {p : Parser A} → Plain p → (at number place : ℕ) → p at ≡ fault number place → NumberRefused s at number place
+  refused-number i at number place h = only (i .faults at number place h)
+    where
+      only : ⊥ ⊎ NumberRefused s at number place → NumberRefused s at number place
+      only (inl t) = absurd t
+      only (inr f) = f
+
+  plain-read : {A : Type 0} (meaning : ℕ → Option A) → Plain (readAs s meaning)
+  plain-read meaning = local-read (s .bytes) (s .bytes) (s .unreadable) (s .outside) (s .left) 0 refl (λ k. ⊥) (λ k t. absurd t) meaning
+
+  plain-many : {A : Type 0} {p : Parser A} → Plain p → (k : ℕ) → Plain (many k p)
+  plain-many i k = local-many (s .bytes) (s .bytes) (s .unreadable) (s .outside) (s .left) 0 refl (λ k. ⊥) (λ k t. absurd t) i k
+
+  pub plain-members : (variables states : ℕ) → Plain (readMembers s variables states)
+  plain-members variables states =
+      local-members (s .bytes) (s .bytes) (s .unreadable) (s .outside) (s .left) 0 refl (λ k. ⊥) (λ k t. absurd t) variables states
+
+  pub plain-job : Plain (readJob s)
+  plain-job = local-job (s .bytes) (s .bytes) (s .unreadable) (s .outside) (s .left) 0 refl (λ k. ⊥) (λ k t. absurd t)
 
 -- ---- members
 
@@ -181,3 +214,35 @@ module _ (s : Buffer) (variables : ℕ) (ms : List Located) (oks : (m : Located)
     pub next : ℕ
     pub reads : Reads (s .bytes) at (coverNumbers cover) next
     pub fails : ¬ Holds ms cover o
+
+  -- a number of the cover is refused, or the cover does not hold
+  pub cover-fault : (o : Located) (at number place : ℕ) → readCover s ms o at ≡ fault number place
+      → ((9 ≡ number) × (at ≡ place) × Fails o at) ⊎ NumberRefused s at number place
+  unfolding readCover
+  cover-fault o at number place =
+      then-fault (readAs s (getElem? ms) at) _
+      (λ m a h₁. then-fault (many (size (m .shape)) (ranged s 0 (size (o .shape))) a) _
+      (λ images b h₂ h₃.
+      let (n, g₁, numbered) = read-sound s (getElem? ms) at m a h₁ in
+      let (g₂, (long, below)) = codes-exact s (size (m .shape)) (size (o .shape)) .sound a images b h₂ in
+      let (k, q, t) = require-fault (holds? m images o) 9 at b h₃ in
+      let i = getElem-mem ms n m numbered in
+      let c : Cover = record { member = n; images = images } in
+      inl (k, q,
+      record {
+        cover = c;
+        member = m;
+        numbered = numbered;
+        images = long;
+        below = below;
+        next = b;
+        reads = more g₁ g₂;
+        fails = λ h.
+            let m-is : h .member ≡ m = cc in
+            t (holds-reflects s variables ms oks m o images i long below .tests (rw m-is at (h .state), rw m-is at (h .embeds)));
+      }))
+      (λ h₂.
+      let (n, g, _) = read-sound s (getElem? ms) at m a h₁ in
+      let (ns, r, f) = refused-number s (plain-many s (plain-read s (such (within 0 (size (o .shape))))) (size (m .shape))) a number place h₂ in
+      inr (n ∷ ns, more g r, f)))
+      (λ h₁. inr (refused-number s (plain-read s (getElem? ms)) at number place h₁))

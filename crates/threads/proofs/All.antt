@@ -4,11 +4,11 @@ use Rattle.number.specs.Number.{numberIn}
 use Rattle.format.specs.Parser.{many, each, readAs, end}
 use Rattle.format.specs.Job.{readShape, readLocated, readTransition, readJob, readWholeJob}
 use Rattle.format.specs.Certificate.{readMember, readMembers, readCover}
-use Rattle.format.specs.Verdict.{readCertificate, verdict}
+use Rattle.format.specs.Verdict.{readCertificate, readBoth, verdict}
 use Rattle.threads.specs.Rows.{P1, P2, P3, P4, P5, P6, P7, P8, P9, P10, P11, P12, All}
 
 pub all : All
-unfolding numberIn many each readAs end readShape readLocated readTransition readJob readWholeJob readMember readMembers readCover readCertificate verdict
+unfolding numberIn many each readAs end readShape readLocated readTransition readJob readWholeJob readMember readMembers readCover readCertificate readBoth verdict
 all P1 = refl
 all P2 = refl
 all P3 = refl
