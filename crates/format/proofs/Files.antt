@@ -4,6 +4,7 @@ use mathlib.Core.List.{List, [], _∷_, _++_}
 use mathlib.Core.Option.{Option, none, some}
 use mathlib.Core.Path.{_≡_, refl, sym, ap, subst, _∙_}
 use Prim.Native.Nat.{ℕ, zero, suc, _≤_, _<_}
+use native.Mathlib.Decide.{decLt}
 use native.Mathlib.Omega.{arith}
 use lib.Dec.{T, leb}
 use lib.ListN.{length}
@@ -14,12 +15,12 @@ use Rattle.heap.specs.Place.{cell}
 use Rattle.shape.specs.Shape.{Shape, size, InRange}
 use Rattle.run.specs.Run.{Transition, Located, Job}
 use Rattle.cover.specs.Cover.{Named}
-use Rattle.format.specs.Parser.{parsed, many, Buffer, such, readAs, ranged, end}
+use Rattle.format.specs.Parser.{parsed, fault, many, Buffer, such, readAs, ranged, end}
 use Rattle.format.specs.Job.{JobFile, readShape, readLocated, readTransition, readJob, readWholeJob}
 use Rattle.format.specs.Numbers.{opNumbers, transitionNumbers, shapeNumbers, locatedNumbers, jobNumbers}
 use Rattle.format.specs.Conditions.{LocatedInRange, TransitionInRange, JobInRange}
 use Rattle.format.proofs.Sequence.{Reads, more, one, reads-first, reads-append, reads-split}
-use Rattle.format.proofs.Parsing.{then, require-sound, require-complete, read-sound, read-complete, Exact, such-exact, ranged-exact, many-exact, codes-exact}
+use Rattle.format.proofs.Parsing.{then, require-sound, require-fault, require-complete, read-sound, read-complete, Exact, such-exact, ranged-exact, many-exact, codes-exact}
 
 -- ---- the table of kinds
 
@@ -206,6 +207,16 @@ module _ (s : Buffer) where
   pub end-complete : (at : ℕ) → length (s .bytes) ≤ at → end s at ≡ parsed tt at
   unfolding end
   end-complete at h = require-complete (leb (length (s .bytes)) at) (s .left) at at (r-le (length (s .bytes)) at .tests h)
+
+  pub end-fault : (at : ℕ) {number place : ℕ} → end s at ≡ fault number place → (s .left ≡ number) × (at ≡ place) × (at < length (s .bytes))
+  unfolding end
+  end-fault at e =
+      let (k, q, n) = require-fault (leb (length (s .bytes)) at) (s .left) at at e in
+      (k, q, go (decLt at (length (s .bytes))) n)
+    where
+      go : Dec (at < length (s .bytes)) → ¬ T (leb (length (s .bytes)) at) → at < length (s .bytes)
+      go (yes h) n = h
+      go (no h) n = absurd (n (r-le (length (s .bytes)) at .tests (omega arith)))
 
   -- ---- jobs
 

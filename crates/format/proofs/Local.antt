@@ -18,10 +18,11 @@ use Rattle.heap.specs.Operation.{kindOf}
 use Rattle.shape.specs.Shape.{size}
 use Rattle.run.specs.Run.{Located}
 use Rattle.cover.specs.Cover.{holds?}
-use Rattle.format.specs.Parser.{Parsed, parsed, fault, Parser, onward, _>>=_, return, here, require, many, each, Buffer, readAs}
+use Rattle.format.specs.Parser.{Parsed, parsed, fault, Parser, onward, _>>=_, _>>_, return, here, require, many, each, Buffer, readAs, end}
 use Rattle.format.specs.Job.{readShape, readLocated, readTransition, readJob}
 use Rattle.format.specs.Certificate.{readMember, readMembers, readCover}
 use Rattle.format.proofs.Sequence.{Reads, done, more, one, reads-on, reads-append, number-in, reads-decode}
+use Rattle.format.proofs.Files.{end-fault}
 use Rattle.format.proofs.Parsing.{not-fault, then, then-fault, require-sound, require-fault, read-sound, read-complete, read-outside, Faulty, read-fault}
 
 module _ (s s′ : List ℕ) (e : ℕ) (agree : take e s ≡ take e s′) where
@@ -193,6 +194,14 @@ module _ (b b′ : List ℕ) (u o l e : ℕ) (agree : take e b ≡ take e b′) 
         after : (at mid number place : ℕ) → (ns : List ℕ) × Reads b at ns mid → Tests number ⊎ Refused mid number place → Tests number ⊎ Refused at number place
         after at mid number place (ns, g) (inl t) = inl t
         after at mid number place (ns, g) (inr (ms, k, f)) = inr (ns ++ ms, reads-append g k, f)
+
+  -- at the end nothing is refused as out of range
+  pub quiet-end : {A : Type 0} → l ≢ o → (x : A) → SameFault (end s >> return x) (end s′ >> return x)
+  quiet-end differ x =
+      record { fault-on = λ at place h. absurd (never at place h); same-fault = λ at place n next h g k. absurd (never at place h) }
+    where
+      never : (at place : ℕ) → (end s >> return x) at ≡ fault o place → ⊥
+      never at place = then-fault (end s at) _ (λ v a h r. not-fault x a o place (sym r)) (λ h. differ (end-fault s at h .0))
 
   pub local-many : {A : Type 0} {p p′ : Parser A} → Local p p′ → (k : ℕ) → Local (many k p) (many k p′)
   unfolding many

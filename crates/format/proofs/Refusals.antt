@@ -5,19 +5,17 @@ use mathlib.Core.Logic.{_⊎_, inl, inr}
 use mathlib.Core.Option.{Option, some}
 use mathlib.Core.Path.{_≡_, refl, sym, ap, subst, _∙_}
 use Prim.Native.Nat.{ℕ, zero, suc, _≤_, _<_}
-use native.Mathlib.Decide.{decLt}
 use native.Mathlib.Omega.{arith}
-use lib.Dec.{T, leb}
+use lib.Dec.{T}
 use lib.ListN.{length, getElem?}
 use Rattle.lists.specs.List.{_∈_, concatMap}
 use Rattle.lists.proofs.List.{all-cons}
-use Rattle.lists.proofs.Reflect.{r-le}
 use Rattle.heap.specs.Heap.{empty}
 use Rattle.shape.specs.Shape.{size, Satisfies, AllBelow, InRange}
 use Rattle.run.specs.Run.{Located}
 use Rattle.run.proofs.Runs.{getElem-mem}
 use Rattle.cover.specs.Cover.{Cover, Holds, holds?, AllHold}
-use Rattle.format.specs.Parser.{parsed, fault, Parser, many, each, Buffer, within, such, readAs, ranged, end}
+use Rattle.format.specs.Parser.{parsed, fault, Parser, many, each, Buffer, within, such, readAs, ranged}
 use Rattle.format.specs.Job.{readJob}
 use Rattle.format.specs.Certificate.{Member, withoutPlaces, readMember, readMembers, atStart, testStart, readCover}
 use Rattle.format.specs.Numbers.{locatedNumbers, coverNumbers}
@@ -27,16 +25,6 @@ use Rattle.format.proofs.Parsing.{not-fault, then, then-fault, require-
 use Rattle.format.proofs.Local.{Local, local-read, local-many, local-members, local-job}
 use Rattle.format.proofs.Files.{located-exact}
 use Rattle.format.proofs.Covers.{member-read, Avoids, Every, r-start, r-avoids, holds-reflects, cover-sound}
-
-pub end-fault : (s : Buffer) (at : ℕ) {number place : ℕ} → end s at ≡ fault number place → (s .left ≡ number) × (at ≡ place) × (at < length (s .bytes))
-unfolding end
-end-fault s at e =
-    let (k, q, n) = require-fault (leb (length (s .bytes)) at) (s .left) at at e in
-    (k, q, go (decLt at (length (s .bytes))) n)
-  where
-    go : Dec (at < length (s .bytes)) → ¬ T (leb (length (s .bytes)) at) → at < length (s .bytes)
-    go (yes h) n = h
-    go (no h) n = absurd (n (r-le (length (s .bytes)) at .tests (omega arith)))
 
 -- ---- numbers
 
