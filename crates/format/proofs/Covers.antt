@@ -43,7 +43,7 @@ module _ (s : Buffer) (variables states : ℕ) where
       let next-is : a ≡ next = cc in
       rw (← m-is, ← next-is) (h, refl))
 
-  without-places : (k at : ℕ) (ms : List Member) (next : ℕ) → many k (readMember s variables states) at ≡ parsed ms next
+  pub without-places : (k at : ℕ) (ms : List Member) (next : ℕ) → many k (readMember s variables states) at ≡ parsed ms next
       → many k (readLocated s variables states) at ≡ parsed (withoutPlaces ms) next
   unfolding many
   without-places zero at ms next e =

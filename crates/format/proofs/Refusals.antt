@@ -21,10 +21,10 @@ use Rattle.format.specs.Certificate.{Member, withoutPlaces, readMember, 
 use Rattle.format.specs.Numbers.{locatedNumbers, coverNumbers}
 use Rattle.format.specs.Conditions.{LocatedInRange, ImageForEach}
 use Rattle.format.proofs.Sequence.{Reads, done, more, reads-append}
-use Rattle.format.proofs.Parsing.{not-fault, then, then-fault, require-sound, require-fault, Faulty, read-sound, codes-exact}
+use Rattle.format.proofs.Parsing.{not-fault, then, then-fault, require-sound, require-fault, Faulty, read-sound, ranged-exact, many-exact, codes-exact}
 use Rattle.format.proofs.Local.{Local, local-read, local-many, local-members, local-job}
-use Rattle.format.proofs.Files.{located-exact}
-use Rattle.format.proofs.Covers.{member-read, Avoids, Every, r-start, r-avoids, holds-reflects, cover-sound}
+use Rattle.format.proofs.Files.{version, located-exact}
+use Rattle.format.proofs.Covers.{member-read, without-places, Avoids, Every, r-start, r-avoids, holds-reflects, cover-sound}
 
 -- ---- numbers
 
@@ -81,6 +81,20 @@ module _ (s : Buffer) (variables states : ℕ) where
       let rest-is : rest ≡ xs ++ (m ∷ later) = cc in
       let (g, _) = located-exact s variables states .sound at (y .located) a (member-read s variables states at y a h₁ .0) in
       reads-append (rw y-is at g) (member-place k a xs m later b (rw rest-is at h₂)))) e
+
+  pub member-first : (at : ℕ) (earlier : List Member) (m : Member) (later : List Member) (next : ℕ)
+      → readMembers s variables states at ≡ parsed (earlier ++ (m ∷ later)) next
+      → Reads (s .bytes) at (1 ∷ length (withoutPlaces (earlier ++ (m ∷ later))) ∷ concatMap locatedNumbers (withoutPlaces earlier)) (m .first)
+  unfolding readMembers
+  member-first at earlier m later next =
+      then (ranged s 1 2 at) _
+      (λ one a h₁. then (ranged s 1 513 a) _
+      (λ count b h₂ h₃.
+      let (g₂, _) = ranged-exact s 1 513 .sound a count b h₂ in
+      let (_, (long, _)) =
+      many-exact s (located-exact s variables states) count .sound b (withoutPlaces (earlier ++ (m ∷ later))) next
+      (without-places s variables states count b (earlier ++ (m ∷ later)) next h₃) in
+      rw long (reads-append (version s at one a h₁) (reads-append g₂ (member-place count b earlier m later next h₃)))))
 
 module _ (variables states start : ℕ) where
   -- the first member that fails the test
@@ -216,19 +230,22 @@ module _ (s : Buffer) (variables : ℕ) (ms : List Located) (oks : (m : Located)
       let (k, q, t) = require-fault (holds? m images o) 9 at b h₃ in
       let i = getElem-mem ms n m numbered in
       let c : Cover = record { member = n; images = images } in
-      inl (k, q,
-      record {
-        cover = c;
-        member = m;
-        numbered = numbered;
-        images = long;
-        below = below;
-        next = b;
-        reads = more g₁ g₂;
-        fails = λ h.
-            let m-is : h .member ≡ m = cc in
-            t (holds-reflects s variables ms oks m o images i long below .tests (rw m-is at (h .state), rw m-is at (h .embeds)));
-      }))
+      inl (
+        k,
+        q,
+        record {
+          cover = c;
+          member = m;
+          numbered = numbered;
+          images = long;
+          below = below;
+          next = b;
+          reads = more g₁ g₂;
+          fails = λ h.
+              let m-is : h .member ≡ m = cc in
+              t (holds-reflects s variables ms oks m o images i long below .tests (rw m-is at (h .state), rw m-is at (h .embeds)));
+        },
+      ))
       (λ h₂.
       let (n, g, _) = read-sound s (getElem? ms) at m a h₁ in
       let (ns, r, f) = refused-number s (plain-many s (plain-read s (such (within 0 (size (o .shape))))) (size (m .shape))) a number place h₂ in
