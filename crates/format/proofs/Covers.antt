@@ -1,9 +1,8 @@
 -- What the parsers of members and covers read.
 use mathlib.Core.Bool.{not}
-use mathlib.Core.List.{List, [], _∷_, _++_, List·Memᴰ·head, List·Memᴰ·tail, List·Memᴰ·not-nil}
-use mathlib.Core.Option.{Option, none, some}
-use mathlib.Core.Path.{_≡_, refl, sym, ap, subst, _∙_}
-use Prim.Native.Nat.{ℕ, zero, suc, _≤_, _<_}
+use mathlib.Core.List.{List, [], _∷_, List·Memᴰ·head, List·Memᴰ·tail, List·Memᴰ·not-nil}
+use mathlib.Core.Path.{_≡_, refl, ap, subst, _∙_}
+use Prim.Native.Nat.{ℕ, zero, suc}
 use native.Mathlib.Omega.{arith}
 use lib.ListN.{length, getD, getElem?}
 use Rattle.lists.specs.List.{_∈_, concatMap}
@@ -12,7 +11,7 @@ use Rattle.lists.proofs.Reflect.{Reflect, r-eq, r-and, r-not, r-iff}
 use Rattle.heap.specs.Heap.{empty}
 use Rattle.heap.specs.Place.{cell}
 use Rattle.graph.specs.Graph.{Embeds}
-use Rattle.shape.specs.Shape.{Shape, size, shapeGraph, Satisfies, AllBelow, InRange}
+use Rattle.shape.specs.Shape.{size, shapeGraph, Satisfies, AllBelow, InRange}
 use Rattle.shape.proofs.InRange.{in-range-closed}
 use Rattle.run.specs.Run.{Located}
 use Rattle.run.proofs.Runs.{getElem-mem}
@@ -20,10 +19,10 @@ use Rattle.cover.specs.Cover.{Cover, Holds, holds?, AllHold}
 use Rattle.cover.specs.Test.{imageMap}
 use Rattle.cover.proofs.Embeds.{embeds-reflects}
 use Rattle.cover.proofs.Start.{empty-reflects}
-use Rattle.format.specs.Parser.{parsed, Parser, many, each, Buffer, readAs, ranged}
+use Rattle.format.specs.Parser.{parsed, many, each, Buffer, readAs, ranged}
 use Rattle.format.specs.Job.{readLocated}
 use Rattle.format.specs.Certificate.{Member, withoutPlaces, readMember, readMembers, atStart, testStart, readCover}
-use Rattle.format.specs.Numbers.{locatedNumbers, memberNumbers, coverNumbers}
+use Rattle.format.specs.Numbers.{memberNumbers, coverNumbers}
 use Rattle.format.specs.Conditions.{Between, LocatedInRange, ImageForEach}
 use Rattle.format.proofs.Sequence.{Reads, done, more, one, reads-none, reads-first, reads-append, reads-split}
 use Rattle.format.proofs.Parsing.{then, require-sound, require-complete, read-sound, read-complete, ranged-exact, many-exact, codes-exact}

@@ -2,8 +2,8 @@
 use mathlib.Core.Bool.{Bool, true, false, cond}
 use mathlib.Core.List.{List}
 use mathlib.Core.Logic.{_↔_}
-use mathlib.Core.Path.{_≡_, refl, sym, ap, subst, _∙_}
-use Prim.Native.Nat.{ℕ, _≤_, _<_}
+use mathlib.Core.Path.{_≡_, sym, ap, _∙_}
+use Prim.Native.Nat.{ℕ, _≤_}
 use native.Mathlib.Omega.{arith}
 use lib.Dec.{T}
 use lib.ListN.{length}
@@ -13,10 +13,10 @@ use Rattle.heap.specs.Heap.{empty}
 use Rattle.shape.specs.Shape.{Satisfies}
 use Rattle.run.specs.Run.{Located}
 use Rattle.cover.specs.Cover.{Cover, owed, AllHold}
-use Rattle.format.specs.Parser.{Parsed, parsed, fault, each, Buffer, jobBuffer, certificateBuffer, within, onward, end}
+use Rattle.format.specs.Parser.{Parsed, parsed, fault, each, jobBuffer, certificateBuffer, end}
 use Rattle.format.specs.Job.{JobFile, readWholeJob}
 use Rattle.format.specs.Certificate.{Member, withoutPlaces, readMembers, testStart, readCover}
-use Rattle.format.specs.Verdict.{Counts, Verdict, accepted, refused, readCertificate, readBoth, answer, fits, verdict}
+use Rattle.format.specs.Verdict.{Counts, accepted, refused, readCertificate, readBoth, answer, fits, verdict}
 use Rattle.format.specs.Numbers.{jobNumbers, memberNumbers, coverNumbers, certificateNumbers}
 use Rattle.format.specs.Conditions.{Between, LocatedInRange, IsJob, ImageForEach, countsOf, Conditions}
 use Rattle.format.proofs.Sequence.{Reads, reads-append, reads-split, reads-decode, decode-reads}

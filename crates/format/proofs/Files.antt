@@ -2,19 +2,18 @@
 use mathlib.Core.Bool.{Bool, true, false, _&&_, cond}
 use mathlib.Core.List.{List, [], _∷_, _++_}
 use mathlib.Core.Option.{Option, none, some}
-use mathlib.Core.Path.{_≡_, refl, sym, ap, subst, _∙_}
+use mathlib.Core.Path.{_≡_, refl, ap, subst, _∙_}
 use Prim.Native.Nat.{ℕ, zero, suc, _≤_, _<_}
 use native.Mathlib.Decide.{decLt}
 use native.Mathlib.Omega.{arith}
 use lib.Dec.{T, leb}
 use lib.ListN.{length}
-use Rattle.lists.specs.List.{_∈_, concatMap}
-use Rattle.lists.proofs.Reflect.{Reflect, r-le, r-and, cond-true}
+use Rattle.lists.specs.List.{concatMap}
+use Rattle.lists.proofs.Reflect.{r-le, r-and, cond-true}
 use Rattle.heap.specs.Operation.{Op, equal, Kind, kindOf, allowsA, allowsB, fromRow, operation}
 use Rattle.heap.specs.Place.{cell}
 use Rattle.shape.specs.Shape.{Shape, size, InRange}
-use Rattle.run.specs.Run.{Transition, Located, Job}
-use Rattle.cover.specs.Cover.{Named}
+use Rattle.run.specs.Run.{Transition, Located}
 use Rattle.format.specs.Parser.{parsed, fault, many, Buffer, such, readAs, ranged, end}
 use Rattle.format.specs.Job.{JobFile, readShape, readLocated, readTransition, readJob, readWholeJob}
 use Rattle.format.specs.Numbers.{opNumbers, transitionNumbers, shapeNumbers, locatedNumbers, jobNumbers}

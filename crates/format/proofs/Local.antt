@@ -2,9 +2,9 @@
 use mathlib.Core.Bool.{Bool}
 use mathlib.Core.List.{List, [], _∷_, _++_}
 use mathlib.Core.Logic.{_≢_, _⊎_, inl, inr}
-use mathlib.Core.Option.{Option, none, some}
+use mathlib.Core.Option.{Option, none}
 use mathlib.Core.Path.{_≡_, refl, sym, ap, subst, _∙_}
-use Prim.Native.Nat.{ℕ, zero, suc, _+_, _-_, _*_, _≤_, _<_, min}
+use Prim.Native.Nat.{ℕ, zero, suc, _+_, _-_, _≤_, _<_, min}
 use native.Mathlib.Omega.{arith}
 use lib.ListN.{length, getD, take, length-take, getElem?}
 use lib.Seq.{getD-take, take-take}
@@ -18,7 +18,7 @@ use Rattle.heap.specs.Operation.{kindOf}
 use Rattle.shape.specs.Shape.{size}
 use Rattle.run.specs.Run.{Located}
 use Rattle.cover.specs.Cover.{holds?}
-use Rattle.format.specs.Parser.{Parsed, parsed, fault, Parser, onward, _>>=_, _>>_, return, here, require, many, each, Buffer, readAs, end}
+use Rattle.format.specs.Parser.{parsed, fault, Parser, onward, _>>=_, _>>_, return, here, require, many, each, Buffer, readAs, end}
 use Rattle.format.specs.Job.{readShape, readLocated, readTransition, readJob}
 use Rattle.format.specs.Certificate.{readMember, readMembers, readCover}
 use Rattle.format.proofs.Sequence.{Reads, done, more, one, reads-on, reads-append, number-in, reads-decode}

@@ -1,11 +1,10 @@
 -- Every refusal says what document 01 says of its number.
 use mathlib.Core.Bool.{Bool, true, false, cond, not}
-use mathlib.Core.List.{List, [], _∷_, _++_, append-nil, append-assoc, map-append}
+use mathlib.Core.List.{List, [], _∷_, _++_, append-nil, map-append}
 use mathlib.Core.Logic.{_≢_, _⊎_, inl, inr}
 use mathlib.Core.Path.{_≡_, refl, sym, ap, ap₂, subst, subst₂, _∙_}
-use Prim.Native.Nat.{ℕ, _≤_, _<_}
+use Prim.Native.Nat.{ℕ}
 use native.Mathlib.Omega.{arith}
-use lib.Dec.{T}
 use lib.ListN.{length, take}
 use Rattle.lists.specs.List.{_∈_, concatMap}
 use Rattle.lists.proofs.List.{concatMap-append}
@@ -17,12 +16,12 @@ use Rattle.cover.specs.Cover.{Cover, owed, AllHold}
 use Rattle.format.specs.Parser.{Parsed, parsed, fault, Parser, _>>=_, each, Buffer, jobBuffer, certificateBuffer, onward, end}
 use Rattle.format.specs.Job.{JobFile, readJob, readWholeJob}
 use Rattle.format.specs.Certificate.{Member, withoutPlaces, readMembers, atStart, testStart, readCover}
-use Rattle.format.specs.Verdict.{Counts, Verdict, accepted, refused, readCertificate, readBoth, answer, fits, verdict}
-use Rattle.format.specs.Conditions.{Between, IsJob, MembersInRange, ImageForEach, countsOf, Conditions}
+use Rattle.format.specs.Verdict.{Counts, refused, readCertificate, readBoth, answer, fits, verdict}
+use Rattle.format.specs.Conditions.{Between, MembersInRange, ImageForEach, countsOf, Conditions}
 use Rattle.format.specs.Numbers.{jobNumbers, memberNumbers, coverNumbers}
-use Rattle.format.specs.Meaning.{NumberStarts, InJob, job-number, job-range, job-left, StartSatisfied, Covered, CoverFails, InCertificate, certificate-number, certificate-range, member-satisfied, cover-fails, certificate-left, Meaning, job-length, certificate-length, in-job, in-certificate}
+use Rattle.format.specs.Meaning.{InJob, job-number, job-range, job-left, Covered, InCertificate, certificate-number, certificate-range, member-satisfied, cover-fails, certificate-left, Meaning, job-length, certificate-length, in-job, in-certificate}
 use Rattle.format.proofs.Sequence.{Reads, reads-append, reads-decode}
-use Rattle.format.proofs.Parsing.{not-fault, then-fault, Faulty}
+use Rattle.format.proofs.Parsing.{not-fault, then-fault}
 use Rattle.format.proofs.Files.{end-fault, job-exact, whole-sound}
 use Rattle.format.proofs.Covers.{members-sound, tests-sound, covers-sound}
 use Rattle.format.proofs.Exact.{r-fits, job-read, accepted-both, exact}
