@@ -49,26 +49,26 @@ module _ (job certificate : List ℕ) (counts : Counts) where
       by-fits true false e = let z : _≡_ {A = ℕ} 0 1 = cc in absurd (omega arith)
       by-fits false b e = let z : _≡_ {A = ℕ} 0 1 = cc in absurd (omega arith)
 
-  sound : verdict job certificate ≡ accepted counts → Conditions job certificate counts
+  both-sound : Between 1 65536 (length job) → Between 1 65536 (length certificate) → (last : ℕ) → readBoth job certificate ≡ parsed counts last
+      → Conditions job certificate counts
   unfolding readBoth readCertificate
-  sound v =
-      let (t, t′, (last, h)) = accepted-both v in
+  both-sound a b last =
       then (readWholeJob (jobBuffer job) 0) _
       (λ f next h₁. then (readMembers (certificateBuffer certificate) (f .job .variables) (f .states) 0) _
-      (λ members p₂ h₂. then (each (testStart (f .job .start)) members p₂) _
-      (λ us p₃ h₃. then (each (readCover (certificateBuffer certificate) (withoutPlaces members)) (owed (f .job) (withoutPlaces members)) p₃) _
+      (λ members p₂ h₂. then (each (testStart _) members p₂) _
+      (λ us p₃ h₃. then (each (readCover (certificateBuffer certificate) (withoutPlaces members)) _ p₃) _
       (λ vs p₄ h₄. then (end (certificateBuffer certificate) p₄) _
       (λ u p₅ h₅ r.
       let ms : List Located = withoutPlaces members in
       let (h₀, whole) = whole-sound (jobBuffer job) 0 f next h₁ in
       let (g₁, ok) = job-exact (jobBuffer job) .sound 0 f next h₀ in
       let (g₂, number, oks) = members-sound (certificateBuffer certificate) (f .job .variables) (f .states) 0 members p₂ h₂ in
-      let (avoid, p₃-is) = tests-sound (f .job .variables) (f .states) (f .job .start) members oks p₂ h₃ in
-      let (cs, g₄, hold, images) = covers-sound (certificateBuffer certificate) (f .job .variables) ms (λ m i. oks m i .shape) (owed (f .job) ms) p₃ h₄ in
+      let (avoid, p₃-is) = tests-sound (f .job .variables) (f .states) _ members oks p₂ h₃ in
+      let (cs, g₄, hold, images) = covers-sound (certificateBuffer certificate) (f .job .variables) ms (λ m i. oks m i .shape) _ p₃ h₄ in
       let (whole′, p₄-is) = end-sound (certificateBuffer certificate) p₄ h₅ in
       record {
-        job-length = r-fits job .holds t;
-        certificate-length = r-fits certificate .holds t′;
+        job-length = a;
+        certificate-length = b;
         file = f;
         job-is = record { in-range = ok; reads = reads-decode job (jobNumbers f) next g₁ whole };
         members = ms;
@@ -79,7 +79,12 @@ module _ (job certificate : List ℕ) (counts : Counts) where
         start = avoid;
         hold = hold;
         counts-due = cc;
-      }))))) h
+      })))))
+
+  sound : verdict job certificate ≡ accepted counts → Conditions job certificate counts
+  sound v =
+      let (t, t′, (last, h)) = accepted-both v in
+      both-sound (r-fits job .holds t) (r-fits certificate .holds t′) last h
 
   module _ (c : Conditions job certificate counts) where
     -- the parsers go through, whatever the places of the members

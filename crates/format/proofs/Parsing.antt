@@ -40,14 +40,17 @@ then-fault {A} (fault k q) rest {number} {place} go stop e =
 -- ---- tests
 
 pub require-sound : (test : Bool) (number place at : ℕ) {u : Unit {0}} {next : ℕ} → require test number place at ≡ parsed u next → T test × (at ≡ next)
+unfolding require
 require-sound true number place at e = (tt, cc)
 require-sound false number place at {u} {next} e = absurd (not-fault u next number place e)
 
 pub require-fault : (test : Bool) (number place at : ℕ) {k q : ℕ} → require test number place at ≡ fault k q → (number ≡ k) × (place ≡ q) × (¬ T test)
+unfolding require
 require-fault true number place at {k} {q} e = absurd (not-fault tt at k q (sym e))
 require-fault false number place at e = (cc, cc, λ t. t)
 
 pub require-complete : (test : Bool) (number place at : ℕ) → T test → require test number place at ≡ parsed tt at
+unfolding require
 require-complete test number place at t = cond-true test (parsed tt at) (fault number place) t
 
 module _ (s : Buffer) where
@@ -60,7 +63,7 @@ module _ (s : Buffer) where
     where
       by-meaning : (n k : ℕ) → numberAt (s .bytes) at ≡ Number n k → (o : Option A) → meaning n ≡ o → judged s at k o ≡ parsed x next
           → (n : ℕ) × (numberAt (s .bytes) at ≡ Number n next) × (meaning n ≡ some x)
-      by-meaning n k g none h e = absurd (not-fault x next (s .outside) at e)
+      by-meaning n k g none h e = absurd (not-fault _ _ _ _ e)
       by-meaning n k g (some y) h e =
           let y-is : y ≡ x = cc in
           let k-is : k ≡ next = cc in
@@ -69,7 +72,7 @@ module _ (s : Buffer) where
       by-read : (r : Read) → numberAt (s .bytes) at ≡ r → meant s meaning at r ≡ parsed x next
           → (n : ℕ) × (numberAt (s .bytes) at ≡ Number n next) × (meaning n ≡ some x)
       by-read (Number n k) g e = by-meaning n k g (meaning n) refl e
-      by-read (Unreadable p) g e = absurd (not-fault x next (s .unreadable) at e)
+      by-read (Unreadable p) g e = absurd (not-fault _ _ _ _ e)
 
   -- the number at a place can't be read, or reads as one for which P holds
   abbrev pub Faulty : (ℕ → Type 0) → ℕ → ℕ → Type 0

@@ -87,10 +87,10 @@ module _ (s : Buffer) (variables states : ℕ) where
       → Reads (s .bytes) at (1 ∷ length (withoutPlaces (earlier ++ (m ∷ later))) ∷ concatMap locatedNumbers (withoutPlaces earlier)) (m .first)
   unfolding readMembers
   member-first at earlier m later next =
-      then (ranged s 1 2 at) _
-      (λ one a h₁. then (ranged s 1 513 a) _
+      then (ranged s _ _ at) _
+      (λ one a h₁. then (ranged s _ _ a) _
       (λ count b h₂ h₃.
-      let (g₂, _) = ranged-exact s 1 513 .sound a count b h₂ in
+      let (g₂, _) = ranged-exact s _ _ .sound a count b h₂ in
       let (_, (long, _)) =
       many-exact s (located-exact s variables states) count .sound b (withoutPlaces (earlier ++ (m ∷ later))) next
       (without-places s variables states count b (earlier ++ (m ∷ later)) next h₃) in
@@ -121,7 +121,7 @@ module _ (variables states start : ℕ) where
       then-fault (testStart start m at) _
       (λ u a h₁. then-fault (each (testStart start) ms a) _ (λ us b h₂ r. absurd (not-fault (u ∷ us) b number place (sym r)))
       (λ h₂.
-      let (t, _) = require-sound passed 8 (m .first) at h₁ in
+      let (t, _) = require-sound _ _ _ at h₁ in
       let f = tests-fault ms (λ l i. oks l (List·Memᴰ·tail i)) a number place h₂ in
       record {
         earlier = m ∷ f .earlier;
@@ -135,7 +135,7 @@ module _ (variables states start : ℕ) where
         satisfied = f .satisfied;
       }))
       (λ h₁.
-      let (k, q, t) = require-fault passed 8 (m .first) at h₁ in
+      let (k, q, t) = require-fault _ _ _ at h₁ in
       let (state, satisfied) = r-start variables states start (m .located) ok .holds (not-not (atStart start (m .located)) t) in
       record {
         earlier = [];
@@ -149,9 +149,6 @@ module _ (variables states start : ℕ) where
         satisfied = satisfied;
       }) e
     where
-      passed : Bool
-      passed = not (atStart start (m .located))
-
       ok : LocatedInRange variables states (m .located)
       ok = oks (m .located) (List·Memᴰ·head refl)
 
@@ -223,11 +220,11 @@ module _ (s : Buffer) (variables : ℕ) (ms : List Located) (oks : (m : Located)
   unfolding readCover
   cover-fault o at number place =
       then-fault (readAs s (getElem? ms) at) _
-      (λ m a h₁. then-fault (many (size (m .shape)) (ranged s 0 (size (o .shape))) a) _
+      (λ m a h₁. then-fault (many _ (ranged s _ _) a) _
       (λ images b h₂ h₃.
       let (n, g₁, numbered) = read-sound s (getElem? ms) at m a h₁ in
-      let (g₂, (long, below)) = codes-exact s (size (m .shape)) (size (o .shape)) .sound a images b h₂ in
-      let (k, q, t) = require-fault (holds? m images o) 9 at b h₃ in
+      let (g₂, (long, below)) = codes-exact s _ _ .sound a images b h₂ in
+      let (k, q, t) = require-fault _ _ _ b h₃ in
       let i = getElem-mem ms n m numbered in
       let c : Cover = record { member = n; images = images } in
       inl (

@@ -9,7 +9,7 @@ use Rattle.shape.specs.Shape.{AllBelow, shapeGraph}
 use Rattle.shape.proofs.InRange.{all-cons, in-range-closed}
 use Rattle.cover.proofs.Embeds.{embeds-reflects}
 use Rattle.number.specs.Number.{numberIn}
-use Rattle.format.specs.Parser.{many, each, readAs, end}
+use Rattle.format.specs.Parser.{require, many, each, readAs, end}
 use Rattle.format.specs.Job.{readShape, readLocated, readTransition, readJob, readWholeJob}
 use Rattle.format.specs.Certificate.{readMember, readMembers, readCover}
 use Rattle.format.specs.Verdict.{readCertificate, readBoth, verdict}
@@ -50,7 +50,7 @@ below-pair (suc zero) b = omega arith
 below-pair (suc (suc i)) b = absurd (omega arith)
 
 pub all : All
-unfolding numberIn many each readAs end readShape readLocated readTransition readJob readWholeJob readMember readMembers readCover readCertificate readBoth verdict
+unfolding numberIn require many each readAs end readShape readLocated readTransition readJob readWholeJob readMember readMembers readCover readCertificate readBoth verdict
 all P1 = refl
 all P2 = refl
 all P3 = refl
