@@ -7,14 +7,14 @@ use mathlib.Core.Path.{_≡_, refl, sym, ap, _∙_, subst}
 use Prim.Native.Nat.{ℕ, zero, suc, _≤_, _<_}
 use native.Mathlib.Omega.{arith}
 use lib.Dec.{eqb, T}
-use lib.ListN.{length, getD, set, length-set, take, length-map, length-take}
+use lib.ListN.{length, set, length-set, take, length-map, length-take}
 use Rattle.lists.specs.List.{_∈_, range, concatMap, keep}
 use Rattle.lists.proofs.List.{range-mem, concatMap-mem, keep-mem}
 use Rattle.lists.proofs.Reflect.{r-eq, cond-cases}
 use Rattle.heap.specs.Operation.{Op, equal, different, assign, load, store, new, delete}
 use Rattle.heap.specs.Place.{nowhere, null, cell, dangling}
 use Rattle.shape.specs.Placing.{setVarIn, setVar, fresh, grow, split, placedFrom, place, placeBoth}
-use Rattle.shape.specs.Shape.{AllBelow, InRange, Shape, varAt, size}
+use Rattle.shape.specs.Shape.{AllBelow, InRange, Shape, varAt, linkAt, size}
 use Rattle.shape.proofs.InRange.{all-at}
 use Rattle.shape.proofs.Laws.{vars-set-length, length-snoc, CellOf}
 use Rattle.backward.specs.Predecessors.{setLinkIn, setLink, removeAt, removeLink, lower, removeCell, forget, forgetDangling, addHelper, dropHelper, together, linkFits, isNew, retain, beforeLoad, predecessors}
@@ -97,7 +97,7 @@ grow-range n m s r = snoc-range n m nowhere (s .links) s refl (all-more _ _ (s .
 split-range : (n m i : ℕ) (s : Shape) → InRange n m s → InRange n (suc m) (split i s)
 split-range n m i s r =
     let a : AllBelow (cell (suc (size s))) (s .links) = all-more _ _ (s .links) (omega arith) (r .links) in
-    snoc-range n m (getD (s .links) i nowhere) (set (s .links) i (fresh s)) s (length-set (s .links) i (fresh s))
+    snoc-range n m (linkAt s (cell i)) (set (s .links) i (fresh s)) s (length-set (s .links) i (fresh s))
     (all-set _ (s .links) i (fresh s) (omega arith) a) (all-at _ (s .links) i (omega arith) a) r
 
 all-setLink : (k c p : ℕ) (l : List ℕ) → p < k → AllBelow k l → AllBelow k (setLinkIn c p l)
@@ -179,7 +179,7 @@ pub place-range : (n m v : ℕ) (s : Shape) → InRange n m s → (t : Shape) �
 place-range n m v s r t = go (varAt s v)
   where
     middles : ℕ → List Shape
-    middles i = keep (not (eqb (getD (s .links) i nowhere) nowhere)) (setVar v (fresh s) (split i s))
+    middles i = keep (not (eqb (linkAt s (cell i)) nowhere)) (setVar v (fresh s) (split i s))
 
     self : t ∈ (s ∷ []) → InRange n (suc m) t
     self i = subst (InRange n (suc m)) (sym (List·Memᴰ·eq-of-singleton i)) (more n m s r)
@@ -187,10 +187,10 @@ place-range n m v s r t = go (varAt s v)
     middle : t ∈ concatMap middles (range 0 (size s)) → InRange n (suc m) t
     middle i =
         let (j, _, k) = concatMap-mem middles (range 0 (size s)) t i in
-        let (_, e) = keep-mem (not (eqb (getD (s .links) j nowhere) nowhere)) (setVar v (fresh s) (split j s)) t k in
+        let (_, e) = keep-mem (not (eqb (linkAt s (cell j)) nowhere)) (setVar v (fresh s) (split j s)) t k in
         subst (InRange n (suc m)) (sym e)
         (setVar-range n (suc m) v (fresh s) (split j s)
-        (omega (arith, length-snoc (set (s .links) j (fresh s)) (getD (s .links) j nowhere), length-set (s .links) j (fresh s))) (split-range n m j s r))
+        (omega (arith, length-snoc (set (s .links) j (fresh s)) (linkAt s (cell j)), length-set (s .links) j (fresh s))) (split-range n m j s r))
 
     from-fresh : (t ≡ setVar v (fresh s) (grow s)) ⊎ (t ∈ concatMap middles (range 0 (size s))) → InRange n (suc m) t
     from-fresh (inl e) =

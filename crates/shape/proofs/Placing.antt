@@ -8,7 +8,7 @@ use Prim.Native.Nat.{ℕ, zero, suc, _≤_, _<_}
 use native.Mathlib.Decide.{ℕ-discrete}
 use native.Mathlib.Omega.{arith}
 use lib.Dec.{eqb}
-use lib.ListN.{length, getD, set, length-set}
+use lib.ListN.{length, set, length-set}
 use lib.Seq.{getD-at, getD-set-same}
 use Rattle.lists.specs.List.{_∈_, range, keep}
 use Rattle.lists.proofs.List.{find, mem?, mem-below, mem-concatMap, mem-keep}
@@ -144,22 +144,22 @@ module _ (h : Heap) (s : Shape) (f : ℕ → ℕ) (wh : Proper (heapGraph h)) (c
         t = set (s .links) i (fresh s)
 
         l : List ℕ
-        l = t ++ (getD (s .links) i nowhere ∷ [])
+        l = t ++ (linkAt s (cell i) ∷ [])
 
         lt : length t ≡ size s
         lt = length-set (s .links) i (fresh s)
 
         len : length l ≡ suc (size s)
-        len = length-snoc t (getD (s .links) i nowhere) ∙ ap suc lt
+        len = length-snoc t (linkAt s (cell i)) ∙ ap suc lt
 
         at-i : linkIn l (cell i) ≡ fresh s
-        at-i = link-snoc t (getD (s .links) i nowhere) (cell i) (omega (arith, lt)) ∙ getD-set-same (s .links) i (fresh s) nowhere b
+        at-i = link-snoc t (linkAt s (cell i)) (cell i) (omega (arith, lt)) ∙ getD-set-same (s .links) i (fresh s) nowhere b
 
         at-fresh : linkIn l (fresh s) ≡ linkAt s (cell i)
-        at-fresh = getD-at t (getD (s .links) i nowhere) [] nowhere (size s) lt
+        at-fresh = getD-at t (linkAt s (cell i)) [] nowhere (size s) lt
 
         other : (c : ℕ) → c ≢ cell i → c ≢ fresh s → linkIn l c ≡ linkAt s c
-        other c p q = link-snoc t (getD (s .links) i nowhere) c (omega (arith, lt)) ∙ link-set-other (s .links) i (fresh s) c p
+        other c p q = link-snoc t (linkAt s (cell i)) c (omega (arith, lt)) ∙ link-set-other (s .links) i (fresh s) c p
 
         sort : (c : ℕ) → Dec (c ≡ cell i) → Dec (c ≡ fresh s) → (linkIn l c ≡ fresh s) ⊎ ((d : ℕ) × (linkIn l c ≡ linkAt s d))
         sort c (yes p) q = inl (ap (linkIn l) p ∙ at-i)
@@ -183,7 +183,7 @@ module _ (h : Heap) (s : Shape) (f : ℕ → ℕ) (wh : Proper (heapGraph h)) (c
       cells = map (λ i. setVar v (cell i) s) (range 0 (size s))
 
       middles : ℕ → List Shape
-      middles i = keep (not (eqb (getD (s .links) i nowhere) nowhere)) (setVar v (fresh s) (split i s))
+      middles i = keep (not (eqb (linkAt s (cell i)) nowhere)) (setVar v (fresh s) (split i s))
 
       free : ((i : ℕ) → i < size s → f (cell i) ≢ y) → (d : ℕ) → shapeGraph s .Cell d → f d ≢ y
       free a = by-number (size s) (λ d. f d ≢ y) a
@@ -202,8 +202,8 @@ module _ (h : Heap) (s : Shape) (f : ℕ → ℕ) (wh : Proper (heapGraph h)) (c
           middle y refl (st o) (free a) (choices v s) i b l m
           (Memᴰ·append-right cells (List·Memᴰ·tail (List·Memᴰ·tail
           (mem-concatMap middles (setVar v (fresh s) (split i s)) (mem-below (size s) i b)
-          (mem-keep (not (eqb (getD (s .links) i nowhere) nowhere)) (setVar v (fresh s) (split i s))
-          (r-not (r-eq (getD (s .links) i nowhere) nowhere) .tests l))))))
+          (mem-keep (not (eqb (linkAt s (cell i)) nowhere)) (setVar v (fresh s) (split i s))
+          (r-not (r-eq (linkAt s (cell i)) nowhere) .tests l))))))
       go (no o) (inr a) (inr b) =
           unlinked y refl (st o) (free a) (choices v s) (off b) (Memᴰ·append-right cells (List·Memᴰ·tail (List·Memᴰ·head refl)))
 

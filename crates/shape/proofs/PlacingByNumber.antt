@@ -7,13 +7,12 @@ use Prim.Native.Nat.{ℕ, suc, _+_, _-_, _≤_, _<_}
 use native.Mathlib.Nat.{zero-add}
 use native.Mathlib.Omega.{arith}
 use lib.Dec.{T, eqb, ltb}
-use lib.ListN.{getD}
 use Rattle.lists.specs.List.{range, concatMap, keep}
 use Rattle.lists.proofs.List.{range-append, concatMap-append, concatMap-range, concatMap-single}
 use Rattle.lists.proofs.Reflect.{r-eq, r-lt, cond-true, cond-false}
 use Rattle.heap.specs.Place.{nowhere, null, cell}
 use Rattle.shape.specs.Placing.{setVar, fresh, grow, split, choices}
-use Rattle.shape.specs.Shape.{Shape, size}
+use Rattle.shape.specs.Shape.{Shape, linkAt, size}
 
 -- choice k: at cell k; then at #; then at a fresh cell; then at a fresh cell in the middle of the link of a cell, if that has a place
 abbrev pub choice : ℕ → Shape → ℕ → List Shape
@@ -23,7 +22,7 @@ choice v s k =
     cond (ltb k n) (setVar v (cell k) s ∷ [])
     (cond (eqb k n) (setVar v null s ∷ [])
     (cond (eqb k (suc n)) (setVar v (fresh s) (grow s) ∷ [])
-    (keep (not (eqb (getD (s .links) i nowhere) nowhere)) (setVar v (fresh s) (split i s)))))
+    (keep (not (eqb (linkAt s (cell i)) nowhere)) (setVar v (fresh s) (split i s)))))
 
 -- the choices 0 .. n + 2 + n - 1 are document 01's results in its order
 pub choices-by-number : (v : ℕ) (s : Shape) → concatMap (choice v s) (range 0 (size s + (2 + size s))) ≡ choices v s
@@ -39,7 +38,7 @@ choices-by-number v s =
     n = size s
 
     middle : ℕ → List Shape
-    middle i = keep (not (eqb (getD (s .links) i nowhere) nowhere)) (setVar v (fresh s) (split i s))
+    middle i = keep (not (eqb (linkAt s (cell i)) nowhere)) (setVar v (fresh s) (split i s))
 
     not-lt : (k : ℕ) → n ≤ k → ¬ T (ltb k n)
     not-lt k b t = let c = r-lt k n .holds t in omega arith

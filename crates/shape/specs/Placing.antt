@@ -5,17 +5,16 @@ use mathlib.Core.Bool.{not}
 use mathlib.Core.List.{List, [], _∷_, _++_, map}
 use Prim.Native.Nat.{ℕ, zero, suc}
 use lib.Dec.{eqb}
-use lib.ListN.{getD, set}
+use lib.ListN.{set}
 use Rattle.lists.specs.List.{range, concatMap, keep}
 use Rattle.heap.specs.Place.{nowhere, null, cell}
-use Rattle.shape.specs.Shape.{Shape, varAt, size}
+use Rattle.shape.specs.Shape.{Shape, varAt, linkAt, size}
 
--- null keeps its place
+-- operand v stands at p, but null, which keeps its place
 abbrev pub setVarIn : ℕ → ℕ → List ℕ → List ℕ
 setVarIn zero p vars = vars
 setVarIn (suc v) p vars = set vars v p
 
--- variable v stands at p
 abbrev pub setVar : ℕ → ℕ → Shape → Shape
 setVar v p s = record { vars = setVarIn v p (s .vars); links = s .links }
 
@@ -29,7 +28,7 @@ grow s = record { vars = s .vars; links = s .links ++ (nowhere ∷ []) }
 
 -- with a fresh cell in the middle of the link of cell i
 abbrev pub split : ℕ → Shape → Shape
-split i s = record { vars = s .vars; links = set (s .links) i (fresh s) ++ (getD (s .links) i nowhere ∷ []) }
+split i s = record { vars = s .vars; links = set (s .links) i (fresh s) ++ (linkAt s (cell i) ∷ []) }
 
 -- the results for a variable v that stands nowhere
 abbrev pub choices : ℕ → Shape → List Shape
@@ -37,7 +36,7 @@ choices v s =
     map (λ i. setVar v (cell i) s) (range 0 (size s))
     ++ setVar v null s
     ∷ setVar v (fresh s) (grow s)
-    ∷ concatMap (λ i. keep (not (eqb (getD (s .links) i nowhere) nowhere)) (setVar v (fresh s) (split i s))) (range 0 (size s))
+    ∷ concatMap (λ i. keep (not (eqb (linkAt s (cell i)) nowhere)) (setVar v (fresh s) (split i s))) (range 0 (size s))
 
 -- the results for a variable v that stands at p
 abbrev pub placedFrom : ℕ → ℕ → Shape → List Shape
