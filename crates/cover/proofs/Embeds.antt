@@ -149,7 +149,9 @@ module _ (m p : Shape) (l : List ℕ) where
                 false-fails (stops l x) (walked-no-end (linkAt p) (stops l) (size p) (linkAt p (f c)) x k) (rw e (place-stops d (λ _ _. kd)));
             unshared = λ c d x z z′ k k′.
                 by-link (λ c. x ∈ path c → c ≡ d)
-                (λ i b y. by-link (λ d. x ∈ path d → x ∈ path (cell i) → cell i ≡ d) (λ j b′ y′ q q′. meet i j x b b′ y y′ q′ q (ℕ-discrete i j) (decLt i j)) d z′ k′) c z k;
+                (λ i b y.
+                by-link (λ d. x ∈ path d → x ∈ path (cell i) → cell i ≡ d)
+                (λ j b′ y′ q q′. meet i j x b b′ y y′ q′ q (ℕ-discrete i j) (decLt i j)) d z′ k′) c z k;
           };
         }
       where
@@ -203,7 +205,9 @@ module _ (m p : Shape) (l : List ℕ) where
       complete : Tested
       complete =
           record {
-            once = λ i b j b′ n z. n (let q = e .images .distinct (cell i) (cell j) (omega arith, omega arith) (omega arith, omega arith) (ap cell z) in omega arith);
+            once = λ i b j b′ n z.
+                let q = e .images .distinct (cell i) (cell j) (omega arith, omega arith) (omega arith, omega arith) (ap cell z) in
+                n (omega arith);
             vars = λ i _. e .vars (suc i);
             links = λ i b z. found i b z .0;
             unshared = λ i b x k k′.

@@ -17,7 +17,24 @@ use Rattle.shape.specs.Placing.{setVarIn, setVar, fresh, grow, split, placedFro
 use Rattle.shape.specs.Shape.{AllBelow, InRange, Shape, varAt, linkAt, size}
 use Rattle.shape.proofs.InRange.{all-at}
 use Rattle.shape.proofs.Laws.{vars-set-length, length-snoc, CellOf}
-use Rattle.backward.specs.Predecessors.{setLinkIn, setLink, removeAt, removeLink, lower, removeCell, forget, forgetDangling, addHelper, dropHelper, together, linkFits, isNew, retain, beforeLoad, predecessors}
+use Rattle.backward.specs.Predecessors.{
+  setLinkIn,
+  setLink,
+  removeAt,
+  removeLink,
+  lower,
+  removeCell,
+  forget,
+  forgetDangling,
+  addHelper,
+  dropHelper,
+  together,
+  linkFits,
+  isNew,
+  retain,
+  beforeLoad,
+  predecessors,
+}
 use Rattle.backward.proofs.Laws.{links-set-length}
 use Rattle.backward.proofs.Remove.{lower-below, links-remove-length}
 use Rattle.backward.proofs.Tests.{r-isNew}

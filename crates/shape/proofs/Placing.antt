@@ -21,7 +21,18 @@ use Rattle.graph.proofs.Extend.{extend-unlinked, extend-split}
 use Rattle.graph.proofs.Proper.{Proper, IsPlace, Closed}
 use Rattle.shape.specs.Placing.{setVarIn, setVar, fresh, grow, split, choices, place}
 use Rattle.shape.specs.Shape.{Shape, varAt, linkAt, size, shapeGraph, heapGraph}
-use Rattle.shape.proofs.Laws.{CellOf, by-number, shape-proper, var-set-same, var-set-other, vars-set-length, link-set-other, length-snoc, link-snoc, link-unlinked}
+use Rattle.shape.proofs.Laws.{
+  CellOf,
+  by-number,
+  shape-proper,
+  var-set-same,
+  var-set-other,
+  vars-set-length,
+  link-set-other,
+  length-snoc,
+  link-snoc,
+  link-unlinked,
+}
 
 -- h satisfies a shape of the list, which is s but for v, and v has a place in it
 pub record Placed (h : Heap) (s : Shape) (v : ℕ) (list : List Shape) : Type 0 where
