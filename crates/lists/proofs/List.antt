@@ -1,7 +1,12 @@
 -- Laws of lists.
 use mathlib.Core.Bool.{Bool, true, false}
-use mathlib.Core.List.{List, [], _∷_, _++_, map, append-assoc}
 use mathlib.Core.List.{
+  List,
+  [],
+  _∷_,
+  _++_,
+  map,
+  append-assoc,
   List·Memᴰ·head,
   List·Memᴰ·tail,
   List·Memᴰ·not-nil,
@@ -19,7 +24,8 @@ use native.Mathlib.Nat.{not-suc-le-zero, add-zero, zero-add, suc-add, add-suc}
 use native.Mathlib.Omega.{arith}
 use lib.Dec.{T}
 use lib.ListN.{length, length-append, getD}
-use Rattle.lists.specs.List.{_∈_, range, concatMap, keep}
+use Rattle.lists.specs.List.{_∈_, concatMap, keep}
+use Rattle.lists.specs.Range.{range}
 
 -- ---- members
 

@@ -7,7 +7,8 @@ use Prim.Native.Nat.{ℕ, suc, _+_, _-_, _≤_, _<_}
 use native.Mathlib.Nat.{zero-add}
 use native.Mathlib.Omega.{arith}
 use lib.Dec.{T, eqb, ltb}
-use Rattle.lists.specs.List.{range, concatMap, keep}
+use Rattle.lists.specs.List.{concatMap, keep}
+use Rattle.lists.specs.Range.{range}
 use Rattle.lists.proofs.List.{range-append, concatMap-append, concatMap-range, concatMap-single}
 use Rattle.lists.proofs.Reflect.{r-eq, r-lt, cond-true, cond-false}
 use Rattle.heap.specs.Place.{nowhere, null, cell}
