@@ -12,8 +12,8 @@ use Rattle.lists.specs.Range.{range}
 use Rattle.lists.proofs.List.{range-append, concatMap-append, concatMap-range, concatMap-single}
 use Rattle.lists.proofs.Reflect.{r-eq, r-lt, cond-true, cond-false}
 use Rattle.heap.specs.Place.{nowhere, null, cell}
-use Rattle.shape.specs.Placing.{setVar, fresh, grow, split, choices}
-use Rattle.shape.specs.Shape.{Shape, linkAt, size}
+use Rattle.shape.specs.Placing.{setVar, fresh, grow, split, choices, placedFrom, place}
+use Rattle.shape.specs.Shape.{Shape, varAt, linkAt, size}
 
 -- choice k: at cell k; then at #; then at a fresh cell; then at a fresh cell in the middle of the link of a cell, if that has a place
 abbrev pub choice : ℕ → Shape → ℕ → List Shape
@@ -72,3 +72,25 @@ choices-by-number v s =
     rest =
         ap₂ (λ a b. concatMap (choice v s) (range a b)) (zero-add n) two-more
         ∙ ap₂ (λ x y. x ++ y) at-null (ap₂ (λ x y. x ++ y) at-fresh (concatMap-range (choice v s) middle (suc (suc n)) 0 n in-middle))
+
+-- ---- a variable that stands at p
+
+-- how many choices there are, some of them without a result, and what each gives
+abbrev pub choicesFrom : ℕ → Shape → ℕ
+choicesFrom zero s = size s + (2 + size s)
+choicesFrom (suc zero) s = 1
+choicesFrom (suc (suc zero)) s = 0
+choicesFrom (suc (suc (suc i))) s = 1
+
+abbrev pub choiceFrom : ℕ → ℕ → Shape → ℕ → List Shape
+choiceFrom zero v s k = choice v s k
+choiceFrom (suc p) v s k = s ∷ []
+
+pub place-by-number : (v : ℕ) (s : Shape) → concatMap (choiceFrom (varAt s v) v s) (range 0 (choicesFrom (varAt s v) s)) ≡ place v s
+place-by-number v s = go (varAt s v)
+  where
+    go : (p : ℕ) → concatMap (choiceFrom p v s) (range 0 (choicesFrom p s)) ≡ placedFrom p v s
+    go zero = choices-by-number v s
+    go (suc zero) = refl
+    go (suc (suc zero)) = refl
+    go (suc (suc (suc i))) = refl
