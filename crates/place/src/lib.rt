@@ -1,0 +1,26 @@
+// The place type: where a variable or a link stands.
+ghost use mathlib.Core.Path.{_≡_};
+ghost use Rattle.place.specs.Place.{cellPlace};
+
+// A place by its code: nowhere, # (null), * (dangling), or a cell.
+pub struct Place {
+    pub code: u8,
+}
+
+impl Place {
+    pub const NOWHERE: Self = Self { code: 0 };
+
+    pub const NULL: Self = Self { code: 1 };
+
+    pub const DANGLING: Self = Self { code: 2 };
+
+    // The cell with a number; nowhere for a number above 252, which has no code.
+    pub fn cell(i: u8) -> Self
+        ensures { λ r. ⌜ r ≡ cellPlace i ⌝ }
+    {
+        if i < 253 {
+            return Self { code: 3 + i };
+        }
+        Self::NOWHERE
+    }
+}

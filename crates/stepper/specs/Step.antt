@@ -1,0 +1,57 @@
+-- What the stepper does.
+use mathlib.Core.Bool.{Bool, true, false, _&&_, cond}
+use mathlib.Core.List.{List, [], _∷_}
+use mathlib.Core.Logic.{ite}
+use mathlib.Core.Option.{Option, none, some}
+use mathlib.Core.Path.{_≡_}
+use Prim.Native.Nat.{ℕ, zero, suc}
+use lib.Dec.{leb}
+use Rattle.heap.specs.Operation.{Op, equal, different, assign, load, store, new, delete, Enabled, enabled?, after, operation}
+use Rattle.stepper.specs.Table.{heapOf, tableOf, wellFormed}
+use Rattle.stepper.specs.declared.Heap64.{Heap64}
+use Rattle.stepper.specs.declared.Outcome.{Outcome}
+use Rattle.stepper.specs.declared.Outcome.the-variants.{Moved, Blocked, Refused}
+use Rattle.stepper.specs.declared.StepRefusal.{StepRefusal}
+use Rattle.stepper.specs.declared.StepRefusal.the-variants.{IllFormed, BadOperation, Full}
+use Rattle.stepper.specs.declared.Stepped.{Stepped}
+
+-- 0 for moved, document 01's number for a refusal; for blocked, which "is no refusal", 100
+abbrev pub outcomeCode : Outcome → ℕ
+outcomeCode Moved = 0
+outcomeCode Blocked = 100
+outcomeCode (Refused IllFormed) = 13
+outcomeCode (Refused BadOperation) = 14
+outcomeCode (Refused Full) = 15
+
+abbrev pub stays : Heap64 → Outcome → Stepped
+stays t o = record { heap = t; outcome = o }
+
+-- "New takes the lowest unused cell, so a freed cell serves again.": its number, 64 where all are used
+unfoldable pub lowestUnused : List Bool → ℕ
+lowestUnused [] = 0
+lowestUnused (u ∷ us) = cond u (suc (lowestUnused us)) 0
+
+abbrev pub isNew : Op → Bool
+isNew (equal a b) = false
+isNew (different a b) = false
+isNew (assign a b) = false
+isNew (load a b) = false
+isNew (store a b) = false
+isNew (new a) = true
+isNew (delete a) = false
+
+-- an operation on a well formed table: refusal 15, or the operation on the heap that the table stands for, or blocked
+unfoldable pub perform : Heap64 → Op → Stepped
+perform t o =
+    let x = lowestUnused (t .used) in
+    cond (isNew o && leb 64 x) (stays t (Refused Full))
+    (ite (enabled? o x (heapOf t)) (stays (tableOf (t .variables) (after o x (heapOf t))) Moved) (stays t Blocked))
+
+abbrev pub performNamed : Heap64 → Option Op → Stepped
+performNamed t none = stays t (Refused BadOperation)
+performNamed t (some o) = perform t o
+
+-- "The stepper tries 13, then 14, then 15."
+unfoldable pub stepOf : Heap64 → ℕ → ℕ → ℕ → Stepped
+stepOf t kind a b =
+    cond (wellFormed t) (performNamed t (operation (t .variables) kind a b)) (stays t (Refused IllFormed))

@@ -1,0 +1,46 @@
+-- The stepper's heap as a table of 64 cells, and the heap that it stands for.
+use mathlib.Core.Bool.{Bool, true, false, _&&_, not, cond}
+use mathlib.Core.List.{List, map}
+use Prim.Native.Nat.{ℕ, zero, suc}
+use lib.Dec.{eqb, leb, ltb}
+use lib.ListN.{getD}
+use Rattle.heap.specs.Codes.{varIn, linkIn}
+use Rattle.heap.specs.Heap.{Heap}
+use Rattle.heap.specs.Place.{nowhere, cell}
+use Rattle.lists.specs.Range.{range}
+use Rattle.lists.specs.Test.{allFrom}
+use Rattle.place.specs.Place.{placeOf, codes}
+use Rattle.stepper.specs.declared.Heap64.{Heap64}
+
+-- the heap that a table stands for
+abbrev pub heapOf : Heap64 → Heap
+heapOf t = record { link = linkIn (codes (t .links)); var = varIn (codes (t .vars)) }
+
+-- the table of a heap with so many variables, of its cells 0 to 63: "An unused cell has link code 0, and variable slots above V hold 0."
+unfoldable pub tableOf : ℕ → Heap → Heap64
+tableOf n h =
+    record {
+      variables = n;
+      vars = map (λ i. placeOf (cond (ltb i n) (h .var (suc i)) nowhere)) (range 0 8);
+      used = map (λ i. not (eqb (h .link (cell i)) nowhere)) (range 0 64);
+      links = map (λ i. placeOf (h .link (cell i))) (range 0 64);
+    }
+
+-- at #, at * or at a used cell
+unfoldable pub standing : List Bool → ℕ → Bool
+standing used zero = false
+standing used (suc zero) = true
+standing used (suc (suc zero)) = true
+standing used (suc (suc (suc i))) = getD used i false
+
+-- "a nonzero slot above V, a variable .. that isn't at #, * or a used cell": slot i is right
+abbrev pub slotFits : Heap64 → ℕ → Bool
+slotFits t i = let p = getD (codes (t .vars)) i nowhere in cond (ltb i (t .variables)) (standing (t .used) p) (eqb p nowhere)
+
+-- "a .. used link that isn't at #, * or a used cell, or an unused cell with a nonzero link": cell i is right
+abbrev pub cellFits : Heap64 → ℕ → Bool
+cellFits t i = let p = getD (codes (t .links)) i nowhere in cond (getD (t .used) i false) (standing (t .used) p) (eqb p nowhere)
+
+-- the opposite of refusal 13, "The stepper's heap is ill formed: V outside 1..8", and so on
+unfoldable pub wellFormed : Heap64 → Bool
+wellFormed t = (leb 1 (t .variables) && leb (t .variables) 8) && (allFrom 8 0 (slotFits t) && allFrom 64 0 (cellFits t))
