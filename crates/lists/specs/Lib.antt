@@ -1,2 +1,2 @@
-pub mod Range
+pub mod List
 pub mod Test

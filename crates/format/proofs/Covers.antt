@@ -1,0 +1,208 @@
+-- What the parsers of members and covers read.
+use mathlib.Core.Bool.{Bool, true, false, _&&_, not}
+use mathlib.Core.List.{List, [], _∷_, _++_, List·Memᴰ·head, List·Memᴰ·tail, List·Memᴰ·not-nil}
+use mathlib.Core.Option.{Option, none, some}
+use mathlib.Core.Path.{_≡_, refl, sym, ap, subst, _∙_}
+use Prim.Native.Nat.{ℕ, zero, suc, _≤_, _<_}
+use native.Mathlib.Omega.{arith}
+use lib.Dec.{T, eqb}
+use lib.ListN.{length, getD, getElem?}
+use Rattle.lists.specs.List.{_∈_, concatMap}
+use Rattle.lists.proofs.List.{all-cons, getD-mem, mem-getD}
+use Rattle.lists.proofs.Reflect.{Reflect, r-eq, r-and, r-not, r-iff}
+use Rattle.heap.specs.Heap.{empty}
+use Rattle.heap.specs.Place.{cell}
+use Rattle.graph.specs.Graph.{Embeds}
+use Rattle.shape.specs.Shape.{Shape, size, shapeGraph, Satisfies, AllBelow, InRange}
+use Rattle.shape.proofs.InRange.{in-range-closed}
+use Rattle.run.specs.Run.{Located}
+use Rattle.run.proofs.Runs.{getElem-mem}
+use Rattle.cover.specs.Cover.{Cover, Holds, holds?, byEmpty, AllHold}
+use Rattle.cover.specs.Test.{imageMap}
+use Rattle.cover.proofs.Embeds.{embeds-reflects}
+use Rattle.cover.proofs.Start.{empty-reflects}
+use Rattle.format.specs.Parser.{parsed, Parser, many, each, Buffer, readAs, ranged}
+use Rattle.format.specs.Job.{readLocated}
+use Rattle.format.specs.Certificate.{Member, withoutPlaces, readMember, readMembers, testStart, readCover}
+use Rattle.format.specs.Numbers.{locatedNumbers, memberNumbers, coverNumbers}
+use Rattle.format.specs.Conditions.{Between, LocatedInRange, ImageForEach}
+use Rattle.format.proofs.Sequence.{Reads, done, more, one, reads-none, reads-first, reads-append, reads-split}
+use Rattle.format.proofs.Parsing.{then, require-sound, require-complete, read-sound, read-complete, ranged-exact, many-exact, codes-exact}
+use Rattle.format.proofs.Files.{located-exact, version}
+
+-- ---- members
+
+module _ (s : Buffer) (variables states : ℕ) where
+  -- a member is a state with a shape, and its place
+  member-read : (at : ℕ) (m : Member) (next : ℕ) → readMember s variables states at ≡ parsed m next
+      → (readLocated s variables states at ≡ parsed (m .located) next) × (m .first ≡ at)
+  unfolding readMember
+  member-read at m next =
+      then (readLocated s variables states at) _
+      (λ l a h r.
+      let m-is : record { first = at; located = l } ≡ m = cc in
+      let next-is : a ≡ next = cc in
+      rw (← m-is, ← next-is) (h, refl))
+
+  without-places : (k at : ℕ) (ms : List Member) (next : ℕ) → many k (readMember s variables states) at ≡ parsed ms next
+      → many k (readLocated s variables states) at ≡ parsed (withoutPlaces ms) next
+  unfolding many
+  without-places zero at ms next e =
+      let ms-is : [] ≡ ms = cc in
+      let next-is : at ≡ next = cc in
+      rw (← ms-is, ← next-is)
+  without-places (suc k) at ms next e =
+      then (readMember s variables states at) _
+      (λ m a h₁. then (many k (readMember s variables states) a) _
+      (λ rest b h₂ r.
+      let ms-is : m ∷ rest ≡ ms = cc in
+      let next-is : b ≡ next = cc in
+      rw (← ms-is, ← next-is) (rw (member-read at m a h₁ .0, without-places k a rest b h₂)))) e
+
+  with-places : (k at : ℕ) (ls : List Located) (next : ℕ) → many k (readLocated s variables states) at ≡ parsed ls next
+      → (ms : List Member) × (withoutPlaces ms ≡ ls) × (many k (readMember s variables states) at ≡ parsed ms next)
+  unfolding many readMember
+  with-places zero at ls next e =
+      let ls-is : [] ≡ ls = cc in
+      let next-is : at ≡ next = cc in
+      ([], ls-is, ap (parsed []) next-is)
+  with-places (suc k) at ls next e =
+      then (readLocated s variables states at) _
+      (λ l a h₁. then (many k (readLocated s variables states) a) _
+      (λ rest b h₂ r₂.
+      let (ms, same, h₃) = with-places k a rest b h₂ in
+      let ls-is : l ∷ rest ≡ ls = cc in
+      let next-is : b ≡ next = cc in
+      let m : Member = record { first = at; located = l } in
+      (m ∷ ms, ap (λ x. l ∷ x) same ∙ ls-is, rw (h₁, h₃) (ap (parsed (m ∷ ms)) next-is)))) e
+
+  pub members-sound : (at : ℕ) (ms : List Member) (next : ℕ) → readMembers s variables states at ≡ parsed ms next
+      → Reads (s .bytes) at (memberNumbers (withoutPlaces ms)) next × Between 1 512 (length (withoutPlaces ms))
+      × ((m : Located) → m ∈ withoutPlaces ms → LocatedInRange variables states m)
+  unfolding readMembers
+  members-sound at ms next =
+      then (ranged s 1 2 at) _
+      (λ one a h₁. then (ranged s 1 513 a) _
+      (λ count b h₂ h₃.
+      let (g₂, (low, high)) = ranged-exact s 1 513 .sound a count b h₂ in
+      let (g₃, (long, oks)) = many-exact s (located-exact s variables states) count .sound b (withoutPlaces ms) next (without-places count b ms next h₃) in
+      (rw long (reads-append (version s at one a h₁) (reads-append g₂ g₃)), (omega arith, omega arith), oks)))
+
+  pub members-complete : (at : ℕ) (ls : List Located) (next : ℕ) → Reads (s .bytes) at (memberNumbers ls) next → Between 1 512 (length ls)
+      → ((m : Located) → m ∈ ls → LocatedInRange variables states m)
+      → (ms : List Member) × (withoutPlaces ms ≡ ls) × (readMembers s variables states at ≡ parsed ms next)
+  unfolding readMembers
+  members-complete at ls next r (low, high) oks =
+      let (a, g₁, r₁) = reads-first r in
+      let (b, g₂, g₃) = reads-first r₁ in
+      let (ms, same, h) = with-places (length ls) b ls next (many-exact s (located-exact s variables states) (length ls) .complete b ls next g₃ (refl, oks)) in (
+        ms,
+        same,
+        rw (ranged-exact s 1 2 .complete at 1 a (one g₁) (omega arith, omega arith), ranged-exact s 1 513 .complete a (length ls) b (one g₂) (low, omega arith)) h,
+      )
+
+-- ---- refusal 8
+
+module _ (variables states start : ℕ) where
+  -- not satisfied by the empty heap, if it is at the start state
+  abbrev pub Avoids : Located → Type 0
+  Avoids m = m .state ≡ start → ¬ Satisfies empty (m .shape)
+
+  passed : Member → Bool
+  passed m = not (eqb (m .located .state) start && byEmpty (m .located .shape))
+
+  r-passed : (m : Member) → LocatedInRange variables states (m .located) → Reflect (Avoids (m .located)) (passed m)
+  unfolding passed
+  r-passed m ok =
+      r-iff (λ n e t. n (e, t)) (λ n (e, t). n e t)
+      (r-not (r-and (r-eq (m .located .state) start) (empty-reflects variables 12 (m .located .shape) (ok .shape))))
+
+  pub tests-sound : (ms : List Member) → ((m : Located) → m ∈ withoutPlaces ms → LocatedInRange variables states m) → (at : ℕ)
+      {us : List (Unit {0})} {next : ℕ} → each (testStart start) ms at ≡ parsed us next → ((m : Located) → m ∈ withoutPlaces ms → Avoids m) × (at ≡ next)
+  unfolding each passed
+  tests-sound [] oks at e = (λ m i. absurd (List·Memᴰ·not-nil i), cc)
+  tests-sound (m ∷ ms) oks at e =
+      then (testStart start m at) _
+      (λ u a h₁. then (each (testStart start) ms a) _
+      (λ us b h₂ r.
+      let (t, at-is) = require-sound (passed m) 8 (m .first) at h₁ in
+      let (rest, a-is) = tests-sound ms (λ l i. oks l (List·Memᴰ·tail i)) a h₂ in
+      (all-cons Avoids (r-passed m (oks (m .located) (List·Memᴰ·head refl)) .holds t) rest, cc))) e
+
+  pub tests-complete : (ms : List Member) → ((m : Located) → m ∈ withoutPlaces ms → LocatedInRange variables states m) → (at : ℕ)
+      → ((m : Located) → m ∈ withoutPlaces ms → Avoids m) → (us : List (Unit {0})) × (each (testStart start) ms at ≡ parsed us at)
+  unfolding each passed
+  tests-complete [] oks at h = ([], refl)
+  tests-complete (m ∷ ms) oks at h =
+      let (us, r) = tests-complete ms (λ l i. oks l (List·Memᴰ·tail i)) at (λ l i. h l (List·Memᴰ·tail i)) in
+      (tt ∷ us, rw (require-complete (passed m) 8 (m .first) at (r-passed m (oks (m .located) (List·Memᴰ·head refl)) .tests (h (m .located) (List·Memᴰ·head refl))), r))
+
+-- ---- covers
+
+module _ (s : Buffer) (variables : ℕ) (ms : List Located) (oks : (m : Located) → m ∈ ms → InRange variables 12 (m .shape)) where
+  holds-reflects : (m o : Located) (images : List ℕ) → m ∈ ms → length images ≡ size (m .shape) → AllBelow (size (o .shape)) images
+      → Reflect ((m .state ≡ o .state) × Embeds (shapeGraph (m .shape)) (shapeGraph (o .shape)) (imageMap images)) (holds? m images o)
+  holds-reflects m o images i long below =
+      r-and (r-eq (m .state) (o .state))
+      (embeds-reflects (m .shape) (o .shape) images (in-range-closed variables 12 (m .shape) (oks m i)) long (λ k b. below (getD images k 0) (getD-mem images k (omega arith))))
+
+  -- a cover that holds, with an image for each cell of its member
+  abbrev pub Fit : Cover → Located → Type 0
+  Fit c o = Holds ms c o × ImageForEach ms c
+
+  cover-sound : (o : Located) (at : ℕ) {u : Unit {0}} {next : ℕ} → readCover s ms o at ≡ parsed u next
+      → (c : Cover) × Reads (s .bytes) at (coverNumbers c) next × Fit c o
+  unfolding readCover
+  cover-sound o at {u} {next} =
+      then (readAs s (getElem? ms) at) _
+      (λ m a h₁. then (many (size (m .shape)) (ranged s 0 (size (o .shape))) a) _
+      (λ images b h₂ h₃.
+      let (n, g₁, numbered) = read-sound s (getElem? ms) at m a h₁ in
+      let i = getElem-mem ms n m numbered in
+      let (g₂, (long, below)) = codes-exact s (size (m .shape)) (size (o .shape)) .sound a images b h₂ in
+      let (t, next-is) = require-sound (holds? m images o) 9 at b h₃ in
+      let (state, embeds) = holds-reflects m o images i long below .holds t in (
+        record { member = n; images = images },
+        rw (← next-is) (more g₁ g₂),
+        (record { member = m; numbered = numbered; state = state; embeds = embeds }, λ m′ e. let m-is : m ≡ m′ = cc in rw (← m-is) long),
+      )))
+
+  cover-complete : (o : Located) (at next : ℕ) (c : Cover) → Reads (s .bytes) at (coverNumbers c) next → Fit c o → readCover s ms o at ≡ parsed tt next
+  unfolding readCover
+  cover-complete o at next c r (h, each-cell) =
+      let m = h .member in
+      let i = getElem-mem ms (c .member) m (h .numbered) in
+      let long = each-cell m (h .numbered) in
+      let below : AllBelow (size (o .shape)) (c .images) = λ x k.
+      let (j, b, e) = mem-getD (c .images) x k in
+      let (_, q) = h .embeds .images .cells (cell j) (omega arith, omega arith) in
+      omega arith in
+      let (a, g₁, g₂) = reads-first r in
+      rw (
+        read-complete s (getElem? ms) at (c .member) a m g₁ (h .numbered),
+        codes-exact s (size (m .shape)) (size (o .shape)) .complete a (c .images) next g₂ (long, below),
+      )
+      (require-complete (holds? m (c .images) o) 9 at next (holds-reflects m o (c .images) i long below .tests (h .state, h .embeds)))
+
+  pub covers-sound : (os : List Located) (at : ℕ) {us : List (Unit {0})} {next : ℕ} → each (readCover s ms) os at ≡ parsed us next
+      → (cs : List Cover) × Reads (s .bytes) at (concatMap coverNumbers cs) next × AllHold ms cs os × ((c : Cover) → c ∈ cs → ImageForEach ms c)
+  unfolding each
+  covers-sound [] at {next = next} e = ([], let next-is : at ≡ next = cc in rw (← next-is) done, tt, λ c i. absurd (List·Memᴰ·not-nil i))
+  covers-sound (o ∷ os) at {next = next} e =
+      then (readCover s ms o at) _
+      (λ u a h₁. then (each (readCover s ms) os a) _
+      (λ us b h₂ r.
+      let (c, g₁, (h, images)) = cover-sound o at h₁ in
+      let (cs, g₂, hs, all-images) = covers-sound os a h₂ in
+      (c ∷ cs, let next-is : b ≡ next = cc in subst (Reads (s .bytes) at (concatMap coverNumbers (c ∷ cs))) next-is (reads-append g₁ g₂), (h, hs), all-cons (ImageForEach ms) images all-images))) e
+
+  pub covers-complete : (os : List Located) (cs : List Cover) (at next : ℕ) → Reads (s .bytes) at (concatMap coverNumbers cs) next → AllHold ms cs os
+      → ((c : Cover) → c ∈ cs → ImageForEach ms c) → (us : List (Unit {0})) × (each (readCover s ms) os at ≡ parsed us next)
+  unfolding each
+  covers-complete [] [] at next r hs images = ([], ap (parsed []) (reads-none r))
+  covers-complete [] (c ∷ cs) at next r hs images = absurd hs
+  covers-complete (o ∷ os) [] at next r hs images = absurd hs
+  covers-complete (o ∷ os) (c ∷ cs) at next r (h, hs) images =
+      let (mid, g₁, g₂) = reads-split (coverNumbers c) r in
+      let (us, e) = covers-complete os cs mid next g₂ hs (λ d i. images d (List·Memᴰ·tail i)) in
+      (tt ∷ us, rw (cover-complete o at mid c g₁ (h, images c (List·Memᴰ·head refl)), e))

@@ -1,0 +1,183 @@
+-- What a parser reads, and that it reads it.
+use mathlib.Core.Bool.{Bool, true, false, cond}
+use mathlib.Core.List.{List, [], _∷_, _++_, List·Memᴰ·head, List·Memᴰ·tail, List·Memᴰ·not-nil}
+use mathlib.Core.Option.{Option, none, some}
+use mathlib.Core.Logic.{_⊎_, inl, inr}
+use mathlib.Core.Path.{_≡_, refl, sym, ap, ap₂, subst, _∙_}
+use Prim.Native.Nat.{ℕ, zero, suc, _≤_, _<_}
+use native.Mathlib.Omega.{arith}
+use lib.Dec.{T}
+use lib.ListN.{length}
+use Rattle.lists.specs.List.{_∈_, concatMap}
+use Rattle.lists.proofs.List.{all-cons}
+use Rattle.lists.proofs.Reflect.{Reflect, r-le, r-lt, r-and, cond-true}
+use Rattle.number.specs.Number.{numberAt}
+use Rattle.number.specs.declared.Read.{Read}
+use Rattle.number.specs.declared.Read.the-variants.{Number, Unreadable}
+use Rattle.shape.specs.Shape.{AllBelow}
+use Rattle.format.specs.Parser.{Parsed, parsed, fault, Parser, onward, require, many, Buffer, within, such, meant, judged, readAs, ranged}
+use Rattle.format.proofs.Sequence.{unreadable-at, Reads, done, one, reads-none, reads-one, reads-append, reads-split}
+
+pub not-fault : {A : Type 0} (x : A) (next number place : ℕ) → fault number place ≡ parsed x next → ⊥
+not-fault x next number place e = let z : _≡_ {A = ℕ} 0 1 = cc in omega arith
+
+-- a parser that went on: what it had read, and what the rest made of it
+pub then : {A B Goal : Type 0} (r : Parsed A) (rest : A → Parser B) {y : B} {next : ℕ}
+    → ((x : A) (mid : ℕ) → r ≡ parsed x mid → rest x mid ≡ parsed y next → Goal) → onward r rest ≡ parsed y next → Goal
+then (parsed x mid) rest go e = go x mid refl e
+then (fault number place) rest {y} {next} go e = absurd (not-fault y next number place e)
+
+-- one that was refused: at first, or in the rest
+pub then-fault : {A B Goal : Type 0} (r : Parsed A) (rest : A → Parser B) {number place : ℕ}
+    → ((x : A) (mid : ℕ) → r ≡ parsed x mid → rest x mid ≡ fault number place → Goal) → (r ≡ fault number place → Goal)
+    → onward r rest ≡ fault number place → Goal
+then-fault (parsed x mid) rest go stop e = go x mid refl e
+then-fault {A} (fault k q) rest {number} {place} go stop e =
+    let k-is : k ≡ number = cc in
+    let q-is : q ≡ place = cc in
+    stop (ap₂ {A = ℕ} {B = ℕ} {C = Parsed A} fault k-is q-is)
+
+-- ---- tests
+
+pub require-sound : (test : Bool) (number place at : ℕ) {u : Unit {0}} {next : ℕ} → require test number place at ≡ parsed u next → T test × (at ≡ next)
+require-sound true number place at e = (tt, cc)
+require-sound false number place at {u} {next} e = absurd (not-fault u next number place e)
+
+pub require-fault : (test : Bool) (number place at : ℕ) {k q : ℕ} → require test number place at ≡ fault k q → (number ≡ k) × (place ≡ q) × (¬ T test)
+require-fault true number place at {k} {q} e = absurd (not-fault tt at k q (sym e))
+require-fault false number place at e = (cc, cc, λ t. t)
+
+pub require-complete : (test : Bool) (number place at : ℕ) → T test → require test number place at ≡ parsed tt at
+require-complete test number place at t = cond-true test (parsed tt at) (fault number place) t
+
+module _ (s : Buffer) where
+  -- ---- one number
+
+  pub read-sound : {A : Type 0} (meaning : ℕ → Option A) (at : ℕ) (x : A) (next : ℕ) → readAs s meaning at ≡ parsed x next
+      → (n : ℕ) × (numberAt (s .bytes) at ≡ Number n next) × (meaning n ≡ some x)
+  unfolding readAs
+  read-sound {A} meaning at x next = by-read (numberAt (s .bytes) at) refl
+    where
+      by-meaning : (n k : ℕ) → numberAt (s .bytes) at ≡ Number n k → (o : Option A) → meaning n ≡ o → judged s at k o ≡ parsed x next
+          → (n : ℕ) × (numberAt (s .bytes) at ≡ Number n next) × (meaning n ≡ some x)
+      by-meaning n k g none h e = absurd (not-fault x next (s .outside) at e)
+      by-meaning n k g (some y) h e =
+          let y-is : y ≡ x = cc in
+          let k-is : k ≡ next = cc in
+          (n, rw k-is at g, rw y-is at h)
+
+      by-read : (r : Read) → numberAt (s .bytes) at ≡ r → meant s meaning at r ≡ parsed x next
+          → (n : ℕ) × (numberAt (s .bytes) at ≡ Number n next) × (meaning n ≡ some x)
+      by-read (Number n k) g e = by-meaning n k g (meaning n) refl e
+      by-read (Unreadable p) g e = absurd (not-fault x next (s .unreadable) at e)
+
+  -- the number at a place can't be read, or reads as one for which P holds
+  abbrev pub Faulty : (ℕ → Type 0) → ℕ → ℕ → Type 0
+  Faulty P number place =
+      ((number ≡ s .unreadable) × (numberAt (s .bytes) place ≡ Unreadable place))
+      ⊎ ((number ≡ s .outside) × ((n : ℕ) × (next : ℕ) × (numberAt (s .bytes) place ≡ Number n next) × P n))
+
+  pub read-fault : {A : Type 0} (meaning : ℕ → Option A) (at number place : ℕ) → readAs s meaning at ≡ fault number place
+      → (at ≡ place) × Faulty (λ n. meaning n ≡ none) number at
+  unfolding readAs
+  read-fault {A} meaning at number place = by-read (numberAt (s .bytes) at) refl
+    where
+      Result : Type 0
+      Result = (at ≡ place) × Faulty (λ n. meaning n ≡ none) number at
+
+      by-meaning : (n k : ℕ) → numberAt (s .bytes) at ≡ Number n k → (o : Option A) → meaning n ≡ o → judged s at k o ≡ fault number place → Result
+      by-meaning n k g none h e = (cc, inr (cc, (n, k, g, h)))
+      by-meaning n k g (some y) h e = absurd (not-fault y k number place (sym e))
+
+      by-read : (r : Read) → numberAt (s .bytes) at ≡ r → meant s meaning at r ≡ fault number place → Result
+      by-read (Number n k) g e = by-meaning n k g (meaning n) refl e
+      by-read (Unreadable p) g e = (cc, inl (cc, g ∙ ap Unreadable (sym (unreadable-at (s .bytes) at p g))))
+
+  pub read-outside : {A : Type 0} (meaning : ℕ → Option A) (at n next : ℕ) → numberAt (s .bytes) at ≡ Number n next → meaning n ≡ none
+      → readAs s meaning at ≡ fault (s .outside) at
+  unfolding readAs
+  read-outside meaning at n next g h = ap (meant s meaning at) g ∙ ap (judged s at next) h
+
+  pub read-complete : {A : Type 0} (meaning : ℕ → Option A) (at n next : ℕ) (x : A) → numberAt (s .bytes) at ≡ Number n next → meaning n ≡ some x
+      → readAs s meaning at ≡ parsed x next
+  unfolding readAs
+  read-complete meaning at n next x g h = ap (meant s meaning at) g ∙ ap (judged s at next) h
+
+  -- ---- parsers
+
+  -- p reads exactly the values that are Ok, each from its numbers
+  pub record Exact {A : Type 0} (p : Parser A) (numbers : A → List ℕ) (Ok : A → Type 0) : Type 0 where
+    pub sound : (at : ℕ) (x : A) (next : ℕ) → p at ≡ parsed x next → Reads (s .bytes) at (numbers x) next × Ok x
+    pub complete : (at : ℕ) (x : A) (next : ℕ) → Reads (s .bytes) at (numbers x) next → Ok x → p at ≡ parsed x next
+
+  pub exact-iff : {A : Type 0} {p : Parser A} {f g : A → List ℕ} {Ok Ok′ : A → Type 0} → ((x : A) → f x ≡ g x) → ((x : A) → Ok x → Ok′ x)
+      → ((x : A) → Ok′ x → Ok x) → Exact p f Ok → Exact p g Ok′
+  exact-iff same to from e =
+      record {
+        sound = λ at x next h. let (r, k) = e .sound at x next h in (rw same at r, to x k);
+        complete = λ at x next r k. e .complete at x next (rw same r) (from x k);
+      }
+
+  pub such-exact : (test : ℕ → Bool) (P : ℕ → Type 0) → ((n : ℕ) → Reflect (P n) (test n)) → Exact (readAs s (such test)) (λ n. n ∷ []) P
+  such-exact test P r = record { sound = sound; complete = complete }
+    where
+      meant-is : (n x : ℕ) (b : Bool) → test n ≡ b → cond b (some n) none ≡ some x → T (test n) × (n ≡ x)
+      meant-is n x true h e = (rw h tt, cc)
+      meant-is n x false h e = let z : _≡_ {A = ℕ} 0 1 = cc in absurd (omega arith)
+
+      sound : (at x next : ℕ) → readAs s (such test) at ≡ parsed x next → Reads (s .bytes) at (x ∷ []) next × P x
+      sound at x next e =
+          let (n, g, h) = read-sound (such test) at x next e in
+          let (t, n-is) = meant-is n x (test n) refl h in
+          (one (rw n-is at g), subst P n-is (r n .holds t))
+
+      complete : (at x next : ℕ) → Reads (s .bytes) at (x ∷ []) next → P x → readAs s (such test) at ≡ parsed x next
+      complete at x next g h = read-complete (such test) at x next x (reads-one g) (cond-true (test x) (some x) none (r x .tests h))
+
+  -- "a number from `low` on and below `limit`"
+  pub ranged-exact : (low limit : ℕ) → Exact (ranged s low limit) (λ n. n ∷ []) (λ n. (low ≤ n) × (n < limit))
+  ranged-exact low limit = such-exact (within low limit) (λ n. (low ≤ n) × (n < limit)) (λ n. r-and (r-le low n) (r-lt n limit))
+
+  module _ {A : Type 0} {p : Parser A} {numbers : A → List ℕ} {Ok : A → Type 0} (e : Exact p numbers Ok) where
+    many-sound : (k at : ℕ) (xs : List A) (next : ℕ) → many k p at ≡ parsed xs next
+        → Reads (s .bytes) at (concatMap numbers xs) next × ((length xs ≡ k) × ((x : A) → x ∈ xs → Ok x))
+    unfolding many
+    many-sound zero at xs next h =
+        let xs-is : [] ≡ xs = cc in
+        let next-is : at ≡ next = cc in
+        rw (← xs-is, ← next-is) (done, (refl, λ x i. absurd (List·Memᴰ·not-nil i)))
+    many-sound (suc k) at xs next h =
+        then (p at) _
+        (λ x mid h₁. then (many k p mid) _
+        (λ ys end h₂ r.
+        let (g₁, ok) = e .sound at x mid h₁ in
+        let (g₂, (long, oks)) = many-sound k mid ys end h₂ in
+        let xs-is : x ∷ ys ≡ xs = cc in
+        let next-is : end ≡ next = cc in
+        rw (← xs-is, ← next-is) (reads-append g₁ g₂, (ap suc long, all-cons Ok ok oks))))
+        h
+
+    many-complete : (k at : ℕ) (xs : List A) (next : ℕ) → Reads (s .bytes) at (concatMap numbers xs) next → length xs ≡ k → ((x : A) → x ∈ xs → Ok x)
+        → many k p at ≡ parsed xs next
+    unfolding many
+    many-complete zero at [] next g long oks = rw (reads-none g)
+    many-complete zero at (x ∷ xs) next g long oks = absurd (omega arith)
+    many-complete (suc k) at [] next g long oks = absurd (omega arith)
+    many-complete (suc k) at (x ∷ xs) next g long oks =
+        let (mid, g₁, g₂) = reads-split (numbers x) g in
+        rw (
+          e .complete at x mid g₁ (oks x (List·Memᴰ·head refl)),
+          many-complete k mid xs next g₂ (omega arith) (λ y i. oks y (List·Memᴰ·tail i)),
+        )
+
+    pub many-exact : (k : ℕ) → Exact (many k p) (concatMap numbers) (λ xs. (length xs ≡ k) × ((x : A) → x ∈ xs → Ok x))
+    many-exact k = record { sound = many-sound k; complete = λ at xs next g (long, oks). many-complete k at xs next g long oks }
+
+  -- so many numbers below a limit
+  pub codes-exact : (k limit : ℕ) → Exact (many k (ranged s 0 limit)) (λ xs. xs) (λ xs. (length xs ≡ k) × AllBelow limit xs)
+  codes-exact k limit =
+      exact-iff singles (λ xs (long, oks). (long, λ x i. oks x i .1)) (λ xs (long, oks). (long, λ x i. (omega arith, oks x i))) (many-exact (ranged-exact 0 limit) k)
+    where
+      singles : (xs : List ℕ) → concatMap (λ x. x ∷ []) xs ≡ xs
+      singles [] = refl
+      singles (x ∷ xs) = ap (λ (l : List ℕ). x ∷ l) (singles xs)

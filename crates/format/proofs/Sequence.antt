@@ -1,0 +1,144 @@
+-- Numbers that stand one after the other in a buffer.
+use mathlib.Core.Bool.{cond}
+use mathlib.Core.List.{List, [], _∷_, _++_}
+use mathlib.Core.Path.{_≡_, refl, sym, ap, _∙_}
+use Prim.Native.Nat.{ℕ, zero, suc, _+_, _-_, _≤_, _<_}
+use native.Mathlib.Decide.{decLt}
+use native.Mathlib.Omega.{arith}
+use borrow.Author.Tests.{lt-ltb, le-ltb}
+use lib.Dec.{ltb}
+use lib.ListN.{length, getD}
+use Rattle.lists.proofs.Reflect.{r-le, r-lt, r-eq, cond-cases}
+use Rattle.number.specs.Number.{numberIn, numberAt}
+use Rattle.number.specs.NumberList.{Listed, numbers, refused, before, onward, decodeFrom, decode}
+use Rattle.number.specs.declared.Read.{Read}
+use Rattle.number.specs.declared.Read.the-variants.{Number, Unreadable}
+
+-- the numbers ns are read one after the other from a place to the next
+pub data Reads (s : List ℕ) : ℕ → List ℕ → ℕ → Type 0 where
+  done : {at : ℕ} → Reads s at [] at
+  more : {at n mid next : ℕ} {ns : List ℕ} → numberAt s at ≡ Number n mid → Reads s mid ns next → Reads s at (n ∷ ns) next
+
+module _ {s : List ℕ} where
+  pub one : {at n next : ℕ} → numberAt s at ≡ Number n next → Reads s at (n ∷ []) next
+  one g = more g done
+
+  pub reads-none : {at next : ℕ} → Reads s at [] next → at ≡ next
+  reads-none done = refl
+
+  pub reads-first : {at n next : ℕ} {ns : List ℕ} → Reads s at (n ∷ ns) next → (mid : ℕ) × (numberAt s at ≡ Number n mid) × Reads s mid ns next
+  reads-first (more {mid = k} g r) = (k, g, r)
+
+  pub reads-one : {at n next : ℕ} → Reads s at (n ∷ []) next → numberAt s at ≡ Number n next
+  reads-one r = let (mid, g, e) = reads-first r in rw (reads-none e) at g
+
+  pub reads-append : {at mid next : ℕ} {ns ms : List ℕ} → Reads s at ns mid → Reads s mid ms next → Reads s at (ns ++ ms) next
+  reads-append done r = r
+  reads-append (more g k) r = more g (reads-append k r)
+
+  pub reads-split : {at next : ℕ} (ns : List ℕ) {ms : List ℕ} → Reads s at (ns ++ ms) next → (mid : ℕ) × Reads s at ns mid × Reads s mid ms next
+  reads-split {at} [] r = (at, done, r)
+  reads-split (n ∷ ns) r =
+      let (k, g, q) = reads-first r in
+      let (mid, a, b) = reads-split ns q in
+      (mid, more g a, b)
+
+-- a number has a byte of the buffer, and the next place is further on
+pub number-in : (at left a b c n next : ℕ) → numberIn at left a b c ≡ Number n next → (0 < left) × (at < next)
+unfolding numberIn
+number-in at left a b c n next =
+    cond-cases Q (r-le left 0) (λ _. unread)
+    (λ l. cond-cases Q (r-lt a 128) (λ _ e. let z : at + 1 ≡ next = cc in (omega arith, omega arith))
+    (λ _. cond-cases Q (r-le left 1) (λ _. unread)
+    (λ _. cond-cases Q (r-eq b 0) (λ _. unread)
+    (λ _. cond-cases Q (r-lt b 128) (λ _ e. let z : at + 2 ≡ next = cc in (omega arith, omega arith))
+    (λ _. cond-cases Q (r-le left 2) (λ _. unread)
+    (λ _. cond-cases Q (r-eq c 0) (λ _. unread)
+    (λ _. cond-cases Q (r-lt c 4) (λ _ e. let z : at + 3 ≡ next = cc in (omega arith, omega arith)) (λ _. unread))))))))
+  where
+    Q : Read → Type 0
+    Q r = r ≡ Number n next → (0 < left) × (at < next)
+
+    unread : Q (Unreadable at)
+    unread e = let z : _≡_ {A = ℕ} 0 1 = cc in absurd (omega arith)
+
+-- what can't be read is refused at the place asked for
+pub unreadable-at : (s : List ℕ) (at p : ℕ) → numberAt s at ≡ Unreadable p → at ≡ p
+unfolding numberIn
+unreadable-at s at p =
+    cond-cases Q (r-le left 0) (λ _. unread)
+    (λ _. cond-cases Q (r-lt (getD s at 0) 128) (λ _. read)
+    (λ _. cond-cases Q (r-le left 1) (λ _. unread)
+    (λ _. cond-cases Q (r-eq (getD s (at + 1) 0) 0) (λ _. unread)
+    (λ _. cond-cases Q (r-lt (getD s (at + 1) 0) 128) (λ _. read)
+    (λ _. cond-cases Q (r-le left 2) (λ _. unread)
+    (λ _. cond-cases Q (r-eq (getD s (at + 2) 0) 0) (λ _. unread)
+    (λ _. cond-cases Q (r-lt (getD s (at + 2) 0) 4) (λ _. read) (λ _. unread))))))))
+  where
+    left : ℕ
+    left = length s - at
+
+    Q : Read → Type 0
+    Q r = r ≡ Unreadable p → at ≡ p
+
+    unread : Q (Unreadable at)
+    unread e = cc
+
+    read : {n next : ℕ} → Q (Number n next)
+    read e = let z : _≡_ {A = ℕ} 0 1 = cc in absurd (omega arith)
+
+module _ (s : List ℕ) where
+  decode-step : (turns at : ℕ) → at < length s → decodeFrom (suc turns) s at ≡ onward (decodeFrom turns s) (numberAt s at)
+  unfolding decodeFrom
+  decode-step turns at h = ap (λ b. cond b (onward (decodeFrom turns s) (numberAt s at)) (numbers [])) (lt-ltb at (length s) h)
+
+  decode-end : (turns at : ℕ) → length s ≤ at → decodeFrom turns s at ≡ numbers []
+  unfolding decodeFrom
+  decode-end zero at h = rw (le-ltb at (length s) h)
+  decode-end (suc turns) at h = rw (le-ltb at (length s) h)
+
+  reads-from : (turns at : ℕ) (ns : List ℕ) (next : ℕ) → Reads s at ns next → length s ≤ next → length s - at ≤ turns → decodeFrom turns s at ≡ numbers ns
+  reads-from turns at [] next r h t = decode-end turns at (omega (arith, reads-none r))
+  reads-from zero at (n ∷ ns) next r h t =
+      let (mid, g, k) = reads-first r in
+      let (some-left, on) = number-in at (length s - at) _ _ _ n mid g in
+      absurd (omega arith)
+  reads-from (suc turns) at (n ∷ ns) next r h t =
+      let (mid, g, k) = reads-first r in
+      let (some-left, on) = number-in at (length s - at) _ _ _ n mid g in
+      decode-step turns at (omega arith) ∙ ap (onward (decodeFrom turns s)) g ∙ ap (before n) (reads-from turns mid ns next k h (omega arith))
+
+  -- what is read to the end is the list of numbers
+  pub reads-decode : (ns : List ℕ) (next : ℕ) → Reads s 0 ns next → length s ≤ next → decode s ≡ numbers ns
+  reads-decode ns next r h = reads-from (length s) 0 ns next r h (omega arith)
+
+  Done : ℕ → List ℕ → Type 0
+  Done at ns = (next : ℕ) × Reads s at ns next × (length s ≤ next)
+
+  at-end : (at : ℕ) (ns : List ℕ) → ¬ (at < length s) → numbers [] ≡ numbers ns → Done at ns
+  unfolding Done
+  at-end at ns l e = let ns-is : [] ≡ ns = cc in (at, rw (← ns-is) done, omega arith)
+
+  decode-from : (turns at : ℕ) (ns : List ℕ) → decodeFrom turns s at ≡ numbers ns → Done at ns
+  unfolding Done decodeFrom
+  decode-from zero at ns e =
+      cond-cases (λ x. x ≡ numbers ns → Done at ns) (r-lt at (length s)) (λ _ z. let q : _≡_ {A = ℕ} 0 1 = cc in absurd (omega arith)) (at-end at ns) e
+  decode-from (suc turns) at ns e =
+      cond-cases (λ x. x ≡ numbers ns → Done at ns) (r-lt at (length s)) (λ _. by-number (numberAt s at) refl (decode-from turns)) (at-end at ns) e
+    where
+      by-rest : (n mid : ℕ) → numberAt s at ≡ Number n mid → (r : Listed) → decodeFrom turns s mid ≡ r → ((ms : List ℕ) → decodeFrom turns s mid ≡ numbers ms → Done mid ms)
+          → before n r ≡ numbers ns → Done at ns
+      by-rest n mid g (refused p) h rest z = let q : _≡_ {A = ℕ} 0 1 = cc in absurd (omega arith)
+      by-rest n mid g (numbers ms) h rest z =
+          let (next, r, l) = rest ms h in
+          let ns-is : n ∷ ms ≡ ns = cc in
+          (next, rw (← ns-is) (more g r), l)
+
+      by-number : (r : Read) → numberAt s at ≡ r → ((mid : ℕ) (ms : List ℕ) → decodeFrom turns s mid ≡ numbers ms → Done mid ms)
+          → onward (decodeFrom turns s) r ≡ numbers ns → Done at ns
+      by-number (Number n mid) g rest z = by-rest n mid g (decodeFrom turns s mid) refl (rest mid) z
+      by-number (Unreadable p) g rest z = let q : _≡_ {A = ℕ} 0 1 = cc in absurd (omega arith)
+
+  pub decode-reads : (ns : List ℕ) → decode s ≡ numbers ns → (next : ℕ) × Reads s 0 ns next × (length s ≤ next)
+  unfolding Done
+  decode-reads ns e = decode-from (length s) 0 ns e

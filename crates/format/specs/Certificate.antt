@@ -1,0 +1,46 @@
+-- Certificates: members, then covers.
+use mathlib.Core.Bool.{_&&_, not}
+use mathlib.Core.List.{List, map}
+use Prim.Native.Nat.{ℕ}
+use lib.Dec.{eqb}
+use lib.ListN.{getElem?}
+use Rattle.shape.specs.Shape.{size}
+use Rattle.run.specs.Run.{Located}
+use Rattle.cover.specs.Cover.{holds?, byEmpty}
+use Rattle.format.specs.Parser.{Parser, _>>=_, _>>_, return, here, require, many, Buffer, readAs, ranged}
+use Rattle.format.specs.Job.{readLocated}
+
+-- a member with the place of its first byte
+pub record Member : Type 0 where
+  pub first : ℕ
+  pub located : Located
+
+abbrev pub withoutPlaces : List Member → List Located
+withoutPlaces = map (λ m. m .located)
+
+-- "8. A member at the start state is satisfied by the empty heap [..] (the member's first byte)."
+abbrev pub testStart : ℕ → Member → Parser (Unit {0})
+testStart start m = require (not (eqb (m .located .state) start && byEmpty (m .located .shape))) 8 (m .first)
+
+module _ (s : Buffer) where
+  unfoldable pub readMember : ℕ → ℕ → Parser Member
+  readMember variables states = do
+    first ← here
+    located ← readLocated s variables states
+    return (record { first = first; located = located })
+
+  -- "Certificate: version 1; N 1..512; N members (state, shape); then covers."
+  unfoldable pub readMembers : ℕ → ℕ → Parser (List Member)
+  readMembers variables states = do
+    ranged s 1 2
+    count ← ranged s 1 513
+    many count (readMember variables states)
+
+  -- "A cover is a member number below N and one image for each of its cells, below the number of cells of the covered shape." "9. A cover
+  -- that reads doesn't hold (the cover's first byte)."
+  unfoldable pub readCover : List Located → Located → Parser (Unit {0})
+  readCover members covered = do
+    first ← here
+    member ← readAs s (getElem? members)
+    images ← many (size (member .shape)) (ranged s 0 (size (covered .shape)))
+    require (holds? member images covered) 9 first

@@ -1,0 +1,47 @@
+-- The verdict on a job and a certificate, for every pair of byte lists.
+use mathlib.Core.Bool.{Bool, cond}
+use mathlib.Core.List.{List}
+use Prim.Native.Nat.{ℕ}
+use lib.ListN.{length}
+use Rattle.run.specs.Run.{Located}
+use Rattle.cover.specs.Cover.{owed}
+use Rattle.format.specs.Parser.{Parsed, parsed, fault, onward, Parser, _>>=_, _>>_, return, each, Buffer, jobBuffer, certificateBuffer, within, end}
+use Rattle.format.specs.Job.{JobFile, readWholeJob}
+use Rattle.format.specs.Certificate.{withoutPlaces, readMembers, testStart, readCover}
+
+-- "The counts are B, N and the covers in the order above."
+pub record Counts : Type 0 where
+  pub bads : ℕ
+  pub members : ℕ
+  pub covers : ℕ
+
+-- "an answer carries either the three counts or a refusal with its place"
+pub data Verdict : Type 0 where
+  accepted : Counts → Verdict
+  refused : ℕ → ℕ → Verdict
+
+-- "6 and 7 likewise from the certificate's first number to its last member; then 8, the first such member; then cover by cover 6, 7, 9; then
+-- 10."
+unfoldable pub readCertificate : Buffer → JobFile → Parser Counts
+readCertificate s f = do
+  members ← readMembers s (f .job .variables) (f .states)
+  let ms : List Located = withoutPlaces members
+  let covered : List Located = owed (f .job) ms
+  each (testStart (f .job .start)) members
+  each (readCover s ms) covered
+  end s
+  return (record { bads = length (f .job .forbidden); members = length ms; covers = length covered })
+
+abbrev pub answer : Parsed Counts → Verdict
+answer (parsed counts next) = accepted counts
+answer (fault number place) = refused number place
+
+abbrev pub fits : List ℕ → Bool
+fits s = within 1 65537 (length s)
+
+-- "1. The job's length is 0 or above 65,536 (place 0). 2. The certificate's length is 0 or above 65,536 (place 0)."
+unfoldable pub verdict : List ℕ → List ℕ → Verdict
+verdict job certificate =
+    let read = onward (readWholeJob (jobBuffer job) 0) (λ f next. readCertificate (certificateBuffer certificate) f 0) in
+    let sized = cond (fits certificate) (answer read) (refused 2 0) in
+    cond (fits job) sized (refused 1 0)
