@@ -12,21 +12,23 @@ use Rattle.shape.specs.Shape.{Shape, varAt, linkAt}
 
 -- ---- changes of a shape
 
+-- the link of the cell c stands at p, if c is a cell
 abbrev pub setLinkIn : ℕ → ℕ → List ℕ → List ℕ
 setLinkIn zero p links = links
 setLinkIn (suc zero) p links = links
 setLinkIn (suc (suc zero)) p links = links
 setLinkIn (suc (suc (suc i))) p links = set links i p
 
--- the link of the cell c stands at p
 abbrev pub setLink : ℕ → ℕ → Shape → Shape
 setLink c p s = record { vars = s .vars; links = setLinkIn c p (s .links) }
 
+-- without the element at i
 abbrev pub removeAt : ℕ → List ℕ → List ℕ
 removeAt i [] = []
 removeAt zero (x ∷ xs) = xs
 removeAt (suc i) (x ∷ xs) = x ∷ removeAt i xs
 
+-- without the link of the cell c
 abbrev pub removeLink : ℕ → List ℕ → List ℕ
 removeLink zero links = links
 removeLink (suc zero) links = links

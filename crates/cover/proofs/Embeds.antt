@@ -1,5 +1,4 @@
 -- The test of a cover decides the relation of embedding.
-use mathlib.Core.Bool.{Bool, true, false, true≢false}
 use mathlib.Core.List.{List, [], _∷_, _++_, List·Memᴰ·tail, List·Memᴰ·not-nil, Memᴰ·append-left, Memᴰ·append-right, List·Memᴰ·append-cases}
 use mathlib.Core.Logic.{_≢_, _⊎_, inl, inr}
 use mathlib.Core.Path.{_≡_, refl, ap, subst}
@@ -11,7 +10,7 @@ use lib.Dec.{T, eqb}
 use lib.ListN.{length, getD}
 use Rattle.lists.specs.List.{_∈_}
 use Rattle.lists.proofs.List.{pigeonhole}
-use Rattle.lists.proofs.Reflect.{Reflect, r-eq, r-lt, r-and, r-or, r-not, r-iff, r-all, r-disjoint, cond-false, cond-cases}
+use Rattle.lists.proofs.Reflect.{is-true, is-false, fails, Reflect, r-eq, r-lt, r-and, r-or, r-not, r-iff, r-all, r-disjoint, cond-false, cond-cases}
 use Rattle.heap.specs.Place.{nowhere, cell}
 use Rattle.graph.specs.Graph.{Chain, Embeds}
 use Rattle.graph.proofs.Chain.{chain-distinct}
@@ -44,18 +43,6 @@ r-isImage (x ∷ xs) p = r-iff (go (ℕ-discrete p (cell x))) back (r-or (r-eq p
 
 r-stops : (images : List ℕ) (p : ℕ) → Reflect (¬ (p < cell 0) → IsImage images p) (stops images p)
 r-stops images p = r-or (r-lt p (cell 0)) (r-isImage images p)
-
-tests-true : (b : Bool) → T b → b ≡ true
-tests-true true t = refl
-tests-true false t = absurd t
-
-tests-false : (b : Bool) → ¬ T b → b ≡ false
-tests-false true t = absurd (t tt)
-tests-false false t = refl
-
-false-fails : (b : Bool) → b ≡ false → ¬ T b
-false-fails true e t = absurd (true≢false e)
-false-fails false e t = t
 
 module _ (m p : Shape) (l : List ℕ) where
   -- ---- what the test says, rule by rule and cell by cell
@@ -146,10 +133,12 @@ module _ (m p : Shape) (l : List ℕ) where
                 by-link (λ c. Chain (linkAt p) (f c) (path c) (f (linkAt m c)))
                 (λ i b z. walk-chain (linkAt p) (stops l) (size p) (f (cell i)) (f (linkAt m (cell i))) (t .links i b z) (somewhere (linkAt m (cell i)) z));
             no-image = λ c x d z k kd e.
-                false-fails (stops l x) (walked-no-end (linkAt p) (stops l) (size p) (linkAt p (f c)) x k) (rw e (place-stops d (λ _ _. kd)));
+                fails (stops l x) (walked-no-end (linkAt p) (stops l) (size p) (linkAt p (f c)) x k) (rw e (place-stops d (λ _ _. kd)));
             unshared = λ c d x z z′ k k′.
                 by-link (λ c. x ∈ path c → c ≡ d)
-                (λ i b y. by-link (λ d. x ∈ path d → x ∈ path (cell i) → cell i ≡ d) (λ j b′ y′ q q′. meet i j x b b′ y y′ q′ q (ℕ-discrete i j) (decLt i j)) d z′ k′) c z k;
+                (λ i b y.
+                by-link (λ d. x ∈ path d → x ∈ path (cell i) → cell i ≡ d)
+                (λ j b′ y′ q q′. meet i j x b b′ y y′ q′ q (ℕ-discrete i j) (decLt i j)) d z′ k′) c z k;
           };
         }
       where
@@ -176,8 +165,8 @@ module _ (m p : Shape) (l : List ℕ) where
       found : (i : ℕ) → i < size m → linkAt m (cell i) ≢ nowhere → (pathEnd m p l i ≡ f (linkAt m (cell i))) × (path (cell i) ≡ e .paths .between (cell i))
       found i b z =
           walk-finds (linkAt p) (stops l) (size p) (f (cell i)) mid (f (linkAt m (cell i))) chain
-          (tests-true (stops l (f (linkAt m (cell i)))) (place-stops (linkAt m (cell i)) (cl .link-place (cell i) z)))
-          (λ c k. tests-false (stops l c) (λ t. off c k (r-stops l c .holds t)))
+          (is-true (stops l (f (linkAt m (cell i)))) (place-stops (linkAt m (cell i)) (cl .link-place (cell i) z)))
+          (λ c k. is-false (stops l c) (λ t. off c k (r-stops l c .holds t)))
           (pigeonhole (cell 0) (size p) (f (cell i) ∷ mid)
           ((λ k. e .paths .no-image (cell i) (f (cell i)) (cell i) z k (omega arith, omega arith) refl), chain-distinct (linkAt p) (f (cell i)) mid _ chain out)
           (λ x k. let (u, v) = shape-proper p .linked x (linked x k) in (u, omega arith)))
@@ -203,7 +192,9 @@ module _ (m p : Shape) (l : List ℕ) where
       complete : Tested
       complete =
           record {
-            once = λ i b j b′ n z. n (let q = e .images .distinct (cell i) (cell j) (omega arith, omega arith) (omega arith, omega arith) (ap cell z) in omega arith);
+            once = λ i b j b′ n z.
+                let q = e .images .distinct (cell i) (cell j) (omega arith, omega arith) (omega arith, omega arith) (ap cell z) in
+                n (omega arith);
             vars = λ i _. e .vars (suc i);
             links = λ i b z. found i b z .0;
             unshared = λ i b x k k′.

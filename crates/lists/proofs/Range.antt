@@ -6,7 +6,7 @@ use native.Mathlib.Nat.{zero-add}
 use native.Mathlib.Omega.{arith}
 use lib.ListN.{length, getD}
 use lib.Seq.{ext-getD}
-use Rattle.lists.specs.List.{range}
+use Rattle.lists.specs.Range.{range}
 
 length-from : {A : Type 0} (f : ℕ → A) (k n : ℕ) → length (map f (range k n)) ≡ n
 length-from f k zero = refl

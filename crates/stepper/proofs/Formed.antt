@@ -9,7 +9,7 @@ use borrow.Author.Tests.{leb-true, le-leb, lt-ltb, le-ltb, eq-eqb, ne-eqb, eqb-t
 use lib.Dec.{eqb, leb, ltb}
 use lib.ListN.{getD}
 use Rattle.heap.specs.Place.{nowhere, cell}
-use Rattle.lists.specs.List.{range}
+use Rattle.lists.specs.Range.{range}
 use Rattle.lists.specs.Test.{allFrom}
 use Rattle.lists.proofs.Range.{tabled}
 use Rattle.lists.proofs.Test.{and-left, and-right, and-both, all-at, all-made}

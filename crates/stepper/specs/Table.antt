@@ -8,7 +8,7 @@ use lib.ListN.{length, getD}
 use Rattle.heap.specs.Codes.{varIn, linkIn}
 use Rattle.heap.specs.Heap.{Heap}
 use Rattle.heap.specs.Place.{nowhere, dangling, cell}
-use Rattle.lists.specs.List.{range}
+use Rattle.lists.specs.Range.{range}
 use Rattle.lists.specs.Test.{allFrom}
 use Rattle.place.specs.Place.{placeOf, codes}
 use Rattle.place.specs.declared.Place.{Place}

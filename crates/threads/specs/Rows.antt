@@ -6,7 +6,7 @@ use mathlib.Core.Path.{_≡_}
 use Prim.Native.Nat.{ℕ}
 use lib.ListN.{length}
 use Rattle.heap.specs.Operation.{Op, operation}
-use Rattle.shape.specs.Predecessors.{predecessors}
+use Rattle.backward.specs.Predecessors.{predecessors}
 use Rattle.shape.specs.Shape.{Shape}
 use Rattle.cover.specs.Test.{embeds?}
 use Rattle.number.specs.Number.{numberAt, readOutcome}

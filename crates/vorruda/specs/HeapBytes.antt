@@ -5,7 +5,7 @@ use mathlib.Core.Path.{_≡_}
 use Prim.Native.Nat.{ℕ, _+_, _-_}
 use lib.Dec.{eqb, ltb}
 use lib.ListN.{length, getD}
-use Rattle.lists.specs.List.{range}
+use Rattle.lists.specs.Range.{range}
 use Rattle.lists.specs.Test.{allFrom}
 use Rattle.place.specs.Place.{placeOf}
 use Rattle.stepper.specs.Step.{outcomeCode, Steps}
