@@ -1,12 +1,14 @@
 -- The rows of the table of kinds, one by one.
 use mathlib.Core.Bool.{Bool, true, false, _&&_, cond}
-use mathlib.Core.Option.{none, some}
-use mathlib.Core.Path.{_≡_, refl}
+use mathlib.Core.Option.{Option, none, some}
+use mathlib.Core.Path.{_≡_, refl, ap, _∙_}
 use Prim.Native.Nat.{ℕ, zero, suc, _≤_}
 use native.Mathlib.Decide.{decLe}
 use native.Mathlib.Omega.{arith}
+use borrow.Author.Tests.{leb-true}
 use lib.Dec.{leb}
-use Rattle.heap.specs.Operation.{Op, kindOf}
+use Rattle.heap.specs.Operation.{Op, Kind, kindOf, allowsA, allowsB, fromRow, operation}
+use Rattle.lists.proofs.Test.{and-left, and-right}
 use Rattle.kinds.specs.Kinds.{leastA, leastB, mostB, isSome, allowed}
 
 -- what holds of the kinds 1 to 7 holds of every kind of the table
@@ -92,3 +94,46 @@ allowed-row k n a b l h =
 pub allowed-none : (k n a b : ℕ) → (1 ≤ k → k ≤ 7 → ⊥) → false ≡ allowed n k a b
 unfolding allowed
 allowed-none k n a b h = rw (no-kind k h) refl
+
+-- ---- what an allowed operation keeps to
+
+pub record Keeps (n a b : ℕ) (k : Kind) : Type 0 where
+  pub least-a : k .least-a ≤ a
+  pub most-a : a ≤ n
+  pub least-b : k .least-b ≤ b
+  pub most-b : b ≤ k .most-b n
+  pub named : fromRow n (some k) a b ≡ some (k .op a b)
+
+keeps : (n a b : ℕ) (k : Kind) → isSome (fromRow n (some k) a b) ≡ true → Keeps n a b k
+keeps n a b k e = go (allowsA n k a && allowsB n k b) refl (some-if (allowsA n k a && allowsB n k b) (k .op a b) ∙ e)
+  where
+    go : (x : Bool) → allowsA n k a && allowsB n k b ≡ x → x ≡ true → Keeps n a b k
+    go x q z =
+        let both : allowsA n k a && allowsB n k b ≡ true = q ∙ z in
+        let in-a = and-left (allowsA n k a) (allowsB n k b) both in
+        let in-b = and-right (allowsA n k a) (allowsB n k b) both in
+        record {
+          least-a = leb-true (k .least-a) a (and-left (leb (k .least-a) a) (leb a n) in-a);
+          most-a = leb-true a n (and-right (leb (k .least-a) a) (leb a n) in-a);
+          least-b = leb-true (k .least-b) b (and-left (leb (k .least-b) b) (leb b (k .most-b n)) in-b);
+          most-b = leb-true b (k .most-b n) (and-right (leb (k .least-b) b) (leb b (k .most-b n)) in-b);
+          named = rw both refl;
+        }
+
+-- an allowed operation keeps to the row of its kind, and is the one that the row names
+pub row-of : (n kind a b : ℕ) (k : Kind) → kindOf kind ≡ some k → allowed n kind a b ≡ true → Keeps n a b k × (operation n kind a b ≡ some (k .op a b))
+unfolding allowed
+row-of n kind a b k e h =
+    let kept = keeps n a b k (rw e at h) in
+    (kept, ap (λ (r : Option Kind). fromRow n r a b) e ∙ kept .named)
+
+pub known : (n kind a b : ℕ) → allowed n kind a b ≡ true → (1 ≤ kind) × (kind ≤ 7)
+known n kind a b h = go (decLe 1 kind) (decLe kind 7)
+  where
+    none-allowed : (1 ≤ kind → kind ≤ 7 → ⊥) → ⊥
+    none-allowed d = let z : false ≡ true = allowed-none kind n a b d ∙ h in let q : _≡_ {A = ℕ} 0 1 = cc in omega arith
+
+    go : Dec (1 ≤ kind) → Dec (kind ≤ 7) → (1 ≤ kind) × (kind ≤ 7)
+    go (yes l) (yes m) = (l, m)
+    go (no l) d = absurd (none-allowed (λ p q. l p))
+    go (yes l) (no m) = absurd (none-allowed (λ p q. m q))

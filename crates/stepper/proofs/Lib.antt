@@ -1,1 +1,6 @@
 pub mod Places
+pub mod Formed
+pub mod Change
+pub mod Dangle
+pub mod Perform
+pub mod Steps

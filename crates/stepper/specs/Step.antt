@@ -40,6 +40,11 @@ isNew (store a b) = false
 isNew (new a) = true
 isNew (delete a) = false
 
+-- a = b or a ≠ b
+abbrev pub comparison : Bool → ℕ → ℕ → Op
+comparison true = equal
+comparison false = different
+
 -- an operation on a well formed table: refusal 15, or the operation on the heap that the table stands for, or blocked
 unfoldable pub perform : Heap64 → Op → Stepped
 perform t o =
@@ -55,3 +60,14 @@ performNamed t (some o) = perform t o
 unfoldable pub stepOf : Heap64 → ℕ → ℕ → ℕ → Stepped
 stepOf t kind a b =
     cond (wellFormed t) (performNamed t (operation (t .variables) kind a b)) (stays t (Refused IllFormed))
+
+-- What the stepper promises. A step that moved has done the operation on the heap that the table stands for; and a well formed table
+-- stays well formed.
+pub record Steps (t : Heap64) (kind a b : ℕ) (r : Stepped) : Type 0 where
+  pub result : r ≡ stepOf t kind a b
+  pub does :
+      r .outcome ≡ Moved
+      → (o : Op) × (operation (t .variables) kind a b ≡ some o) × Enabled o (lowestUnused (t .used)) (heapOf t)
+      × (heapOf (r .heap) ≡ after o (lowestUnused (t .used)) (heapOf t))
+  pub returns : (r .outcome ≡ Moved → ⊥) → r .heap ≡ t
+  pub formed : wellFormed t ≡ true → wellFormed (r .heap) ≡ true

@@ -1,16 +1,24 @@
 -- The stepper's heap as a table of 64 cells, and the heap that it stands for.
 use mathlib.Core.Bool.{Bool, true, false, _&&_, not, cond}
 use mathlib.Core.List.{List, map}
+use mathlib.Core.Path.{_≡_}
 use Prim.Native.Nat.{ℕ, zero, suc}
 use lib.Dec.{eqb, leb, ltb}
-use lib.ListN.{getD}
+use lib.ListN.{length, getD}
 use Rattle.heap.specs.Codes.{varIn, linkIn}
 use Rattle.heap.specs.Heap.{Heap}
-use Rattle.heap.specs.Place.{nowhere, cell}
+use Rattle.heap.specs.Place.{nowhere, dangling, cell}
 use Rattle.lists.specs.Range.{range}
 use Rattle.lists.specs.Test.{allFrom}
 use Rattle.place.specs.Place.{placeOf, codes}
+use Rattle.place.specs.declared.Place.{Place}
 use Rattle.stepper.specs.declared.Heap64.{Heap64}
+
+-- the lengths of a table's arrays, which the type of lists does not have
+pub record Sized (t : Heap64) : Type 0 where
+  pub vars : length (t .vars) ≡ 8
+  pub used : length (t .used) ≡ 64
+  pub links : length (t .links) ≡ 64
 
 -- the heap that a table stands for
 abbrev pub heapOf : Heap64 → Heap
@@ -44,3 +52,19 @@ cellFits t i = let p = getD (codes (t .links)) i nowhere in cond (getD (t .used)
 -- the opposite of refusal 13, "The stepper's heap is ill formed: V outside 1..8", and so on
 unfoldable pub wellFormed : Heap64 → Bool
 wellFormed t = (leb 1 (t .variables) && leb (t .variables) 8) && (allFrom 8 0 (slotFits t) && allFrom 64 0 (cellFits t))
+
+-- a table as the stepper works on it
+pub record Ready (t : Heap64) : Type 0 where
+  pub sized : Sized t
+  pub formed : wellFormed t ≡ true
+
+-- a place, * instead of the place y
+abbrev pub danglePlace : ℕ → Place → Place
+danglePlace y p = cond (eqb (p .code) y) (placeOf dangling) p
+
+-- "Delete turns every variable and link at that cell to *."
+abbrev pub dangleVars : Heap64 → ℕ → Heap64
+dangleVars t y = record { variables = t .variables; vars = map (danglePlace y) (t .vars); used = t .used; links = t .links }
+
+abbrev pub dangleLinks : Heap64 → ℕ → Heap64
+dangleLinks t y = record { variables = t .variables; vars = t .vars; used = t .used; links = map (danglePlace y) (t .links) }

@@ -1,12 +1,15 @@
 // The stepper: one operation on a heap of up to 64 cells.
 use place::Place;
+ghost use mathlib.Core.Bool.{true};
 ghost use mathlib.Core.Path.{_≡_};
 ghost use Prim.Native.Nat.{_≤_, _<_};
 ghost use Rattle.heap.specs.Codes.{varIn, linkIn};
-ghost use Rattle.place.specs.Place.{codes};
-ghost use Rattle.stepper.specs.Table.{standing, slotFits, cellFits, wellFormed};
+ghost use Rattle.heap.specs.Operation.{assign, load, store, new, delete, operation};
+ghost use Rattle.kinds.specs.Kinds.{allowed};
 ghost use Rattle.lists.specs.Test.{allFrom};
-ghost use Rattle.stepper.specs.Step.{lowestUnused, outcomeCode};
+ghost use Rattle.place.specs.Place.{codes};
+ghost use Rattle.stepper.specs.Step.{outcomeCode, lowestUnused, comparison, perform, performNamed, Steps};
+ghost use Rattle.stepper.specs.Table.{standing, slotFits, cellFits, wellFormed, Sized, Ready, dangleVars, dangleLinks};
 
 // A heap of up to 64 cells: how many variables there are, where each stands, which cells are used, where their links stand.
 pub struct Heap64 {
@@ -120,7 +123,7 @@ impl Heap64 {
 
     // Whether the heap is well formed.
     fn is_well_formed(self) -> bool
-        ensures { λ r. ⌜ r ≡ wellFormed self ⌝ }
+        ensures { λ r. ⌜ (r ≡ wellFormed self) × Sized self ⌝ }
     {
         let variables = self.variables;
         if variables < 1 {
@@ -173,5 +176,235 @@ impl Heap64 {
             i += 1;
         }
         64
+    }
+
+    // Every variable at a place goes to *.
+    fn dangle_vars(mut self, code: u8) -> Self
+        ensures { λ r. ⌜ r ≡ dangleVars self code ⌝ }
+    {
+        let mut i: usize = 0;
+        while i < 8 {
+            if self.vars[i].code == code {
+                self.vars[i] = Place::DANGLING;
+            }
+            i += 1;
+        }
+        self
+    }
+
+    // Every link to a place goes to *.
+    fn dangle_links(mut self, code: u8) -> Self
+        ensures { λ r. ⌜ r ≡ dangleLinks self code ⌝ }
+    {
+        let mut i: usize = 0;
+        while i < 64 {
+            if self.links[i].code == code {
+                self.links[i] = Place::DANGLING;
+            }
+            i += 1;
+        }
+        self
+    }
+
+    // a = b, or a != b.
+    fn compare(self, equal: bool, a: usize, b: usize) -> Stepped
+        requires { ⌜ (Ready self) × (a ≤ self .variables) × (b ≤ self .variables) ⌝ }
+        ensures { λ r. ⌜ r ≡ perform self (comparison equal a b) ⌝ }
+    {
+        let p = self.place_of(a);
+        let q = self.place_of(b);
+        if p.code == 2 {
+            return Stepped {
+                heap: self,
+                outcome: Outcome::Blocked,
+            };
+        }
+        if q.code == 2 {
+            return Stepped {
+                heap: self,
+                outcome: Outcome::Blocked,
+            };
+        }
+        if p.code == q.code {
+            if equal {
+                return Stepped {
+                    heap: self,
+                    outcome: Outcome::Moved,
+                };
+            }
+            return Stepped {
+                heap: self,
+                outcome: Outcome::Blocked,
+            };
+        }
+        if equal {
+            return Stepped {
+                heap: self,
+                outcome: Outcome::Blocked,
+            };
+        }
+        Stepped {
+            heap: self,
+            outcome: Outcome::Moved,
+        }
+    }
+
+    // a := b.
+    fn assign(self, a: usize, b: usize) -> Stepped
+        requires { ⌜ (Ready self) × (1 ≤ a) × (a ≤ self .variables) × (b ≤ self .variables) ⌝ }
+        ensures { λ r. ⌜ r ≡ perform self (assign a b) ⌝ }
+    {
+        let p = self.place_of(b);
+        if p.code == 2 {
+            return Stepped {
+                heap: self,
+                outcome: Outcome::Blocked,
+            };
+        }
+        let mut next = self;
+        next.vars[a - 1] = p;
+        Stepped {
+            heap: next,
+            outcome: Outcome::Moved,
+        }
+    }
+
+    // a := b.next.
+    fn load(self, a: usize, b: usize) -> Stepped
+        requires { ⌜ (Ready self) × (1 ≤ a) × (a ≤ self .variables) × (b ≤ self .variables) ⌝ }
+        ensures { λ r. ⌜ r ≡ perform self (load a b) ⌝ }
+    {
+        let at = self.place_of(b);
+        let p = self.link_of(at);
+        if p.code == 0 {
+            return Stepped {
+                heap: self,
+                outcome: Outcome::Blocked,
+            };
+        }
+        if p.code == 2 {
+            return Stepped {
+                heap: self,
+                outcome: Outcome::Blocked,
+            };
+        }
+        let mut next = self;
+        next.vars[a - 1] = p;
+        Stepped {
+            heap: next,
+            outcome: Outcome::Moved,
+        }
+    }
+
+    // a.next := b.
+    fn store(self, a: usize, b: usize) -> Stepped
+        requires { ⌜ (Ready self) × (a ≤ self .variables) × (b ≤ self .variables) ⌝ }
+        ensures { λ r. ⌜ r ≡ perform self (store a b) ⌝ }
+    {
+        let at = self.place_of(a);
+        let link = self.link_of(at);
+        if link.code == 0 {
+            return Stepped {
+                heap: self,
+                outcome: Outcome::Blocked,
+            };
+        }
+        let p = self.place_of(b);
+        if p.code == 2 {
+            return Stepped {
+                heap: self,
+                outcome: Outcome::Blocked,
+            };
+        }
+        let i = (at.code - 3) as usize;
+        let mut next = self;
+        next.links[i] = p;
+        Stepped {
+            heap: next,
+            outcome: Outcome::Moved,
+        }
+    }
+
+    // new(a), at the lowest unused cell.
+    fn take_cell(self, a: usize) -> Stepped
+        requires { ⌜ (Ready self) × (1 ≤ a) × (a ≤ self .variables) ⌝ }
+        ensures { λ r. ⌜ r ≡ perform self (new a) ⌝ }
+    {
+        let i = self.lowest_unused();
+        if 64 <= i {
+            return Stepped {
+                heap: self,
+                outcome: Outcome::Refused(StepRefusal::Full),
+            };
+        }
+        let p = Place::cell(i as u8);
+        let mut next = self;
+        next.used[i] = true;
+        next.links[i] = Place::DANGLING;
+        next.vars[a - 1] = p;
+        Stepped {
+            heap: next,
+            outcome: Outcome::Moved,
+        }
+    }
+
+    // delete(a).
+    fn free_cell(self, a: usize) -> Stepped
+        requires { ⌜ (Ready self) × (a ≤ self .variables) ⌝ }
+        ensures { λ r. ⌜ r ≡ perform self (delete a) ⌝ }
+    {
+        let at = self.place_of(a);
+        let link = self.link_of(at);
+        if link.code == 0 {
+            return Stepped {
+                heap: self,
+                outcome: Outcome::Blocked,
+            };
+        }
+        let code = at.code;
+        let i = (code - 3) as usize;
+        let mut next = self.dangle_vars(code).dangle_links(code);
+        next.used[i] = false;
+        next.links[i] = Place::NOWHERE;
+        Stepped {
+            heap: next,
+            outcome: Outcome::Moved,
+        }
+    }
+
+    // An operation that keeps to the table of kinds, on a well formed heap.
+    fn perform(self, kind: usize, a: usize, b: usize) -> Stepped
+        requires { ⌜ (Ready self) × (allowed (self .variables) kind a b ≡ true) ⌝ }
+        ensures { λ r. ⌜ r ≡ performNamed self (operation (self .variables) kind a b) ⌝ }
+    {
+        match kind {
+            1 => self.compare(true, a, b),
+            2 => self.compare(false, a, b),
+            3 => self.assign(a, b),
+            4 => self.load(a, b),
+            5 => self.store(a, b),
+            6 => self.take_cell(a),
+            _ => self.free_cell(a),
+        }
+    }
+
+    // One operation, by its kind and operands.
+    pub fn step(self, kind: u32, a: u32, b: u32) -> Stepped
+        ensures { λ r. ⌜ Steps self kind a b r ⌝ }
+    {
+        if !self.is_well_formed() {
+            return Stepped {
+                heap: self,
+                outcome: Outcome::Refused(StepRefusal::IllFormed),
+            };
+        }
+        let variables = self.variables as usize;
+        if !kinds::allows(variables, kind as usize, a as usize, b as usize) {
+            return Stepped {
+                heap: self,
+                outcome: Outcome::Refused(StepRefusal::BadOperation),
+            };
+        }
+        self.perform(kind as usize, a as usize, b as usize)
     }
 }

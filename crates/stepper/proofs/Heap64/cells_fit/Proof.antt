@@ -1,8 +1,6 @@
-use Prim.Native.Nat.{ℕ, _+_, _-_, _*_, _<_, _≤_}
-use mathlib.Core.Path.{_≡_, refl, ap, _∙_, sym}
+use Prim.Native.Nat.{_-_, _≤_}
+use mathlib.Core.Path.{_≡_, refl, _∙_, sym}
 use native.Mathlib.Omega.{arith}
-use lib.ListN.{length, getD, take, drop, set}
-use mathlib.Core.Logic.{⊎-elim}
 use Rattle.lists.specs.Test.{allFrom}
 use Rattle.lists.proofs.Test.{all-passed, all-failed, all-done}
 use Rattle.stepper.specs.Table.{cellFits}
@@ -10,9 +8,6 @@ use borrow.Author.Tests.{not-true, not-false}
 use borrow.Author.Needs.{needs}
 use Rattle.stepper.proofs.Heap64.cells_fit.Statement.{statement}
 use Rattle.stepper.proofs.Heap64.cells_fit.Tie as tie
-use Rattle.stepper.proofs.Heap64.cells_fit.Reads as reads
-use Rattle.stepper.proofs.Heap64.cells_fit.Lts as lts
-use Rattle.stepper.proofs.Heap64.cell_fits.Reads as cell-fits-reads
 
 abbrev Inv-loop : tie.InvT-loop
 Inv-loop self i₀ i = (i ≤ 64) × (allFrom (64 - i) i (cellFits self) ≡ allFrom 64 0 (cellFits self))
@@ -20,31 +15,24 @@ Inv-loop self i₀ i = (i ≤ 64) × (allFrom (64 - i) i (cellFits self) ≡ all
 abbrev μ-loop : tie.MeasureT-loop
 μ-loop self i₀ i = 64 - i
 
--- src/lib.rt:99:9
 loop-holds : tie.Need-loop-holds Inv-loop μ-loop
 loop-holds c = (omega arith, refl)
 
--- src/lib.rt:100:17
 cell-fits-requires : tie.Need-cell-fits-requires Inv-loop μ-loop
 cell-fits-requires c κs = search needs
 
--- src/lib.rt:101:17
 returns : tie.Need-returns Inv-loop μ-loop
 returns c = let t = c .before .before .before .before .args .self in let i = c .before .before .before .loop .i in sym (all-failed (cellFits t) 64 i (omega arith) (sym (c .before .cell-fits .ensures) ∙ not-true _ (c .if1 .taken))) ∙ c .before .before .before .loop .inv .1
 
--- src/lib.rt:103:13
 add-i : tie.Need-add-i Inv-loop μ-loop
 add-i c = search needs
 
--- src/lib.rt:99:9
 loop-less : tie.Need-loop-less Inv-loop μ-loop
 loop-less c = search needs
 
--- src/lib.rt:99:9
 loop-again : tie.Need-loop-again Inv-loop μ-loop
 loop-again c = let t = c .before .before .before .before .args .self in let i = c .before .before .before .loop .i in (omega arith, sym (all-passed (cellFits t) 64 i (omega arith) (sym (c .before .cell-fits .ensures) ∙ not-false _ (c .if1 .left))) ∙ c .before .before .before .loop .inv .1)
 
--- src/lib.rt:95:5
 returns-2 : tie.Need-returns-2 Inv-loop μ-loop
 returns-2 c = let t = c .before .before .args .self in let i = c .before .loop .i in sym (all-done (cellFits t) 64 i (omega arith)) ∙ c .before .loop .inv .1
 

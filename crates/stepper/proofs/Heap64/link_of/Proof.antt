@@ -1,34 +1,26 @@
-use Prim.Native.Nat.{ℕ, _+_, _-_, _*_, _<_, _≤_}
-use mathlib.Core.Path.{_≡_, refl, ap, _∙_, sym}
+use Prim.Native.Nat.{_-_}
+use mathlib.Core.Path.{_≡_, _∙_}
 use native.Mathlib.Omega.{arith}
-use lib.ListN.{length, getD, take, drop, set}
-use mathlib.Core.Logic.{⊎-elim}
+use lib.ListN.{length}
 use Rattle.stepper.proofs.Places.{code-at, link-in, link-low, link-high}
 use Rattle.place.specs.Place.{codes}
 use lib.ListN.{length-map}
 use borrow.Author.Needs.{needs}
 use Rattle.stepper.proofs.Heap64.link_of.Statement.{statement}
 use Rattle.stepper.proofs.Heap64.link_of.Tie as tie
-use Rattle.stepper.proofs.Heap64.link_of.Reads as reads
-use Rattle.stepper.proofs.Heap64.link_of.Lts as lts
 
--- src/lib.rt:155:13
 returns : tie.Need-returns
 returns c = link-low _ (c .before .args .p .code) (omega arith)
 
--- src/lib.rt:158:13
 returns-2 : tie.Need-returns-2
 returns-2 c = let t = c .before .before .args .t1 in let s : length (t .links) ≡ 64 = simp length-map at (c .before .before .good .0 .1 .1 .1 .1 .1 .0 .1 .0 .1) in link-high (codes (t .links)) (c .before .before .args .p .code) 64 (length-map (t .links) (λ p. p .code) ∙ s) (omega arith)
 
--- src/lib.rt:160:17
 cast-i : tie.Need-cast-i
 cast-i c = search needs
 
--- src/lib.rt:161:9
 element-copy-out-result : tie.Need-element-copy-out-result
 element-copy-out-result c = search needs
 
--- src/lib.rt:150:5
 returns-3 : tie.Need-returns-3
 returns-3 c = let t = c .before .before .before .args .t1 in let p = c .before .before .before .args .p .code in code-at (t .links) (p - 3) ∙ link-in _ p (omega arith)
 

@@ -1,34 +1,22 @@
-use Prim.Native.Nat.{ℕ, _+_, _-_, _*_, _<_, _≤_}
-use mathlib.Core.Path.{_≡_, refl, ap, _∙_, sym}
-use native.Mathlib.Omega.{arith}
-use lib.ListN.{length, getD, take, drop, set}
-use mathlib.Core.Logic.{⊎-elim}
+use mathlib.Core.Path.{_∙_}
 use borrow.Author.Tests.{lt-ltb, le-ltb}
 use Rattle.stepper.proofs.Places.{code-at}
 use borrow.Author.Needs.{needs}
 use Rattle.stepper.proofs.Heap64.slot_fits.Statement.{statement}
 use Rattle.stepper.proofs.Heap64.slot_fits.Tie as tie
-use Rattle.stepper.proofs.Heap64.slot_fits.Reads as reads
-use Rattle.stepper.proofs.Heap64.slot_fits.Lts as lts
-use Rattle.stepper.proofs.Heap64.is_standing.Reads as is-standing-reads
 
--- src/lib.rt:75:17
 element-copy-out-p : tie.Need-element-copy-out-p
 element-copy-out-p c = search needs
 
--- src/lib.rt:76:25
 cast-variables : tie.Need-cast-variables
 cast-variables c = search needs
 
--- src/lib.rt:78:13
 is-standing-requires : tie.Need-is-standing-requires
 is-standing-requires c κs = search needs
 
--- src/lib.rt:78:13
 returns : tie.Need-returns
 returns c = let t = c .before .before .before .args .t1 in let i = c .before .before .before .args .i in c .is-standing .ensures ∙ simp (lt-ltb i (t .variables) (c .before .if1 .taken), code-at (t .vars) i)
 
--- src/lib.rt:71:5
 returns-2 : tie.Need-returns-2
 returns-2 c = let t = c .before .before .before .args .t1 in let i = c .before .before .before .args .i in simp (le-ltb i (t .variables) (c .before .if1 .left), code-at (t .vars) i)
 

@@ -1,0 +1,29 @@
+-- Taking covers in turn: "In turn, each cover is taken as read or refused on the spot."
+use mathlib.Core.List.{List, [], _∷_}
+use Prim.Native.Nat.{ℕ, suc, _≤_}
+use lib.ListN.{length}
+use Rattle.run.specs.Run.{Located}
+use Rattle.format.specs.Certificate.{readCover}
+use Rattle.format.specs.Parser.{Parsed, parsed, fault, Parser, _>>=_, _>>_, return, certificateBuffer}
+use Rattle.verdict.specs.Verdict.{refusalNumber}
+use Rattle.checker.specs.declared.going.Going.{Going}
+use Rattle.checker.specs.declared.going.Going.the-variants.{On, Refused}
+use Rattle.checker.specs.declared.going.Taken.{Taken}
+
+-- takes a cover of each shape, with members ms, and counts on
+unfoldable pub takeAll : List ℕ → List Located → List Located → ℕ → Parser ℕ
+takeAll cert ms [] covers = return covers
+takeAll cert ms (o ∷ os) covers = do
+  readCover (certificateBuffer cert) ms o
+  takeAll cert ms os (suc covers)
+
+-- how far the covers were taken, as the answer of a parser
+abbrev pub goingOf : Going → Parsed ℕ
+goingOf (On t) = parsed (t .covers) (t .at)
+goingOf (Refused r place) = fault (refusalNumber r) place
+
+-- a cover has at least one byte
+pub record Within (cert : List ℕ) (t : Taken) : Type 0 where
+  pub counted : t .covers ≤ t .at
+  pub inside : t .at ≤ length cert
+  pub fits : length cert ≤ 65536

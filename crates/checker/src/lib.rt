@@ -1,0 +1,2 @@
+// The checker: one verdict for the bytes of a job and of a certificate.
+mod going;

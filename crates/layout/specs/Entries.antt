@@ -1,0 +1,35 @@
+-- Entries as they stand in a buffer that was read: in range, every number of them is one byte.
+use mathlib.Core.List.{List, map}
+use mathlib.Core.Path.{_≡_}
+use Prim.Native.Nat.{ℕ, _+_, _≤_, _<_}
+use lib.ListN.{length, getD, take, drop}
+use Rattle.lists.specs.Range.{range}
+use Rattle.shape.specs.Shape.{InRange}
+use Rattle.run.specs.Run.{Located}
+
+-- the state and the shape whose first byte is at a place: state, n, the places of the variables, the links
+abbrev pub locatedAt : List ℕ → ℕ → ℕ → Located
+locatedAt bytes variables at =
+    record {
+      state = getD bytes at 0;
+      shape = record { vars = take variables (drop (at + 2) bytes); links = take (getD bytes (at + 1) 0) (drop (at + 2 + variables) bytes) };
+    }
+
+-- the entry at a place is whole and in range
+pub record Entry (bytes : List ℕ) (variables at : ℕ) : Type 0 where
+  pub inside : at + 2 + variables + getD bytes (at + 1) 0 ≤ length bytes
+  pub cells : getD bytes (at + 1) 0 ≤ 12
+  pub state : getD bytes at 0 < 64
+  pub range : InRange variables 12 (locatedAt bytes variables at .shape)
+
+-- the members of a certificate, by the table of their first places
+abbrev pub membersAt : List ℕ → ℕ → List ℕ → ℕ → List Located
+membersAt bytes variables starts count = map (λ i. locatedAt bytes variables (getD starts i 0)) (range 0 count)
+
+-- the table is that of so many members in range
+pub record Table (bytes : List ℕ) (variables : ℕ) (starts : List ℕ) (count : ℕ) : Type 0 where
+  pub size : length starts ≡ 512
+  pub variables-some : 1 ≤ variables
+  pub variables-most : variables ≤ 8
+  pub count-most : count ≤ 512
+  pub entry : (i : ℕ) → i < count → Entry bytes variables (getD starts i 0)

@@ -1,0 +1,1 @@
+// How the checker keeps shapes: definitions alone, in specs/.

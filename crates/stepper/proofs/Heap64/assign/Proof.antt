@@ -1,0 +1,28 @@
+use Prim.Native.Nat.{_-_}
+use mathlib.Core.Path.{refl, _∙_, sym}
+use native.Mathlib.Omega.{arith}
+use Rattle.stepper.proofs.Formed.{formed}
+use Rattle.stepper.proofs.Change.{withVar}
+use Rattle.stepper.proofs.Perform.{moved, blocked, put, operand-stands, taken}
+use Rattle.heap.specs.Operation.{assign}
+use borrow.Author.Needs.{needs}
+use Rattle.stepper.proofs.Heap64.assign.Statement.{statement}
+use Rattle.stepper.proofs.Heap64.assign.Tie as tie
+
+place-of-requires : tie.Need-place-of-requires
+place-of-requires c κs = omega (arith, formed (c .args .self) (c .pre .0 .formed) .most)
+
+returns : tie.Need-returns
+returns c = let t = c .before .before .before .args .self in blocked t (assign (c .before .before .before .args .a) (c .before .before .before .args .b)) refl (λ d. d (sym (c .before .before .place-of .ensures) ∙ c .if1 .taken))
+
+sub-p : tie.Need-sub-p
+sub-p c = search needs
+
+element-set-from-p : tie.Need-element-set-from-p
+element-set-from-p c = omega (arith, formed (c .before .before .before .args .self) (c .before .before .before .pre .0 .formed) .most)
+
+returns-2 : tie.Need-returns-2
+returns-2 c = let t = c .before .before .before .args .self in let a = c .before .before .before .args .a in let b = c .before .before .before .args .b in let f = formed t (c .before .before .before .pre .0 .formed) in let p = c .before .before .place-of in moved t (assign a b) (withVar t (a - 1) (p .result)) (put t (c .before .before .before .pre .0 .sized) f (assign a b) a (p .result) refl (λ z. c .if1 .left (p .ensures ∙ z)) (omega arith) (omega arith) (rw (p .ensures) (operand-stands t (c .before .before .before .pre .0 .sized) f b (omega arith))) (rw (p .ensures) refl))
+
+pub assign-spec : {M : Type 1} → statement M
+assign-spec = tie.close (tie.spec place-of-requires returns sub-p element-set-from-p returns-2)

@@ -1,0 +1,197 @@
+-- What an operation does on a well formed table, in the terms in which the code does it.
+use mathlib.Core.Bool.{Bool, true, false, _&&_}
+use mathlib.Core.List.{List, [], _∷_}
+use mathlib.Core.Logic.{if-pos, if-neg, _≢_}
+use mathlib.Core.Path.{_≡_, refl, sym, ap, ap₂, _∙_}
+use Prim.Native.Nat.{ℕ, zero, suc, _-_, _≤_, _<_}
+use native.Mathlib.Decide.{decLt}
+use native.Mathlib.Omega.{arith}
+use borrow.Author.Tests.{lt-leb, lt-ltb}
+use lib.Dec.{leb}
+use lib.ListN.{length, getD, set, length-map, List·getD-eq-default}
+use lib.Seq.{getD-set-same}
+use Rattle.heap.specs.Codes.{varIn, linkIn}
+use Rattle.heap.specs.Heap.{update}
+use Rattle.heap.specs.Operation.{Op, equal, different, store, new, delete, Enabled, enabled?, after}
+use Rattle.heap.specs.Place.{nowhere, dangling, cell}
+use Rattle.place.specs.Place.{placeOf, cellPlace, codes}
+use Rattle.place.specs.declared.Place.{Place}
+use Rattle.stepper.specs.Step.{stays, lowestUnused, isNew, comparison, perform}
+use Rattle.stepper.specs.Table.{heapOf, tableOf, Sized, standing, dangleVars, dangleLinks}
+use Rattle.stepper.specs.declared.Heap64.{Heap64}
+use Rattle.stepper.specs.declared.Outcome.the-variants.{Moved, Blocked, Refused}
+use Rattle.stepper.specs.declared.StepRefusal.the-variants.{Full}
+use Rattle.stepper.proofs.Change.{withVar, sized-with-var, heap-with-var, formed-with-var, withLink, sized-with-link, heap-with-link, formed-with-link, withCell, sized-with-cell, formed-with-cell, withoutCell, sized-without, heap-without, formed-without}
+use Rattle.stepper.proofs.Formed.{Formed, table-of, var-stands, link-stands, link-empty}
+use Rattle.stepper.proofs.Places.{by-code}
+
+-- ---- lowest unused cell
+
+lowest-free : (us : List Bool) → lowestUnused us < length us → getD us (lowestUnused us) false ≡ false
+unfolding lowestUnused
+lowest-free [] h = absurd (omega arith)
+lowest-free (true ∷ us) h = lowest-free us (omega arith)
+lowest-free (false ∷ us) h = refl
+
+-- ---- a delete, in two steps: the variables and links at y go to *, and the cell at y goes
+
+abbrev pub cut : Heap64 → ℕ → Heap64
+cut t y = record { variables = t .variables; vars = t .vars; used = set (t .used) (y - 3) false; links = set (t .links) (y - 3) (placeOf nowhere) }
+
+abbrev pub withoutPlace : Heap64 → ℕ → Heap64
+withoutPlace t y = cut (dangleLinks (dangleVars t y) y) y
+
+-- ---- moved, blocked and refused
+
+module _ (t : Heap64) (o : Op) where
+  pub blocked : isNew o && leb 64 (lowestUnused (t .used)) ≡ false → (Enabled o (lowestUnused (t .used)) (heapOf t) → ⊥) → stays t Blocked ≡ perform t o
+  unfolding perform
+  blocked n d = rw (n, if-neg (enabled? o (lowestUnused (t .used)) (heapOf t)) d (stays (tableOf (t .variables) (after o (lowestUnused (t .used)) (heapOf t))) Moved) (stays t Blocked)) refl
+
+  -- t′ is the table after the operation, well formed again
+  pub record Changes (t′ : Heap64) : Type 0 where
+    pub enabled : Enabled o (lowestUnused (t .used)) (heapOf t)
+    pub room : isNew o && leb 64 (lowestUnused (t .used)) ≡ false
+    pub sized : Sized t′
+    pub formed : Formed t′
+    pub variables : t′ .variables ≡ t .variables
+    pub heap : heapOf t′ ≡ after o (lowestUnused (t .used)) (heapOf t)
+
+  pub moved : (t′ : Heap64) → Changes t′ → stays t′ Moved ≡ perform t o
+  unfolding perform
+  moved t′ c =
+      rw (c .room, if-pos (enabled? o (lowestUnused (t .used)) (heapOf t)) (c .enabled) (stays (tableOf (t .variables) (after o (lowestUnused (t .used)) (heapOf t))) Moved) (stays t Blocked))
+      (ap (λ u. stays u Moved) (table-of t′ (c .sized) (c .formed) ∙ ap₂ tableOf (c .variables) (c .heap)))
+
+  pub full : isNew o && leb 64 (lowestUnused (t .used)) ≡ true → stays t (Refused Full) ≡ perform t o
+  unfolding perform
+  full n = rw n refl
+
+-- ---- what stands where
+
+module _ (t : Heap64) (s : Sized t) (f : Formed t) where
+  pub operand-stands : (b : ℕ) → b ≤ t .variables → standing (t .used) (varIn (codes (t .vars)) b) ≡ true
+  unfolding standing
+  operand-stands zero h = refl
+  operand-stands (suc v) h = var-stands t f v h
+
+  -- what has a link is a used cell, and its link stands
+  pub record Linked (p : ℕ) : Type 0 where
+    pub number : ℕ
+    pub is-cell : p ≡ cell number
+    pub inside : number < 64
+    pub used : getD (t .used) number false ≡ true
+
+  pub linked : (p : ℕ) → linkIn (codes (t .links)) p ≢ nowhere → Linked p
+  linked =
+      by-code (λ p. linkIn (codes (t .links)) p ≢ nowhere → Linked p) (λ n. absurd (n refl)) (λ n. absurd (n refl)) (λ n. absurd (n refl))
+      (λ i n. at-cell i n (decLt i 64) (getD (t .used) i false) refl)
+    where
+      at-cell : (i : ℕ) → getD (codes (t .links)) i nowhere ≢ nowhere → Dec (i < 64) → (u : Bool) → getD (t .used) i false ≡ u → Linked (cell i)
+      at-cell i n (yes h) true e = record { number = i; is-cell = refl; inside = h; used = e }
+      at-cell i n (yes h) false e = absurd (n (link-empty t f i h e))
+      at-cell i n (no h) u e =
+          absurd (n (List·getD-eq-default (codes (t .links)) nowhere (omega (arith, s .links, length-map (t .links) (λ (q : Place). q .code)))))
+
+  pub linked-stands : (p : ℕ) → linkIn (codes (t .links)) p ≢ nowhere → standing (t .used) (linkIn (codes (t .links)) p) ≡ true
+  linked-stands p n =
+      let l = linked p n in
+      rw (l .is-cell) (link-stands t f (l .number) (l .inside) (l .used))
+
+  -- ---- the operations
+
+  pub still : (o : Op) → isNew o ≡ false → Enabled o (lowestUnused (t .used)) (heapOf t) → heapOf t ≡ after o (lowestUnused (t .used)) (heapOf t) → Changes t o t
+  still o n e h = record { enabled = e; room = rw n refl; sized = s; formed = f; variables = refl; heap = h }
+
+  -- a comparison, by what stands where; `e` says which of the two it is
+  module _ (e : Bool) (a b : ℕ) where
+    pub dangling-a : varIn (codes (t .vars)) a ≡ dangling → stays t Blocked ≡ perform t (comparison e a b)
+    dangling-a z = elim e [ true ↦ blocked t (equal a b) refl (λ d. d .0 z) | false ↦ blocked t (different a b) refl (λ d. d .0 z) ]
+
+    pub dangling-b : varIn (codes (t .vars)) b ≡ dangling → stays t Blocked ≡ perform t (comparison e a b)
+    dangling-b z = elim e [ true ↦ blocked t (equal a b) refl (λ d. d .1 z) | false ↦ blocked t (different a b) refl (λ d. d .1 z) ]
+
+    module _ (na : varIn (codes (t .vars)) a ≢ dangling) (nb : varIn (codes (t .vars)) b ≢ dangling) where
+      pub same-equal : varIn (codes (t .vars)) a ≡ varIn (codes (t .vars)) b → e ≡ true → stays t Moved ≡ perform t (comparison e a b)
+      same-equal z k = rw k (moved t (equal a b) t (still (equal a b) refl (na, nb, z) refl))
+
+      pub same-different : varIn (codes (t .vars)) a ≡ varIn (codes (t .vars)) b → e ≡ false → stays t Blocked ≡ perform t (comparison e a b)
+      same-different z k = rw k (blocked t (different a b) refl (λ d. d .2 z))
+
+      pub other-equal : varIn (codes (t .vars)) a ≢ varIn (codes (t .vars)) b → e ≡ true → stays t Blocked ≡ perform t (comparison e a b)
+      other-equal z k = rw k (blocked t (equal a b) refl (λ d. z (d .2)))
+
+      pub other-different : varIn (codes (t .vars)) a ≢ varIn (codes (t .vars)) b → e ≡ false → stays t Moved ≡ perform t (comparison e a b)
+      other-different z k = rw k (moved t (different a b) t (still (different a b) refl (na, nb, z) refl))
+
+  -- variable a goes to p
+  pub put : (o : Op) (a : ℕ) (p : Place) → isNew o ≡ false → Enabled o (lowestUnused (t .used)) (heapOf t) → 1 ≤ a → a ≤ t .variables
+      → standing (t .used) (p .code) ≡ true
+      → record { link = heapOf t .link; var = update (heapOf t .var) a (p .code) } ≡ after o (lowestUnused (t .used)) (heapOf t)
+      → Changes t o (withVar t (a - 1) p)
+  put o a p n e l h st same =
+      let a-is : suc (a - 1) ≡ a = omega arith in
+      record {
+        enabled = e;
+        room = rw n refl;
+        sized = sized-with-var t s (a - 1) p;
+        formed = formed-with-var t s (a - 1) p f (omega arith) st;
+        variables = refl;
+        heap = heap-with-var t s (a - 1) p (omega (arith, f .most)) ∙ rw a-is same;
+      }
+
+  pub stored : (a b : ℕ) (p : Place) → linkIn (codes (t .links)) (varIn (codes (t .vars)) a) ≢ nowhere → p .code ≡ varIn (codes (t .vars)) b → p .code ≢ dangling
+      → b ≤ t .variables → Changes t (store a b) (withLink t (varIn (codes (t .vars)) a - 3) p)
+  stored a b p n e d h =
+      let l = linked (varIn (codes (t .vars)) a) n in
+      let i-is : varIn (codes (t .vars)) a - 3 ≡ l .number = omega (arith, l .is-cell) in
+      rw i-is
+      (record {
+        enabled = (n, λ z. d (e ∙ z));
+        room = refl;
+        sized = sized-with-link t s (l .number) p;
+        formed = formed-with-link t s (l .number) p f (l .inside) (l .used) (rw e (operand-stands b h));
+        variables = refl;
+        heap = heap-with-link t s (l .number) p (l .inside) ∙ rw (e, ← l .is-cell) refl;
+      })
+
+  pub taken : (a i : ℕ) → i ≡ lowestUnused (t .used) → i < 64 → 1 ≤ a → a ≤ t .variables
+      → Changes t (new a) (withVar (withCell t i) (a - 1) (cellPlace i))
+  unfolding standing
+  taken a i e h l m =
+      let a-is : suc (a - 1) ≡ a = omega arith in
+      let free : getD (t .used) i false ≡ false = rw e (lowest-free (t .used) (omega (arith, s .used))) in
+      let place-is : cellPlace i ≡ placeOf (cell i) = simp (lt-ltb i 253 (omega arith)) (ap placeOf (omega arith)) in
+      let cell-sized = sized-with-cell t s i in
+      rw place-is
+      (record {
+        enabled = rw (← e) (link-empty t f i h free);
+        room = rw (← e) (lt-leb 64 i h);
+        sized = sized-with-var (withCell t i) cell-sized (a - 1) (placeOf (cell i));
+        formed =
+            formed-with-var (withCell t i) cell-sized (a - 1) (placeOf (cell i)) (formed-with-cell t s i f h) (omega arith)
+            (getD-set-same (t .used) i true false (omega (arith, s .used)));
+        variables = refl;
+        heap =
+            heap-with-var (withCell t i) cell-sized (a - 1) (placeOf (cell i)) (omega (arith, f .most))
+            ∙ rw (a-is, ← e) (λ k. record { link = heap-with-link t s i (placeOf dangling) h k .link; var = update (heapOf t .var) a (cell i) });
+      })
+
+  pub freed : (a y : ℕ) → y ≡ varIn (codes (t .vars)) a → linkIn (codes (t .links)) y ≢ nowhere → Changes t (delete a) (withoutPlace t y)
+  freed a y e n = at-cell (linked y n)
+    where
+      at-cell : Linked y → Changes t (delete a) (withoutPlace t y)
+      at-cell l =
+          let i = l .number in
+          let i-is : cell i - 3 ≡ i = omega arith in
+          let same : withoutPlace t y ≡ withoutCell t i = ap (withoutPlace t) (l .is-cell) ∙ rw i-is refl in
+          let a-is : varIn (codes (t .vars)) a ≡ cell i = sym e ∙ l .is-cell in
+          rw same
+          (record {
+            enabled = λ z. n (ap (linkIn (codes (t .links))) e ∙ z);
+            room = refl;
+            sized = sized-without t s i;
+            formed = formed-without t s i f (l .inside);
+            variables = refl;
+            heap = heap-without t s i (l .inside) ∙ rw a-is refl;
+          })

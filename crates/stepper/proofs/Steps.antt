@@ -1,0 +1,144 @@
+-- The stepper's promise, from the definition of a step.
+use mathlib.Core.Bool.{Bool, true, false, _&&_}
+use mathlib.Core.Option.{Option, none, some}
+use mathlib.Core.Path.{_≡_, refl, sym, ap, _∙_, subst}
+use Prim.Native.Nat.{ℕ, _-_, _≤_}
+use native.Mathlib.Omega.{arith}
+use borrow.Author.Tests.{leb-false}
+use lib.Dec.{leb}
+use Rattle.heap.specs.Codes.{varIn, linkIn}
+use Rattle.heap.specs.Operation.{Op, equal, different, assign, load, store, new, delete, Enabled, enabled?, after, operation}
+use Rattle.kinds.specs.Kinds.{isSome, allowed}
+use Rattle.kinds.proofs.Rows.{by-kind, known, row-of}
+use Rattle.place.specs.Place.{placeOf, cellPlace, codes}
+use Rattle.stepper.specs.Step.{stays, lowestUnused, isNew, perform, performNamed, stepOf, Steps}
+use Rattle.stepper.specs.Table.{heapOf, Sized, wellFormed}
+use Rattle.stepper.specs.declared.Heap64.{Heap64}
+use Rattle.stepper.specs.declared.Outcome.{Outcome}
+use Rattle.stepper.specs.declared.Outcome.the-variants.{Moved, Blocked, Refused}
+use Rattle.stepper.specs.declared.StepRefusal.{StepRefusal}
+use Rattle.stepper.specs.declared.StepRefusal.the-variants.{IllFormed, BadOperation, Full}
+use Rattle.stepper.specs.declared.Stepped.{Stepped}
+use Rattle.stepper.proofs.Change.{withVar, withLink, withCell}
+use Rattle.stepper.proofs.Formed.{Formed, formed, well-formed}
+use Rattle.stepper.proofs.Perform.{Changes, moved, blocked, full, operand-stands, linked-stands, still, put, stored, taken, withoutPlace, freed}
+
+-- the operands that the proof below uses, for n variables
+abbrev Valid : ℕ → Op → Type 0
+Valid n (equal a b) = Unit {0}
+Valid n (different a b) = Unit {0}
+Valid n (assign a b) = (1 ≤ a) × (a ≤ n) × (b ≤ n)
+Valid n (load a b) = (1 ≤ a) × (a ≤ n)
+Valid n (store a b) = b ≤ n
+Valid n (new a) = (1 ≤ a) × (a ≤ n)
+Valid n (delete a) = Unit {0}
+
+-- an operation that the table of kinds names is valid
+valid : (n kind a b : ℕ) (o : Op) → operation n kind a b ≡ some o → Valid n o
+unfolding allowed
+valid n kind a b o e =
+    let all : allowed n kind a b ≡ true = ap isSome e in
+    by-kind (λ k. operation n k a b ≡ some o → allowed n k a b ≡ true → Valid n o)
+    (λ e h. let r = row-of n 1 a b _ refl h in to (equal a b) (r .1) e tt)
+    (λ e h. let r = row-of n 2 a b _ refl h in to (different a b) (r .1) e tt)
+    (λ e h. let r = row-of n 3 a b _ refl h in to (assign a b) (r .1) e (r .0 .least-a, r .0 .most-a, r .0 .most-b))
+    (λ e h. let r = row-of n 4 a b _ refl h in to (load a b) (r .1) e (r .0 .least-a, r .0 .most-a))
+    (λ e h. let r = row-of n 5 a b _ refl h in to (store a b) (r .1) e (r .0 .most-b))
+    (λ e h. let r = row-of n 6 a b _ refl h in to (new a) (r .1) e (r .0 .least-a, r .0 .most-a))
+    (λ e h. let r = row-of n 7 a b _ refl h in to (delete a) (r .1) e tt)
+    kind (known n kind a b all .0) (known n kind a b all .1) e all
+  where
+    to : {r : Option Op} (o′ : Op) → r ≡ some o′ → r ≡ some o → Valid n o′ → Valid n o
+    to o′ p q v = let z : some o′ ≡ some o = sym p ∙ q in let same : o′ ≡ o = cc in subst (Valid n) same v
+
+module _ (t : Heap64) (s : Sized t) (f : Formed t) where
+  -- an enabled operation has a well formed table after it
+  changed : (o : Op) → Valid (t .variables) o → Enabled o (lowestUnused (t .used)) (heapOf t) → isNew o && leb 64 (lowestUnused (t .used)) ≡ false
+      → (t′ : Heap64) × Changes t o t′
+  changed (equal a b) v e r = (t, still t s f (equal a b) refl e refl)
+  changed (different a b) v e r = (t, still t s f (different a b) refl e refl)
+  changed (assign a b) v e r =
+      let p = placeOf (varIn (codes (t .vars)) b) in
+      (withVar t (a - 1) p, put t s f (assign a b) a p refl e (v .0) (v .1) (operand-stands t s f b (v .2)) refl)
+  changed (load a b) v e r =
+      let p = placeOf (linkIn (codes (t .links)) (varIn (codes (t .vars)) b)) in
+      (withVar t (a - 1) p, put t s f (load a b) a p refl e (v .0) (v .1) (linked-stands t s f (varIn (codes (t .vars)) b) (e .0)) refl)
+  changed (store a b) v e r =
+      let p = placeOf (varIn (codes (t .vars)) b) in
+      (withLink t (varIn (codes (t .vars)) a - 3) p, stored t s f a b p (e .0) refl (e .1) v)
+  changed (new a) v e r =
+      let i = lowestUnused (t .used) in
+      (withVar (withCell t i) (a - 1) (cellPlace i), taken t s f a i refl (leb-false 64 i r) (v .0) (v .1))
+  changed (delete a) v e r = (withoutPlace t (varIn (codes (t .vars)) a), freed t s f a (varIn (codes (t .vars)) a) refl e)
+
+-- a step that did not move
+stayed : (t : Heap64) (kind a b : ℕ) (o : Outcome) → (o ≡ Moved → ⊥) → stays t o ≡ stepOf t kind a b → Steps t kind a b (stays t o)
+stayed t kind a b o n e = record { result = e; does = λ z. absurd (n z); returns = λ z. refl; formed = λ h. h }
+
+refused-stays : (r : StepRefusal) → _≡_ {A = Outcome} (Refused r) Moved → ⊥
+refused-stays r e = let z : _≡_ {A = ℕ} 0 1 = cc in omega arith
+
+blocked-stays : _≡_ {A = Outcome} Blocked Moved → ⊥
+blocked-stays e = let z : _≡_ {A = ℕ} 0 1 = cc in omega arith
+
+module _ (t : Heap64) (s : Sized t) (kind a b : ℕ) where
+  abbrev Promise : Type 0
+  Promise = (r : Stepped) → r ≡ stepOf t kind a b → Steps t kind a b r
+
+  promised : (r : Stepped) → r ≡ stepOf t kind a b → Steps t kind a b r → Promise
+  promised r e p q d = subst (Steps t kind a b) (e ∙ sym d) p
+
+  by-operation : Formed t → (o : Op) → operation (t .variables) kind a b ≡ some o → perform t o ≡ stepOf t kind a b → Promise
+  by-operation f o named e = by-room (isNew o && leb 64 x) refl (enabled? o x (heapOf t))
+    where
+      x : ℕ
+      x = lowestUnused (t .used)
+
+      moves : (t′ : Heap64) → Changes t o t′ → Promise
+      moves t′ c =
+          let same = moved t o t′ c ∙ e in
+          promised (stays t′ Moved) same
+          (record {
+            result = same;
+            does = λ z. (o, named, c .enabled, c .heap);
+            returns = λ n. absurd (n refl);
+            formed = λ h. well-formed t′ (c .formed);
+          })
+
+      by-room : (full? : Bool) → isNew o && leb 64 x ≡ full? → Dec (Enabled o x (heapOf t)) → Promise
+      by-room true r d = let same = full t o r ∙ e in promised (stays t (Refused Full)) same (stayed t kind a b (Refused Full) (refused-stays Full) same)
+      by-room false r (no n) = let same = blocked t o r n ∙ e in promised (stays t Blocked) same (stayed t kind a b Blocked blocked-stays same)
+      by-room false r (yes d) = let c = changed t s f o (valid (t .variables) kind a b o named) d r in moves (c .0) (c .1)
+
+  pub steps : Promise
+  unfolding stepOf
+  steps = by-form (wellFormed t) refl (operation (t .variables) kind a b) refl
+    where
+      by-form : (w : Bool) → wellFormed t ≡ w → (o : Option Op) → operation (t .variables) kind a b ≡ o → Promise
+      by-form false w o e =
+          let same : stays t (Refused IllFormed) ≡ stepOf t kind a b = rw w refl in
+          promised (stays t (Refused IllFormed)) same (stayed t kind a b (Refused IllFormed) (refused-stays IllFormed) same)
+      by-form true w none e =
+          let same : stays t (Refused BadOperation) ≡ stepOf t kind a b = rw (w, e) refl in
+          promised (stays t (Refused BadOperation)) same (stayed t kind a b (Refused BadOperation) (refused-stays BadOperation) same)
+      by-form true w (some o) e = by-operation (formed t w) o e (rw (w, e) refl)
+
+-- ---- a step in the order in which the code takes it
+
+module _ (t : Heap64) (kind a b : ℕ) where
+  pub ill-formed : wellFormed t ≡ false → stays t (Refused IllFormed) ≡ stepOf t kind a b
+  unfolding stepOf
+  ill-formed w = rw w refl
+
+  pub by-table : wellFormed t ≡ true → performNamed t (operation (t .variables) kind a b) ≡ stepOf t kind a b
+  unfolding stepOf
+  by-table w = rw w refl
+
+  pub not-allowed : wellFormed t ≡ true → allowed (t .variables) kind a b ≡ false → stays t (Refused BadOperation) ≡ stepOf t kind a b
+  unfolding allowed
+  not-allowed w h = go (operation (t .variables) kind a b) refl h ∙ by-table w
+    where
+      go : (o : Option Op) → operation (t .variables) kind a b ≡ o → isSome o ≡ false
+          → stays t (Refused BadOperation) ≡ performNamed t (operation (t .variables) kind a b)
+      go none e d = rw e refl
+      go (some o) e d = let z : _≡_ {A = ℕ} 0 1 = cc in absurd (omega arith)

@@ -1,0 +1,120 @@
+use place::Place;
+use stepper::Heap64;
+use stepper::Outcome;
+use stepper::Stepped;
+ghost use mathlib.Core.Path.{_≡_};
+ghost use Prim.Native.Nat.{_<_, _≤_};
+ghost use lib.ListN.{length};
+ghost use Rattle.vorruda.specs.HeapBytes.{readable, heapFrom, byteOf, bytesOf, StepsBytes};
+
+// Whether bytes can be a heap's: 137 of them, the used marks 0 or 1.
+fn is_readable(bytes: &[u8]) -> bool
+    ensures { λ r. ⌜ r ≡ readable (now (bytes .entry)) ⌝ }
+{
+    if bytes.len() != 137 {
+        return false;
+    }
+    let mut i: usize = 0;
+    while i < 64 {
+        if 1 < bytes[9 + i] {
+            return false;
+        }
+        i += 1;
+    }
+    true
+}
+
+fn slots_from(bytes: &[u8]) -> [Place; 8]
+    requires { ⌜ length (now bytes) ≡ 137 ⌝ }
+    ensures { λ r. ⌜ r ≡ heapFrom (now (bytes .entry)) .vars ⌝ }
+{
+    let mut vars = [Place::NOWHERE; 8];
+    let mut i: usize = 0;
+    while i < 8 {
+        vars[i] = Place { code: bytes[1 + i] };
+        i += 1;
+    }
+    vars
+}
+
+fn marks_from(bytes: &[u8]) -> [bool; 64]
+    requires { ⌜ length (now bytes) ≡ 137 ⌝ }
+    ensures { λ r. ⌜ r ≡ heapFrom (now (bytes .entry)) .used ⌝ }
+{
+    let mut used = [false; 64];
+    let mut i: usize = 0;
+    while i < 64 {
+        used[i] = bytes[9 + i] == 1;
+        i += 1;
+    }
+    used
+}
+
+fn links_from(bytes: &[u8]) -> [Place; 64]
+    requires { ⌜ length (now bytes) ≡ 137 ⌝ }
+    ensures { λ r. ⌜ r ≡ heapFrom (now (bytes .entry)) .links ⌝ }
+{
+    let mut links = [Place::NOWHERE; 64];
+    let mut i: usize = 0;
+    while i < 64 {
+        links[i] = Place {
+            code: bytes[73 + i],
+        };
+        i += 1;
+    }
+    links
+}
+
+// The byte at a place of a heap's bytes.
+fn byte_at(heap: Heap64, i: usize) -> u8
+    requires { ⌜ i < 137 ⌝ }
+    ensures { λ r. ⌜ r ≡ byteOf heap i ⌝ }
+{
+    if i < 1 {
+        return heap.variables;
+    }
+    if i < 9 {
+        return heap.vars[i - 1].code;
+    }
+    if i < 73 {
+        if heap.used[i - 9] {
+            return 1;
+        }
+        return 0;
+    }
+    heap.links[i - 73].code
+}
+
+fn put_heap(heap: Heap64, bytes: &mut [u8])
+    requires { ⌜ length (now bytes) ≡ 137 ⌝ }
+    ensures { λ r. ⌜ now (bytes .exit) ≡ bytesOf heap ⌝ }
+{
+    let mut i: usize = 0;
+    while i < 137 {
+        bytes[i] = byte_at(heap, i);
+        i += 1;
+    }
+}
+
+// One operation on a heap of 137 bytes: 0 for moved, 100 for blocked, or 13, 14, 15.
+#[no_mangle]
+pub extern "C" fn vorruda_step(heap: &mut [u8], kind: u32, a: u32, b: u32) -> u32
+    ensures { λ r. ⌜ StepsBytes (now (heap .entry)) kind a b r (now (heap .exit)) ⌝ }
+{
+    if !is_readable(heap) {
+        return 13;
+    }
+    let before = Heap64 {
+        variables: heap[0],
+        vars: slots_from(heap),
+        used: marks_from(heap),
+        links: links_from(heap),
+    };
+    let stepped = before.step(kind, a, b);
+    let outcome = stepped.outcome;
+    if let Outcome::Moved = outcome {
+        let after = stepped.heap;
+        put_heap(after, heap);
+    }
+    stepper::outcome_code(outcome)
+}

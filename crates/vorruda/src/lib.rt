@@ -1,0 +1,4 @@
+// The calls for a host in C: include/vorruda.h declares them.
+mod heap;
+mod lend;
+mod numbers;
