@@ -124,7 +124,7 @@ module _ (variables states start : ℕ) where
       then (testStart start m at) _
       (λ u a h₁. then (each (testStart start) ms a) _
       (λ us b h₂ r.
-      let (t, at-is) = require-sound _ _ _ at h₁ in
+      let (t, at-is) = require-sound (not (atStart start (m .located))) 8 (m .first) at h₁ in
       let (rest, a-is) = tests-sound ms (λ l i. oks l (List·Memᴰ·tail i)) a h₂ in
       (all-cons (Avoids start) (r-avoids (m .located) (oks (m .located) (List·Memᴰ·head refl)) .holds t) rest, cc))) e
 
@@ -135,7 +135,7 @@ module _ (variables states start : ℕ) where
   tests-complete (m ∷ ms) oks at h =
       let (us, r) = tests-complete ms (λ l i. oks l (List·Memᴰ·tail i)) at (λ l i. h l (List·Memᴰ·tail i)) in
       let t = r-avoids (m .located) (oks (m .located) (List·Memᴰ·head refl)) .tests (h (m .located) (List·Memᴰ·head refl)) in
-      (tt ∷ us, rw (require-complete _ _ _ at t, r))
+      (tt ∷ us, rw (require-complete (not (atStart start (m .located))) 8 (m .first) at t, r))
 
 -- ---- covers
 
@@ -160,7 +160,7 @@ module _ (s : Buffer) (variables : ℕ) (ms : List Located) (oks : (m : Located)
       let (n, g₁, numbered) = read-sound s (getElem? ms) at m a h₁ in
       let i = getElem-mem ms n m numbered in
       let (g₂, (long, below)) = codes-exact s _ _ .sound a images b h₂ in
-      let (t, next-is) = require-sound _ _ _ b h₃ in
+      let (t, next-is) = require-sound (holds? m images o) 9 at b h₃ in
       let (state, embeds) = holds-reflects m o images i long below .holds t in (
         record { member = n; images = images },
         rw (← next-is) (more g₁ g₂),
@@ -182,7 +182,7 @@ module _ (s : Buffer) (variables : ℕ) (ms : List Located) (oks : (m : Located)
         read-complete s (getElem? ms) at (c .member) a m g₁ (h .numbered),
         codes-exact s (size (m .shape)) (size (o .shape)) .complete a (c .images) next g₂ (long, below),
       )
-      (require-complete _ _ _ next (holds-reflects m o (c .images) i long below .tests (h .state, h .embeds)))
+      (require-complete (holds? m (c .images) o) 9 at next (holds-reflects m o (c .images) i long below .tests (h .state, h .embeds)))
 
   pub covers-sound : (os : List Located) (at : ℕ) {us : List (Unit {0})} {next : ℕ} → each (readCover s ms) os at ≡ parsed us next
       → (cs : List Cover) × Reads (s .bytes) at (concatMap coverNumbers cs) next × AllHold ms cs os × ((c : Cover) → c ∈ cs → ImageForEach ms c)

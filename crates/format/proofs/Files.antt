@@ -200,7 +200,7 @@ module _ (s : Buffer) where
   pub end-sound : (at : ℕ) {u : Unit {0}} {next : ℕ} → end s at ≡ parsed u next → (length (s .bytes) ≤ at) × (at ≡ next)
   unfolding end
   end-sound at e =
-      let (t, at-is) = require-sound _ _ _ at e in
+      let (t, at-is) = require-sound (leb (length (s .bytes)) at) (s .left) at at e in
       (r-le _ _ .holds t, at-is)
 
   pub end-complete : (at : ℕ) → length (s .bytes) ≤ at → end s at ≡ parsed tt at
@@ -210,7 +210,7 @@ module _ (s : Buffer) where
   pub end-fault : (at : ℕ) {number place : ℕ} → end s at ≡ fault number place → (s .left ≡ number) × (at ≡ place) × (at < length (s .bytes))
   unfolding end
   end-fault at e =
-      let (k, q, n) = require-fault _ _ _ at e in
+      let (k, q, n) = require-fault (leb (length (s .bytes)) at) (s .left) at at e in
       (k, q, go (decLt at (length (s .bytes))) n)
     where
       go : Dec (at < length (s .bytes)) → ¬ T (leb (length (s .bytes)) at) → at < length (s .bytes)

@@ -40,17 +40,14 @@ then-fault {A} (fault k q) rest {number} {place} go stop e =
 -- ---- tests
 
 pub require-sound : (test : Bool) (number place at : ℕ) {u : Unit {0}} {next : ℕ} → require test number place at ≡ parsed u next → T test × (at ≡ next)
-unfolding require
 require-sound true number place at e = (tt, cc)
 require-sound false number place at {u} {next} e = absurd (not-fault u next number place e)
 
 pub require-fault : (test : Bool) (number place at : ℕ) {k q : ℕ} → require test number place at ≡ fault k q → (number ≡ k) × (place ≡ q) × (¬ T test)
-unfolding require
 require-fault true number place at {k} {q} e = absurd (not-fault tt at k q (sym e))
 require-fault false number place at e = (cc, cc, λ t. t)
 
 pub require-complete : (test : Bool) (number place at : ℕ) → T test → require test number place at ≡ parsed tt at
-unfolding require
 require-complete test number place at t = cond-true test (parsed tt at) (fault number place) t
 
 module _ (s : Buffer) where

@@ -121,7 +121,7 @@ module _ (variables states start : ℕ) where
       then-fault (testStart start m at) _
       (λ u a h₁. then-fault (each (testStart start) ms a) _ (λ us b h₂ r. absurd (not-fault (u ∷ us) b number place (sym r)))
       (λ h₂.
-      let (t, _) = require-sound _ _ _ at h₁ in
+      let (t, _) = require-sound (not (atStart start (m .located))) 8 (m .first) at h₁ in
       let f = tests-fault ms (λ l i. oks l (List·Memᴰ·tail i)) a number place h₂ in
       record {
         earlier = m ∷ f .earlier;
@@ -135,7 +135,7 @@ module _ (variables states start : ℕ) where
         satisfied = f .satisfied;
       }))
       (λ h₁.
-      let (k, q, t) = require-fault _ _ _ at h₁ in
+      let (k, q, t) = require-fault (not (atStart start (m .located))) 8 (m .first) at h₁ in
       let (state, satisfied) = r-start variables states start (m .located) ok .holds (not-not (atStart start (m .located)) t) in
       record {
         earlier = [];
@@ -224,7 +224,7 @@ module _ (s : Buffer) (variables : ℕ) (ms : List Located) (oks : (m : Located)
       (λ images b h₂ h₃.
       let (n, g₁, numbered) = read-sound s (getElem? ms) at m a h₁ in
       let (g₂, (long, below)) = codes-exact s _ _ .sound a images b h₂ in
-      let (k, q, t) = require-fault _ _ _ b h₃ in
+      let (k, q, t) = require-fault (holds? m images o) 9 at b h₃ in
       let i = getElem-mem ms n m numbered in
       let c : Cover = record { member = n; images = images } in
       inl (

@@ -37,7 +37,7 @@ abbrev pub here : Parser ℕ
 here at = parsed at at
 
 -- refused with this number and place unless the test holds
-unfoldable pub require : Bool → ℕ → ℕ → Parser (Unit {0})
+abbrev pub require : Bool → ℕ → ℕ → Parser (Unit {0})
 require test number place at = cond test (parsed tt at) (fault number place)
 
 -- one after the other, so many times

@@ -13,7 +13,7 @@ use Rattle.shape.proofs.InRange.{in-range-closed}
 use Rattle.cover.proofs.Embeds.{embeds-reflects}
 use Rattle.number.specs.Number.{numberIn}
 use Rattle.number.specs.Range.{AtMost}
-use Rattle.format.specs.Parser.{require, many, each, readAs, end}
+use Rattle.format.specs.Parser.{many, each, readAs, end}
 use Rattle.format.specs.Job.{readShape, readLocated, readTransition, readJob, readWholeJob}
 use Rattle.format.specs.Certificate.{readMember, readMembers, readCover}
 use Rattle.format.specs.Verdict.{readCertificate, readBoth, verdict}
@@ -38,7 +38,7 @@ images-below : (k : ℕ) (images : List ℕ) → AtMost k images → (i : ℕ) �
 images-below k images t i b = below k images t (getD images i 0) (getD-mem images i b)
 
 pub all : All
-unfolding allFrom numberIn require many each readAs end readShape readLocated readTransition readJob readWholeJob readMember readMembers readCover readCertificate readBoth verdict
+unfolding allFrom numberIn many each readAs end readShape readLocated readTransition readJob readWholeJob readMember readMembers readCover readCertificate readBoth verdict
 all P1 = refl
 all P2 = refl
 all P3 = refl
