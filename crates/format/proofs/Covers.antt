@@ -139,6 +139,14 @@ module _ (variables states start : ℕ) where
 
 -- ---- covers
 
+-- the images of a cover that holds are below the number of cells of the covered shape
+pub images-below : (ms : List Located) (o : Located) (c : Cover) → Holds ms c o → ImageForEach ms c → AllBelow (size (o .shape)) (c .images)
+images-below ms o c h each-cell x k =
+    let long = each-cell (h .member) (h .numbered) in
+    let (j, b, e) = mem-getD (c .images) x k in
+    let (_, q) = h .embeds .images .cells (cell j) (omega arith, omega arith) in
+    omega arith
+
 module _ (s : Buffer) (variables : ℕ) (ms : List Located) (oks : (m : Located) → m ∈ ms → InRange variables 12 (m .shape)) where
   pub holds-reflects : (m o : Located) (images : List ℕ) → m ∈ ms → length images ≡ size (m .shape) → AllBelow (size (o .shape)) images
       → Reflect ((m .state ≡ o .state) × Embeds (shapeGraph (m .shape)) (shapeGraph (o .shape)) (imageMap images)) (holds? m images o)
@@ -173,10 +181,7 @@ module _ (s : Buffer) (variables : ℕ) (ms : List Located) (oks : (m : Located)
       let m = h .member in
       let i = getElem-mem ms (c .member) m (h .numbered) in
       let long = each-cell m (h .numbered) in
-      let below : AllBelow (size (o .shape)) (c .images) = λ x k.
-      let (j, b, e) = mem-getD (c .images) x k in
-      let (_, q) = h .embeds .images .cells (cell j) (omega arith, omega arith) in
-      omega arith in
+      let below = images-below ms o c h each-cell in
       let (a, g₁, g₂) = reads-first r in
       rw (
         read-complete s (getElem? ms) at (c .member) a m g₁ (h .numbered),
