@@ -199,7 +199,9 @@ module _ (s : Buffer) (variables : ℕ) (ms : List Located) (oks : (m : Located)
       (λ us b h₂ r.
       let (c, g₁, (h, images)) = cover-sound o at h₁ in
       let (cs, g₂, hs, all-images) = covers-sound os a h₂ in
-      (c ∷ cs, let next-is : b ≡ next = cc in subst (Reads (s .bytes) at (concatMap coverNumbers (c ∷ cs))) next-is (reads-append g₁ g₂), (h, hs), all-cons (ImageForEach ms) images all-images))) e
+      let next-is : b ≡ next = cc in
+      let g = subst (Reads (s .bytes) at (concatMap coverNumbers (c ∷ cs))) next-is (reads-append g₁ g₂) in
+      (c ∷ cs, g, (h, hs), all-cons (ImageForEach ms) images all-images))) e
 
   pub covers-complete : (os : List Located) (cs : List Cover) (at next : ℕ) → Reads (s .bytes) at (concatMap coverNumbers cs) next → AllHold ms cs os
       → ((c : Cover) → c ∈ cs → ImageForEach ms c) → (us : List (Unit {0})) × (each (readCover s ms) os at ≡ parsed us next)

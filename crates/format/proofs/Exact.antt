@@ -112,7 +112,8 @@ module _ (job certificate : List ℕ) (counts : Counts) where
         let (p₄, g, whole′) = decode-reads certificate (certificateNumbers (c .members) (c .covers)) (c .certificate-reads) in
         let (p₂, g₂, g₄) = reads-split (memberNumbers (c .members)) g in
         let (members, same, h₂) =
-        members-complete (certificateBuffer certificate) (c .file .job .variables) (c .file .states) 0 (c .members) p₂ g₂ (c .members-range .number) (c .members-range .members) in
+        members-complete (certificateBuffer certificate) (c .file .job .variables) (c .file .states) 0 (c .members) p₂ g₂ (c .members-range .number)
+        (c .members-range .members) in
         let h = answers members same p₁ p₂ p₄ h₁ h₂ g₄ whole′ in
         cond-true (fits job) (cond (fits certificate) (answer (readBoth job certificate)) (refused 2 0)) (refused 1 0) (r-fits job .tests (c .job-length))
         ∙ cond-true (fits certificate) (answer (readBoth job certificate)) (refused 2 0) (r-fits certificate .tests (c .certificate-length))

@@ -19,7 +19,8 @@ use Rattle.format.specs.Job.{JobFile, readShape, readLocated, readTransi
 use Rattle.format.specs.Numbers.{opNumbers, transitionNumbers, shapeNumbers, locatedNumbers, jobNumbers}
 use Rattle.format.specs.Conditions.{LocatedInRange, TransitionInRange, JobInRange}
 use Rattle.format.proofs.Sequence.{Reads, more, one, reads-first, reads-append, reads-split}
-use Rattle.format.proofs.Parsing.{then, require-sound, require-fault, require-complete, read-sound, read-complete, Exact, such-exact, ranged-exact, many-exact, codes-exact}
+use Rattle.format.proofs.Parsing.{then, require-sound, require-fault, require-complete, read-sound, read-complete}
+use Rattle.format.proofs.Parsing.{Exact, such-exact, ranged-exact, many-exact, codes-exact}
 
 -- ---- the table of kinds
 

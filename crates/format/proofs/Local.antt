@@ -55,7 +55,8 @@ module _ (s s′ : List ℕ) (e : ℕ) (agree : take e s ≡ take e s′) where
       (λ h″ r k.
       let z : at + 3 ≡ next = cc in
       let long = same-length (at + 3) (omega arith) (omega arith) in
-      sym (three-bytes s′ at a (same-byte at (omega arith)) (omega arith) b (same-byte (at + 1) (omega arith)) (omega arith) b₀ (omega arith) c (same-byte (at + 2) (omega arith)) (omega arith) c₀ h″) ∙ r)
+      sym (three-bytes s′ at a (same-byte at (omega arith)) (omega arith) b (same-byte (at + 1) (omega arith)) (omega arith) b₀ (omega arith) c
+      (same-byte (at + 2) (omega arith)) (omega arith) c₀ h″) ∙ r)
       (λ _. unread))))))))
     where
       left : ℕ
@@ -180,14 +181,20 @@ module _ (b b′ : List ℕ) (u o l e : ℕ) (agree : take e b ≡ take e b′) 
     pub local-bind : ((x : A) → Local (r x) (r′ x)) → Local (p >>= r) (p′ >>= r′)
     local-bind rest =
         record {
-          reads = λ at y next. then (p at) r (λ x mid h₁ h₂. let (ns, g) = first .reads at x mid h₁ in let (ms, k) = rest x .reads mid y next h₂ in (ns ++ ms, reads-append g k));
+          reads = λ at y next.
+              then (p at) r
+              (λ x mid h₁ h₂.
+              let (ns, g) = first .reads at x mid h₁ in
+              let (ms, k) = rest x .reads mid y next h₂ in
+              (ns ++ ms, reads-append g k));
           same = λ at y next h k.
               then (p at) r
               (λ x mid h₁ h₂.
               let l = reads-on (rest x .reads mid y next h₂ .1) in
               ap (λ q. onward q r′) (first .same at x mid h₁ (omega arith)) ∙ rest x .same mid y next h₂ k) h;
           faults = λ at number place.
-              then-fault (p at) r (λ x mid h₁ h₂. after at mid number place (first .reads at x mid h₁) (rest x .faults mid number place h₂)) (first .faults at number place);
+              then-fault (p at) r (λ x mid h₁ h₂. after at mid number place (first .reads at x mid h₁) (rest x .faults mid number place h₂))
+              (first .faults at number place);
           again = fault-bind (λ x. rest x .again);
         }
       where
@@ -241,7 +248,8 @@ module _ (b b′ : List ℕ) (u o l e : ℕ) (agree : take e b ≡ take e b′) 
   unfolding readCover
   local-cover ms covered nine =
       local-bind local-here
-      (λ first. local-bind (local-read (getElem? ms)) (λ m. local-bind (local-many (local-read _) (size (m .shape))) (λ images. local-require (holds? m images covered) 9 first nine)))
+      (λ first. local-bind (local-read (getElem? ms))
+      (λ m. local-bind (local-many (local-read _) (size (m .shape))) (λ images. local-require (holds? m images covered) 9 first nine)))
 
   pub local-job : Local (readJob s) (readJob s′)
   unfolding readJob

@@ -128,8 +128,8 @@ module _ (s : List ℕ) where
   decode-from (suc turns) at ns e =
       cond-cases (λ x. x ≡ numbers ns → Done at ns) (r-lt at (length s)) (λ _. by-number (numberAt s at) refl (decode-from turns)) (at-end at ns) e
     where
-      by-rest : (n mid : ℕ) → numberAt s at ≡ Number n mid → (r : Listed) → decodeFrom turns s mid ≡ r → ((ms : List ℕ) → decodeFrom turns s mid ≡ numbers ms → Done mid ms)
-          → before n r ≡ numbers ns → Done at ns
+      by-rest : (n mid : ℕ) → numberAt s at ≡ Number n mid → (r : Listed) → decodeFrom turns s mid ≡ r
+          → ((ms : List ℕ) → decodeFrom turns s mid ≡ numbers ms → Done mid ms) → before n r ≡ numbers ns → Done at ns
       by-rest n mid g (refused p) h rest z = let q : _≡_ {A = ℕ} 0 1 = cc in absurd (omega arith)
       by-rest n mid g (numbers ms) h rest z =
           let (next, r, l) = rest ms h in

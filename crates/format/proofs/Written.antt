@@ -95,7 +95,8 @@ small-op n (delete a) h (z, p) = (omega arith, (omega arith, (omega arith, tt)))
 small-transition : (variables states : ℕ) (t : Transition) → variables ≤ 8 → states ≤ 64 → TransitionInRange variables states t → Small (transitionNumbers t)
 small-transition variables states t v h ok =
     let (kind, a, b, e) = ok .op in
-    (let q = ok .from in omega arith, small-append (opNumbers (t .op)) (t .to ∷ []) (small-op variables (t .op) v (allowed variables kind a b (t .op) e)) (let q = ok .to in omega arith, tt))
+    let s = small-op variables (t .op) v (allowed variables kind a b (t .op) e) in
+    (let q = ok .from in omega arith, small-append (opNumbers (t .op)) (t .to ∷ []) s (let q = ok .to in omega arith, tt))
 
 small-job : (f : JobFile) → JobInRange f → Small (jobNumbers f)
 small-job f ok =
