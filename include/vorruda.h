@@ -1,12 +1,12 @@
 /* vorruda.h - calls of the proved library libvorruda.a.
  *
- * A buffer is a pointer and a length. NULL with length 0 is an empty buffer. Buffers of one call must
- * not overlap. Nothing is allocated and nothing is kept between calls; calls on different buffers may
- * run at the same time.
+ * A buffer is a pointer and a length. NULL with length 0 is an empty buffer. Buffers of one call
+ * must not overlap. Nothing is allocated and nothing is kept between calls; calls on different
+ * buffers may run at the same time.
  *
- * Every call returns a number: 0 is success, 1 to 99 is a refusal, 100 and above is told at the call.
- * Results beside it go to the caller's array `out`. Where `out_len` is too short for them, nothing of
- * `out` is written and the returned number is the same.
+ * Every call returns a number: 0 is success, 1 to 99 is a refusal, 100 and above is told at the
+ * call. Results beside it go to the caller's array `out`. Where `out_len` is too short for them,
+ * nothing of `out` is written and the returned number is the same.
  */
 #ifndef VORRUDA_H
 #define VORRUDA_H
@@ -20,8 +20,10 @@ extern "C" {
 
 /* ---- Numbers ----------------------------------------------------------------------------------
  *
- * Files are lists of numbers from 0 to 65,535. A number is written low seven bits first, 128 added to
- * a byte where another follows, in the fewest bytes: 127 is 127; 128 is 128 1; 65,535 is 255 255 3.
+ * Files are lists of numbers from 0 to 65,535. A number is written low seven bits first, 128 added
+ * to a byte where another follows, in the fewest bytes:
+ *
+ *   127 is 127        128 is 128 1        65,535 is 255 255 3
  */
 
 #define VORRUDA_UNREADABLE 3  /* no number can be read at that place */
@@ -30,7 +32,8 @@ extern "C" {
 
 /* Reads the number that begins at place `at`.
  *   0: out[0] is the number, out[1] the place after it.
- *   VORRUDA_UNREADABLE: past the end, above 65,535 or longer than needed; out[0] is `at`, out[1] is 0.
+ *   VORRUDA_UNREADABLE: past the end, above 65,535 or longer than needed;
+ *      out[0] is `at`, out[1] is 0.
  * `at` may be any place, also past the end. out has two entries. */
 uint32_t vorruda_read_number(const uint8_t *bytes, size_t len, size_t at,
                              uint64_t *out, size_t out_len);
@@ -83,11 +86,12 @@ uint32_t vorruda_write_numbers(const uint64_t *numbers, size_t count,
 #define VORRUDA_BAD_STEP  14  /* no such kind, or an operand that it doesn't take */
 #define VORRUDA_HEAP_FULL 15  /* new with all 64 cells used */
 
-/* One step. `new` takes the lowest unused cell and links it to *; `delete` frees the cell, and every
- * variable and link that stood at it stands at * afterwards.
+/* One step. `new` takes the lowest unused cell and links it to *; `delete` frees the cell, and
+ * every variable and link that stood at it stands at * afterwards.
  *   0: moved; the bytes are the heap after the step.
- *   VORRUDA_BLOCKED, or VORRUDA_BAD_HEAP, VORRUDA_BAD_STEP, VORRUDA_HEAP_FULL (the first of the three
- *   that applies): the bytes stay as they are. */
+ *   VORRUDA_BLOCKED: not enabled.
+ *   VORRUDA_BAD_HEAP, VORRUDA_BAD_STEP, VORRUDA_HEAP_FULL: refused, by the first that applies.
+ * Where it isn't 0, the bytes stay as they are. */
 uint32_t vorruda_step(uint8_t *heap, size_t heap_len, uint32_t kind, uint32_t a, uint32_t b);
 
 #ifdef __cplusplus

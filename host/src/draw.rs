@@ -7,8 +7,8 @@ use crate::reference::shape::Shape;
 use crate::routine::Routine;
 use crate::search::chain::Chain;
 
-/// Draws a shape, a line for each run of cells: `[1 x] -> [2] -> #`. Cells are numbered from 1, with the
-/// variables that stand at them; an arrow is a link or a path of several.
+/// Draws a shape, a line for each run of cells: `[1 x] -> [2] -> #`. Cells are numbered from 1,
+/// with the variables that stand at them; an arrow is a link or a path of several.
 pub fn shape(shape: &Shape, variables: &[String]) -> Vec<String> {
     let drawing = Drawing { shape, variables };
     let mut drawn = Vec::new();

@@ -28,8 +28,8 @@ fn op(kind: u64, a: usize, b: usize) -> Operation {
     Operation { kind, a, b }
 }
 
-/// The pair of a job that goes round at one state, with operations in turn, and these members, the first
-/// of which is forbidden.
+/// The pair of a job that goes round at one state, with operations in turn, and these members, the
+/// first of which is forbidden.
 fn pair(operations: &[Operation], transitions: usize, members: &[Shape]) -> Pair {
     let variables = 8;
     let round = operations.iter().cycle().take(transitions);

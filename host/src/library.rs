@@ -1,4 +1,5 @@
-//! The proved library's calls, as include/vorruda.h declares them. An empty slice goes over as NULL.
+//! The proved library's calls, as include/vorruda.h declares them. An empty slice goes over as
+//! NULL.
 
 use std::ptr;
 

@@ -1,5 +1,6 @@
-//! The facts a certificate rests on, by trying small heaps and shapes: if the heap after an operation
-//! satisfies a shape, the heap before satisfies one of its predecessors; and embeddings compose.
+//! The facts a certificate rests on, by trying small heaps and shapes: if the heap after an
+//! operation satisfies a shape, the heap before satisfies one of its predecessors; and embeddings
+//! compose.
 
 use std::collections::BTreeMap;
 

@@ -33,8 +33,8 @@ pub fn embeds(member: &Shape, covered: &Shape, images: &Images) -> bool {
 /// The codes at which every walk stops: nowhere, # and *.
 pub const ENDS: u32 = 0b111;
 
-/// The cells strictly between on the paths of the links whose ends have images, a bit for each; nothing
-/// where a path misses or two meet. The marks are the images and [`ENDS`].
+/// The cells strictly between on the paths of the links whose ends have images, a bit for each;
+/// nothing where a path misses or two meet. The marks are the images and [`ENDS`].
 pub fn passed(member: &Shape, covered: &Shape, images: &Images, marks: u32) -> Option<u32> {
     let mut passed = 0;
     for (cell, &link) in member.links[..usize::from(member.cells)].iter().enumerate() {

@@ -1,4 +1,5 @@
-//! The predecessors of a shape in their order, made one at a time and only where they aren't dropped.
+//! The predecessors of a shape in their order, made one at a time and only where they aren't
+//! dropped.
 
 use super::shape::{Shape, CELL, DANGLING, HELPER, NOWHERE, NULL};
 use crate::reference::operation::{Operation, ASSIGN, DELETE, DIFFERENT, EQUAL, FOLLOW, LINK, NEW};

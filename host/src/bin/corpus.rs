@@ -1,5 +1,5 @@
-//! Searches and checks every routine of the corpus, prints the table of them, and fails where one ends
-//! otherwise than its name says.
+//! Searches and checks every routine of the corpus, prints the table of them, and fails where one
+//! ends otherwise than its name says.
 
 use std::process::ExitCode;
 

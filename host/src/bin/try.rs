@@ -1,7 +1,7 @@
 //! From the text of a routine to a verdict: translates, searches for a certificate and checks it.
 //!
-//! `try FILE [FOLDER]`: with a folder, job.bin and cert.bin are written there. The exit status is 0 where
-//! the certificate is accepted, 1 where there is none, 2 for a mistake in the file.
+//! `try FILE [FOLDER]`: with a folder, job.bin and cert.bin are written there. The exit status is 0
+//! where the certificate is accepted, 1 where there is none, 2 for a mistake in the file.
 
 use std::path::Path;
 use std::process::ExitCode;

@@ -40,7 +40,7 @@ const LARGE: Size = Size {
     most_covers: 4_000,
 };
 
-/// The most members that aren't satisfied by anything. With one for each state there are few enough.
+/// The most members that not every heap satisfies. With one more for each state they are few enough.
 const MOST_PARTICULAR: usize = 100;
 
 /// A pair that is accepted. Jobs are tried until one has a certificate of the size drawn.
@@ -138,8 +138,8 @@ fn random_shape(random: &mut Random, variables: usize) -> reference::Shape {
     reference::Shape::of_codes(&codes(variables), &codes(cells))
 }
 
-/// Members closed under predecessors: so many particular ones, made more general by chance, then ones
-/// that anything satisfies. Nothing where more covers would be needed.
+/// Members closed under predecessors: so many particular ones, made more general by chance, then
+/// ones that anything satisfies. Nothing where more covers would be needed.
 fn closed_members(
     random: &mut Random,
     job: &Job,

@@ -67,8 +67,8 @@ pub fn read_cover(
     Ok(Cover { member, images })
 }
 
-/// What has to be covered for a member: for each transition into its state, in the job's order, each
-/// predecessor, at the transition's from state.
+/// What has to be covered for a member: for each transition into its state, in the job's order,
+/// each predecessor, at the transition's from state.
 pub fn covered_for<'a>(job: &'a Job, member: &'a Located) -> impl Iterator<Item = Located> + 'a {
     let into_its_state = job.transitions.iter().filter(|t| t.to == member.state);
     into_its_state.flat_map(|transition| {

@@ -60,8 +60,8 @@ impl Heap {
         }
     }
 
-    /// The heap after an operation, nothing where it isn't enabled. New takes the cell `fresh`, which
-    /// isn't in the heap.
+    /// The heap after an operation, nothing where it isn't enabled. New takes the cell `fresh`,
+    /// which isn't in the heap.
     pub fn after(&self, operation: Operation, fresh: usize) -> Option<Heap> {
         let Operation { kind, a, b } = operation;
         let (at_a, at_b) = (self.place(a), self.place(b));

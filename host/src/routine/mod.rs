@@ -1,4 +1,5 @@
-//! Routines as text: transitions with names for states and variables, and the forbidden shapes below.
+//! Routines as text: transitions with names for states and variables, and the forbidden shapes
+//! below.
 //!
 //! ```text
 //! -- Empties the list at x.
@@ -17,9 +18,10 @@
 //! steps
 //! ```
 //!
-//! An operation is `a = b`, `a != b`, `a := b`, `a := b.next`, `a.next := b`, `new(a)`, `delete(a)` or
-//! `skip`, which is `null = null`. A forbidden shape is a list of `x at p`, `c -> p` and `cell c`, where
-//! x is a variable, c a cell and p a cell, `#` or `*`; or one of the ready sets of [`sets`].
+//! An operation is `a = b`, `a != b`, `a := b`, `a := b.next`, `a.next := b`, `new(a)`, `delete(a)`
+//! or `skip`, which is `null = null`. A forbidden shape is a list of `x at p`, `c -> p` and `cell
+//! c`, where x is a variable, c a cell and p a cell, `#` or `*`; or one of the ready sets of
+//! [`sets`].
 
 mod mistake;
 mod parse;

@@ -24,8 +24,8 @@ fn shape(variables: usize, placed: &[(usize, u64)], links: &[u64]) -> Shape {
     Shape::of_codes(&places, links)
 }
 
-/// `no list: x` - # isn't met by following links from x: x at *, x's cell linked to *, to itself, or to
-/// a cell linked to itself.
+/// `no list: x` - # isn't met by following links from x: x at *, x's cell linked to *, to itself,
+/// or to a cell linked to itself.
 pub fn no_list(variables: usize, x: usize) -> Vec<Shape> {
     let dangling = [
         shape(variables, &[(x, DANGLING)], &[]),
@@ -53,8 +53,8 @@ pub fn no_ring(variables: usize, x: usize) -> Vec<Shape> {
     ]
 }
 
-/// `lost block: x` - some cell isn't met by following links from x. With more variables: some cell isn't
-/// met from any of them, while they are lists and share no cell.
+/// `lost block: x` - some cell isn't met by following links from x. With more variables: some cell
+/// isn't met from any of them, while they are lists and share no cell.
 pub fn lost_block(variables: usize, from: &[usize]) -> Vec<Shape> {
     let beside = match *from {
         [x] => {

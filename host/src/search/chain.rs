@@ -12,16 +12,17 @@ use crate::reference::job::Job;
 /// One shape of a chain.
 pub struct Link {
     pub located: Located,
-    /// The number of the transition that leads from the next link to this one; nothing for the last.
+    /// The number of the transition that leads from the next link to this one; nothing for the
+    /// last.
     pub transition: Option<usize>,
 }
 
-/// Each link is a predecessor of the one before it. The first is forbidden, the last is at the start
-/// state and satisfied by the empty heap.
+/// Each link is a predecessor of the one before it. The first is forbidden, the last is at the
+/// start state and satisfied by the empty heap.
 pub struct Chain {
     pub links: Vec<Link>,
-    /// Whether a run reaches a heap that satisfies the forbidden shape. Otherwise the rules forget too
-    /// much on the way to tell.
+    /// Whether a run reaches a heap that satisfies the forbidden shape. Otherwise the rules forget
+    /// too much on the way to tell.
     pub is_a_run: bool,
 }
 

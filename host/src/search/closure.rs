@@ -16,7 +16,8 @@ pub struct Entry {
     features: Features,
     /// The shape that had to be covered; `member` is this or more general.
     pub needed: Shape,
-    /// The entry that it is a predecessor of, and by which transition; nothing for a forbidden shape.
+    /// The entry that it is a predecessor of, and by which transition; nothing for a forbidden
+    /// shape.
     pub because: Option<(usize, usize)>,
     /// Whether no later, more general entry has taken its place.
     live: bool,

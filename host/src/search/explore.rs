@@ -38,8 +38,8 @@ pub struct Exploration<'a> {
 }
 
 impl<'a> Exploration<'a> {
-    /// Explores heaps of at most so many cells, until there are `most_heaps`: first those of runs, then
-    /// with them what the rules can't tell apart from them.
+    /// Explores heaps of at most so many cells, until there are `most_heaps`: first those of runs,
+    /// then with them what the rules can't tell apart from them.
     pub fn new(job: &'a Job, most_cells: u8, most_heaps: usize) -> Exploration<'a> {
         let mut exploration = Exploration {
             job,
@@ -92,8 +92,8 @@ impl<'a> Exploration<'a> {
         }
     }
 
-    /// Adds what deletes lead to if a variable or a link dangles afterwards that didn't stand at the
-    /// deleted cell: backwards, deleting forgets where it stood.
+    /// Adds what deletes lead to if a variable or a link dangles afterwards that didn't stand at
+    /// the deleted cell: backwards, deleting forgets where it stood.
     fn take_forgetful_deletes(&mut self, number: usize) {
         let Located { state, shape } = self.reached[number].located;
         for (t, transition) in self.job.transitions.iter().enumerate() {
@@ -191,8 +191,8 @@ pub fn after(heap: &Shape, operation: Operation) -> Option<Shape> {
     Some(after)
 }
 
-/// The heap with its cells numbered in the order that following links from the variables meets them;
-/// cells that aren't met so come last, in their old order.
+/// The heap with its cells numbered in the order that following links from the variables meets
+/// them; cells that aren't met so come last, in their old order.
 fn canonical(heap: &Shape) -> Shape {
     let mut order = Vec::with_capacity(heap.cells.into());
     let starts = heap.variables[1..HELPER].iter().copied();

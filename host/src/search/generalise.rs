@@ -13,8 +13,8 @@ pub fn generalise(shape: Shape, mut allowed: impl FnMut(&Shape) -> bool) -> Shap
     shape
 }
 
-/// The shapes one step simpler: a cell without any mark gone, a variable or a link forgotten, or a cell
-/// in the middle of a path gone.
+/// The shapes one step simpler: a cell without any mark gone, a variable or a link forgotten, or a
+/// cell in the middle of a path gone.
 pub fn simplifications(shape: &Shape) -> Vec<Shape> {
     let cells = || CELL..shape.fresh();
     let loose = cells().filter_map(|cell| without_loose(shape, cell));

@@ -3,8 +3,8 @@
 use crate::baseline::embedding::{passed, Images, ENDS, NO_IMAGES};
 use crate::baseline::shape::{Shape, CELL, HELPER, NOWHERE};
 
-/// Facts about single variables and pairs of them, a bit for each. A shape that embeds in another has
-/// no fact that the other hasn't, so most pairs of shapes are told apart by this alone.
+/// Facts about single variables and pairs of them, a bit for each. A shape that embeds in another
+/// has no fact that the other hasn't, so most pairs of shapes are told apart by this alone.
 pub type Features = u128;
 
 pub fn features(shape: &Shape) -> Features {
@@ -93,8 +93,8 @@ struct Finder<'a> {
 }
 
 impl Finder<'_> {
-    /// Extends the images to the linked cells from the next one on, then to the loose ones. More images
-    /// mend no path, so what fails early is left.
+    /// Extends the images to the linked cells from the next one on, then to the loose ones. More
+    /// images mend no path, so what fails early is left.
     fn extend(&self, images: Images, marks: u32, next: usize) -> Option<Images> {
         let passed = passed(self.small, self.large, &images, marks)?;
         let Some(&code) = self.linked.get(next) else {

@@ -35,8 +35,8 @@ const MOST_HEAPS: usize = 200_000;
 const SHORT: usize = 1_000;
 const LONG: usize = 20_000;
 
-/// Looks for a certificate, with the needed shapes as members and with members as general as ever larger
-/// heaps allow, and takes the shorter one.
+/// Looks for a certificate, with the needed shapes as members and with members as general as ever
+/// larger heaps allow, and takes the shorter one.
 pub fn search(job: &Job) -> Outcome {
     let reached = Exploration::new(job, MOST_CELLS[0], MOST_HEAPS);
     let plain = match attempt(job, &reached, false, SHORT) {

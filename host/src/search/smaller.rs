@@ -24,7 +24,8 @@ pub fn without_loose(shape: &Shape, cell: u8) -> Option<Shape> {
     Some(simpler)
 }
 
-/// Without a cell that no variable and one link stands at, which now stands where the cell's link did.
+/// Without a cell that no variable and one link stands at, which now stands where the cell's link
+/// did.
 pub fn without_middle(shape: &Shape, cell: u8) -> Option<Shape> {
     let link = shape.link_of(cell);
     let mut sources = (CELL..shape.fresh()).filter(|&source| shape.link_of(source) == cell);
