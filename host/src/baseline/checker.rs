@@ -2,14 +2,14 @@
 
 use super::embedding::{embeds, NO_IMAGES};
 use super::predecessor::each_predecessor;
+use super::reader::{Reader, Stopped};
 use super::shape::{Located, Shape, CELL};
 use crate::reference::certificate::MOST_MEMBERS;
 use crate::reference::checker::MOST_BYTES;
 use crate::reference::job::{
     MOST_FORBIDDEN, MOST_STATES, MOST_TRANSITIONS, MOST_VARIABLES, VERSION,
 };
-use crate::reference::operation::{range_of_a, range_of_b, Operation, KINDS};
-use crate::reference::shape::MOST_CELLS;
+use crate::reference::operation::Operation;
 use crate::verdict::{Counts, Refusal, Verdict};
 
 /// The verdict on two buffers.
@@ -20,20 +20,12 @@ pub fn check(job: &[u8], certificate: &[u8]) -> Verdict {
 fn accept(job: &[u8], certificate: &[u8]) -> Result<Counts, Refusal> {
     check_length(job, 1)?;
     check_length(certificate, 2)?;
-    let job = Job::read(job)?;
-    let mut covers = Covers::begin(&job, certificate)?;
-    for bad in &job.forbidden {
-        covers.check(bad.state, &bad.shape)?;
-    }
-    for member in 0..covers.members.len() {
-        let Located { state, shape } = covers.members[member];
-        for transition in &job.into_state[usize::from(state)] {
-            each_predecessor(&shape, transition.operation, &mut |before| {
-                covers.check(transition.from, before)
-            })?;
-        }
-    }
-    covers.reader.end(10)?;
+    let mut reader = Reader::new(job, 3, 4);
+    let job = Job::read(&mut reader).map_err(|Stopped| reader.refusal)?;
+    let mut covers = Covers::new(certificate);
+    covers
+        .check_all(&job)
+        .map_err(|Stopped| covers.reader.refusal)?;
     Ok(Counts {
         bads: job.forbidden.len() as u64,
         members: covers.members.len() as u64,
@@ -51,188 +43,138 @@ fn check_length(bytes: &[u8], number: u32) -> Result<(), Refusal> {
 struct Transition {
     from: u8,
     operation: Operation,
+    /// The number of the next transition into the same state.
+    next: Option<u16>,
 }
 
 struct Job {
-    variables: u64,
-    states: u64,
+    variables: u16,
+    states: u16,
     start: u8,
-    /// The transitions into each state, in the job's order.
-    into_state: Vec<Vec<Transition>>,
+    transitions: Vec<Transition>,
+    /// The number of the first transition into each state.
+    first: [Option<u16>; MOST_STATES as usize],
     forbidden: Vec<Located>,
 }
 
 impl Job {
-    fn read(bytes: &[u8]) -> Result<Job, Refusal> {
-        let mut reader = Reader::new(bytes, 3, 4);
-        reader.number(VERSION, VERSION)?;
-        let variables = reader.number(1, MOST_VARIABLES)?;
-        let states = reader.number(1, MOST_STATES)?;
-        let mut job = Job {
-            variables,
-            states,
-            start: reader.number(0, states - 1)? as u8,
-            into_state: Vec::new(),
-            forbidden: Vec::new(),
-        };
-        job.into_state.resize_with(states as usize, Vec::new);
-        for _ in 0..reader.number(0, MOST_TRANSITIONS)? {
-            let from = reader.number(0, states - 1)? as u8;
-            let operation = reader.operation(variables)?;
-            let to = reader.number(0, states - 1)? as usize;
-            job.into_state[to].push(Transition { from, operation });
+    fn read(reader: &mut Reader) -> Result<Job, Stopped> {
+        reader.number(VERSION as u16, VERSION as u16)?;
+        let variables = reader.number(1, MOST_VARIABLES as u16)?;
+        let states = reader.number(1, MOST_STATES as u16)?;
+        let start = reader.number(0, states - 1)? as u8;
+        let count = reader.number(0, MOST_TRANSITIONS as u16)?;
+        let mut targets = Vec::with_capacity(count.into());
+        let mut transitions = Vec::with_capacity(count.into());
+        for _ in 0..count {
+            transitions.push(Transition {
+                from: reader.number(0, states - 1)? as u8,
+                operation: reader.operation(variables)?,
+                next: None,
+            });
+            targets.push(reader.number(0, states - 1)?);
         }
-        for _ in 0..reader.number(1, MOST_FORBIDDEN)? {
-            job.forbidden.push(reader.located(variables, states)?);
+        let mut first = [None; MOST_STATES as usize];
+        for number in (0..count).rev() {
+            let into = &mut first[usize::from(targets[usize::from(number)])];
+            transitions[usize::from(number)].next = into.replace(number);
+        }
+        let count = reader.number(1, MOST_FORBIDDEN as u16)?;
+        let mut forbidden = Vec::with_capacity(count.into());
+        for _ in 0..count {
+            forbidden.push(reader.located(variables, states)?);
         }
         reader.end(5)?;
-        Ok(job)
+        Ok(Job {
+            variables,
+            states,
+            start,
+            transitions,
+            first,
+            forbidden,
+        })
+    }
+
+    /// The transitions into a state, in the job's order.
+    fn into_state(&self, state: u8) -> impl Iterator<Item = &Transition> {
+        let mut next = self.first[usize::from(state)];
+        std::iter::from_fn(move || {
+            let transition = &self.transitions[usize::from(next?)];
+            next = transition.next;
+            Some(transition)
+        })
     }
 }
 
-/// The members, and the place that the covers have been read to.
+/// The members, and how far the covers have been read.
 struct Covers<'a> {
     reader: Reader<'a>,
     members: Vec<Located>,
+    variables: usize,
     count: u64,
 }
 
 impl<'a> Covers<'a> {
+    fn new(certificate: &'a [u8]) -> Covers<'a> {
+        Covers {
+            reader: Reader::new(certificate, 6, 7),
+            members: Vec::new(),
+            variables: 0,
+            count: 0,
+        }
+    }
+
+    fn check_all(&mut self, job: &Job) -> Result<(), Stopped> {
+        self.read_members(job)?;
+        for bad in &job.forbidden {
+            self.check(bad.state, &bad.shape)?;
+        }
+        for member in 0..self.members.len() {
+            let Located { state, shape } = self.members[member];
+            for transition in job.into_state(state) {
+                each_predecessor(&shape, transition.operation, &mut |before| {
+                    self.check(transition.from, before)
+                })?;
+            }
+        }
+        self.reader.end(10)
+    }
+
     /// Reads the members, and refuses one that the empty heap satisfies at the start.
-    fn begin(job: &Job, certificate: &'a [u8]) -> Result<Covers<'a>, Refusal> {
-        let mut reader = Reader::new(certificate, 6, 7);
-        reader.number(VERSION, VERSION)?;
-        let count = reader.number(1, MOST_MEMBERS)? as usize;
-        let mut members = Vec::with_capacity(count);
+    fn read_members(&mut self, job: &Job) -> Result<(), Stopped> {
+        self.variables = job.variables.into();
+        self.reader.number(VERSION as u16, VERSION as u16)?;
+        let count = self.reader.number(1, MOST_MEMBERS as u16)?;
+        self.members.reserve_exact(count.into());
         let mut satisfied = None;
         for _ in 0..count {
-            let place = reader.place;
-            let member = reader.located(job.variables, job.states)?;
+            let place = self.reader.place;
+            let member = self.reader.located(job.variables, job.states)?;
             if member.state == job.start && member.shape.empty_heap_satisfies() {
-                satisfied = satisfied.or(Some(Refusal { number: 8, place }));
+                satisfied = satisfied.or(Some(place));
             }
-            members.push(member);
+            self.members.push(member);
         }
         match satisfied {
-            Some(refusal) => Err(refusal),
-            None => Ok(Covers {
-                reader,
-                members,
-                count: 0,
-            }),
+            Some(place) => self.reader.refuse(8, place),
+            None => Ok(()),
         }
     }
 
     /// Reads the next cover and tests that it holds for a shape at a state.
-    fn check(&mut self, state: u8, covered: &Shape) -> Result<(), Refusal> {
+    fn check(&mut self, state: u8, covered: &Shape) -> Result<(), Stopped> {
         let place = self.reader.place;
-        let number = self.reader.number(0, self.members.len() as u64 - 1)?;
-        let member = &self.members[number as usize];
+        let number = self.reader.number(0, self.members.len() as u16 - 1)?;
+        let member = &self.members[usize::from(number)];
         let mut images = NO_IMAGES;
         for image in &mut images[usize::from(CELL)..][..usize::from(member.shape.cells)] {
             *image = CELL + self.reader.cell(covered.cells)?;
         }
         self.count += 1;
-        if member.state == state && embeds(&member.shape, covered, &images) {
+        if member.state == state && embeds(&member.shape, covered, &images, self.variables) {
             Ok(())
         } else {
-            Err(Refusal { number: 9, place })
-        }
-    }
-}
-
-struct Reader<'a> {
-    bytes: &'a [u8],
-    place: usize,
-    unreadable: u32,
-    out_of_range: u32,
-}
-
-impl<'a> Reader<'a> {
-    fn new(bytes: &'a [u8], unreadable: u32, out_of_range: u32) -> Reader<'a> {
-        Reader {
-            bytes,
-            place: 0,
-            unreadable,
-            out_of_range,
-        }
-    }
-
-    fn refusal(&self, number: u32) -> Refusal {
-        Refusal {
-            number,
-            place: self.place,
-        }
-    }
-
-    /// The next number, from lowest to highest.
-    #[inline]
-    fn number(&mut self, lowest: u64, highest: u64) -> Result<u64, Refusal> {
-        let (number, next) = match self.bytes.get(self.place) {
-            Some(&byte) if byte < 128 => (byte.into(), self.place + 1),
-            _ => self.longer_number().ok_or(self.refusal(self.unreadable))?,
-        };
-        if number < lowest || number > highest {
-            return Err(self.refusal(self.out_of_range));
-        }
-        self.place = next;
-        Ok(number)
-    }
-
-    /// The next number, which takes two or three bytes, and the place after it.
-    fn longer_number(&self) -> Option<(u64, usize)> {
-        let digit = |at: usize| self.bytes.get(self.place + at).map(|&byte| u64::from(byte));
-        let low = digit(0)? - 128 + digit(1)? % 128 * 128;
-        match digit(1)? {
-            0 => None,
-            1..=127 => Some((low, self.place + 2)),
-            _ => match digit(2)? {
-                high @ 1..=3 => Some((low + high * 128 * 128, self.place + 3)),
-                _ => None,
-            },
-        }
-    }
-
-    /// The next number, a cell below so many.
-    #[inline]
-    fn cell(&mut self, cells: u8) -> Result<u8, Refusal> {
-        match self.bytes.get(self.place) {
-            Some(&byte) if byte < cells => {
-                self.place += 1;
-                Ok(byte)
-            }
-            // No number from 1 to 0: only the refusal is wanted.
-            _ => Err(self.number(1, 0).unwrap_err()),
-        }
-    }
-
-    fn operation(&mut self, variables: u64) -> Result<Operation, Refusal> {
-        let kind = self.number(*KINDS.start(), *KINDS.end())?;
-        let a = range_of_a(kind, variables);
-        let a = self.number(*a.start(), *a.end())? as usize;
-        let b = range_of_b(kind, variables);
-        let b = self.number(*b.start(), *b.end())? as usize;
-        Ok(Operation { kind, a, b })
-    }
-
-    fn located(&mut self, variables: u64, states: u64) -> Result<Located, Refusal> {
-        let state = self.number(0, states - 1)? as u8;
-        let mut shape = Shape::EMPTY;
-        shape.cells = self.number(0, MOST_CELLS)? as u8;
-        let highest = u64::from(shape.fresh()) - 1;
-        for place in &mut shape.variables[1..=variables as usize] {
-            *place = self.number(0, highest)? as u8;
-        }
-        for link in &mut shape.links[..usize::from(shape.cells)] {
-            *link = self.number(0, highest)? as u8;
-        }
-        Ok(Located { state, shape })
-    }
-
-    fn end(&self, number: u32) -> Result<(), Refusal> {
-        match self.place < self.bytes.len() {
-            true => Err(self.refusal(number)),
-            false => Ok(()),
+            self.reader.refuse(9, place)
         }
     }
 }

@@ -13,8 +13,8 @@ pub const NO_IMAGES: Images = {
     images
 };
 
-/// Whether the images of the cells of `member` make it embed in `covered`.
-pub fn embeds(member: &Shape, covered: &Shape, images: &Images) -> bool {
+/// Whether the images of the cells of `member` make it embed in `covered`, with so many variables.
+pub fn embeds(member: &Shape, covered: &Shape, images: &Images, variables: usize) -> bool {
     let mut marks = ENDS;
     for &image in &images[usize::from(CELL)..][..usize::from(member.cells)] {
         if marks >> image & 1 == 1 {
@@ -22,12 +22,13 @@ pub fn embeds(member: &Shape, covered: &Shape, images: &Images) -> bool {
         }
         marks |= 1 << image;
     }
-    for (&here, &there) in member.variables.iter().zip(&covered.variables) {
-        if here != NOWHERE && images[usize::from(here)] != there {
-            return false;
-        }
-    }
-    passed(member, covered, images, marks).is_some()
+    let here = &member.variables[1..=variables];
+    let there = &covered.variables[1..=variables];
+    let elsewhere = here
+        .iter()
+        .zip(there)
+        .any(|(&here, &there)| here != NOWHERE && images[usize::from(here)] != there);
+    !elsewhere && passed(member, covered, images, marks).is_some()
 }
 
 /// The codes at which every walk stops: nowhere, # and *.

@@ -4,4 +4,5 @@
 pub mod checker;
 pub mod embedding;
 pub mod predecessor;
+mod reader;
 pub mod shape;

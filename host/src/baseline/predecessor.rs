@@ -17,16 +17,20 @@ enum Choice {
 
 use Choice::{At, Fresh, Within};
 
-/// All choices, in their order.
-fn choices(shape: &Shape) -> impl Iterator<Item = Choice> {
-    let (cells, links) = (CELL..shape.fresh(), shape.links);
-    let linked = cells
-        .clone()
-        .filter(move |code| links[usize::from(code - CELL)] != NOWHERE);
-    cells
-        .map(At)
-        .chain([At(NULL), Fresh])
-        .chain(linked.map(Within))
+/// Visits all choices, in their order.
+#[inline]
+fn each_choice<E>(shape: &Shape, mut visit: impl FnMut(Choice) -> Result<(), E>) -> Result<(), E> {
+    for cell in CELL..shape.fresh() {
+        visit(At(cell))?;
+    }
+    visit(At(NULL))?;
+    visit(Fresh)?;
+    for cell in CELL..shape.fresh() {
+        if shape.link_of(cell) != NOWHERE {
+            visit(Within(cell))?;
+        }
+    }
+    Ok(())
 }
 
 /// The shape with a variable placed.
@@ -85,7 +89,7 @@ fn each_equal<E>(
 ) -> Result<(), E> {
     match (shape.variables[a], shape.variables[b]) {
         (DANGLING, _) | (_, DANGLING) => Ok(()),
-        (NOWHERE, NOWHERE) => choices(shape).try_for_each(|choice| {
+        (NOWHERE, NOWHERE) => each_choice(shape, |choice| {
             let mut same = placed(shape, a, choice);
             same.variables[b] = same.variables[a];
             visit(&same)
@@ -107,7 +111,7 @@ fn each_different<E>(
     match (shape.variables[a], shape.variables[b]) {
         _ if a == b => Ok(()),
         (DANGLING, _) | (_, DANGLING) => Ok(()),
-        (NOWHERE, NOWHERE) => choices(shape).try_for_each(|choice| {
+        (NOWHERE, NOWHERE) => each_choice(shape, |choice| {
             let a_placed = placed(shape, a, choice);
             each_elsewhere(&a_placed, b, a_placed.variables[a], visit)
         }),
@@ -125,9 +129,10 @@ fn each_elsewhere<E>(
     place: u8,
     visit: &mut impl FnMut(&Shape) -> Result<(), E>,
 ) -> Result<(), E> {
-    choices(shape)
-        .filter(|&choice| choice != At(place))
-        .try_for_each(|choice| visit(&placed(shape, variable, choice)))
+    each_choice(shape, |choice| match choice == At(place) {
+        true => Ok(()),
+        false => visit(&placed(shape, variable, choice)),
+    })
 }
 
 /// Both placed, the link of b's cell at a's place, a nowhere.
@@ -145,7 +150,7 @@ fn each_follow<E>(
     };
     match (shape.variables[a], shape.variables[b]) {
         (DANGLING, _) | (_, NULL | DANGLING) => Ok(()),
-        (NOWHERE, NOWHERE) => choices(shape).try_for_each(|choice| {
+        (NOWHERE, NOWHERE) => each_choice(shape, |choice| {
             let a_placed = placed(shape, a, choice);
             each_source(&a_placed, b, a_placed.variables[a], &mut linked)
         }),
@@ -171,12 +176,13 @@ fn each_link<E>(
     match (shape.variables[a], shape.variables[b]) {
         (NULL | DANGLING, _) | (_, DANGLING) => Ok(()),
         (NOWHERE, NOWHERE) if a == b => each_own_source(shape, a, &mut unlinked),
-        (NOWHERE, NOWHERE) => choices(shape)
-            .filter(|&choice| choice != At(NULL))
-            .try_for_each(|choice| {
-                let a_placed = placed(shape, a, choice);
-                each_target(&a_placed, b, a_placed.variables[a], &mut unlinked)
-            }),
+        (NOWHERE, NOWHERE) => each_choice(shape, |choice| {
+            if choice == At(NULL) {
+                return Ok(());
+            }
+            let a_placed = placed(shape, a, choice);
+            each_target(&a_placed, b, a_placed.variables[a], &mut unlinked)
+        }),
         (NOWHERE, place) => each_source(shape, a, place, &mut unlinked),
         (cell, NOWHERE) => each_target(shape, b, cell, &mut unlinked),
         (cell, place) if may_link(shape, cell, place) => unlinked(shape),
@@ -197,14 +203,15 @@ fn each_source<E>(
     place: u8,
     visit: &mut impl FnMut(&Shape) -> Result<(), E>,
 ) -> Result<(), E> {
-    let fits = |&choice: &Choice| match choice {
+    let fits = |choice: Choice| match choice {
         At(cell) => cell >= CELL && may_link(shape, cell, place),
         Fresh => true,
         Within(source) => shape.link_of(source) == place,
     };
-    choices(shape)
-        .filter(fits)
-        .try_for_each(|choice| visit(&placed(shape, variable, choice)))
+    each_choice(shape, |choice| match fits(choice) {
+        true => visit(&placed(shape, variable, choice)),
+        false => Ok(()),
+    })
 }
 
 /// A variable placed at a cell whose link is nowhere or at that very cell.
@@ -229,7 +236,7 @@ fn each_target<E>(
     visit: &mut impl FnMut(&Shape) -> Result<(), E>,
 ) -> Result<(), E> {
     match shape.link_of(cell) {
-        NOWHERE => choices(shape).try_for_each(|choice| visit(&placed(shape, variable, choice))),
+        NOWHERE => each_choice(shape, |choice| visit(&placed(shape, variable, choice))),
         link => {
             if link != DANGLING {
                 visit(&placed(shape, variable, At(link)))?;

@@ -145,7 +145,7 @@ mod tests {
             let expected = embeds_somehow(&small, &large);
             assert_eq!(images.is_some(), expected, "{small:?} {large:?}");
             if let Some(images) = images {
-                assert!(embeds(&compact.0, &compact.1, &images));
+                assert!(embeds(&compact.0, &compact.1, &images, 2));
                 assert_eq!(features(&compact.0) & !features(&compact.1), 0);
                 found += 1;
             }

@@ -19,10 +19,14 @@ element-copy-out-if4 : tie.Need-element-copy-out-if4
 element-copy-out-if4 c = search needs
 
 returns-3 : tie.Need-returns-3
-returns-3 c = mark-byte (c .before .before .before .before .before .args .t1) (c .before .before .before .before .before .args .i) (omega arith) (omega arith) true (c .if4 .taken) 1 (λ e. refl) (λ e. cc)
+returns-3 c =
+    mark-byte (c .before .before .before .before .before .args .t1) (c .before .before .before .before .before .args .i) (omega arith)
+    (omega arith) true (c .if4 .taken) 1 (λ e. refl) (λ e. cc)
 
 returns-4 : tie.Need-returns-4
-returns-4 c = mark-byte (c .before .before .before .before .before .args .t1) (c .before .before .before .before .before .args .i) (omega arith) (omega arith) false (c .if4 .left) 0 (λ e. cc) (λ e. refl)
+returns-4 c =
+    mark-byte (c .before .before .before .before .before .args .t1) (c .before .before .before .before .before .args .i) (omega arith)
+    (omega arith) false (c .if4 .left) 0 (λ e. cc) (λ e. refl)
 
 element-copy-out-result-2 : tie.Need-element-copy-out-result-2
 element-copy-out-result-2 c = search needs

@@ -29,7 +29,11 @@ shared-slice-read-if2 : tie.Need-shared-slice-read-if2 Inv-loop μ-loop
 shared-slice-read-if2 c = search needs
 
 returns-2 : tie.Need-returns-2 Inv-loop μ-loop
-returns-2 c = let bs = c .before .before .before .before .before .args .bytes .now in let i = c .before .before .before .loop .i in let v = c .before .before .before .loop .inv in sym (all-failed (markFits bs) 64 i (omega arith) (le-ltb (getD bs (9 + i) 0) 2 (c .if2 .taken))) ∙ v .2 ∙ readable-marks bs (v .1)
+returns-2 c =
+    let bs = c .before .before .before .before .before .args .bytes .now in
+    let i = c .before .before .before .loop .i in
+    let v = c .before .before .before .loop .inv in
+    sym (all-failed (markFits bs) 64 i (omega arith) (le-ltb (getD bs (9 + i) 0) 2 (c .if2 .taken))) ∙ v .2 ∙ readable-marks bs (v .1)
 
 add-i : tie.Need-add-i Inv-loop μ-loop
 add-i c = search needs
@@ -38,10 +42,18 @@ loop-less : tie.Need-loop-less Inv-loop μ-loop
 loop-less c = search needs
 
 loop-again : tie.Need-loop-again Inv-loop μ-loop
-loop-again c = let bs = c .before .before .before .before .before .args .bytes .now in let i = c .before .before .before .loop .i in let v = c .before .before .before .loop .inv in (omega arith, v .1, sym (all-passed (markFits bs) 64 i (omega arith) (lt-ltb (getD bs (9 + i) 0) 2 (omega arith))) ∙ v .2)
+loop-again c =
+    let bs = c .before .before .before .before .before .args .bytes .now in
+    let i = c .before .before .before .loop .i in
+    let v = c .before .before .before .loop .inv in
+    (omega arith, v .1, sym (all-passed (markFits bs) 64 i (omega arith) (lt-ltb (getD bs (9 + i) 0) 2 (omega arith))) ∙ v .2)
 
 returns-3 : tie.Need-returns-3 Inv-loop μ-loop
-returns-3 c = let bs = c .before .before .before .args .bytes .now in let i = c .before .loop .i in let v = c .before .loop .inv in sym (all-done (markFits bs) 64 i (omega arith)) ∙ v .2 ∙ readable-marks bs (v .1)
+returns-3 c =
+    let bs = c .before .before .before .args .bytes .now in
+    let i = c .before .loop .i in
+    let v = c .before .loop .inv in
+    sym (all-done (markFits bs) 64 i (omega arith)) ∙ v .2 ∙ readable-marks bs (v .1)
 
 pub is-readable-spec : {M : Type 1} → statement M
 is-readable-spec =

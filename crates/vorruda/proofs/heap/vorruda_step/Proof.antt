@@ -19,7 +19,9 @@ size c = readable-length (c .before .before .before .before .args .heap .now) (r
 
 -- the heap that is made of the bytes
 abbrev table : tie.After-links-from → Heap64
-table c = record { variables = getD (c .before .before .before .before .before .before .before .before .before .before .before .args .heap .now) 0 0; vars = c .before .before .before .before .slots-from .result; used = c .before .before .marks-from .result; links = c .links-from .result }
+table c =
+    record
+    { variables = getD (c .before .before .before .before .before .before .before .before .before .before .before .args .heap .now) 0 0; vars = c .before .before .before .before .slots-from .result; used = c .before .before .marks-from .result; links = c .links-from .result }
 
 table-is : (c : tie.After-links-from) → table c ≡ heapFrom (c .before .before .before .before .before .before .before .before .before .before .before .args .heap .now)
 unfolding heapFrom
@@ -33,7 +35,10 @@ same-length : tie.Need-same-length
 same-length c = search needs
 
 returns : tie.Need-returns
-returns c = unread (c .before .before .before .before .args .heap .now) (c .before .before .before .before .args .kind) (c .before .before .before .before .args .a) (c .before .before .before .before .args .b) (sym (c .before .is-readable .ensures) ∙ not-true (c .before .is-readable .result) (c .if1 .taken))
+returns c =
+    unread (c .before .before .before .before .args .heap .now) (c .before .before .before .before .args .kind)
+    (c .before .before .before .before .args .a) (c .before .before .before .before .args .b)
+    (sym (c .before .is-readable .ensures) ∙ not-true (c .before .is-readable .result) (c .if1 .taken))
 
 slice-read-t14 : tie.Need-slice-read-t14
 slice-read-t14 c = omega (arith, size (c .before))
@@ -60,7 +65,13 @@ same-length-2 : tie.Need-same-length-2
 same-length-2 c = refl
 
 returns-2 : tie.Need-returns-2
-returns-2 c = let a = c .before .before .before .before .before .before .before .before .before .before .before .before .before .before .args in let bytes = a .heap .now in done bytes (a .kind) (a .a) (a .b) (reads-well (c .before .before .before .before .before .before .before .before .before .before)) (table (c .before .before .before)) (table-is (c .before .before .before)) (c .before .before .step .result) (c .before .before .step .ensures) _ _ (c .outcome-code .ensures) (left (c .before .before .step .result .outcome) (c .before .match .keys2) (c .before .before .step .result .heap) bytes)
+returns-2 c =
+    let a = c .before .before .before .before .before .before .before .before .before .before .before .before .before .before .args in
+    let bytes = a .heap .now in
+    done bytes (a .kind) (a .a) (a .b) (reads-well (c .before .before .before .before .before .before .before .before .before .before))
+    (table (c .before .before .before)) (table-is (c .before .before .before)) (c .before .before .step .result)
+    (c .before .before .step .ensures) _ _ (c .outcome-code .ensures)
+    (left (c .before .before .step .result .outcome) (c .before .match .keys2) (c .before .before .step .result .heap) bytes)
 
 put-heap-requires : tie.Need-put-heap-requires
 put-heap-requires c κs = size (c .before .before .before .before .before .before .before .before .before .before .before .before)
@@ -69,7 +80,17 @@ same-length-3 : tie.Need-same-length-3
 same-length-3 c = search needs
 
 returns-3 : tie.Need-returns-3
-returns-3 c = let a = c .before .before .before .before .before .before .before .before .before .before .before .before .before .before .before .before .before .before .before .args in let bytes = a .heap .now in done bytes (a .kind) (a .a) (a .b) (reads-well (c .before .before .before .before .before .before .before .before .before .before .before .before .before .before .before)) (table (c .before .before .before .before .before .before .before .before)) (table-is (c .before .before .before .before .before .before .before .before)) (c .before .before .before .before .before .before .before .step .result) (c .before .before .before .before .before .before .before .step .ensures) _ _ (rw (c .before .before .before .before .before .enum-told .given .1) refl) (rw (c .before .before .before .before .before .enum-told .given .1) (c .before .before .put-heap .ensures))
+returns-3 c =
+    let a = c .before .before .before .before .before .before .before .before .before .before .before .before .before .before .before .before .before .before .before .args in
+    let bytes = a .heap .now in
+    done bytes (a .kind) (a .a) (a .b)
+    (reads-well (c .before .before .before .before .before .before .before .before .before .before .before .before .before .before .before))
+    (table (c .before .before .before .before .before .before .before .before))
+    (table-is (c .before .before .before .before .before .before .before .before))
+    (c .before .before .before .before .before .before .before .step .result)
+    (c .before .before .before .before .before .before .before .step .ensures) _ _
+    (rw (c .before .before .before .before .before .enum-told .given .1) refl)
+    (rw (c .before .before .before .before .before .enum-told .given .1) (c .before .before .put-heap .ensures))
 
 pub vorruda-step-spec : {M : Type 1} → statement M
 vorruda-step-spec =

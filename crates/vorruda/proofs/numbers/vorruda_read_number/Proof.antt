@@ -28,13 +28,19 @@ same-length : tie.Need-same-length
 same-length c = search needs
 
 returns : tie.Need-returns
-returns c = rw (← c .before .before .before .before .before .before .before .before .read-number .ensures, c .before .before .before .before .before .before .n .given .1) (refl, c .before .before .lend .ensures)
+returns c =
+    rw
+    (← c .before .before .before .before .before .before .before .before .read-number .ensures, c .before .before .before .before .before .before .n .given .1)
+    (refl, c .before .before .lend .ensures)
 
 same-length-2 : tie.Need-same-length-2
 same-length-2 c = search needs
 
 returns-2 : tie.Need-returns-2
-returns-2 c = rw (← c .before .before .before .before .before .before .before .before .read-number .ensures, c .before .before .before .before .before .before .place .given .1) (refl, c .before .before .lend2 .ensures)
+returns-2 c =
+    rw
+    (← c .before .before .before .before .before .before .before .before .read-number .ensures, c .before .before .before .before .before .before .place .given .1)
+    (refl, c .before .before .lend2 .ensures)
 
 pub vorruda-read-number-spec : {M : Type 1} → statement M
 vorruda-read-number-spec =

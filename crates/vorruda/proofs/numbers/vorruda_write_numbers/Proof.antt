@@ -40,7 +40,14 @@ same-length-2 : tie.Need-same-length-2
 same-length-2 c = search needs
 
 returns : tie.Need-returns
-returns c = let w = c .before .before .before .before .before .before .before .before .before .before .write-numbers in (rw (← w .ensures .0, c .before .before .before .before .before .before .k .given .1) refl, (rw (← w .ensures .0) (w .ensures .1), rw (← w .ensures .0, c .before .before .before .before .before .before .k .given .1) (c .before .before .lend .ensures)))
+returns c =
+    let w = c .before .before .before .before .before .before .before .before .before .before .write-numbers in (
+      rw (← w .ensures .0, c .before .before .before .before .before .before .k .given .1) refl,
+      (
+        rw (← w .ensures .0) (w .ensures .1),
+        rw (← w .ensures .0, c .before .before .before .before .before .before .k .given .1) (c .before .before .lend .ensures),
+      ),
+    )
 
 same-length-3 : tie.Need-same-length-3
 same-length-3 c = search needs
@@ -49,7 +56,14 @@ same-length-4 : tie.Need-same-length-4
 same-length-4 c = search needs
 
 returns-2 : tie.Need-returns-2
-returns-2 c = let w = c .before .before .before .before .before .before .before .before .before .before .write-numbers in (rw (← w .ensures .0, c .before .before .before .before .before .before .i .given .1) refl, (rw (← w .ensures .0) (w .ensures .1), rw (← w .ensures .0, c .before .before .before .before .before .before .i .given .1) (c .before .before .lend2 .ensures)))
+returns-2 c =
+    let w = c .before .before .before .before .before .before .before .before .before .before .write-numbers in (
+      rw (← w .ensures .0, c .before .before .before .before .before .before .i .given .1) refl,
+      (
+        rw (← w .ensures .0) (w .ensures .1),
+        rw (← w .ensures .0, c .before .before .before .before .before .before .i .given .1) (c .before .before .lend2 .ensures),
+      ),
+    )
 
 same-length-5 : tie.Need-same-length-5
 same-length-5 c = search needs
@@ -58,7 +72,14 @@ same-length-6 : tie.Need-same-length-6
 same-length-6 c = search needs
 
 returns-3 : tie.Need-returns-3
-returns-3 c = let w = c .before .before .before .before .before .before .before .before .before .before .write-numbers in (rw (← w .ensures .0, c .before .before .before .before .before .before .k2 .given .1) refl, (rw (← w .ensures .0) (w .ensures .1), rw (← w .ensures .0, c .before .before .before .before .before .before .k2 .given .1) (c .before .before .lend3 .ensures)))
+returns-3 c =
+    let w = c .before .before .before .before .before .before .before .before .before .before .write-numbers in (
+      rw (← w .ensures .0, c .before .before .before .before .before .before .k2 .given .1) refl,
+      (
+        rw (← w .ensures .0) (w .ensures .1),
+        rw (← w .ensures .0, c .before .before .before .before .before .before .k2 .given .1) (c .before .before .lend3 .ensures),
+      ),
+    )
 
 pub vorruda-write-numbers-spec : {M : Type 1} → statement M
 vorruda-write-numbers-spec =
