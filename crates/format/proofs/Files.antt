@@ -110,9 +110,6 @@ module _ (s : Buffer) (variables : ℕ) where
         codes-exact s (size x) (cell (size x)) .complete b (x .links) next g₃ (refl, ok .links),
       )
 
-  pub shape-exact : Exact s (readShape s variables) shapeNumbers (InRange variables 12)
-  shape-exact = record { sound = shape-sound; complete = shape-complete }
-
   module _ (states : ℕ) where
     -- ---- a state with a shape
 
