@@ -1,6 +1,6 @@
 //! The verdict on a job and a certificate, fast.
 
-use super::embedding::{embeds, NO_IMAGES};
+use super::embedding::{passed, variables_agree, ENDS, NO_IMAGES};
 use super::predecessor::each_predecessor;
 use super::reader::{Reader, Stopped};
 use super::shape::{Located, Shape, CELL};
@@ -95,8 +95,8 @@ impl Job {
         })
     }
 
-    /// The transitions into a state, in the job's order.
-    fn into_state(&self, state: u8) -> impl Iterator<Item = &Transition> {
+    /// The transitions that lead to a state, in the job's order.
+    fn leading_to(&self, state: u8) -> impl Iterator<Item = &Transition> {
         let mut next = self.first[usize::from(state)];
         std::iter::from_fn(move || {
             let transition = &self.transitions[usize::from(next?)];
@@ -131,7 +131,7 @@ impl<'a> Covers<'a> {
         }
         for member in 0..self.members.len() {
             let Located { state, shape } = self.members[member];
-            for transition in job.into_state(state) {
+            for transition in job.leading_to(state) {
                 each_predecessor(&shape, transition.operation, &mut |before| {
                     self.check(transition.from, before)
                 })?;
@@ -167,11 +167,19 @@ impl<'a> Covers<'a> {
         let number = self.reader.number(0, self.members.len() as u16 - 1)?;
         let member = &self.members[usize::from(number)];
         let mut images = NO_IMAGES;
+        let mut marks = ENDS;
+        let mut twice = 0;
         for image in &mut images[usize::from(CELL)..][..usize::from(member.shape.cells)] {
             *image = CELL + self.reader.cell(covered.cells)?;
+            twice |= marks & 1 << *image;
+            marks |= 1 << *image;
         }
         self.count += 1;
-        if member.state == state && embeds(&member.shape, covered, &images, self.variables) {
+        let holds = twice == 0
+            && member.state == state
+            && variables_agree(&member.shape, covered, &images, self.variables)
+            && passed(&member.shape, covered, &images, marks).is_some();
+        if holds {
             Ok(())
         } else {
             self.reader.refuse(9, place)

@@ -1,4 +1,4 @@
-//! The test of one cover.
+//! The parts of the test of one cover.
 
 use super::shape::{Shape, CELL, CELLS, DANGLING, NOWHERE, NULL};
 
@@ -13,29 +13,21 @@ pub const NO_IMAGES: Images = {
     images
 };
 
-/// Whether the images of the cells of `member` make it embed in `covered`, with so many variables.
-pub fn embeds(member: &Shape, covered: &Shape, images: &Images, variables: usize) -> bool {
-    let mut marks = ENDS;
-    for &image in &images[usize::from(CELL)..][..usize::from(member.cells)] {
-        if marks >> image & 1 == 1 {
-            return false;
-        }
-        marks |= 1 << image;
-    }
-    let here = &member.variables[1..=variables];
-    let there = &covered.variables[1..=variables];
-    let elsewhere = here
-        .iter()
-        .zip(there)
-        .any(|(&here, &there)| here != NOWHERE && images[usize::from(here)] != there);
-    !elsewhere && passed(member, covered, images, marks).is_some()
-}
-
 /// The codes at which every walk stops: nowhere, # and *.
 pub const ENDS: u32 = 0b111;
 
+/// Whether each of so many variables that `member` places stands at the image in `covered`.
+#[inline]
+pub fn variables_agree(member: &Shape, covered: &Shape, images: &Images, variables: usize) -> bool {
+    let here = &member.variables[1..=variables];
+    let there = &covered.variables[1..=variables];
+    let mut pairs = here.iter().zip(there);
+    pairs.all(|(&here, &there)| here == NOWHERE || images[usize::from(here)] == there)
+}
+
 /// The cells strictly between on the paths of the links whose ends have images, a bit for each;
 /// nothing where a path misses or two meet. The marks are the images and [`ENDS`].
+#[inline]
 pub fn passed(member: &Shape, covered: &Shape, images: &Images, marks: u32) -> Option<u32> {
     let mut passed = 0;
     for (cell, &link) in member.links[..usize::from(member.cells)].iter().enumerate() {

@@ -118,14 +118,27 @@ impl<'a> Reader<'a> {
         let state = self.number(0, states - 1)? as u8;
         let mut shape = Shape::EMPTY;
         shape.cells = self.number(0, MOST_CELLS as u16)? as u8;
-        let highest = u16::from(shape.fresh()) - 1;
-        for place in &mut shape.variables[1..=usize::from(variables)] {
-            *place = self.number(0, highest)? as u8;
-        }
-        for link in &mut shape.links[..usize::from(shape.cells)] {
-            *link = self.number(0, highest)? as u8;
-        }
+        let highest = shape.fresh() - 1;
+        self.codes(&mut shape.variables[1..=usize::from(variables)], highest)?;
+        self.codes(&mut shape.links[..usize::from(shape.cells)], highest)?;
         Ok(Located { state, shape })
+    }
+
+    /// Fills codes of places up to the highest, which takes one byte.
+    fn codes(&mut self, codes: &mut [u8], highest: u8) -> Result<(), Stopped> {
+        let end = self.place + codes.len();
+        match self.bytes.get(self.place..end) {
+            Some(bytes) if bytes.iter().all(|&byte| byte <= highest) => {
+                codes.copy_from_slice(bytes);
+                self.place = end;
+            }
+            _ => {
+                for code in codes {
+                    *code = self.number(0, highest.into())? as u8;
+                }
+            }
+        }
+        Ok(())
     }
 
     /// Nothing may be left; else this refusal falls at the first byte left.

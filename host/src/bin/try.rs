@@ -26,7 +26,10 @@ fn main() -> ExitCode {
         Err(error) => return wrong(&format!("{file}: {error}")),
     };
     match parse(&text) {
-        Ok(routine) => judge(&routine, folder),
+        Ok(routine) => {
+            println!("{file}: {}", routine.title);
+            judge(&routine, folder)
+        }
         Err(mistake) => wrong(&format!("{file}: {mistake}")),
     }
 }
@@ -37,7 +40,6 @@ fn wrong(what: &str) -> ExitCode {
 }
 
 fn judge(routine: &Routine, folder: Option<&Path>) -> ExitCode {
-    println!("{}", routine.title);
     match search(&routine.job) {
         Outcome::Certified(certificate) => checked(routine, &certificate, folder),
         Outcome::Impossible(chain) => {

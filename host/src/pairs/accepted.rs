@@ -40,7 +40,8 @@ const LARGE: Size = Size {
     most_covers: 4_000,
 };
 
-/// The most members that not every heap satisfies. With one more for each state they are few enough.
+/// The most members that not every heap satisfies. With one more for each state they are few
+/// enough.
 const MOST_PARTICULAR: usize = 100;
 
 /// A pair that is accepted. Jobs are tried until one has a certificate of the size drawn.

@@ -49,6 +49,12 @@ impl Iterator for Pairs {
     }
 }
 
+/// Endless accepted pairs.
+pub fn accepted_pairs(seed: u64) -> impl Iterator<Item = Pair> {
+    let mut random = Random::new(seed);
+    std::iter::repeat_with(move || accepted(&mut random))
+}
+
 /// Endless damaged copies of a pair.
 pub fn damaged_copies(pair: &Pair, seed: u64) -> impl Iterator<Item = Pair> + '_ {
     let mut random = Random::new(seed);

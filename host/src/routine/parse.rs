@@ -13,29 +13,35 @@ use crate::reference::shape::Shape;
 /// Words that name no variable.
 const RESERVED: [&str; 4] = ["null", "skip", "new", "delete"];
 
+/// The state that nothing has to leave.
+const LAST: &str = "end";
+
 /// Reads a routine, or names the first line that has a mistake.
 pub fn parse(text: &str) -> Result<Routine, Mistake> {
     let mut parser = Parser::default();
-    let mut last = 1;
-    for (index, line) in text.lines().enumerate() {
-        last = index + 1;
-        let mistake = |what| Mistake { line: last, what };
+    for line in text.lines() {
+        parser.line += 1;
         let (content, comment) = line.split_once("--").unwrap_or((line, ""));
         if parser.title.is_empty() {
             parser.title = comment.trim().to_string();
         }
         if !content.trim().is_empty() {
-            parser.line(content.trim()).map_err(mistake)?;
+            let read = parser.read(content.trim());
+            read.map_err(|what| parser.mistake(what))?;
         }
     }
-    parser.finish().map_err(|what| Mistake { line: last, what })
+    parser.finish()
 }
 
 #[derive(Default)]
 struct Parser {
+    /// The line that is read, from 1.
+    line: usize,
     title: String,
     variables: Vec<String>,
     states: Vec<String>,
+    /// The line that names each state first.
+    named: Vec<usize>,
     start: Option<u64>,
     transitions: Vec<Transition>,
     /// Nothing until the line `forbidden`.
@@ -43,7 +49,12 @@ struct Parser {
 }
 
 impl Parser {
-    fn line(&mut self, line: &str) -> Result<(), String> {
+    fn mistake(&self, what: String) -> Mistake {
+        let line = self.line.max(1);
+        Mistake { line, what }
+    }
+
+    fn read(&mut self, line: &str) -> Result<(), String> {
         let (word, rest) = line.split_once(char::is_whitespace).unwrap_or((line, ""));
         match (word, self.forbidden.is_some()) {
             ("variables", false) => self.name_variables(rest),
@@ -111,7 +122,33 @@ impl Parser {
             return Err(format!("more than {MOST_STATES} states"));
         }
         self.states.push(name.to_string());
+        self.named.push(self.line);
         Ok(self.states.len() as u64 - 1)
+    }
+
+    /// Finds states that are probably misspelt: nothing leads there, or nothing leaves and nothing
+    /// is forbidden there.
+    fn check_states(&self) -> Result<(), Mistake> {
+        for (state, (name, &line)) in self.states.iter().zip(&self.named).enumerate() {
+            let state = state as u64;
+            let led_to =
+                self.start == Some(state) || self.transitions.iter().any(|t| t.to == state);
+            let left = self.transitions.iter().any(|t| t.from == state);
+            let forbidden = self
+                .forbidden
+                .iter()
+                .flatten()
+                .any(|bad| bad.state == state);
+            if !led_to {
+                let what = format!("nothing leads to state {name}");
+                return Err(Mistake { line, what });
+            }
+            if !left && !forbidden && name != LAST {
+                let what = format!("nothing leaves state {name} and nothing is forbidden there");
+                return Err(Mistake { line, what });
+            }
+        }
+        Ok(())
     }
 
     fn operation(&self, text: &str) -> Result<Operation, String> {
@@ -169,12 +206,14 @@ impl Parser {
         }
     }
 
-    fn finish(self) -> Result<Routine, String> {
-        let start = self.start.ok_or("no line names the start")?;
-        let forbidden = self.forbidden.unwrap_or_default();
-        if forbidden.is_empty() {
-            return Err("nothing is forbidden".to_string());
-        }
+    fn finish(self) -> Result<Routine, Mistake> {
+        let Some(start) = self.start else {
+            return Err(self.mistake("no line names the start".to_string()));
+        };
+        let Some(forbidden) = self.forbidden.clone().filter(|all| !all.is_empty()) else {
+            return Err(self.mistake("nothing is forbidden".to_string()));
+        };
+        self.check_states()?;
         Ok(Routine {
             title: self.title,
             job: Job {
@@ -308,7 +347,25 @@ steps
                 11,
                 "x is a variable, so no cell can have its name",
             ),
+            (
+                "x.next := null -> end",
+                "x.next := null -> ende",
+                6,
+                "nothing leaves state ende and nothing is forbidden there",
+            ),
+            (
+                "end       skip",
+                "stop      skip",
+                8,
+                "nothing leads to state stop",
+            ),
             ("start     begin", "", 12, "no line names the start"),
+            (
+                "forbidden",
+                "forbid",
+                10,
+                "expected: state, operation, ->, state",
+            ),
             (
                 "steps",
                 "end lost block:",

@@ -121,9 +121,8 @@ impl Finder<'_> {
 #[cfg(test)]
 mod tests {
     use super::*;
-    use crate::baseline::embedding::embeds;
     use crate::random::Random;
-    use crate::reference::embedding::embeds_somehow;
+    use crate::reference::embedding::{embeds, embeds_somehow};
     use crate::reference::shape as reference;
 
     fn random_shape(random: &mut Random, cells: usize) -> reference::Shape {
@@ -145,7 +144,9 @@ mod tests {
             let expected = embeds_somehow(&small, &large);
             assert_eq!(images.is_some(), expected, "{small:?} {large:?}");
             if let Some(images) = images {
-                assert!(embeds(&compact.0, &compact.1, &images, 2));
+                let cells = &images[usize::from(CELL)..][..small.cells()];
+                let cells: Vec<usize> = cells.iter().map(|&code| (code - CELL).into()).collect();
+                assert!(embeds(&small, &large, &cells));
                 assert_eq!(features(&compact.0) & !features(&compact.1), 0);
                 found += 1;
             }

@@ -29,11 +29,11 @@ pub enum Outcome {
 const MOST_CELLS: [u8; 4] = [6, 7, 8, 9];
 
 /// How many heaps are explored at most.
-const MOST_HEAPS: usize = 200_000;
+const MOST_HEAPS: usize = 30_000;
 
 /// How many shapes a short and a long attempt take in at most.
 const SHORT: usize = 1_000;
-const LONG: usize = 20_000;
+const LONG: usize = 10_000;
 
 /// Looks for a certificate, with the needed shapes as members and with members as general as ever
 /// larger heaps allow, and takes the shorter one.
