@@ -13,7 +13,8 @@ use Rattle.run.specs.Run.{Located}
 use Rattle.cover.specs.Cover.{holds?}
 use Rattle.format.specs.Certificate.{readCover}
 use Rattle.format.specs.Parser.{Parsed, parsed, fault, onward, many, each, such, within, readAs, ranged, certificateBuffer}
-use Rattle.format.proofs.Parsing.{not-fault, then, require-sound, read-sound}
+use Rattle.format.proofs.Parsing.{then, require-sound, read-sound}
+use Rattle.verdict.specs.declared.Refusal.{Refusal}
 use Rattle.checker.specs.Taking.{takeAll, goingOf, Within}
 use Rattle.checker.specs.declared.going.Going.{Going}
 use Rattle.checker.specs.declared.going.Going.the-variants.{On, Refused}
@@ -121,17 +122,29 @@ module _ (cert : List ℕ) (ms : List Located) where
       then (readCover (certificateBuffer cert) ms o at) _
       (λ u a h₁ h₂. let (p, q) = cover-inside o at h₁ in take-inside os (suc covers) a c next h₂ (omega arith) q) e
 
-  -- covers that were taken leave the next place within the certificate
-  pub taken-within : (os : List Located) (t u : Taken) → goingOf (On u) ≡ takeAll cert ms os (t .covers) (t .at) → Within cert t → Within cert u
-  taken-within os t u e w =
-      let (p, q) = take-inside os (t .covers) (t .at) (u .covers) (u .at) (sym e) (w .counted) (w .inside) in
-      record { counted = p; inside = q; fits = w .fits }
+  -- ---- taking some, and then the rest
 
-  -- covers taken, and then the rest: as taken so far, or refused
-  pub taken-on : (os rest : List Located) (t u : Taken) → goingOf (On u) ≡ takeAll cert ms os (t .covers) (t .at)
-      → takeAll cert ms (os ++ rest) (t .covers) (t .at) ≡ takeAll cert ms rest (u .covers) (u .at)
-  taken-on os rest t u e = take-append os rest (t .covers) (t .at) ∙ ap (λ p. onward p (takeAll cert ms rest)) (sym e)
+  -- t is reached from `from`; `rest` is left of all
+  pub record Progress (all : List Located) (from : Taken) (rest : List Located) (t : Taken) : Type 0 where
+    pub within : Within cert t
+    pub left : takeAll cert ms rest (t .covers) (t .at) ≡ takeAll cert ms all (from .covers) (from .at)
 
-  pub taken-stop : (os rest : List Located) (t : Taken) (number place : ℕ) → fault number place ≡ takeAll cert ms os (t .covers) (t .at)
-      → fault number place ≡ takeAll cert ms (os ++ rest) (t .covers) (t .at)
-  taken-stop os rest t number place e = sym (take-append os rest (t .covers) (t .at) ∙ ap (λ p. onward p (takeAll cert ms rest)) (sym e))
+  pub begin : (all : List Located) (from : Taken) → Within cert from → Progress all from all from
+  begin all from w = record { within = w; left = refl }
+
+  module _ (all : List Located) (from : Taken) (os rest : List Located) (t : Taken) (p : Progress all from (os ++ rest) t) where
+    pub advance : (u : Taken) → goingOf (On u) ≡ takeAll cert ms os (t .covers) (t .at) → Progress all from rest u
+    advance u e =
+        let (b, i) = take-inside os (t .covers) (t .at) (u .covers) (u .at) (sym e) (p .within .counted) (p .within .inside) in
+        record {
+          within = record { counted = b; inside = i; fits = p .within .fits };
+          left = ap (λ r. onward r (takeAll cert ms rest)) e ∙ sym (take-append os rest (t .covers) (t .at)) ∙ p .left;
+        }
+
+    pub halt : (r : Refusal) (place : ℕ) → goingOf (Refused r place) ≡ takeAll cert ms os (t .covers) (t .at)
+        → goingOf (Refused r place) ≡ takeAll cert ms all (from .covers) (from .at)
+    halt r place e = ap (λ r. onward r (takeAll cert ms rest)) e ∙ sym (take-append os rest (t .covers) (t .at)) ∙ p .left
+
+  pub finish : (all : List Located) (from t : Taken) → Progress all from [] t → goingOf (On t) ≡ takeAll cert ms all (from .covers) (from .at)
+  unfolding takeAll
+  finish all from t p = p .left

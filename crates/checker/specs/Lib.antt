@@ -1,1 +1,3 @@
 pub mod Taking
+pub mod Loading
+pub mod Jobs

@@ -1,0 +1,102 @@
+use Prim.Native.Nat.{ℕ, _+_, _-_, _*_, _<_, _≤_}
+use mathlib.Core.Path.{_≡_, refl, ap, _∙_, sym}
+use native.Mathlib.Omega.{arith}
+use lib.ListN.{length, getD, take, drop, set}
+use mathlib.Core.Logic.{⊎-elim}
+use Rattle.layout.specs.Entries.{entriesAt, EntriesIn, membersAt}
+use Rattle.checker.proofs.Taking.{Progress, begin, advance, halt, finish}
+use Rattle.checker.proofs.Lists.{entries-next, entry-next, entries-end}
+use borrow.Author.Needs.{needs}
+use Rattle.checker.proofs.take.take_bads.Statement.{statement}
+use Rattle.checker.proofs.take.take_bads.Tie as tie
+use Rattle.checker.proofs.take.take_bads.Reads as reads
+use Rattle.checker.proofs.take.take_bads.Lts as lts
+use Rattle.checker.proofs.take.take_bad.Reads as take-bad-reads
+
+abbrev Inv-loop : tie.InvT-loop
+Inv-loop job first bads cert starts variables members at₀ t₀ i₀ at t i = (i ≤ bads) × EntriesIn job variables at (bads - i) × Progress cert (membersAt cert variables starts members) (entriesAt job variables first bads) t₀ (entriesAt job variables at (bads - i)) t
+
+abbrev μ-loop : tie.MeasureT-loop
+μ-loop job first bads cert starts variables members at₀ t₀ i₀ at t i = bads - i
+
+-- src/take.rt:57:5
+loop-holds : tie.Need-loop-holds Inv-loop μ-loop
+loop-holds c = ?
+
+-- src/take.rt:58:13
+take-bad-requires : tie.Need-take-bad-requires Inv-loop μ-loop
+take-bad-requires c κs = ?
+
+-- src/take.rt:59:23
+enum-known-g : tie.Need-enum-known-g Inv-loop μ-loop
+enum-known-g c = ?
+
+-- src/take.rt:60:13
+enum-told : tie.Need-enum-told Inv-loop μ-loop
+enum-told c = ?
+
+-- src/take.rt:60:13
+returns : tie.Need-returns Inv-loop μ-loop
+returns c = ?
+
+-- src/take.rt:63:14
+add-at : tie.Need-add-at Inv-loop μ-loop
+add-at c = ?
+
+-- src/take.rt:63:14
+add-at-2 : tie.Need-add-at-2 Inv-loop μ-loop
+add-at-2 c = ?
+
+-- src/take.rt:63:39
+add-at-3 : tie.Need-add-at-3 Inv-loop μ-loop
+add-at-3 c = ?
+
+-- src/take.rt:63:35
+shared-slice-read-at : tie.Need-shared-slice-read-at Inv-loop μ-loop
+shared-slice-read-at c = ?
+
+-- src/take.rt:63:35
+cast-at : tie.Need-cast-at Inv-loop μ-loop
+cast-at c = ?
+
+-- src/take.rt:63:14
+add-at-4 : tie.Need-add-at-4 Inv-loop μ-loop
+add-at-4 c = ?
+
+-- src/take.rt:64:9
+add-i : tie.Need-add-i Inv-loop μ-loop
+add-i c = ?
+
+-- src/take.rt:57:5
+loop-less : tie.Need-loop-less Inv-loop μ-loop
+loop-less c = ?
+
+-- src/take.rt:57:5
+loop-again : tie.Need-loop-again Inv-loop μ-loop
+loop-again c = ?
+
+-- src/take.rt:41:1
+returns-2 : tie.Need-returns-2 Inv-loop μ-loop
+returns-2 c = ?
+
+pub take-bads-spec : {M : Type 1} → statement M
+take-bads-spec =
+    tie.close
+    (tie.spec
+    Inv-loop
+    μ-loop
+    loop-holds
+    take-bad-requires
+    enum-known-g
+    enum-told
+    returns
+    add-at
+    add-at-2
+    add-at-3
+    shared-slice-read-at
+    cast-at
+    add-at-4
+    add-i
+    loop-less
+    loop-again
+    returns-2)
