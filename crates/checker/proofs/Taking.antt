@@ -15,7 +15,7 @@ use Rattle.format.specs.Certificate.{readCover}
 use Rattle.format.specs.Parser.{Parsed, parsed, fault, onward, many, each, such, within, readAs, ranged, certificateBuffer}
 use Rattle.format.proofs.Parsing.{then, require-sound, read-sound}
 use Rattle.verdict.specs.declared.Refusal.{Refusal}
-use Rattle.checker.specs.Taking.{takeAll, goingOf, Within}
+use Rattle.checker.specs.Taking.{takeAll, goingOf, Within, StaysWithin}
 use Rattle.checker.specs.declared.going.Going.{Going}
 use Rattle.checker.specs.declared.going.Going.the-variants.{On, Refused}
 use Rattle.checker.specs.declared.going.Taken.{Taken}
@@ -133,18 +133,25 @@ module _ (cert : List ℕ) (ms : List Located) where
   begin all from w = record { within = w; left = refl }
 
   module _ (all : List Located) (from : Taken) (os rest : List Located) (t : Taken) (p : Progress all from (os ++ rest) t) where
-    pub advance : (u : Taken) → goingOf (On u) ≡ takeAll cert ms os (t .covers) (t .at) → Progress all from rest u
-    advance u e =
+    onto : (u : Taken) → goingOf (On u) ≡ takeAll cert ms os (t .covers) (t .at) → Progress all from rest u
+    onto u e =
         let (b, i) = take-inside os (t .covers) (t .at) (u .covers) (u .at) (sym e) (p .within .counted) (p .within .inside) in
         record {
           within = record { counted = b; inside = i; fits = p .within .fits };
           left = ap (λ r. onward r (takeAll cert ms rest)) e ∙ sym (take-append os rest (t .covers) (t .at)) ∙ p .left;
         }
 
-    pub halt : (r : Refusal) (place : ℕ) → goingOf (Refused r place) ≡ takeAll cert ms os (t .covers) (t .at)
-        → goingOf (Refused r place) ≡ takeAll cert ms all (from .covers) (from .at)
-    halt r place e = ap (λ r. onward r (takeAll cert ms rest)) e ∙ sym (take-append os rest (t .covers) (t .at)) ∙ p .left
+    -- some of what was left is taken
+    pub advance : (g : Going) (u : Taken) → g ≡ On u → goingOf g ≡ takeAll cert ms os (t .covers) (t .at) → Progress all from rest u
+    advance g u g-is e = onto u (rw g-is at e)
 
-  pub finish : (all : List Located) (from t : Taken) → Progress all from [] t → goingOf (On t) ≡ takeAll cert ms all (from .covers) (from .at)
+    -- or refused, which ends it all
+    pub halt : (g : Going) (r : Refusal) (place : ℕ) → g ≡ Refused r place → goingOf g ≡ takeAll cert ms os (t .covers) (t .at)
+        → (goingOf g ≡ takeAll cert ms all (from .covers) (from .at)) × StaysWithin cert g
+    halt g r place g-is e =
+        rw g-is (ap (λ r. onward r (takeAll cert ms rest)) (rw g-is at e) ∙ sym (take-append os rest (t .covers) (t .at)) ∙ p .left, tt)
+
+  pub finish : (all : List Located) (from t : Taken) → Progress all from [] t
+      → (goingOf (On t) ≡ takeAll cert ms all (from .covers) (from .at)) × StaysWithin cert (On t)
   unfolding takeAll
-  finish all from t p = p .left
+  finish all from t p = (p .left, p .within)
