@@ -6,7 +6,7 @@ use Prim.Native.Nat.{ℕ, zero, suc, _+_, _-_, _≤_, _<_}
 use native.Mathlib.Decide.{ℕ-discrete}
 use native.Mathlib.Omega.{arith}
 use lib.Dec.{eqb, eqb→eq}
-use lib.ListN.{length, getD, set, length-set}
+use lib.ListN.{length, getD, set, length-set, replicate, getD-replicate}
 use lib.Seq.{getD-set-same, getD-set-other}
 use Rattle.lists.proofs.Reflect.{cond-true, cond-false, r-eq, passes}
 use Rattle.order.specs.Index.{nextInto, Follows, Linked}
@@ -25,14 +25,13 @@ unfolding nextInto
 into-none to state i = refl
 
 -- at first nothing is linked
-pub linked-none : (to : ℕ → ℕ) (count : ℕ) (heads nexts : List ℕ) → length heads ≡ 64 → length nexts ≡ 256 → ((s : ℕ) → getD heads s 0 ≡ 0)
-    → Linked to count count heads nexts
-linked-none to count heads nexts slots room clear =
+pub linked-none : (to : ℕ → ℕ) (count : ℕ) (heads nexts : List ℕ) → heads ≡ replicate 64 0 → nexts ≡ replicate 256 0 → Linked to count count heads nexts
+linked-none to count heads nexts heads-clear nexts-clear =
     let none : count - count ≡ 0 = omega arith in
     record {
-      slots = slots;
-      room = room;
-      head = λ s b. rw none (clear s ∙ sym (into-none to s count));
+      slots = ap length heads-clear;
+      room = ap length nexts-clear;
+      head = λ s b. rw (none, heads-clear) (getD-replicate 64 s 0 0 b ∙ sym (into-none to s count));
       next = λ j a b. absurd (omega arith);
     }
 
