@@ -1,3 +1,4 @@
 pub mod Taking
 pub mod Loading
 pub mod Lists
+pub mod Chain

@@ -63,3 +63,8 @@ linked-more to count i heads nexts h most low l =
         let same : suc i ≡ i + 1 = omega arith in
         rw (e, same) (getD-set-same nexts i (getD heads (to i) 0) 0 (omega (arith, l .room)) ∙ l .head (to i) low)
     next j a b (no n) = getD-set-other nexts i j (getD heads (to i) 0) 0 n ∙ l .next j (omega arith) b
+
+-- the whole index
+pub linked-head : (to : ℕ → ℕ) (count : ℕ) (heads nexts : List ℕ) → Linked to count 0 heads nexts → (s : ℕ) → s < 64
+    → getD heads s 0 ≡ nextInto to s count 0
+linked-head to count heads nexts l s b = let all : count - 0 ≡ count = omega arith in rw all at (l .head s b)
