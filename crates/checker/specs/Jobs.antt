@@ -6,7 +6,7 @@ use Rattle.lists.specs.List.{concatMap}
 use Rattle.lists.specs.Range.{range}
 use Rattle.run.specs.Run.{Transition, Located, Job}
 use Rattle.cover.specs.Cover.{predecessorsBy, owed}
-use Rattle.format.specs.Certificate.{Member, testStart, readCover}
+use Rattle.format.specs.Certificate.{Member, withoutPlaces, testStart, readCover}
 use Rattle.format.specs.Conditions.{countsOf}
 use Rattle.format.specs.Job.{JobFile}
 use Rattle.format.specs.Parser.{Parsed, parsed, Parser, _>>=_, _>>_, return, each, certificateBuffer, end}
@@ -60,3 +60,9 @@ readCovers cert j ms = do
   each (readCover (certificateBuffer cert) ms) (owed j ms)
   end (certificateBuffer cert)
   return (countsOf j ms)
+
+-- refusal 8 of the members, then the covers
+unfoldable pub testThenCover : List ℕ → Job → List Member → Parser Counts
+testThenCover cert j members = do
+  each (testStart (j .start)) members
+  readCovers cert j (withoutPlaces members)

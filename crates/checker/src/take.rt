@@ -13,11 +13,10 @@ ghost use mathlib.Core.Path.{_≡_};
 ghost use Prim.Native.Nat.{ℕ, _+_, _≤_, _<_};
 ghost use lib.ListN.{length, getD, replicate};
 ghost use Rattle.lists.specs.List.{concatMap};
-ghost use Rattle.lists.specs.Range.{range};
 ghost use Rattle.heap.specs.Operation.{kindOf};
 ghost use Rattle.backward.specs.Predecessors.{predecessors};
-ghost use Rattle.cover.specs.Cover.{predecessorsBy};
-ghost use Rattle.checker.specs.Jobs.{toState, transitionsIn, owedBy};
+ghost use Rattle.cover.specs.Cover.{owed};
+ghost use Rattle.checker.specs.Jobs.{toState, fileIn, owedBy};
 ghost use Rattle.checker.specs.Taking.{takeAll, goingOf, Within, StaysWithin, located};
 ghost use Rattle.kinds.specs.Kinds.{allowed};
 ghost use Rattle.layout.specs.Arrays.{shapeIn, Hold};
@@ -216,4 +215,20 @@ pub(crate) fn take_members(
         m += 1;
     }
     Going::On(t)
+}
+
+// Covers of all that is owed, from a place of the certificate on.
+pub(crate) fn take_covers(job: &[u8], h: Header, cert: &[u8], starts: &[u16; 512], members: usize, at: usize) -> Going
+    requires { ⌜ (JobRead (now job) h) × (Table (now cert) (h .variables) (now starts) members) × (at ≤ length (now cert)) × (length (now cert) ≤ 65536) ⌝ }
+    ensures { λ r. ⌜ goingOf r ≡ takeAll (now (cert .entry)) (membersAt (now (cert .entry)) (h .variables) (now (starts .entry)) members) (owed (fileIn (now (job .entry)) h .job) (membersAt (now (cert .entry)) (h .variables) (now (starts .entry)) members)) 0 at ⌝ }
+{
+    let mut heads = [0u16; 64];
+    let mut nexts = [0u16; 256];
+    index_transitions(job, h, &mut heads, &mut nexts);
+    let from = Taken { at, covers: 0 };
+    let g = take_bads(job, h.bads_at, h.bads, cert, starts, h.variables, members, from);
+    let Going::On(t) = g else {
+        return g;
+    };
+    take_members(job, h, &heads, &nexts, cert, starts, members, t)
 }

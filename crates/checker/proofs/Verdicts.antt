@@ -1,0 +1,116 @@
+-- From what the code answers to the verdict.
+use mathlib.Core.Bool.{true, false}
+use mathlib.Core.List.{List, [], _∷_, map}
+use mathlib.Core.Path.{_≡_, refl, sym, ap, ap₂, _∙_}
+use Prim.Native.Nat.{ℕ, zero, suc, _+_, _≤_, _<_}
+use native.Mathlib.Omega.{arith}
+use borrow.Author.Tests.{lt-leb, le-leb}
+use lib.ListN.{length, getD, take, length-map}
+use lib.Seq.{length-take-le, getD-take}
+use Rattle.lists.specs.Range.{range}
+use Rattle.lists.proofs.Range.{tabled}
+use Rattle.run.specs.Run.{Located, Job}
+use Rattle.cover.specs.Cover.{owed}
+use Rattle.format.specs.Certificate.{Member, withoutPlaces, readMembers, testStart, readCover}
+use Rattle.format.specs.Conditions.{SafeBytes, countsOf}
+use Rattle.format.specs.Job.{JobFile, readWholeJob}
+use Rattle.format.specs.Parser.{Parsed, parsed, fault, Parser, onward, each, certificateBuffer, jobBuffer, end}
+use Rattle.format.specs.Verdict.{Counts, Verdict, accepted, refused, answer, readCertificate, fits, verdict}
+use Rattle.format.proofs.Guarantee.{safe-bytes}
+use Rattle.layout.specs.Entries.{locatedAt, entryEnd, entriesAt, membersAt}
+use Rattle.reader.specs.Job.{JobRead}
+use Rattle.reader.specs.declared.Header.{Header}
+use Rattle.verdict.specs.Verdict.{refusalNumber, verdictOf}
+use Rattle.verdict.specs.declared.Refusal.{Refusal}
+use Rattle.verdict.specs.declared.Counts.{Counts as CountsAnswer}
+use Rattle.verdict.specs.declared.Verdict.{Verdict as Answer}
+use Rattle.verdict.specs.declared.Verdict.the-variants.{Accepted}
+use Rattle.checker.specs.Jobs.{fileIn, placedFrom, testAll, testThenCover, readCovers}
+use Rattle.checker.specs.Taking.{takeAll, goingOf}
+use Rattle.checker.specs.declared.going.Going.{Going}
+use Rattle.checker.specs.declared.going.Going.the-variants.{On, Refused}
+use Rattle.checker.specs.declared.going.Taken.{Taken}
+use Rattle.checker.proofs.Taking.{take-each}
+
+-- ---- the covers
+
+module _ (cert : List ℕ) (j : Job) (ms : List Located) (at : ℕ) (g : Going) (taken : goingOf g ≡ takeAll cert ms (owed j ms) 0 at) where
+  -- what is read after the covers
+  abbrev after : List (Unit {0}) → Parser Counts
+  after us place = onward (end (certificateBuffer cert) place) (λ u next. parsed (countsOf j ms) next)
+
+  by-each : (r : Parsed (List (Unit {0}))) → goingOf g ≡ onward r (λ us next. parsed (0 + length (owed j ms)) next)
+      → ((why : Refusal) (place : ℕ) → g ≡ Refused why place → onward r after ≡ fault (refusalNumber why) place)
+      × ((t : Taken) → g ≡ On t → (t .covers ≡ length (owed j ms)) × (onward r after ≡ after [] (t .at)))
+  by-each (parsed us next) e =
+      ((λ why place g-is. let z : _≡_ {A = ℕ} 0 1 = cc (ap goingOf g-is) in absurd (omega arith)),
+      (λ t g-is.
+      let f : _≡_ {A = Parsed ℕ} (parsed (t .covers) (t .at)) (parsed (0 + length (owed j ms)) next) = sym (ap goingOf g-is) ∙ e in
+      let covers-is : t .covers ≡ 0 + length (owed j ms) = cc in
+      let at-is : t .at ≡ next = cc in
+      (covers-is ∙ omega arith, ap (after []) (sym at-is))))
+  by-each (fault number place) e =
+      ((λ why q g-is.
+      let f : _≡_ {A = Parsed ℕ} (fault (refusalNumber why) q) (fault number place) = sym (ap goingOf g-is) ∙ e in
+      let number-is : number ≡ refusalNumber why = cc in
+      let place-is : place ≡ q = cc in
+      ap₂ fault number-is place-is),
+      (λ t g-is. let z : _≡_ {A = ℕ} 0 1 = cc (ap goingOf g-is) in absurd (omega arith)))
+
+  pub covers-refused : (why : Refusal) (place : ℕ) → g ≡ Refused why place → refused (refusalNumber why) place ≡ answer (readCovers cert j ms at)
+  unfolding readCovers
+  covers-refused why place g-is =
+      let r = each (readCover (certificateBuffer cert) ms) (owed j ms) at in
+      sym (ap answer (by-each r (taken ∙ take-each cert ms (owed j ms) 0 at) .0 why place g-is))
+
+  module _ (t : Taken) (g-is : g ≡ On t) where
+    -- all covers were taken
+    reached : (t .covers ≡ length (owed j ms)) × (readCovers cert j ms at ≡ after [] (t .at))
+    unfolding readCovers
+    reached = by-each (each (readCover (certificateBuffer cert) ms) (owed j ms) at) (taken ∙ take-each cert ms (owed j ms) 0 at) .1 t g-is
+
+    pub covers-left : t .at < length cert → refused 10 (t .at) ≡ answer (readCovers cert j ms at)
+    unfolding end
+    covers-left h = rw (reached .1, lt-leb (length cert) (t .at) h) refl
+
+    pub covers-taken : (bads members : ℕ) → length cert ≤ t .at → bads ≡ length (j .forbidden) → members ≡ length ms
+        → accepted (record { bads = bads; members = members; covers = t .covers }) ≡ answer (readCovers cert j ms at)
+    unfolding end
+    covers-taken bads members h bads-is members-is = rw (reached .1, le-leb (length cert) (t .at) h, bads-is, members-is, reached .0) refl
+
+-- ---- how many
+
+pub entries-number : (bytes : List ℕ) (variables at n : ℕ) → n ≡ length (entriesAt bytes variables at n)
+unfolding entriesAt
+entries-number bytes variables at zero = refl
+entries-number bytes variables at (suc n) = ap suc (entries-number bytes variables (entryEnd bytes variables at) n)
+
+pub range-number : {A : Type 0} (f : ℕ → A) (k n : ℕ) → n ≡ length (map f (range k n))
+range-number f k zero = refl
+range-number f k (suc n) = ap suc (range-number f (suc k) n)
+
+-- ---- the members
+
+module _ (cert : List ℕ) (variables : ℕ) (starts : List ℕ) where
+  -- members are known by their places and by what they are without places
+  placed : (ms : List Member) (i n : ℕ) → map (λ m. m .first) ms ≡ map (λ k. getD starts k 0) (range i n)
+      → withoutPlaces ms ≡ map (λ k. locatedAt cert variables (getD starts k 0)) (range i n) → ms ≡ placedFrom cert variables starts n i
+  placed [] i zero e f = refl
+  placed [] i (suc n) e f = let z : _≡_ {A = ℕ} 0 (suc (length (map (λ k. getD starts k 0) (range (suc i) n)))) = ap length e in absurd (omega arith)
+  placed (m ∷ ms) i zero e f = let z : _≡_ {A = ℕ} (suc (length (map (λ m. m .first) ms))) 0 = ap length e in absurd (omega arith)
+  placed (m ∷ ms) i (suc n) e f =
+      let first-is : m .first ≡ getD starts i 0 = cc in
+      let located-is : m .located ≡ locatedAt cert variables (getD starts i 0) = cc in
+      let firsts : map (λ m. m .first) ms ≡ map (λ k. getD starts k 0) (range (suc i) n) = cc in
+      let others : withoutPlaces ms ≡ map (λ k. locatedAt cert variables (getD starts k 0)) (range (suc i) n) = cc in
+      ap₂ _∷_ (ap₂ {C = Member} (λ p l. record { first = p; located = l }) first-is located-is) (placed ms (suc i) n firsts others)
+
+  pub members-placed : (ms : List Member) (n : ℕ) → n ≤ length starts → map (λ m. m .first) ms ≡ take n starts
+      → withoutPlaces ms ≡ membersAt cert variables starts n → ms ≡ placedFrom cert variables starts n 0
+  members-placed ms n h e f =
+      placed ms 0 n (e ∙ tabled (λ k. getD starts k 0) 0 n (take n starts) (length-take-le n starts h) (λ i b. getD-take n starts i 0 b)) f
+
+  -- without their places they are those of the table
+  pub placed-without : (n i : ℕ) → withoutPlaces (placedFrom cert variables starts n i) ≡ map (λ k. locatedAt cert variables (getD starts k 0)) (range i n)
+  placed-without zero i = refl
+  placed-without (suc n) i = ap (λ l. locatedAt cert variables (getD starts i 0) ∷ l) (placed-without n (suc i))
