@@ -4,8 +4,9 @@ use mathlib.Core.List.{List, [], _∷_}
 use mathlib.Core.Path.{_≡_, refl, sym, ap, _∙_}
 use Prim.Native.Nat.{ℕ, _+_, _-_, _≤_, _<_}
 use native.Mathlib.Omega.{arith}
+use borrow.Author.Tests.{eq-eqb, ne-eqb}
 use lib.Dec.{eqb}
-use lib.ListN.{length, getD, take, drop}
+use lib.ListN.{length, getD, take, drop, length-drop}
 use lib.Seq.{length-take-le}
 use Rattle.lists.specs.List.{absent}
 use Rattle.heap.specs.Place.{null}
@@ -13,6 +14,7 @@ use Rattle.cover.specs.Cover.{byEmpty}
 use Rattle.format.specs.Certificate.{Member, testStart}
 use Rattle.format.specs.Parser.{Parsed, parsed, fault, onward, each}
 use Rattle.format.proofs.Parsing.{then, require-sound}
+use Rattle.layout.specs.Entries.{locatedAt, Entry}
 use Rattle.checker.specs.Jobs.{testAll}
 use Rattle.checker.proofs.Lists.{stretch-next}
 
@@ -25,10 +27,28 @@ module _ (l : List ℕ) (first n i : ℕ) (h : i < n) (inside : first + n ≤ le
   pub null-here : getD l (first + i) 0 ≡ null → from i ≡ false
   null-here e = rw (stretch-next l first n i h inside, e) refl
 
-  pub null-later : eqb (getD l (first + i) 0) null ≡ false → from i ≡ from (i + 1)
-  null-later e = rw (stretch-next l first n i h inside, e) refl
+  pub null-later : (getD l (first + i) 0 ≡ null → ⊥) → from i ≡ from (i + 1)
+  null-later e = rw (stretch-next l first n i h inside, ne-eqb (getD l (first + i) 0) null e) refl
 
 -- ---- the test of a member
+
+module _ (cert : List ℕ) (variables at start : ℕ) where
+  abbrev satisfied : Bool
+  satisfied = eqb (locatedAt cert variables at .state) start && byEmpty (locatedAt cert variables at .shape)
+
+  pub other-state : (getD cert at 0 ≡ start → ⊥) → false ≡ satisfied
+  other-state n = simp (ne-eqb (getD cert at 0) start n)
+
+  module _ (state-is : getD cert at 0 ≡ start) where
+    pub some-cells : Entry cert variables at → (getD cert (at + 1) 0 ≡ 0 → ⊥) → false ≡ satisfied
+    some-cells e n =
+        let k = getD cert (at + 1) 0 in
+        let l = drop (at + 2 + variables) cert in
+        let size-is = length-take-le k l (omega (arith, length-drop (at + 2 + variables) cert, e .inside)) in
+        rw (eq-eqb (getD cert at 0) start state-is, size-is, ne-eqb k 0 n) refl
+
+    pub no-cells : getD cert (at + 1) 0 ≡ 0 → absent null (take variables (drop (at + 2) cert)) ≡ satisfied
+    no-cells e = rw (eq-eqb (getD cert at 0) start state-is, e) refl
 
 module _ (start : ℕ) (m : Member) (ms : List Member) (at : ℕ) where
   pub start-refused : eqb (m .located .state) start && byEmpty (m .located .shape) ≡ true → fault 8 (m .first) ≡ testAll start (m ∷ ms) at

@@ -4,7 +4,9 @@ use mathlib.Core.List.{List, [], _∷_, map}
 use mathlib.Core.Path.{_≡_, refl, sym, ap, ap₂, _∙_}
 use Prim.Native.Nat.{ℕ, zero, suc, _+_, _≤_, _<_}
 use native.Mathlib.Omega.{arith}
-use borrow.Author.Tests.{lt-leb, le-leb}
+use native.Mathlib.Decide.{decLe}
+use borrow.Author.Tests.{lt-leb, le-leb, lt-ltb, le-ltb}
+use lib.Dec.{leb, ltb}
 use lib.ListN.{length, getD, take, length-map}
 use lib.Seq.{length-take-le, getD-take}
 use Rattle.lists.specs.Range.{range}
@@ -31,6 +33,15 @@ use Rattle.checker.specs.declared.going.Going.{Going}
 use Rattle.checker.specs.declared.going.Going.the-variants.{On, Refused}
 use Rattle.checker.specs.declared.going.Taken.{Taken}
 use Rattle.checker.proofs.Taking.{take-each}
+
+-- ---- lengths
+
+pub up-to : (n k : ℕ) → leb n k ≡ ltb n (suc k)
+up-to n k = go (decLe n k)
+  where
+    go : Dec (n ≤ k) → leb n k ≡ ltb n (suc k)
+    go (yes h) = le-leb n k h ∙ sym (lt-ltb n (suc k) (omega arith))
+    go (no h) = lt-leb n k (omega arith) ∙ sym (le-ltb n (suc k) (omega arith))
 
 -- ---- the covers
 

@@ -33,7 +33,7 @@ shared-slice-read-if1 c = search needs
 
 -- src/start.rt:26:13
 returns : tie.Need-returns Inv-loop μ-loop
-returns c = ?
+returns c = let a = c .before .before .before .before .before .args in let l = c .before .before .before .before .loop in sym (l .inv .1 ∙ null-here (a .cert .now) (a .first) (a .count) (l .i) (omega arith) (c .before .before .before .before .before .pre) (omega arith))
 
 -- src/start.rt:28:9
 add-i : tie.Need-add-i Inv-loop μ-loop
@@ -45,11 +45,11 @@ loop-less c = search needs
 
 -- src/start.rt:24:5
 loop-again : tie.Need-loop-again Inv-loop μ-loop
-loop-again c = ?
+loop-again c = let a = c .before .before .before .before .before .args in let l = c .before .before .before .before .loop in (omega arith, l .inv .1 ∙ null-later (a .cert .now) (a .first) (a .count) (l .i) (omega arith) (c .before .before .before .before .before .pre) (c .if1 .left))
 
 -- src/start.rt:18:1
 returns-2 : tie.Need-returns-2 Inv-loop μ-loop
-returns-2 c = ?
+returns-2 c = let a = c .before .before .args in let l = c .before .loop in let none : a .count - l .i ≡ 0 = omega arith in sym (rw none at (l .inv .1))
 
 pub none-at-null-spec : {M : Type 1} → statement M
 none-at-null-spec =
