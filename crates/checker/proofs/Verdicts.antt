@@ -5,12 +5,13 @@ use mathlib.Core.Path.{_≡_, refl, sym, ap, ap₂, _∙_}
 use Prim.Native.Nat.{ℕ, zero, suc, _+_, _≤_, _<_}
 use native.Mathlib.Omega.{arith}
 use native.Mathlib.Decide.{decLe}
-use borrow.Author.Tests.{lt-leb, le-leb, lt-ltb, le-ltb}
+use borrow.Author.Tests.{lt-leb, le-leb, lt-ltb, le-ltb, ltb-true}
 use lib.Dec.{leb, ltb}
 use lib.ListN.{length, getD, take, length-map}
 use lib.Seq.{length-take-le, getD-take}
 use Rattle.lists.specs.Range.{range}
 use Rattle.lists.proofs.Range.{tabled}
+use Rattle.lists.proofs.Test.{and-right}
 use Rattle.run.specs.Run.{Located, Job}
 use Rattle.cover.specs.Cover.{owed}
 use Rattle.format.specs.Certificate.{Member, withoutPlaces, readMembers, testStart, readCover}
@@ -21,8 +22,11 @@ use Rattle.format.specs.Verdict.{Counts, Verdict, accepted, refused, answer, re
 use Rattle.format.proofs.Guarantee.{safe-bytes}
 use Rattle.layout.specs.Entries.{locatedAt, entryEnd, entriesAt, membersAt}
 use Rattle.reader.specs.Job.{JobRead}
+use Rattle.reader.specs.Members.{Bounds}
 use Rattle.reader.specs.declared.Header.{Header}
-use Rattle.verdict.specs.Verdict.{refusalNumber, verdictOf}
+use Rattle.verdict.specs.Verdict.{refusalNumber, verdictOf, reachedOf}
+use Rattle.verdict.specs.declared.Reached.{Reached}
+use Rattle.verdict.specs.declared.Reached.the-variants.{At, Refused as ReachedRefused}
 use Rattle.verdict.specs.declared.Refusal.{Refusal}
 use Rattle.verdict.specs.declared.Counts.{Counts as CountsAnswer}
 use Rattle.verdict.specs.declared.Verdict.{Verdict as Answer}
@@ -32,6 +36,7 @@ use Rattle.checker.specs.Taking.{takeAll, goingOf}
 use Rattle.checker.specs.declared.going.Going.{Going}
 use Rattle.checker.specs.declared.going.Going.the-variants.{On, Refused}
 use Rattle.checker.specs.declared.going.Taken.{Taken}
+use Rattle.checker.proofs.Empty.{start-place}
 use Rattle.checker.proofs.Taking.{take-each}
 
 -- ---- lengths
@@ -42,6 +47,9 @@ up-to n k = go (decLe n k)
     go : Dec (n ≤ k) → leb n k ≡ ltb n (suc k)
     go (yes h) = le-leb n k h ∙ sym (lt-ltb n (suc k) (omega arith))
     go (no h) = lt-leb n k (omega arith) ∙ sym (le-ltb n (suc k) (omega arith))
+
+pub fits-most : (s : List ℕ) → fits s ≡ true → length s ≤ 65536
+fits-most s e = let h = ltb-true (length s) 65537 (and-right (leb 1 (length s)) (ltb (length s) 65537) e) in omega arith
 
 -- ---- the covers
 
@@ -125,3 +133,83 @@ module _ (cert : List ℕ) (variables : ℕ) (starts : List ℕ) where
   pub placed-without : (n i : ℕ) → withoutPlaces (placedFrom cert variables starts n i) ≡ map (λ k. locatedAt cert variables (getD starts k 0)) (range i n)
   placed-without zero i = refl
   placed-without (suc n) i = ap (λ l. locatedAt cert variables (getD starts i 0) ∷ l) (placed-without n (suc i))
+
+-- ---- refusal 8, then the covers
+
+module _ (cert : List ℕ) (j : Job) (ms : List Member) (at : ℕ) (r : Reached) (tested : reachedOf r ≡ testAll (j .start) ms at) where
+  test-then : testThenCover cert j ms at ≡ onward (testAll (j .start) ms at) (λ u. readCovers cert j (withoutPlaces ms))
+  unfolding testThenCover
+  test-then = go (each (testStart (j .start)) ms at)
+    where
+      one : Unit {0}
+      one = tt
+
+      go : (p : Parsed (List (Unit {0}))) → onward p (λ us. readCovers cert j (withoutPlaces ms))
+          ≡ onward (onward p (λ us next. parsed one next)) (λ u. readCovers cert j (withoutPlaces ms))
+      go (parsed us next) = refl
+      go (fault number place) = refl
+
+  pub members-refused : (why : Refusal) (place : ℕ) → r ≡ ReachedRefused why place → refused (refusalNumber why) place ≡ answer (testThenCover cert j ms at)
+  members-refused why place r-is =
+      let e : testAll (j .start) ms at ≡ fault (refusalNumber why) place = sym tested ∙ ap reachedOf r-is in
+      rw (test-then, e) refl
+
+  pub members-passed : (next : ℕ) → r ≡ At next → testThenCover cert j ms at ≡ readCovers cert j (withoutPlaces ms) at
+  members-passed next r-is =
+      let e : testAll (j .start) ms at ≡ parsed tt next = sym tested ∙ ap reachedOf r-is in
+      let place-is = start-place (j .start) ms at e in
+      test-then ∙ rw (e, place-is) refl
+
+-- ---- the certificate
+
+pub bounds : (job cert : List ℕ) (h : Header) → JobRead job h → length cert ≤ 65536 → Bounds cert (h .variables) (h .states)
+bounds job cert h d fits = record { variables-range = d .variables; states-most = d .states .1; fits = fits }
+
+module _ (cert : List ℕ) (f : JobFile) where
+  pub certificate-refused : (number place : ℕ) → readMembers (certificateBuffer cert) (f .job .variables) (f .states) 0 ≡ fault number place
+      → refused number place ≡ answer (readCertificate (certificateBuffer cert) f 0)
+  unfolding readCertificate
+  certificate-refused number place e = rw e refl
+
+  pub certificate-members : (ms : List Member) (next : ℕ) → readMembers (certificateBuffer cert) (f .job .variables) (f .states) 0 ≡ parsed ms next
+      → testThenCover cert (f .job) ms next ≡ readCertificate (certificateBuffer cert) f 0
+  unfolding readCertificate testThenCover readCovers
+  certificate-members ms next e = rw e refl
+
+-- ---- the job
+
+pub file-is : (job : List ℕ) (h : Header) (d : JobRead job h) → d .file ≡ fileIn job h
+file-is job h d =
+    λ k. record {
+      states = d .states-are k;
+      job =
+          record {
+            variables = d .variables-are k;
+            start = d .start-is k;
+            transitions = d .transitions-are k;
+            forbidden = d .forbidden-are k;
+          };
+    }
+
+module _ (job cert : List ℕ) where
+  pub job-length : fits job ≡ false → refused 1 0 ≡ verdict job cert
+  unfolding verdict
+  job-length e = rw e refl
+
+  module _ (job-fits : fits job ≡ true) where
+    pub certificate-length : fits cert ≡ false → refused 2 0 ≡ verdict job cert
+    unfolding verdict
+    certificate-length e = rw (job-fits, e) refl
+
+    module _ (cert-fits : fits cert ≡ true) where
+      pub job-refused : (number place : ℕ) → readWholeJob (jobBuffer job) 0 ≡ fault number place → refused number place ≡ verdict job cert
+      unfolding verdict
+      job-refused number place e = rw (job-fits, cert-fits, e) refl
+
+      pub job-read : (h : Header) → JobRead job h → answer (readCertificate (certificateBuffer cert) (fileIn job h) 0) ≡ verdict job cert
+      unfolding verdict
+      job-read h d = rw (job-fits, cert-fits, d .read, file-is job h d) refl
+
+  -- an accepted job is safe
+  pub with-safe : (r : Answer) → verdictOf r ≡ verdict job cert → (verdictOf r ≡ verdict job cert) × ((c : CountsAnswer) → r ≡ Accepted c → SafeBytes job)
+  with-safe r e = (e, λ c r-is. safe-bytes job cert (record { bads = c .bads; members = c .members; covers = c .covers }) (sym e ∙ ap verdictOf r-is))
