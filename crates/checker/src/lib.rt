@@ -1,2 +1,5 @@
 // The checker: one verdict for the bytes of a job and of a certificate.
+mod covering;
 mod going;
+mod one;
+mod removal;
