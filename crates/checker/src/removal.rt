@@ -48,8 +48,8 @@ fn lower_all(places: &mut [u8], gone: u8)
 }
 
 // The links without that of cell k.
-fn remove_link(links: &mut [u8; 14], n: usize, k: usize)
-    requires { ⌜ (k < n) × (n ≤ 14) ⌝ }
+fn remove_link(links: &mut [u8], n: usize, k: usize)
+    requires { ⌜ (k < n) × (n ≤ length (now links)) ⌝ }
     ensures { λ r. ⌜ take (n - 1) (now (links .exit)) ≡ removeAt k (take n (now (links .entry))) ⌝ }
 {
     let mut c = k;

@@ -3,6 +3,7 @@ use mathlib.Core.Path.{_≡_, refl, ap, _∙_, sym}
 use native.Mathlib.Omega.{arith}
 use lib.ListN.{length, getD, take, drop, set}
 use mathlib.Core.Logic.{⊎-elim}
+use Rattle.removing.proofs.Loops.{Moving, move-none, move-more, move-all}
 use borrow.Author.Needs.{needs}
 use Rattle.checker.proofs.removal.remove_link.Statement.{statement}
 use Rattle.checker.proofs.removal.remove_link.Tie as tie
@@ -10,14 +11,14 @@ use Rattle.checker.proofs.removal.remove_link.Reads as reads
 use Rattle.checker.proofs.removal.remove_link.Lts as lts
 
 abbrev Inv-loop : tie.InvT-loop
-Inv-loop links₀ n k c₀ links c = ?
+Inv-loop links₀ n k c₀ links c = Moving k n links₀ links c
 
 abbrev μ-loop : tie.MeasureT-loop
-μ-loop links₀ n k c₀ links c = ?
+μ-loop links₀ n k c₀ links c = n - c
 
 -- src/removal.rt:56:5
 loop-holds : tie.Need-loop-holds Inv-loop μ-loop
-loop-holds c = search needs
+loop-holds c = move-none (c .args .k) (c .args .n) (c .args .links .now) (omega arith)
 
 -- src/removal.rt:56:11
 add-loop : tie.Need-add-loop Inv-loop μ-loop
@@ -28,12 +29,12 @@ add-links : tie.Need-add-links Inv-loop μ-loop
 add-links c = search needs
 
 -- src/removal.rt:57:20
-element-copy-out-links : tie.Need-element-copy-out-links Inv-loop μ-loop
-element-copy-out-links c = search needs
+slice-read-links : tie.Need-slice-read-links Inv-loop μ-loop
+slice-read-links c = search needs
 
 -- src/removal.rt:57:9
-element-write-links : tie.Need-element-write-links Inv-loop μ-loop
-element-write-links c = search needs
+slice-write-links : tie.Need-slice-write-links Inv-loop μ-loop
+slice-write-links c = search needs
 
 -- src/removal.rt:58:9
 add-c : tie.Need-add-c Inv-loop μ-loop
@@ -45,11 +46,15 @@ loop-less c = search needs
 
 -- src/removal.rt:56:5
 loop-again : tie.Need-loop-again Inv-loop μ-loop
-loop-again c = search needs
+loop-again c = move-more (c .before .before .loop .inv) (omega arith) (omega arith)
+
+-- src/removal.rt:51:1
+same-length : tie.Need-same-length Inv-loop μ-loop
+same-length c = c .before .loop .inv .same
 
 -- src/removal.rt:51:1
 returns : tie.Need-returns Inv-loop μ-loop
-returns c = search needs
+returns c = move-all (c .before .loop .inv) (omega arith) (omega arith)
 
 pub remove-link-spec : {M : Type 1} → statement M
 remove-link-spec =
@@ -60,9 +65,10 @@ remove-link-spec =
     loop-holds
     add-loop
     add-links
-    element-copy-out-links
-    element-write-links
+    slice-read-links
+    slice-write-links
     add-c
     loop-less
     loop-again
+    same-length
     returns)
