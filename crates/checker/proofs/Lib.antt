@@ -1,3 +1,4 @@
 pub mod Taking
 pub mod CoverPlace
 pub mod Places
+pub mod Made

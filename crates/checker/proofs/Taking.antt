@@ -1,23 +1,26 @@
 -- Laws of taking covers in turn.
-use mathlib.Core.List.{List, [], _∷_, _++_}
+use mathlib.Core.List.{List, [], _∷_, _++_, map}
 use mathlib.Core.Path.{_≡_, refl, sym, ap, _∙_}
-use Prim.Native.Nat.{ℕ, suc, _+_, _≤_}
+use Prim.Native.Nat.{ℕ, suc, _+_, _-_, _≤_, _<_}
 use native.Mathlib.Numerals.{add-one}
 use native.Mathlib.Omega.{arith}
-use lib.ListN.{length}
+use Rattle.lists.specs.List.{concatMap}
+use Rattle.lists.specs.Range.{range}
+use Rattle.shape.specs.Shape.{Shape}
 use Rattle.run.specs.Run.{Located}
 use Rattle.format.specs.Certificate.{readCover}
 use Rattle.format.specs.Parser.{Parsed, parsed, fault, onward, certificateBuffer}
-use Rattle.verdict.specs.Verdict.{refusalNumber, reachedOf}
+use Rattle.verdict.specs.Verdict.{reachedOf}
 use Rattle.verdict.specs.declared.Reached.the-variants.{At, Refused as ReachedRefused}
 use Rattle.verdict.specs.declared.Refusal.{Refusal}
-use Rattle.checker.specs.Taking.{takeAll, goingOf, Within}
+use Rattle.checker.specs.Taking.{takeAll, goingOf, Within, StaysWithin, located}
+use Rattle.checker.specs.declared.going.Going.{Going}
 use Rattle.checker.specs.declared.going.Going.the-variants.{On, Refused}
 use Rattle.checker.specs.declared.going.Taken.{Taken}
 use Rattle.checker.proofs.CoverPlace.{cover-place}
 
 module _ (cert : List ℕ) (ms : List Located) where
-  takeAll-append : (xs ys : List Located) (covers at : ℕ)
+  pub takeAll-append : (xs ys : List Located) (covers at : ℕ)
       → takeAll cert ms (xs ++ ys) covers at ≡ onward (takeAll cert ms xs covers at) (takeAll cert ms ys)
   unfolding takeAll
   takeAll-append [] ys covers at = refl
@@ -29,35 +32,88 @@ module _ (cert : List ℕ) (ms : List Located) where
       go rest (parsed u next) = rest next
       go rest (fault number place) = refl
 
-  -- nothing to take
-  pub take-none : (t : Taken) → goingOf (On t) ≡ takeAll cert ms [] (t .covers) (t .at)
+  pub takeAll-one : (o : Located) (covers at : ℕ)
+      → takeAll cert ms (o ∷ []) covers at ≡ onward (readCover (certificateBuffer cert) ms o at) (λ u. parsed (suc covers))
   unfolding takeAll
-  take-none t = refl
+  takeAll-one o covers at = refl
 
-  -- after xs, on to ys
-  pub take-more : (xs ys : List Located) (t u : Taken) → goingOf (On u) ≡ takeAll cert ms xs (t .covers) (t .at)
-      → takeAll cert ms ys (u .covers) (u .at) ≡ takeAll cert ms (xs ++ ys) (t .covers) (t .at)
-  take-more xs ys t u e = rw (takeAll-append xs ys (t .covers) (t .at), ← e) refl
-
-  -- refused in xs
-  pub take-stop : (xs ys : List Located) (t : Taken) (r : Refusal) (place : ℕ) → goingOf (Refused r place) ≡ takeAll cert ms xs (t .covers) (t .at)
-      → goingOf (Refused r place) ≡ takeAll cert ms (xs ++ ys) (t .covers) (t .at)
-  take-stop xs ys t r place e = rw (takeAll-append xs ys (t .covers) (t .at), ← e) refl
+  pub takeAll-none : (covers at : ℕ) → takeAll cert ms [] covers at ≡ parsed covers at
+  unfolding takeAll
+  takeAll-none covers at = refl
 
   -- one cover
   module _ (o : Located) (t : Taken) where
     pub one-taken : (next : ℕ) → reachedOf (At next) ≡ readCover (certificateBuffer cert) ms o (t .at)
         → goingOf (On (record { at = next; covers = t .covers + 1 })) ≡ takeAll cert ms (o ∷ []) (t .covers) (t .at)
-    unfolding takeAll
-    one-taken next e = rw (← e, add-one (t .covers)) refl
+    one-taken next e = rw (takeAll-one o (t .covers) (t .at), ← e, add-one (t .covers)) refl
 
     pub one-refused : (r : Refusal) (place : ℕ) → reachedOf (ReachedRefused r place) ≡ readCover (certificateBuffer cert) ms o (t .at)
         → goingOf (Refused r place) ≡ takeAll cert ms (o ∷ []) (t .covers) (t .at)
-    unfolding takeAll
-    one-refused r place e = rw (← e) refl
+    one-refused r place e = rw (takeAll-one o (t .covers) (t .at), ← e) refl
 
     pub within-next : Within cert t → (next : ℕ) → reachedOf (At next) ≡ readCover (certificateBuffer cert) ms o (t .at)
         → Within cert (record { at = next; covers = t .covers + 1 })
     within-next w next e =
         let (on, inside) = cover-place (certificateBuffer cert) ms o (t .at) (sym e) in
         record { counted = let c = w .counted in omega arith; inside = inside; fits = w .fits }
+
+  -- ---- covers of shapes at a state
+
+  module _ (state : ℕ) where
+    abbrev pub takeShapes : List Shape → Taken → Parsed ℕ
+    takeShapes ss t = takeAll cert ms (map (located state) ss) (t .covers) (t .at)
+
+    map-append : (ss us : List Shape) → map (located state) (ss ++ us) ≡ map (located state) ss ++ map (located state) us
+    map-append [] us = refl
+    map-append (s ∷ ss) us = ap (λ (l : List Located). located state s ∷ l) (map-append ss us)
+
+    shapes-append : (ss us : List Shape) (t : Taken) → takeShapes (ss ++ us) t ≡ onward (takeShapes ss t) (takeAll cert ms (map (located state) us))
+    shapes-append ss us t =
+        ap (λ (l : List Located). takeAll cert ms l (t .covers) (t .at)) (map-append ss us)
+        ∙ takeAll-append (map (located state) ss) (map (located state) us) (t .covers) (t .at)
+
+    pub take-none : (ss : List Shape) (t : Taken) → ss ≡ [] → goingOf (On t) ≡ takeShapes ss t
+    take-none ss t e = rw (e, takeAll-none (t .covers) (t .at)) refl
+
+    -- after the shapes ss, on to us
+    pub take-on : (ss us : List Shape) (t u : Taken) (g : Going) → g ≡ On u → goingOf g ≡ takeShapes ss t → takeShapes us u ≡ takeShapes (ss ++ us) t
+    take-on ss us t u g i e = rw (shapes-append ss us t, ← e, i) refl
+
+    -- refused among the shapes ss
+    pub take-stop : (ss us : List Shape) (t : Taken) (r : Refusal) (place : ℕ) (g : Going) → g ≡ Refused r place → goingOf g ≡ takeShapes ss t
+        → goingOf g ≡ takeShapes (ss ++ us) t
+    take-stop ss us t r place g i e = rw (shapes-append ss us t, ← e, i) refl
+
+    -- ---- a loop over k, from `first` on and below `end`, that takes the covers of the shapes f k
+
+    pub record Turning (f : ℕ → List Shape) (first end : ℕ) (from t : Taken) (k : ℕ) : Type 0 where
+      pub high : k ≤ end
+      pub within : Within cert t
+      pub left : takeShapes (concatMap f (range k (end - k))) t ≡ takeShapes (concatMap f (range first (end - first))) from
+
+    pub turn-none : (f : ℕ → List Shape) (first end : ℕ) (t : Taken) → first ≤ end → Within cert t → Turning f first end t t first
+    turn-none f first end t b w = record { high = b; within = w; left = refl }
+
+    module _ {f : ℕ → List Shape} {first end : ℕ} {from t : Taken} {k : ℕ} (w : Turning f first end from t k) where
+      next : k < end → range k (end - k) ≡ k ∷ range (k + 1) (end - (k + 1))
+      next b = let less : end - k ≡ suc (end - (k + 1)) = omega arith in rw (less, add-one k) refl
+
+      pub turn-more : k < end → (u : Taken) (g : Going) → g ≡ On u → goingOf g ≡ takeShapes (f k) t → StaysWithin cert g → Turning f first end from u (k + 1)
+      turn-more b u g i e s =
+          record {
+            high = omega arith;
+            within = rw i at s;
+            left = take-on (f k) (concatMap f (range (k + 1) (end - (k + 1)))) t u g i e
+                ∙ ap (λ (l : List ℕ). takeShapes (concatMap f l) t) (sym (next b))
+                ∙ w .left;
+          }
+
+      pub turn-stop : k < end → (r : Refusal) (place : ℕ) (g : Going) → g ≡ Refused r place → goingOf g ≡ takeShapes (f k) t
+          → goingOf g ≡ takeShapes (concatMap f (range first (end - first))) from
+      turn-stop b r place g i e =
+          take-stop (f k) (concatMap f (range (k + 1) (end - (k + 1)))) t r place g i e
+          ∙ ap (λ (l : List ℕ). takeShapes (concatMap f l) t) (sym (next b))
+          ∙ w .left
+
+      pub turn-all : end ≤ k → goingOf (On t) ≡ takeShapes (concatMap f (range first (end - first))) from
+      turn-all b = let none : end - k ≡ 0 = omega arith in take-none (concatMap f (range k (end - k))) t (rw none refl) ∙ w .left

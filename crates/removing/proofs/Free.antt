@@ -1,6 +1,6 @@
 -- The test for a free cell, one part after the other.
 use mathlib.Core.Bool.{Bool, true, false, _&&_, _||_}
-use mathlib.Core.List.{List}
+use mathlib.Core.List.{List, []}
 use mathlib.Core.Path.{_≡_, refl, sym, ap, _∙_}
 use Prim.Native.Nat.{ℕ, zero, suc, _≤_, _<_}
 use native.Mathlib.Omega.{arith}
@@ -8,10 +8,15 @@ use borrow.Author.Tests.{lt-ltb, ne-eqb}
 use lib.Dec.{eqb}
 use lib.ListN.{getD, take, drop}
 use lib.Seq.{getD-take}
-use Rattle.lists.specs.List.{absent}
+use Rattle.lists.specs.List.{absent, keep}
 use Rattle.heap.specs.Place.{nowhere, null, dangling, cell}
+use Rattle.shape.specs.Shape.{Shape}
+use Rattle.backward.specs.Predecessors.{removeCell}
 use Rattle.layout.specs.Arrays.{shapeIn}
-use Rattle.removing.specs.Without.{isFree}
+use Rattle.removing.specs.Without.{isFree, without}
+
+pub not-free : (s : Shape) (k : ℕ) → isFree (cell k) s ≡ false → without s k ≡ []
+not-free s k e = ap (λ (b : Bool). keep b (removeCell (cell k) s)) e
 
 module _ (variables n : ℕ) (vars links : List ℕ) (k : ℕ) (is-cell : k < n) where
   abbrev test : ℕ → Bool

@@ -3,6 +3,16 @@ use mathlib.Core.Path.{_≡_, refl, ap, _∙_, sym}
 use native.Mathlib.Omega.{arith}
 use lib.ListN.{length, getD, take, drop, set}
 use mathlib.Core.Logic.{⊎-elim}
+use mathlib.Core.List.{[], _∷_}
+use borrow.Author.Tests.{not-true, not-false}
+use Rattle.layout.specs.Arrays.{shapeIn, Hold}
+use Rattle.layout.specs.Entries.{membersAt}
+use Rattle.removing.specs.Without.{without}
+use Rattle.removing.proofs.Free.{not-free}
+use Rattle.shape.specs.Shape.{Shape}
+use mathlib.Core.List.{List}
+use Rattle.checker.proofs.Taking.{takeShapes, take-none}
+use Rattle.checker.proofs.Made.{made-without}
 use borrow.Author.Needs.{needs}
 use Rattle.checker.proofs.removal.take_cell.Statement.{statement}
 use Rattle.checker.proofs.removal.take_cell.Tie as tie
@@ -20,7 +30,7 @@ is-free-requires c κs = search needs
 
 -- src/removal.rt:111:9
 returns : tie.Need-returns
-returns c = search needs
+returns c = let a = c .before .before .before .args in let s = shapeIn (a .variables) (a .n) (a .vars .now) (a .links .now) in (take-none (a .cert .now) (membersAt (a .cert .now) (a .variables) (a .starts .now) (a .members)) (a .state) (without s (a .k)) (a .t) (not-free s (a .k) (sym (c .before .is-free .ensures) ∙ not-true _ (c .if1 .taken))), c .before .before .before .pre .3)
 
 -- src/removal.rt:113:9
 cell-requires : tie.Need-cell-requires
@@ -58,13 +68,29 @@ sub-take-one c = search needs
 cast-take-one : tie.Need-cast-take-one
 cast-take-one c = search needs
 
+-- what was made
+made : (c : tie.After-l6)
+    → let a = c .before .before .before .before .before .before .before .before .before .before .before .before .before .before .before .before .before .args in
+      let v = c .before .before .before .before .before .before .lower-all .last .0 in
+      let l = c .before .before .before .lower-all2 .last .0 in
+      Hold (a .variables) (a .n - 1) v l × (without (shapeIn (a .variables) (a .n) (a .vars .now) (a .links .now)) (a .k) ≡ shapeIn (a .variables) (a .n - 1) v l ∷ [])
+made c =
+    let a = c .before .before .before .before .before .before .before .before .before .before .before .before .before .before .before .before .before .args in
+    let v = c .before .before .before .before .before .before .lower-all .last .0 in
+    let l = c .before .before .before .lower-all2 .last .0 in
+    let rest = c .before .before .before .before .before .before .before .before .before .remove-link .last .0 in
+    let room : length rest ≡ 14 = search needs in
+    let free = sym (c .before .before .before .before .before .before .before .before .before .before .before .before .before .before .before .is-free .ensures) ∙ not-false _ (c .before .before .before .before .before .before .before .before .before .before .before .before .before .before .if1 .left) in
+    made-without (a .variables) (a .n) (a .vars .now) (a .links .now) (c .before .before .before .before .before .before .before .before .before .before .before .before .before .before .before .before .before .pre .1) (a .k) (c .before .before .before .before .before .before .before .before .before .before .before .before .before .before .before .before .before .pre .2) free (c .before .before .before .before .before .before .before .before .before .before .before .before .before .cell .result) (c .before .before .before .before .before .before .before .before .before .before .before .before .before .cell .ensures)
+    rest v l room (c .before .before .before .before .before .before .before .before .before .remove-link .ensures) (c .before .before .before .before .before .before .lower-all .ensures) (c .before .before .before .lower-all2 .ensures)
+
 -- src/removal.rt:119:5
 take-one-requires : tie.Need-take-one-requires
-take-one-requires c κs = search needs
+take-one-requires c κs = (c .before .before .before .before .before .before .before .before .before .before .before .before .before .before .before .before .before .pre .0, made c .0, c .before .before .before .before .before .before .before .before .before .before .before .before .before .before .before .before .before .pre .3)
 
 -- src/removal.rt:95:1
 returns-2 : tie.Need-returns-2
-returns-2 c = search needs
+returns-2 c = let a = c .before .before .before .before .before .before .before .before .before .before .before .before .before .before .before .before .before .before .args in (c .take-one .ensures .0 ∙ ap (λ (ss : List Shape). takeShapes (a .cert .now) (membersAt (a .cert .now) (a .variables) (a .starts .now) (a .members)) (a .state) ss (a .t)) (sym (made (c .before) .1)), c .take-one .ensures .1)
 
 pub take-cell-spec : {M : Type 1} → statement M
 take-cell-spec =
