@@ -115,17 +115,21 @@ module _ (variables n : ℕ) (vars links : List ℕ) (h : Hold variables n vars 
       rw (sym e ∙ getD-take n links i nowhere inside) (h .links-range i inside)
 
   module _ (a : ℕ) (some : 1 ≤ a) (most : a ≤ variables) where
-    pub new-nowhere : getD vars a nowhere ≡ nowhere → predecessors (new a) shape ≡ concatMap (without shape) (range 0 n) ++ (shape ∷ [])
+    pub new-nowhere : getD vars a nowhere ≡ nowhere → predecessors (new a) shape ≡ concatMap (without shape) (range 0 (n - 0)) ++ (shape ∷ [])
     new-nowhere e =
+        let all : size shape ≡ n - 0 = omega (arith, long-links) in
         new-at-nowhere a shape some (omega (arith, long-vars)) (rw long-links vars-below) (rw long-links links-below)
         (var-in variables n vars links a some most ∙ e)
-        ∙ ap (λ (m : ℕ). concatMap (without shape) (range 0 m) ++ (shape ∷ [])) long-links
+        ∙ ap (λ (m : ℕ). concatMap (without shape) (range 0 m) ++ (shape ∷ [])) all
 
-    pub new-null : getD vars a nowhere ≡ null → predecessors (new a) shape ≡ []
-    new-null e = new-at-null a shape (var-in variables n vars links a some most ∙ e)
-
-    pub new-dangling : getD vars a nowhere ≡ dangling → predecessors (new a) shape ≡ []
-    new-dangling e = new-at-dangling a shape (var-in variables n vars links a some most ∙ e)
+    pub new-none : (getD vars a nowhere ≡ nowhere → ⊥) → getD vars a nowhere < 3 → predecessors (new a) shape ≡ []
+    new-none z b = go (getD vars a nowhere) (var-in variables n vars links a some most) z b
+      where
+        go : (x : ℕ) → varAt shape a ≡ x → (x ≡ nowhere → ⊥) → x < 3 → predecessors (new a) shape ≡ []
+        go zero e z b = absurd (z refl)
+        go (suc zero) e z b = new-at-null a shape e
+        go (suc (suc zero)) e z b = new-at-dangling a shape e
+        go (suc (suc (suc x))) e z b = absurd (omega arith)
 
     pub new-cell : (x : ℕ) → getD vars a nowhere ≡ x → 3 ≤ x
         → predecessors (new a) shape ≡ concatMap (without (shapeIn variables n (set vars a nowhere) links)) (range (x - 3) (x - 2 - (x - 3)))
