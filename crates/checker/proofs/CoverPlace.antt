@@ -1,7 +1,7 @@
 -- A cover that was read ends further on, within the certificate.
 use mathlib.Core.List.{List, [], _∷_}
 use mathlib.Core.Path.{_≡_}
-use Prim.Native.Nat.{ℕ, zero, suc, _+_, _-_, _≤_, _<_}
+use Prim.Native.Nat.{ℕ, _+_, _-_, _≤_, _<_}
 use native.Mathlib.Omega.{arith}
 use lib.ListN.{length, getD, getElem?}
 use Rattle.lists.proofs.Reflect.{r-le, r-lt, r-eq, cond-cases}
@@ -12,7 +12,7 @@ use Rattle.shape.specs.Shape.{size}
 use Rattle.run.specs.Run.{Located}
 use Rattle.cover.specs.Cover.{holds?}
 use Rattle.format.specs.Certificate.{readCover}
-use Rattle.format.specs.Parser.{Parsed, parsed, Parser, many, ranged, readAs, Buffer}
+use Rattle.format.specs.Parser.{parsed, many, ranged, readAs, Buffer}
 use Rattle.format.proofs.Parsing.{then, read-sound, require-sound, codes-exact}
 use Rattle.format.proofs.Sequence.{Reads, reads-none, reads-first}
 

@@ -1,16 +1,15 @@
 -- The arrays that new and delete make.
 use mathlib.Core.Bool.{true}
 use mathlib.Core.List.{List, [], _∷_, map}
-use mathlib.Core.Path.{_≡_, refl, sym, ap, _∙_}
-use Prim.Native.Nat.{ℕ, suc, _+_, _-_, _≤_, _<_}
+use mathlib.Core.Path.{_≡_, refl}
+use Prim.Native.Nat.{ℕ, _+_, _-_, _≤_, _<_}
 use native.Mathlib.Numerals.{add-one}
 use native.Mathlib.Omega.{arith}
 use lib.ListN.{length, getD, take, set}
-use Rattle.lists.specs.List.{keep}
 use Rattle.lists.proofs.Reflect.{passes}
 use Rattle.heap.specs.Operation.{delete}
 use Rattle.heap.specs.Place.{nowhere, null, dangling, cell}
-use Rattle.backward.specs.Predecessors.{removeAt, lower, removeCell, forget, predecessors}
+use Rattle.backward.specs.Predecessors.{removeAt, lower, forget, predecessors}
 use Rattle.layout.specs.Arrays.{shapeIn, Hold}
 use Rattle.place.specs.Place.{cellPlace}
 use Rattle.place.specs.declared.Place.{Place}

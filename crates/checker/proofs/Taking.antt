@@ -13,7 +13,7 @@ use Rattle.format.specs.Parser.{Parsed, parsed, fault, onward, certificateBuffe
 use Rattle.verdict.specs.Verdict.{reachedOf}
 use Rattle.verdict.specs.declared.Reached.the-variants.{At, Refused as ReachedRefused}
 use Rattle.verdict.specs.declared.Refusal.{Refusal}
-use Rattle.checker.specs.Taking.{takeAll, goingOf, Within, StaysWithin, located}
+use Rattle.checker.specs.Taking.{takeAll, goingOf, Within, located, Takes}
 use Rattle.checker.specs.declared.going.Going.{Going}
 use Rattle.checker.specs.declared.going.Going.the-variants.{On, Refused}
 use Rattle.checker.specs.declared.going.Taken.{Taken}
@@ -60,7 +60,7 @@ module _ (cert : List ℕ) (ms : List Located) where
   -- ---- covers of shapes at a state
 
   module _ (state : ℕ) where
-    abbrev pub takeShapes : List Shape → Taken → Parsed ℕ
+    abbrev takeShapes : List Shape → Taken → Parsed ℕ
     takeShapes ss t = takeAll cert ms (map (located state) ss) (t .covers) (t .at)
 
     map-append : (ss us : List Shape) → map (located state) (ss ++ us) ≡ map (located state) ss ++ map (located state) us
@@ -72,17 +72,24 @@ module _ (cert : List ℕ) (ms : List Located) where
         ap (λ (l : List Located). takeAll cert ms l (t .covers) (t .at)) (map-append ss us)
         ∙ takeAll-append (map (located state) ss) (map (located state) us) (t .covers) (t .at)
 
-    pub take-none : (ss : List Shape) (t : Taken) → ss ≡ [] → goingOf (On t) ≡ takeShapes ss t
-    take-none ss t e = rw (e, takeAll-none (t .covers) (t .at)) refl
+    pub take-none : (ss : List Shape) (t : Taken) → ss ≡ [] → Within cert t → Takes cert ms state ss t (On t)
+    take-none ss t e w = (rw (e, takeAll-none (t .covers) (t .at)) refl, w)
+
+    pub take-same : (ss us : List Shape) (t : Taken) (g : Going) → ss ≡ us → Takes cert ms state us t g → Takes cert ms state ss t g
+    take-same ss us t g i (e, w) = (e ∙ ap (λ (l : List Shape). takeShapes l t) (sym i), w)
 
     -- after the shapes ss, on to us
-    pub take-on : (ss us : List Shape) (t u : Taken) (g : Going) → g ≡ On u → goingOf g ≡ takeShapes ss t → takeShapes us u ≡ takeShapes (ss ++ us) t
-    take-on ss us t u g i e = rw (shapes-append ss us t, ← e, i) refl
+    on-to : (ss us : List Shape) (t u : Taken) (g : Going) → g ≡ On u → goingOf g ≡ takeShapes ss t → takeShapes us u ≡ takeShapes (ss ++ us) t
+    on-to ss us t u g i e = rw (shapes-append ss us t, ← e, i) refl
+
+    pub take-on : (ss us : List Shape) (t u : Taken) (g h : Going) → g ≡ On u → Takes cert ms state ss t g → Takes cert ms state us u h
+        → Takes cert ms state (ss ++ us) t h
+    take-on ss us t u g h i (e, w) (e′, w′) = (e′ ∙ on-to ss us t u g i e, w′)
 
     -- refused among the shapes ss
-    pub take-stop : (ss us : List Shape) (t : Taken) (r : Refusal) (place : ℕ) (g : Going) → g ≡ Refused r place → goingOf g ≡ takeShapes ss t
-        → goingOf g ≡ takeShapes (ss ++ us) t
-    take-stop ss us t r place g i e = rw (shapes-append ss us t, ← e, i) refl
+    pub take-stop : (ss us : List Shape) (t : Taken) (r : Refusal) (place : ℕ) (g : Going) → g ≡ Refused r place → Takes cert ms state ss t g
+        → Takes cert ms state (ss ++ us) t g
+    take-stop ss us t r place g i (e, w) = (rw (shapes-append ss us t, ← e, i) refl, w)
 
     -- ---- a loop over k, from `first` on and below `end`, that takes the covers of the shapes f k
 
@@ -95,25 +102,24 @@ module _ (cert : List ℕ) (ms : List Located) where
     turn-none f first end t b w = record { high = b; within = w; left = refl }
 
     module _ {f : ℕ → List Shape} {first end : ℕ} {from t : Taken} {k : ℕ} (w : Turning f first end from t k) where
-      next : k < end → range k (end - k) ≡ k ∷ range (k + 1) (end - (k + 1))
-      next b = let less : end - k ≡ suc (end - (k + 1)) = omega arith in rw (less, add-one k) refl
+      abbrev rest : List Shape
+      rest = concatMap f (range (k + 1) (end - (k + 1)))
 
-      pub turn-more : k < end → (u : Taken) (g : Going) → g ≡ On u → goingOf g ≡ takeShapes (f k) t → StaysWithin cert g → Turning f first end from u (k + 1)
-      turn-more b u g i e s =
-          record {
-            high = omega arith;
-            within = rw i at s;
-            left = take-on (f k) (concatMap f (range (k + 1) (end - (k + 1)))) t u g i e
-                ∙ ap (λ (l : List ℕ). takeShapes (concatMap f l) t) (sym (next b))
-                ∙ w .left;
-          }
+      next : k < end → takeShapes (f k ++ rest) t ≡ takeShapes (concatMap f (range first (end - first))) from
+      next b =
+          let less : end - k ≡ suc (end - (k + 1)) = omega arith in
+          let now : range k (end - k) ≡ k ∷ range (k + 1) (end - (k + 1)) = rw (less, add-one k) refl in
+          ap (λ (l : List ℕ). takeShapes (concatMap f l) t) (sym now) ∙ w .left
 
-      pub turn-stop : k < end → (r : Refusal) (place : ℕ) (g : Going) → g ≡ Refused r place → goingOf g ≡ takeShapes (f k) t
-          → goingOf g ≡ takeShapes (concatMap f (range first (end - first))) from
-      turn-stop b r place g i e =
-          take-stop (f k) (concatMap f (range (k + 1) (end - (k + 1)))) t r place g i e
-          ∙ ap (λ (l : List ℕ). takeShapes (concatMap f l) t) (sym (next b))
-          ∙ w .left
+      pub turn-more : k < end → (u : Taken) (g : Going) → g ≡ On u → Takes cert ms state (f k) t g → Turning f first end from u (k + 1)
+      turn-more b u g i (e, s) = record { high = omega arith; within = rw i at s; left = on-to (f k) rest t u g i e ∙ next b }
 
-      pub turn-all : end ≤ k → goingOf (On t) ≡ takeShapes (concatMap f (range first (end - first))) from
-      turn-all b = let none : end - k ≡ 0 = omega arith in take-none (concatMap f (range k (end - k))) t (rw none refl) ∙ w .left
+      pub turn-stop : k < end → (r : Refusal) (place : ℕ) (g : Going) → g ≡ Refused r place → Takes cert ms state (f k) t g
+          → Takes cert ms state (concatMap f (range first (end - first))) from g
+      turn-stop b r place g i e = let (e′, s) = take-stop (f k) rest t r place g i e in (e′ ∙ next b, s)
+
+      pub turn-all : end ≤ k → Takes cert ms state (concatMap f (range first (end - first))) from (On t)
+      turn-all b =
+          let none : end - k ≡ 0 = omega arith in
+          let (e, s) = take-none (concatMap f (range k (end - k))) t (rw none refl) (w .within) in
+          (e ∙ w .left, s)

@@ -3,8 +3,7 @@ use crate::going::Going;
 use crate::going::Taken;
 use crate::one::take_one;
 use place::Place;
-ghost use mathlib.Core.Bool.{true};
-ghost use mathlib.Core.List.{map};
+ghost use mathlib.Core.List.{[], _∷_, _++_, map};
 ghost use mathlib.Core.Path.{_≡_};
 ghost use Prim.Native.Nat.{_+_, _-_, _≤_, _<_};
 ghost use lib.ListN.{length, take, drop};
@@ -13,7 +12,7 @@ ghost use Rattle.lists.specs.Range.{range};
 ghost use Rattle.heap.specs.Operation.{new, delete};
 ghost use Rattle.heap.specs.Place.{cell};
 ghost use Rattle.backward.specs.Predecessors.{removeAt, lower, forget, predecessors};
-ghost use Rattle.checker.specs.Taking.{takeAll, goingOf, Within, StaysWithin, located};
+ghost use Rattle.checker.specs.Taking.{Within, Takes};
 ghost use Rattle.layout.specs.Arrays.{shapeIn, Hold};
 ghost use Rattle.layout.specs.Entries.{membersAt, Table};
 ghost use Rattle.removing.specs.Without.{isFree, without};
@@ -105,7 +104,7 @@ fn take_cell(
     t: Taken,
 ) -> Going
     requires { ⌜ (Table (now cert) variables (now starts) members) × (Hold variables n (now vars) (now links)) × (k < n) × (Within (now cert) t) ⌝ }
-    ensures { λ r. ⌜ (goingOf r ≡ takeAll (now (cert .entry)) (membersAt (now (cert .entry)) variables (now (starts .entry)) members) (map (located state) (without (shapeIn variables n (now (vars .entry)) (now (links .entry))) k)) (t .covers) (t .at)) × (StaysWithin (now (cert .entry)) r) ⌝ }
+    ensures { λ r. ⌜ Takes (now (cert .entry)) (membersAt (now (cert .entry)) variables (now (starts .entry)) members) state (without (shapeIn variables n (now (vars .entry)) (now (links .entry))) k) t r ⌝ }
 {
     if !is_free(variables, n, k, vars, links) {
         return Going::On(t);
@@ -116,7 +115,17 @@ fn take_cell(
     remove_link(&mut l, n as usize, k as usize);
     lower_all(&mut v, p.code);
     lower_all(&mut l, p.code);
-    take_one(cert, starts, variables, members, state, (n - 1) as usize, &v, &l, t)
+    take_one(
+        cert,
+        starts,
+        variables,
+        members,
+        state,
+        (n - 1) as usize,
+        &v,
+        &l,
+        t,
+    )
 }
 
 // Each of the cells from `first` on, below `end`, taken out in turn.
@@ -134,12 +143,23 @@ fn take_cells(
     from: Taken,
 ) -> Going
     requires { ⌜ (Table (now cert) variables (now starts) members) × (Hold variables n (now vars) (now links)) × (first ≤ end) × (end ≤ n) × (Within (now cert) from) ⌝ }
-    ensures { λ r. ⌜ (goingOf r ≡ takeAll (now (cert .entry)) (membersAt (now (cert .entry)) variables (now (starts .entry)) members) (map (located state) (concatMap (without (shapeIn variables n (now (vars .entry)) (now (links .entry)))) (range first (end - first)))) (from .covers) (from .at)) × (StaysWithin (now (cert .entry)) r) ⌝ }
+    ensures { λ r. ⌜ Takes (now (cert .entry)) (membersAt (now (cert .entry)) variables (now (starts .entry)) members) state (concatMap (without (shapeIn variables n (now (vars .entry)) (now (links .entry)))) (range first (end - first))) from r ⌝ }
 {
     let mut t = from;
     let mut k = first;
     while k < end {
-        let g = take_cell(cert, starts, variables, members, state, n, vars, links, k, t);
+        let g = take_cell(
+            cert,
+            starts,
+            variables,
+            members,
+            state,
+            n,
+            vars,
+            links,
+            k,
+            t,
+        );
         let Going::On(u) = g else {
             return g;
         };
@@ -149,7 +169,51 @@ fn take_cells(
     Going::On(t)
 }
 
-// Kind 6: a's cell taken out; where a is nowhere, each cell in turn and then a fresh one, which leaves the shape.
+// Kind 6 where a is nowhere: each cell taken out in turn, and then a fresh one, which leaves the shape.
+fn take_unplaced(
+    cert: &[u8],
+    starts: &[u16; 512],
+    variables: usize,
+    members: usize,
+    state: u8,
+    n: u8,
+    vars: &[u8; 10],
+    links: &[u8; 14],
+    t: Taken,
+) -> Going
+    requires { ⌜ (Table (now cert) variables (now starts) members) × (Hold variables n (now vars) (now links)) × (Within (now cert) t) ⌝ }
+    ensures { λ r. ⌜ Takes (now (cert .entry)) (membersAt (now (cert .entry)) variables (now (starts .entry)) members) state (concatMap (without (shapeIn variables n (now (vars .entry)) (now (links .entry)))) (range 0 n) ++ (shapeIn variables n (now (vars .entry)) (now (links .entry)) ∷ [])) t r ⌝ }
+{
+    let g = take_cells(
+        cert,
+        starts,
+        variables,
+        members,
+        state,
+        n,
+        vars,
+        links,
+        0,
+        n,
+        t,
+    );
+    let Going::On(u) = g else {
+        return g;
+    };
+    take_one(
+        cert,
+        starts,
+        variables,
+        members,
+        state,
+        n as usize,
+        vars,
+        links,
+        u,
+    )
+}
+
+// Kind 6: a's cell taken out, or each cell in turn.
 pub(crate) fn take_new(
     cert: &[u8],
     starts: &[u16; 512],
@@ -163,22 +227,30 @@ pub(crate) fn take_new(
     t: Taken,
 ) -> Going
     requires { ⌜ (Table (now cert) variables (now starts) members) × (Hold variables n (now vars) (now links)) × (n ≤ 12) × (1 ≤ a) × (a ≤ variables) × (Within (now cert) t) ⌝ }
-    ensures { λ r. ⌜ (goingOf r ≡ takeAll (now (cert .entry)) (membersAt (now (cert .entry)) variables (now (starts .entry)) members) (map (located state) (predecessors (new a) (shapeIn variables n (now (vars .entry)) (now (links .entry))))) (t .covers) (t .at)) × (StaysWithin (now (cert .entry)) r) ⌝ }
+    ensures { λ r. ⌜ Takes (now (cert .entry)) (membersAt (now (cert .entry)) variables (now (starts .entry)) members) state (predecessors (new a) (shapeIn variables n (now (vars .entry)) (now (links .entry)))) t r ⌝ }
 {
     let x = vars[a as usize];
     if x == 0 {
-        let g = take_cells(cert, starts, variables, members, state, n, vars, links, 0, n, t);
-        let Going::On(u) = g else {
-            return g;
-        };
-        return take_one(cert, starts, variables, members, state, n as usize, vars, links, u);
+        return take_unplaced(cert, starts, variables, members, state, n, vars, links, t);
     }
     if x < 3 {
         return Going::On(t);
     }
     let mut v = *vars;
     v[a as usize] = 0;
-    take_cells(cert, starts, variables, members, state, n, &v, links, x - 3, x - 2, t)
+    take_cells(
+        cert,
+        starts,
+        variables,
+        members,
+        state,
+        n,
+        &v,
+        links,
+        x - 3,
+        x - 2,
+        t,
+    )
 }
 
 // Kind 7: a, being nowhere or at *, at a fresh cell, and nothing at *.
@@ -195,7 +267,7 @@ pub(crate) fn take_delete(
     t: Taken,
 ) -> Going
     requires { ⌜ (Table (now cert) variables (now starts) members) × (Hold variables n (now vars) (now links)) × (n ≤ 12) × (1 ≤ a) × (a ≤ variables) × (Within (now cert) t) ⌝ }
-    ensures { λ r. ⌜ (goingOf r ≡ takeAll (now (cert .entry)) (membersAt (now (cert .entry)) variables (now (starts .entry)) members) (map (located state) (predecessors (delete a) (shapeIn variables n (now (vars .entry)) (now (links .entry))))) (t .covers) (t .at)) × (StaysWithin (now (cert .entry)) r) ⌝ }
+    ensures { λ r. ⌜ Takes (now (cert .entry)) (membersAt (now (cert .entry)) variables (now (starts .entry)) members) state (predecessors (delete a) (shapeIn variables n (now (vars .entry)) (now (links .entry)))) t r ⌝ }
 {
     let x = vars[a as usize];
     if x == 1 {
@@ -211,5 +283,15 @@ pub(crate) fn take_delete(
     forget_all(&mut l);
     l[n as usize] = 0;
     v[a as usize] = p.code;
-    take_one(cert, starts, variables, members, state, (n + 1) as usize, &v, &l, t)
+    take_one(
+        cert,
+        starts,
+        variables,
+        members,
+        state,
+        (n + 1) as usize,
+        &v,
+        &l,
+        t,
+    )
 }

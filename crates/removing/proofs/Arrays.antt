@@ -1,6 +1,6 @@
 -- Shapes held in arrays: the arrays after new and delete hold the predecessors.
-use mathlib.Core.Bool.{true, _||_}
-use mathlib.Core.List.{List, [], _∷_, _++_, map, List·Memᴰ·head, List·Memᴰ·tail, List·Memᴰ·not-nil, Memᴰ·cast}
+use mathlib.Core.Bool.{_||_}
+use mathlib.Core.List.{List, [], _∷_, _++_, map, List·Memᴰ·head, List·Memᴰ·tail, Memᴰ·cast}
 use mathlib.Core.Logic.{_≢_}
 use mathlib.Core.Path.{_≡_, refl, sym, ap, ap₂, _∙_, subst}
 use Prim.Native.Nat.{ℕ, zero, suc, _+_, _-_, _≤_, _<_}
@@ -115,12 +115,11 @@ module _ (variables n : ℕ) (vars links : List ℕ) (h : Hold variables n vars 
       rw (sym e ∙ getD-take n links i nowhere inside) (h .links-range i inside)
 
   module _ (a : ℕ) (some : 1 ≤ a) (most : a ≤ variables) where
-    pub new-nowhere : getD vars a nowhere ≡ nowhere → predecessors (new a) shape ≡ concatMap (without shape) (range 0 (n - 0)) ++ (shape ∷ [])
+    pub new-nowhere : getD vars a nowhere ≡ nowhere → predecessors (new a) shape ≡ concatMap (without shape) (range 0 n) ++ (shape ∷ [])
     new-nowhere e =
-        let all : size shape ≡ n - 0 = omega (arith, long-links) in
         new-at-nowhere a shape some (omega (arith, long-vars)) (rw long-links vars-below) (rw long-links links-below)
         (var-in variables n vars links a some most ∙ e)
-        ∙ ap (λ (m : ℕ). concatMap (without shape) (range 0 m) ++ (shape ∷ [])) all
+        ∙ ap (λ (m : ℕ). concatMap (without shape) (range 0 m) ++ (shape ∷ [])) long-links
 
     pub new-none : (getD vars a nowhere ≡ nowhere → ⊥) → getD vars a nowhere < 3 → predecessors (new a) shape ≡ []
     new-none z b = go (getD vars a nowhere) (var-in variables n vars links a some most) z b

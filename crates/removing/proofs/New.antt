@@ -4,7 +4,6 @@ use mathlib.Core.List.{List, [], _∷_, _++_, map, List·Memᴰ·head, List·Mem
 use mathlib.Core.Logic.{_≢_}
 use mathlib.Core.Path.{_≡_, refl, sym, ap, ap₂, _∙_}
 use Prim.Native.Nat.{ℕ, zero, suc, _+_, _≤_, _<_}
-use native.Mathlib.Nat.{zero-add}
 use native.Mathlib.Omega.{arith}
 use borrow.Author.Tests.{lt-ltb}
 use lib.Dec.{T, eqb}
@@ -12,7 +11,7 @@ use lib.ListN.{length, getD, set}
 use lib.Seq.{getD-set-same, set-set, set-getD}
 use Rattle.lists.specs.List.{_∈_, absent, concatMap, keep}
 use Rattle.lists.specs.Range.{range}
-use Rattle.lists.proofs.List.{concatMap-append, concatMap-range}
+use Rattle.lists.proofs.List.{concatMap-append}
 use Rattle.lists.proofs.Reflect.{Reflect, r-absent, r-and, is-true, is-false}
 use Rattle.heap.specs.Operation.{new}
 use Rattle.heap.specs.Place.{nowhere, null, dangling, cell}
