@@ -1,3 +1,4 @@
+-- STUB: goes with src/covering.rt.
 use Rattle.checker.proofs.covering.take_cover.Statement.{statement}
 use Rattle.checker.proofs.covering.take_cover.Tie as tie
 
