@@ -1,4 +1,8 @@
+pub mod CoverPlace
 pub mod Taking
+pub mod Turning
+pub mod Places
+pub mod Made
 pub mod Loading
 pub mod Lists
 pub mod Chain

@@ -37,7 +37,7 @@ use Rattle.checker.specs.declared.going.Going.{Going}
 use Rattle.checker.specs.declared.going.Going.the-variants.{On, Refused}
 use Rattle.checker.specs.declared.going.Taken.{Taken}
 use Rattle.checker.proofs.Empty.{start-place}
-use Rattle.checker.proofs.Taking.{take-each}
+use Rattle.checker.proofs.Taking.{takeAll-each}
 
 -- ---- lengths
 
@@ -80,13 +80,13 @@ module _ (cert : List ℕ) (j : Job) (ms : List Located) (at : ℕ) (g : Going) 
   unfolding readCovers
   covers-refused why place g-is =
       let r = each (readCover (certificateBuffer cert) ms) (owed j ms) at in
-      sym (ap answer (by-each r (taken ∙ take-each cert ms (owed j ms) 0 at) .0 why place g-is))
+      sym (ap answer (by-each r (taken ∙ takeAll-each cert ms (owed j ms) 0 at) .0 why place g-is))
 
   module _ (t : Taken) (g-is : g ≡ On t) where
     -- all covers were taken
     reached : (t .covers ≡ length (owed j ms)) × (readCovers cert j ms at ≡ after [] (t .at))
     unfolding readCovers
-    reached = by-each (each (readCover (certificateBuffer cert) ms) (owed j ms) at) (taken ∙ take-each cert ms (owed j ms) 0 at) .1 t g-is
+    reached = by-each (each (readCover (certificateBuffer cert) ms) (owed j ms) at) (taken ∙ takeAll-each cert ms (owed j ms) 0 at) .1 t g-is
 
     pub covers-left : t .at < length cert → refused 10 (t .at) ≡ answer (readCovers cert j ms at)
     unfolding end
