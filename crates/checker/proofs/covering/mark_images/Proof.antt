@@ -1,0 +1,79 @@
+use Prim.Native.Nat.{ℕ, _+_, _-_, _*_, _<_, _≤_}
+use mathlib.Core.Path.{_≡_, refl, ap, _∙_, sym}
+use native.Mathlib.Omega.{arith}
+use lib.ListN.{length, getD, take, drop, set}
+use mathlib.Core.Logic.{⊎-elim}
+use borrow.Author.Needs.{needs}
+use Rattle.checker.proofs.covering.mark_images.Statement.{statement}
+use Rattle.checker.proofs.covering.mark_images.Tie as tie
+use Rattle.checker.proofs.covering.mark_images.Reads as reads
+use Rattle.checker.proofs.covering.mark_images.Lts as lts
+use Rattle.checker.proofs.covering.wide.Reads as wide-reads
+
+abbrev Inv-loop : tie.InvT-loop
+Inv-loop images count marks₀ i₀ marks i = ?
+
+abbrev μ-loop : tie.MeasureT-loop
+μ-loop images count marks₀ i₀ marks i = ?
+
+-- src/covering.rt:48:5
+loop-holds : tie.Need-loop-holds Inv-loop μ-loop
+loop-holds c = search needs
+
+-- src/covering.rt:49:29
+add-wide : tie.Need-add-wide Inv-loop μ-loop
+add-wide c = search needs
+
+-- src/covering.rt:49:22
+element-copy-out-wide : tie.Need-element-copy-out-wide Inv-loop μ-loop
+element-copy-out-wide c = search needs
+
+-- src/covering.rt:49:13
+wide-requires : tie.Need-wide-requires Inv-loop μ-loop
+wide-requires c κs = search needs
+
+-- src/covering.rt:50:12
+element-copy-out-if1 : tie.Need-element-copy-out-if1 Inv-loop μ-loop
+element-copy-out-if1 c = search needs
+
+-- src/covering.rt:51:13
+returns : tie.Need-returns Inv-loop μ-loop
+returns c = search needs
+
+-- src/covering.rt:53:9
+element-write-marks : tie.Need-element-write-marks Inv-loop μ-loop
+element-write-marks c = search needs
+
+-- src/covering.rt:54:9
+add-i : tie.Need-add-i Inv-loop μ-loop
+add-i c = search needs
+
+-- src/covering.rt:48:5
+loop-less : tie.Need-loop-less Inv-loop μ-loop
+loop-less c = search needs
+
+-- src/covering.rt:48:5
+loop-again : tie.Need-loop-again Inv-loop μ-loop
+loop-again c = search needs
+
+-- src/covering.rt:43:1
+returns-2 : tie.Need-returns-2 Inv-loop μ-loop
+returns-2 c = search needs
+
+pub mark-images-spec : {M : Type 1} → statement M
+mark-images-spec =
+    tie.close
+    (tie.spec
+    Inv-loop
+    μ-loop
+    loop-holds
+    add-wide
+    element-copy-out-wide
+    wide-requires
+    element-copy-out-if1
+    returns
+    element-write-marks
+    add-i
+    loop-less
+    loop-again
+    returns-2)

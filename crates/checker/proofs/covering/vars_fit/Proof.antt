@@ -1,0 +1,79 @@
+use Prim.Native.Nat.{ℕ, _+_, _-_, _*_, _<_, _≤_}
+use mathlib.Core.Path.{_≡_, refl, ap, _∙_, sym}
+use native.Mathlib.Omega.{arith}
+use lib.ListN.{length, getD, take, drop, set}
+use mathlib.Core.Logic.{⊎-elim}
+use borrow.Author.Needs.{needs}
+use Rattle.checker.proofs.covering.vars_fit.Statement.{statement}
+use Rattle.checker.proofs.covering.vars_fit.Tie as tie
+use Rattle.checker.proofs.covering.vars_fit.Reads as reads
+use Rattle.checker.proofs.covering.vars_fit.Lts as lts
+use Rattle.checker.proofs.covering.wide.Reads as wide-reads
+
+abbrev Inv-loop : tie.InvT-loop
+Inv-loop cert first count images vars fit₀ i₀ fit i = ?
+
+abbrev μ-loop : tie.MeasureT-loop
+μ-loop cert first count images vars fit₀ i₀ fit i = ?
+
+-- src/covering.rt:66:5
+loop-holds : tie.Need-loop-holds Inv-loop μ-loop
+loop-holds c = search needs
+
+-- src/covering.rt:67:27
+add-wide : tie.Need-add-wide Inv-loop μ-loop
+add-wide c = search needs
+
+-- src/covering.rt:67:22
+shared-slice-read-wide : tie.Need-shared-slice-read-wide Inv-loop μ-loop
+shared-slice-read-wide c = search needs
+
+-- src/covering.rt:67:13
+wide-requires : tie.Need-wide-requires Inv-loop μ-loop
+wide-requires c κs = search needs
+
+-- src/covering.rt:68:27
+add-if2 : tie.Need-add-if2 Inv-loop μ-loop
+add-if2 c = search needs
+
+-- src/covering.rt:68:22
+element-copy-out-if2 : tie.Need-element-copy-out-if2 Inv-loop μ-loop
+element-copy-out-if2 c = search needs
+
+-- src/covering.rt:68:37
+element-copy-out-if2-2 : tie.Need-element-copy-out-if2-2 Inv-loop μ-loop
+element-copy-out-if2-2 c = search needs
+
+-- src/covering.rt:71:9
+add-i : tie.Need-add-i Inv-loop μ-loop
+add-i c = search needs
+
+-- src/covering.rt:66:5
+loop-less : tie.Need-loop-less Inv-loop μ-loop
+loop-less c = search needs
+
+-- src/covering.rt:66:5
+loop-again : tie.Need-loop-again Inv-loop μ-loop
+loop-again c = search needs
+
+-- src/covering.rt:60:1
+returns : tie.Need-returns Inv-loop μ-loop
+returns c = search needs
+
+pub vars-fit-spec : {M : Type 1} → statement M
+vars-fit-spec =
+    tie.close
+    (tie.spec
+    Inv-loop
+    μ-loop
+    loop-holds
+    add-wide
+    shared-slice-read-wide
+    wide-requires
+    add-if2
+    element-copy-out-if2
+    element-copy-out-if2-2
+    add-i
+    loop-less
+    loop-again
+    returns)
