@@ -1,1 +1,3 @@
 pub mod Trail
+pub mod Marks
+pub mod Follow
