@@ -1,3 +1,6 @@
 pub mod Trail
 pub mod Marks
 pub mod Follow
+pub mod Images
+pub mod Marking
+pub mod Paths
