@@ -4,3 +4,4 @@ pub mod Follow
 pub mod Images
 pub mod Marking
 pub mod Paths
+pub mod Variables

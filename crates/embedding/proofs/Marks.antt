@@ -79,7 +79,7 @@ image-other : (xs : List ℕ) (y p : ℕ) → p ≢ cell y → isImage (xs ++ (y
 image-other [] y p n = rw (ne-eqb p (cell y) n) refl
 image-other (x ∷ xs) y p n = ap (λ (b : Bool). eqb p (cell x) || b) (image-other xs y p n)
 
-or-true : (b : Bool) → b || true ≡ true
+pub or-true : (b : Bool) → b || true ≡ true
 or-true true = refl
 or-true false = refl
 

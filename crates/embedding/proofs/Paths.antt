@@ -19,7 +19,7 @@ use Rattle.embedding.specs.Images.{pathFits}
 use Rattle.embedding.specs.Marks.{Marks, endFrom, pathFrom, Followed}
 use Rattle.embedding.proofs.Images.{somewhere}
 
-and-false : (b : Bool) → b && false ≡ false
+pub and-false : (b : Bool) → b && false ≡ false
 and-false true = refl
 and-false false = refl
 

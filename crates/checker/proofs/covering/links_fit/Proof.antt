@@ -1,0 +1,100 @@
+use Prim.Native.Nat.{ℕ, _+_, _-_, _*_, _<_, _≤_}
+use mathlib.Core.Path.{_≡_, refl, ap, _∙_, sym}
+use native.Mathlib.Omega.{arith}
+use lib.ListN.{length, getD, take, drop, set}
+use mathlib.Core.Logic.{⊎-elim}
+use borrow.Author.Needs.{needs}
+use Rattle.checker.proofs.covering.links_fit.Statement.{statement}
+use Rattle.checker.proofs.covering.links_fit.Tie as tie
+use Rattle.checker.proofs.covering.links_fit.Reads as reads
+use Rattle.checker.proofs.covering.links_fit.Lts as lts
+use Rattle.checker.proofs.covering.walk.Reads as walk-reads
+use Rattle.checker.proofs.covering.wide.Reads as wide-reads
+
+abbrev Inv-loop : tie.InvT-loop
+Inv-loop cert first count images marks₀ links i₀ marks i = ?
+
+abbrev μ-loop : tie.MeasureT-loop
+μ-loop cert first count images marks₀ links i₀ marks i = ?
+
+-- src/covering.rt:105:5
+loop-holds : tie.Need-loop-holds Inv-loop μ-loop
+loop-holds c = search needs
+
+-- src/covering.rt:106:27
+add-wide : tie.Need-add-wide Inv-loop μ-loop
+add-wide c = search needs
+
+-- src/covering.rt:106:22
+shared-slice-read-wide : tie.Need-shared-slice-read-wide Inv-loop μ-loop
+shared-slice-read-wide c = search needs
+
+-- src/covering.rt:106:13
+wide-requires : tie.Need-wide-requires Inv-loop μ-loop
+wide-requires c κs = search needs
+
+-- src/covering.rt:108:36
+add-wide-2 : tie.Need-add-wide-2 Inv-loop μ-loop
+add-wide-2 c = search needs
+
+-- src/covering.rt:108:29
+element-copy-out-wide : tie.Need-element-copy-out-wide Inv-loop μ-loop
+element-copy-out-wide c = search needs
+
+-- src/covering.rt:108:17
+wide-requires-2 : tie.Need-wide-requires-2 Inv-loop μ-loop
+wide-requires-2 c κs = search needs
+
+-- src/covering.rt:109:28
+element-copy-out-wide-2 : tie.Need-element-copy-out-wide-2 Inv-loop μ-loop
+element-copy-out-wide-2 c = search needs
+
+-- src/covering.rt:109:17
+wide-requires-3 : tie.Need-wide-requires-3 Inv-loop μ-loop
+wide-requires-3 c κs = search needs
+
+-- src/covering.rt:110:16
+walk-requires : tie.Need-walk-requires Inv-loop μ-loop
+walk-requires c κs = search needs
+
+-- src/covering.rt:111:17
+returns : tie.Need-returns Inv-loop μ-loop
+returns c = search needs
+
+-- src/covering.rt:114:9
+add-i : tie.Need-add-i Inv-loop μ-loop
+add-i c = search needs
+
+-- src/covering.rt:105:5
+loop-less : tie.Need-loop-less Inv-loop μ-loop
+loop-less c = search needs
+
+-- src/covering.rt:105:5
+loop-again : tie.Need-loop-again Inv-loop μ-loop
+loop-again c = search needs
+
+-- src/covering.rt:93:1
+returns-2 : tie.Need-returns-2 Inv-loop μ-loop
+returns-2 c = search needs
+
+pub links-fit-spec : {M : Type 1} → statement M
+links-fit-spec =
+    tie.close
+    (tie.spec
+    Inv-loop
+    μ-loop
+    loop-holds
+    add-wide
+    shared-slice-read-wide
+    wide-requires
+    add-wide-2
+    element-copy-out-wide
+    wide-requires-2
+    element-copy-out-wide-2
+    wide-requires-3
+    walk-requires
+    returns
+    add-i
+    loop-less
+    loop-again
+    returns-2)
