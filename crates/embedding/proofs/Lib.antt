@@ -4,4 +4,5 @@ pub mod Follow
 pub mod Images
 pub mod Marking
 pub mod Paths
+pub mod Fitting
 pub mod Variables

@@ -3,6 +3,9 @@ use mathlib.Core.Path.{_≡_, refl, ap, _∙_, sym}
 use native.Mathlib.Omega.{arith}
 use lib.ListN.{length, getD, take, drop, set}
 use mathlib.Core.Logic.{⊎-elim}
+use Rattle.shape.specs.Shape.{Shape}
+use Rattle.embedding.specs.Marks.{Linking}
+use Rattle.embedding.proofs.Fitting.{Fitting, fit-none, fit-all, place-in, fit-skip, fit-walk, fit-good, fit-bad}
 use borrow.Author.Needs.{needs}
 use Rattle.checker.proofs.covering.links_fit.Statement.{statement}
 use Rattle.checker.proofs.covering.links_fit.Tie as tie
@@ -12,22 +15,22 @@ use Rattle.checker.proofs.covering.walk.Reads as walk-reads
 use Rattle.checker.proofs.covering.wide.Reads as wide-reads
 
 abbrev Inv-loop : tie.InvT-loop
-Inv-loop cert first count images marks₀ links i₀ marks i = ?
+Inv-loop cert first count images marks₀ links i₀ marks i = (i ≤ count) × ((member covered : Shape) (l : Linking member covered cert first count images marks₀ links) → Fitting member covered cert first count images marks₀ links l marks i)
 
 abbrev μ-loop : tie.MeasureT-loop
-μ-loop cert first count images marks₀ links i₀ marks i = ?
+μ-loop cert first count images marks₀ links i₀ marks i = count - i
 
 -- src/covering.rt:105:5
 loop-holds : tie.Need-loop-holds Inv-loop μ-loop
-loop-holds c = search needs
+loop-holds c = (omega arith, λ m p l. fit-none _ _ _ _ _ _ _ _ l)
 
 -- src/covering.rt:106:27
 add-wide : tie.Need-add-wide Inv-loop μ-loop
-add-wide c = search needs
+add-wide c = let (m, p, l) = c .before .before .before .pre in omega (arith, l .inside)
 
 -- src/covering.rt:106:22
 shared-slice-read-wide : tie.Need-shared-slice-read-wide Inv-loop μ-loop
-shared-slice-read-wide c = search needs
+shared-slice-read-wide c = let (m, p, l) = c .before .before .before .before .pre in omega (arith, l .inside)
 
 -- src/covering.rt:106:13
 wide-requires : tie.Need-wide-requires Inv-loop μ-loop
@@ -39,7 +42,7 @@ add-wide-2 c = search needs
 
 -- src/covering.rt:108:29
 element-copy-out-wide : tie.Need-element-copy-out-wide Inv-loop μ-loop
-element-copy-out-wide c = search needs
+element-copy-out-wide c = let (m, p, l) = c .before .before .before .before .before .before .pre in omega (arith, l .images .few)
 
 -- src/covering.rt:108:17
 wide-requires-2 : tie.Need-wide-requires-2 Inv-loop μ-loop
@@ -47,7 +50,7 @@ wide-requires-2 c κs = search needs
 
 -- src/covering.rt:109:28
 element-copy-out-wide-2 : tie.Need-element-copy-out-wide-2 Inv-loop μ-loop
-element-copy-out-wide-2 c = search needs
+element-copy-out-wide-2 c = let (m, p, l) = c .before .before .before .before .before .before .before .before .pre in omega (arith, l .images .few, place-in _ _ _ _ _ _ _ _ l _ _ (c .before .before .before .before .before .before .loop .inv .1 m p l) (omega arith) _ (c .before .before .before .wide .ensures .0))
 
 -- src/covering.rt:109:17
 wide-requires-3 : tie.Need-wide-requires-3 Inv-loop μ-loop
@@ -55,11 +58,11 @@ wide-requires-3 c κs = search needs
 
 -- src/covering.rt:110:16
 walk-requires : tie.Need-walk-requires Inv-loop μ-loop
-walk-requires c κs = search needs
+walk-requires c κs = let (m, p, l) = c .before .before .before .before .before .before .before .before .before .before .before .pre in (p .links, _, _, fit-walk _ _ _ _ _ _ _ _ l _ _ (c .before .before .before .before .before .before .before .before .before .loop .inv .1 m p l) (omega arith) _ (c .before .before .before .before .before .before .wide .ensures .0) _ (c .before .before .before .wide2 .ensures .0))
 
 -- src/covering.rt:111:17
 returns : tie.Need-returns Inv-loop μ-loop
-returns c = search needs
+returns c = λ m p l. let f = c .before .before .before .before .before .before .before .before .before .before .before .loop .inv .1 m p l in let e = c .before .before .before .before .before .before .before .before .wide .ensures .0 in let s = c .before .before .before .before .before .wide2 .ensures .0 in fit-bad _ _ _ _ _ _ _ _ l _ _ f (omega arith) _ e _ s (c .before .before .before .before .before .before .before .if1 .taken) _ (c .before .before .before .wide3 .ensures .0) _ _ (c .before .walk .ensures _ _ _ (fit-walk _ _ _ _ _ _ _ _ l _ _ f (omega arith) _ e _ s)) (c .if2 .taken)
 
 -- src/covering.rt:114:9
 add-i : tie.Need-add-i Inv-loop μ-loop
@@ -71,11 +74,11 @@ loop-less c = search needs
 
 -- src/covering.rt:105:5
 loop-again : tie.Need-loop-again Inv-loop μ-loop
-loop-again c = search needs
+loop-again c = (omega arith, λ m p l. let f = c .before .before .before .before .loop .inv .1 m p l in let e = c .before .wide .ensures .0 in ⊎-elim (λ (n, _, s, _, t, _, w, z, y). rw y (fit-good _ _ _ _ _ _ _ _ l _ _ f (omega arith) _ e _ (s .ensures .0) (n .taken) _ (t .ensures .0) _ _ (w .ensures _ _ _ (fit-walk _ _ _ _ _ _ _ _ l _ _ f (omega arith) _ e _ (s .ensures .0))) (z .left))) (λ (n, y). fit-skip _ _ _ _ _ _ _ _ l _ _ f (omega arith) _ e _ y (n .left)) (c .if1 .came))
 
 -- src/covering.rt:93:1
 returns-2 : tie.Need-returns-2 Inv-loop μ-loop
-returns-2 c = search needs
+returns-2 c = λ m p l. fit-all _ _ _ _ _ _ _ _ l _ _ (c .before .loop .inv .1 m p l) (omega arith)
 
 pub links-fit-spec : {M : Type 1} → statement M
 links-fit-spec =
