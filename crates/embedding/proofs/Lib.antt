@@ -6,3 +6,4 @@ pub mod Marking
 pub mod Paths
 pub mod Fitting
 pub mod Variables
+pub mod Reading
