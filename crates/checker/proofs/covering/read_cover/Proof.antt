@@ -3,6 +3,7 @@ use mathlib.Core.Path.{_≡_, refl, ap, _∙_, sym}
 use native.Mathlib.Omega.{arith}
 use lib.ListN.{length, getD, take, drop, set}
 use mathlib.Core.Logic.{⊎-elim}
+use Rattle.checker.proofs.CoverReading.{cover-unreadable, cover-outside, cover-refused, cover-taken}
 use borrow.Author.Needs.{needs}
 use Rattle.checker.proofs.covering.read_cover.Statement.{statement}
 use Rattle.checker.proofs.covering.read_cover.Tie as tie
@@ -26,11 +27,11 @@ enum-told c = search needs
 
 -- src/covering.rt:187:9
 returns : tie.Need-returns
-returns c = search needs
+returns c = λ v t. cover-unreadable _ v _ _ t _ _ _ _ (sym (c .before .before .read-number .ensures) ∙ c .enum-told .given .1)
 
 -- src/covering.rt:190:9
 returns-2 : tie.Need-returns-2
-returns-2 c = search needs
+returns-2 c = λ v t. cover-outside _ v _ _ t _ _ _ _ _ (sym (c .before .before .before .before .read-number .ensures) ∙ c .before .before .r .given .1) (c .if1 .taken)
 
 -- src/covering.rt:192:17
 mul-start : tie.Need-mul-start
@@ -42,15 +43,15 @@ element-copy-out-start c = search needs
 
 -- src/covering.rt:192:17
 cast-start : tie.Need-cast-start
-cast-start c = search needs
+cast-start c = let (v, t) = c .before .before .before .before .before .before .before .pre .2 in let i = t .entry (c .before .before .before .r .given .0 .0) (omega arith) .inside in omega arith
 
 -- src/covering.rt:193:50
 add-wide : tie.Need-add-wide
-add-wide c = search needs
+add-wide c = let (v, t) = c .before .before .before .before .before .before .before .pre .2 in let i = t .entry (c .before .before .before .r .given .0 .0) (omega arith) .inside in omega arith
 
 -- src/covering.rt:193:45
 shared-slice-read-wide : tie.Need-shared-slice-read-wide
-shared-slice-read-wide c = search needs
+shared-slice-read-wide c = let (v, t) = c .before .before .before .before .before .before .before .before .pre .2 in let i = t .entry (c .before .before .before .before .r .given .0 .0) (omega arith) .inside in omega arith
 
 -- src/covering.rt:193:40
 wide-requires : tie.Need-wide-requires
@@ -58,7 +59,7 @@ wide-requires c κs = search needs
 
 -- src/covering.rt:193:9
 read-images-requires : tie.Need-read-images-requires
-read-images-requires c κs = search needs
+read-images-requires c κs = let (v, t) = c .before .before .before .before .before .before .before .before .before .before .pre .2 in (c .before .before .before .before .before .before .before .before .before .before .pre .0, omega (arith, t .entry (c .before .before .before .before .before .before .r .given .0 .0) (omega arith) .cells), c .before .before .before .before .before .before .before .before .before .before .pre .1)
 
 -- src/covering.rt:195:21
 enum-known-r-2 : tie.Need-enum-known-r-2
@@ -70,11 +71,11 @@ enum-known-r-3 c = search needs
 
 -- src/covering.rt:174:1
 returns-3 : tie.Need-returns-3
-returns-3 c = search needs
+returns-3 c = λ v t. cover-taken _ v _ _ t _ _ _ _ _ (sym (c .before .before .before .before .before .before .before .before .before .before .before .before .read-number .ensures) ∙ c .before .before .before .before .before .before .before .before .before .before .r .given .1) (omega arith) _ (c .before .before .before .before .before .wide .ensures .0) _ (c .before .before .before .read-images .ensures) _ (c .before .r2 .given .1)
 
 -- src/covering.rt:174:1
 returns-4 : tie.Need-returns-4
-returns-4 c = search needs
+returns-4 c = λ v t. cover-refused _ v _ _ t _ _ _ _ _ (sym (c .before .before .before .before .before .before .before .before .before .before .before .before .read-number .ensures) ∙ c .before .before .before .before .before .before .before .before .before .before .r .given .1) (omega arith) _ (c .before .before .before .before .before .wide .ensures .0) _ (c .before .before .before .read-images .ensures) _ _ (c .before .r3 .given .1)
 
 pub read-cover-spec : {M : Type 1} → statement M
 read-cover-spec =

@@ -1,0 +1,94 @@
+use Prim.Native.Nat.{ℕ, _+_, _-_, _*_, _<_, _≤_}
+use mathlib.Core.Path.{_≡_, refl, ap, _∙_, sym}
+use native.Mathlib.Omega.{arith}
+use lib.ListN.{length, getD, take, drop, set}
+use mathlib.Core.Logic.{⊎-elim}
+use borrow.Author.Needs.{needs}
+use Rattle.checker.proofs.covering.embeds.Statement.{statement}
+use Rattle.checker.proofs.covering.embeds.Tie as tie
+use Rattle.checker.proofs.covering.embeds.Reads as reads
+use Rattle.checker.proofs.covering.embeds.Lts as lts
+use Rattle.checker.proofs.covering.links_fit.Reads as links-fit-reads
+use Rattle.checker.proofs.covering.mark_images.Reads as mark-images-reads
+use Rattle.checker.proofs.covering.vars_fit.Reads as vars-fit-reads
+use Rattle.checker.proofs.covering.wide.Reads as wide-reads
+
+-- src/covering.rt:131:27
+add-wide : tie.Need-add-wide
+add-wide c = search needs
+
+-- src/covering.rt:131:22
+shared-slice-read-wide : tie.Need-shared-slice-read-wide
+shared-slice-read-wide c = search needs
+
+-- src/covering.rt:131:9
+wide-requires : tie.Need-wide-requires
+wide-requires c κs = search needs
+
+-- src/covering.rt:133:5
+array-write-marks : tie.Need-array-write-marks
+array-write-marks c = search needs
+
+-- src/covering.rt:134:5
+array-write-marks-2 : tie.Need-array-write-marks-2
+array-write-marks-2 c = search needs
+
+-- src/covering.rt:135:5
+array-write-marks-3 : tie.Need-array-write-marks-3
+array-write-marks-3 c = search needs
+
+-- src/covering.rt:136:9
+mark-images-requires : tie.Need-mark-images-requires
+mark-images-requires c κs = search needs
+
+-- src/covering.rt:137:9
+returns : tie.Need-returns
+returns c = search needs
+
+-- src/covering.rt:139:24
+add-vars-fit : tie.Need-add-vars-fit
+add-vars-fit c = search needs
+
+-- src/covering.rt:139:9
+vars-fit-requires : tie.Need-vars-fit-requires
+vars-fit-requires c κs = search needs
+
+-- src/covering.rt:140:9
+returns-2 : tie.Need-returns-2
+returns-2 c = search needs
+
+-- src/covering.rt:142:21
+add-links-fit : tie.Need-add-links-fit
+add-links-fit c = search needs
+
+-- src/covering.rt:142:21
+add-links-fit-2 : tie.Need-add-links-fit-2
+add-links-fit-2 c = search needs
+
+-- src/covering.rt:142:5
+links-fit-requires : tie.Need-links-fit-requires
+links-fit-requires c κs = search needs
+
+-- src/covering.rt:120:1
+returns-3 : tie.Need-returns-3
+returns-3 c = search needs
+
+pub embeds-spec : {M : Type 1} → statement M
+embeds-spec =
+    tie.close
+    (tie.spec
+    add-wide
+    shared-slice-read-wide
+    wide-requires
+    array-write-marks
+    array-write-marks-2
+    array-write-marks-3
+    mark-images-requires
+    returns
+    add-vars-fit
+    vars-fit-requires
+    returns-2
+    add-links-fit
+    add-links-fit-2
+    links-fit-requires
+    returns-3)
