@@ -1,1 +1,2 @@
 pub mod CoverReading
+pub mod CoverTaking

@@ -27,6 +27,11 @@ pub record ImagesRead (cert : List ℕ) (first n count : ℕ) (r : Reached) (cod
   pub reads : imagesOf r (imagesIn count codes) ≡ many count (ranged (certificateBuffer cert) 0 n) first
   pub images : (next : ℕ) → r ≡ At next → Images count n codes
 
+-- where the reading of a cover ended
+abbrev pub withoutMember : CoverRead → Reached
+withoutMember (Taken m next) = At next
+withoutMember (NotRead r place) = Refused r place
+
 module _ (cert : List ℕ) (variables : ℕ) (starts : List ℕ) where
   -- member m of the table
   abbrev pub memberAt : ℕ → Located

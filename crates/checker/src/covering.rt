@@ -18,7 +18,7 @@ ghost use Rattle.layout.specs.Arrays.{shapeIn, Hold};
 ghost use Rattle.layout.specs.Entries.{locatedAt, membersAt, Entry, Table};
 ghost use Rattle.embedding.specs.Images.{imagesIn, Images, once, varFitsIn, pathFits};
 ghost use Rattle.embedding.specs.Marks.{Marks, Walking, Followed, Linking};
-ghost use Rattle.checker.specs.Covering.{ImagesRead, CoverIs};
+ghost use Rattle.checker.specs.Covering.{ImagesRead, CoverIs, withoutMember};
 
 // A cover as read: its member's number and the next place, with its images in an array beside; or a refusal and its place.
 pub(crate) enum CoverRead {
@@ -197,8 +197,10 @@ fn read_cover(
     }
 }
 
-// The refusal of a cover that was not read.
-fn refused(read: CoverRead) -> Reached {
+// The place after a cover, or its refusal.
+fn refused(read: CoverRead) -> Reached
+    ensures { λ r. ⌜ r ≡ withoutMember read ⌝ }
+{
     match read {
         CoverRead::Taken(_, next) => Reached::At(next),
         CoverRead::Refused(refusal, place) => Reached::Refused(refusal, place),

@@ -10,6 +10,7 @@ use lib.Seq.{getD-take, getD-drop, getD-set-same, getD-set-other}
 use Rattle.heap.specs.Place.{nowhere, cell}
 use Rattle.cover.specs.Test.{imageMap}
 use Rattle.embedding.specs.Images.{imagesIn, Images}
+use Rattle.embedding.proofs.Marks.{zeros}
 
 getD-sub : (l : List ℕ) (i : ℕ) → getD (map (λ p. p - 3) l) i 0 ≡ getD l i 0 - 3
 getD-sub [] i = refl
@@ -42,3 +43,15 @@ module _ (count n : ℕ) (codes : List ℕ) (m : Images count n codes) where
 
   pub image-below : (i : ℕ) → i < count → getD (imagesIn count codes) i 0 < n
   image-below i b = omega (arith, image-at i b, m .high i b)
+
+pub images-none : (n : ℕ) → Images 0 n (0 ∷ 1 ∷ 2 ∷ zeros 12)
+images-none n =
+    record {
+      room = refl;
+      few = omega arith;
+      nowhere-fixed = refl;
+      null-fixed = refl;
+      dangling-fixed = refl;
+      low = λ i b. absurd (omega arith);
+      high = λ i b. absurd (omega arith);
+    }

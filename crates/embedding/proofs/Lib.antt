@@ -7,3 +7,4 @@ pub mod Paths
 pub mod Fitting
 pub mod Variables
 pub mod Reading
+pub mod Whole

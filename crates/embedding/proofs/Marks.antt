@@ -6,7 +6,7 @@ use mathlib.Core.Path.{_≡_, refl, sym, ap, ap₂, _∙_}
 use Prim.Native.Nat.{ℕ, zero, suc, _<_}
 use native.Mathlib.Decide.{ℕ-discrete}
 use native.Mathlib.Omega.{arith}
-use borrow.Author.Tests.{eq-eqb, ne-eqb}
+use borrow.Author.Tests.{eq-eqb, ne-eqb, le-ltb}
 use lib.Dec.{T, eqb, eqb-refl, ltb}
 use lib.ListN.{length, getD, set, length-set}
 use lib.Seq.{getD-set-same, getD-set-other}
@@ -32,6 +32,26 @@ pub mark-stop : (a b : Bool) → mark a b ≢ 0 → mark a b ≢ 2 → a ≡ tru
 mark-stop true b n m = refl
 mark-stop false true n m = absurd (n refl)
 mark-stop false false n m = absurd (m refl)
+
+-- ---- nothing is marked yet
+
+abbrev pub zeros : ℕ → List ℕ
+zeros zero = []
+zeros (suc n) = 0 ∷ zeros n
+
+zero-at : (n i : ℕ) → getD (zeros n) i 0 ≡ 0
+zero-at zero i = refl
+zero-at (suc n) zero = refl
+zero-at (suc n) (suc i) = zero-at n i
+
+pub marks-none : Marks [] [] (1 ∷ 1 ∷ 1 ∷ zeros 14)
+marks-none = record { room = refl; marked = λ p b. go p }
+  where
+    go : (p : ℕ) → getD (1 ∷ 1 ∷ 1 ∷ zeros 14) p 0 ≡ mark (stops [] p) true
+    go zero = refl
+    go (suc zero) = refl
+    go (suc (suc zero)) = refl
+    go (suc (suc (suc i))) = zero-at 14 i ∙ rw (le-ltb (cell i) (cell 0) (omega arith)) refl
 
 -- ---- how many places are free
 
