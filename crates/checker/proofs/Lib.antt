@@ -1,2 +1,3 @@
 pub mod CoverReading
 pub mod CoverTaking
+pub mod CoverEnd
