@@ -1,19 +1,18 @@
 -- A cover that is taken has a byte, and ends within the certificate.
-use mathlib.Core.Bool.{Bool}
 use mathlib.Core.List.{List}
 use mathlib.Core.Option.{Option}
-use mathlib.Core.Path.{_≡_, refl}
+use mathlib.Core.Path.{_≡_}
 use Prim.Native.Nat.{ℕ, zero, suc, _+_, _-_, _≤_, _<_}
 use native.Mathlib.Omega.{arith}
 use lib.ListN.{length, getD, getElem?}
 use Rattle.lists.proofs.Reflect.{r-eq, r-le, r-lt, cond-cases}
-use Rattle.number.specs.Number.{numberIn, numberAt}
+use Rattle.number.specs.Number.{numberIn}
 use Rattle.number.specs.declared.Read.{Read}
 use Rattle.number.specs.declared.Read.the-variants.{Number, Unreadable}
 use Rattle.run.specs.Run.{Located}
 use Rattle.cover.specs.Cover.{holds?}
 use Rattle.format.specs.Certificate.{readCover}
-use Rattle.format.specs.Parser.{parsed, Parser, many, certificateBuffer, readAs}
+use Rattle.format.specs.Parser.{parsed, many, certificateBuffer, readAs}
 use Rattle.format.proofs.Parsing.{then, require-sound, read-sound}
 use Rattle.format.proofs.Sequence.{number-in}
 

@@ -1,10 +1,10 @@
 -- One cover as it is read, case by case.
 use mathlib.Core.List.{List, map}
 use mathlib.Core.Option.{some, none}
-use mathlib.Core.Path.{_≡_, refl, sym, ap, _∙_}
+use mathlib.Core.Path.{_≡_, refl, ap, _∙_}
 use Prim.Native.Nat.{ℕ, zero, suc, _+_, _≤_, _<_}
 use native.Mathlib.Omega.{arith}
-use lib.ListN.{length, getD, getElem?, drop, length-drop}
+use lib.ListN.{getD, getElem?, drop, length-drop}
 use lib.Seq.{length-take-le}
 use Rattle.lists.specs.Range.{range}
 use Rattle.number.specs.Number.{numberAt}
@@ -77,8 +77,14 @@ module _ (cert : List ℕ) (variables : ℕ) (starts : List ℕ) (members : ℕ)
         cover-refused r place is =
             record {
               reads = λ covered z.
-                  rw (read-complete (certificateBuffer cert) (getElem? (membersAt cert variables starts members)) at m next _ e (member-some m b),
-                  member-size m b, ← size-is, z, ← i .reads, is) refl;
+                  rw (
+                    read-complete (certificateBuffer cert) (getElem? (membersAt cert variables starts members)) at m next _ e (member-some m b),
+                    member-size m b,
+                    ← size-is,
+                    z,
+                    ← i .reads,
+                    is,
+                  ) refl;
               member = λ m next y. let x : _≡_ {A = ℕ} 0 1 = cc in absurd (omega arith);
               images = λ m next y. let x : _≡_ {A = ℕ} 0 1 = cc in absurd (omega arith);
             }
@@ -88,8 +94,14 @@ module _ (cert : List ℕ) (variables : ℕ) (starts : List ℕ) (members : ℕ)
         cover-taken end is =
             record {
               reads = λ covered z.
-                  rw (read-complete (certificateBuffer cert) (getElem? (membersAt cert variables starts members)) at m next _ e (member-some m b),
-                  member-size m b, ← size-is, z, ← i .reads, is) refl;
+                  rw (
+                    read-complete (certificateBuffer cert) (getElem? (membersAt cert variables starts members)) at m next _ e (member-some m b),
+                    member-size m b,
+                    ← size-is,
+                    z,
+                    ← i .reads,
+                    is,
+                  ) refl;
               member = λ m′ next′ y. let x : m ≡ m′ = cc in omega arith;
               images = λ m′ next′ y. let x : m ≡ m′ = cc in rw (← x, ← size-is) (i .images end is);
             }

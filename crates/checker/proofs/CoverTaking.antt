@@ -1,8 +1,8 @@
 -- One cover as it is taken, case by case.
-use mathlib.Core.Bool.{Bool, true, false, _&&_}
+use mathlib.Core.Bool.{true, false}
 use mathlib.Core.List.{List}
 use mathlib.Core.Logic.{_≢_}
-use mathlib.Core.Path.{_≡_, refl, sym, ap, _∙_}
+use mathlib.Core.Path.{_≡_}
 use Prim.Native.Nat.{ℕ}
 use borrow.Author.Tests.{eq-eqb, ne-eqb}
 use lib.ListN.{getD}
@@ -10,7 +10,7 @@ use Rattle.run.specs.Run.{Located}
 use Rattle.cover.specs.Test.{embeds?}
 use Rattle.format.specs.Certificate.{readCover}
 use Rattle.format.specs.Parser.{parsed, fault, certificateBuffer}
-use Rattle.verdict.specs.Verdict.{refusalNumber, reachedOf}
+use Rattle.verdict.specs.Verdict.{reachedOf}
 use Rattle.verdict.specs.declared.Reached.{Reached}
 use Rattle.verdict.specs.declared.Refusal.{Refusal}
 use Rattle.layout.specs.Arrays.{shapeIn, Hold}

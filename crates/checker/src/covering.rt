@@ -139,17 +139,18 @@ fn embeds(
     if !vars_fit(cert, start + 2, variables, images, vars) {
         return false;
     }
-    links_fit(cert, start + 2 + variables, cells, images, &mut marks, links)
+    links_fit(
+        cert,
+        start + 2 + variables,
+        cells,
+        images,
+        &mut marks,
+        links,
+    )
 }
 
 // Reads images, each below n.
-fn read_images(
-    cert: &[u8],
-    first: usize,
-    n: usize,
-    count: usize,
-    images: &mut [u8; 15],
-) -> Reached
+fn read_images(cert: &[u8], first: usize, n: usize, count: usize, images: &mut [u8; 15]) -> Reached
     requires { ⌜ Images 0 n (now images) × (count ≤ 12) × (n ≤ 14) ⌝ }
     ensures { λ r. ⌜ ImagesRead (now (cert .entry)) first n count r (now (images .exit)) ⌝ }
 {

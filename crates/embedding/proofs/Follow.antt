@@ -1,11 +1,9 @@
 -- A path as it is followed with marks.
-use mathlib.Core.Bool.{true, false}
-use mathlib.Core.List.{List, [], _∷_, _++_, append-assoc, List·Memᴰ·head, List·Memᴰ·tail, Memᴰ·append-left, Memᴰ·append-right, List·Memᴰ·append-cases, List·Memᴰ·eq-of-singleton}
-use mathlib.Core.Logic.{_≢_, _⊎_, inl, inr, ⊎-elim}
-use mathlib.Core.Path.{_≡_, refl, sym, ap, subst, _∙_}
-use Prim.Native.Nat.{ℕ, zero, suc, _-_, _≤_, _<_}
+use mathlib.Core.List.{List, [], _∷_, _++_, List·Memᴰ·head, List·Memᴰ·tail, Memᴰ·append-left, Memᴰ·append-right, List·Memᴰ·append-cases, List·Memᴰ·eq-of-singleton}
+use mathlib.Core.Logic.{_≢_, _⊎_, inl, ⊎-elim}
+use mathlib.Core.Path.{_≡_, refl, sym, _∙_}
+use Prim.Native.Nat.{ℕ, zero, suc, _-_, _<_}
 use native.Mathlib.Omega.{arith}
-use lib.Dec.{T}
 use lib.ListN.{length, getD, set}
 use Rattle.lists.specs.List.{_∈_, absent, disjoint}
 use Rattle.lists.proofs.List.{mem?}
@@ -14,7 +12,7 @@ use Rattle.heap.specs.Codes.{linkIn}
 use Rattle.heap.specs.Place.{nowhere, cell}
 use Rattle.shape.proofs.Laws.{CellOf, by-number}
 use Rattle.cover.specs.Test.{stops}
-use Rattle.embedding.specs.Marks.{mark, Marks, Linked, Walking, endFrom, pathFrom, Followed}
+use Rattle.embedding.specs.Marks.{mark, Marks, Linked, Walking, Followed}
 use Rattle.embedding.proofs.Marks.{mark-free, mark-used, mark-stop, marks-like, marks-use}
 use Rattle.embedding.proofs.Trail.{free-low, Trail, trail-none, trail-more, trail-found, trail-lost}
 

@@ -1,12 +1,11 @@
 -- Images in an array.
-use mathlib.Core.List.{List, [], _∷_, _++_, map}
+use mathlib.Core.List.{List, [], _∷_, map}
 use mathlib.Core.Logic.{_≢_}
 use mathlib.Core.Path.{_≡_, refl, sym, ap, _∙_}
-use Prim.Native.Nat.{ℕ, zero, suc, _+_, _-_, _≤_, _<_}
-use native.Mathlib.Numerals.{add-one}
+use Prim.Native.Nat.{ℕ, zero, suc, _+_, _-_, _<_}
 use native.Mathlib.Omega.{arith}
-use lib.ListN.{length, getD, take, drop, set, length-set, length-map, length-take, length-drop}
-use lib.Seq.{getD-take, getD-drop, getD-set-same, getD-set-other}
+use lib.ListN.{length, getD, take, drop, length-map, length-take, length-drop}
+use lib.Seq.{getD-take, getD-drop}
 use Rattle.heap.specs.Place.{nowhere, cell}
 use Rattle.cover.specs.Test.{imageMap}
 use Rattle.embedding.specs.Images.{imagesIn, Images}
@@ -30,7 +29,7 @@ module _ (count n : ℕ) (codes : List ℕ) (m : Images count n codes) where
   pub image-at : (i : ℕ) → i < count → cell (getD (imagesIn count codes) i 0) ≡ getD codes (i + 3) 0
   image-at i b =
       let e : getD (imagesIn count codes) i 0 ≡ getD codes (3 + i) 0 - 3 =
-              getD-sub (take count (drop 3 codes)) i ∙ ap (λ (p : ℕ). p - 3) (getD-take count (drop 3 codes) i 0 b ∙ getD-drop 3 codes i 0) in
+      getD-sub (take count (drop 3 codes)) i ∙ ap (λ (p : ℕ). p - 3) (getD-take count (drop 3 codes) i 0 b ∙ getD-drop 3 codes i 0) in
       let z : 3 + i ≡ i + 3 = omega arith in
       omega (arith, rw z at e, m .low i b)
 

@@ -1,22 +1,22 @@
 -- Images as they are marked, one after the other.
 use mathlib.Core.Bool.{true, false}
-use mathlib.Core.List.{List, [], _∷_, _++_}
+use mathlib.Core.List.{List, []}
 use mathlib.Core.Logic.{_≢_}
 use mathlib.Core.Path.{_≡_, refl, sym, ap, subst, _∙_}
-use Prim.Native.Nat.{ℕ, zero, suc, _+_, _≤_, _<_}
+use Prim.Native.Nat.{ℕ, _+_, _≤_, _<_}
 use native.Mathlib.Decide.{ℕ-discrete, decLt}
 use native.Mathlib.Numerals.{add-one}
 use native.Mathlib.Omega.{arith}
-use lib.Dec.{T, ltb}
+use lib.Dec.{T}
 use lib.ListN.{length, getD, take, set, length-take}
 use lib.Seq.{take-suc, take-all, getD-take}
 use Rattle.lists.proofs.Reflect.{Reflect, is-true, is-false, passes, r-eq, r-or, r-not, r-all}
 use Rattle.heap.specs.Place.{cell}
 use Rattle.cover.specs.Test.{stops}
-use Rattle.cover.proofs.Embeds.{IsImage, r-stops}
+use Rattle.cover.proofs.Embeds.{r-stops}
 use Rattle.embedding.specs.Images.{once}
 use Rattle.embedding.specs.Marks.{mark, Marks}
-use Rattle.embedding.proofs.Marks.{mark-free, mark-stop, marks-stop}
+use Rattle.embedding.proofs.Marks.{mark-free, marks-stop}
 
 module _ (images : List ℕ) where
   r-once : Reflect ((i : ℕ) → i < length images → (j : ℕ) → j < length images → i ≢ j → getD images i 0 ≢ getD images j 0) (once images)
@@ -50,8 +50,8 @@ module _ (images : List ℕ) where
           new j a y =
               let (u, _) = mark-free (stops (take i images) p) true (sym here-marked ∙ z) in
               let t : T (stops (take i images) p) =
-                      r-stops (take i images) p .tests
-                      (λ _. (j, omega (arith, length-take i images), e ∙ ap cell (sym y ∙ sym (getD-take i images j 0 a)))) in
+              r-stops (take i images) p .tests
+              (λ _. (j, omega (arith, length-take i images), e ∙ ap cell (sym y ∙ sym (getD-take i images j 0 a)))) in
               subst T u t
 
           last : (j k : ℕ) → j < k → k < i + 1 → Dec (k ≡ i) → getD images j 0 ≢ getD images k 0

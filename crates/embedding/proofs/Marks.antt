@@ -2,16 +2,16 @@
 use mathlib.Core.Bool.{Bool, true, false, cond, _||_}
 use mathlib.Core.List.{List, [], _∷_, _++_}
 use mathlib.Core.Logic.{_≢_}
-use mathlib.Core.Path.{_≡_, refl, sym, ap, ap₂, _∙_}
+use mathlib.Core.Path.{_≡_, refl, sym, ap, _∙_}
 use Prim.Native.Nat.{ℕ, zero, suc, _<_}
 use native.Mathlib.Decide.{ℕ-discrete}
 use native.Mathlib.Omega.{arith}
 use borrow.Author.Tests.{eq-eqb, ne-eqb, le-ltb}
-use lib.Dec.{T, eqb, eqb-refl, ltb}
+use lib.Dec.{eqb, eqb-refl, ltb}
 use lib.ListN.{length, getD, set, length-set}
 use lib.Seq.{getD-set-same, getD-set-other}
 use Rattle.lists.specs.List.{_∈_, absent}
-use Rattle.lists.proofs.Reflect.{Reflect, is-true, is-false, passes, r-iff, r-absent}
+use Rattle.lists.proofs.Reflect.{Reflect, is-true, is-false, r-iff, r-absent}
 use Rattle.heap.specs.Place.{cell}
 use Rattle.cover.specs.Test.{isImage, stops}
 use Rattle.embedding.specs.Marks.{mark, Marks}

@@ -1,20 +1,16 @@
 -- The paths of a member's links, followed one after the other.
-use mathlib.Core.Bool.{Bool, true, false, _&&_, cond}
-use mathlib.Core.List.{List, [], _++_}
+use mathlib.Core.Bool.{Bool, true, false, _&&_}
+use mathlib.Core.List.{List, _++_}
 use mathlib.Core.Logic.{_≢_, _⊎_, inl, inr}
-use mathlib.Core.Path.{_≡_, refl, sym, ap, _∙_}
-use Prim.Native.Nat.{ℕ, suc, _+_, _<_}
-use native.Mathlib.Numerals.{add-one}
+use mathlib.Core.Path.{_≡_, refl, sym, _∙_}
+use Prim.Native.Nat.{ℕ, suc}
 use native.Mathlib.Decide.{ℕ-discrete}
-use native.Mathlib.Omega.{arith}
 use borrow.Author.Tests.{eq-eqb, ne-eqb}
 use lib.Dec.{eqb}
-use lib.ListN.{length, getD}
 use Rattle.lists.specs.List.{disjoint}
-use Rattle.lists.proofs.Reflect.{is-true, r-eq}
 use Rattle.heap.specs.Place.{nowhere, cell}
-use Rattle.shape.specs.Shape.{Shape, linkAt, size}
-use Rattle.cover.specs.Test.{imageMap, betweenBelow, linkMeets, pathUnshared}
+use Rattle.shape.specs.Shape.{Shape, linkAt}
+use Rattle.cover.specs.Test.{imageMap, betweenBelow}
 use Rattle.embedding.specs.Images.{pathFits}
 use Rattle.embedding.specs.Marks.{Marks, endFrom, pathFrom, Followed}
 use Rattle.embedding.proofs.Images.{somewhere}

@@ -1,15 +1,15 @@
 -- Following a path over places that are neither ends nor used: what the walk of the definitions gives.
-use mathlib.Core.Bool.{Bool, true, false, cond, _||_}
+use mathlib.Core.Bool.{Bool, true, false, _||_}
 use mathlib.Core.List.{List, [], _∷_, _++_, append-nil, append-assoc, List·Memᴰ·head, List·Memᴰ·tail, List·Memᴰ·not-nil, Memᴰ·cast, Memᴰ·append-left, Memᴰ·append-right, List·Memᴰ·append-cases, List·Memᴰ·eq-of-singleton}
-use mathlib.Core.Logic.{_≢_, _⊎_, inl, inr}
-use mathlib.Core.Path.{_≡_, refl, sym, ap, subst, _∙_}
+use mathlib.Core.Logic.{_⊎_, inl, inr}
+use mathlib.Core.Path.{_≡_, refl, sym, subst, _∙_}
 use Prim.Native.Nat.{ℕ, zero, suc, _+_, _≤_, _<_}
 use native.Mathlib.Omega.{arith}
-use lib.Dec.{T, ltb}
-use lib.ListN.{length, getD, length-append}
+use lib.Dec.{ltb}
+use lib.ListN.{length, length-append}
 use Rattle.lists.specs.List.{_∈_, disjoint}
 use Rattle.lists.proofs.List.{all-cons, Distinct, pigeonhole}
-use Rattle.lists.proofs.Reflect.{is-true, is-false, passes, fails, r-lt, r-disjoint}
+use Rattle.lists.proofs.Reflect.{is-false, passes, fails, r-lt, r-disjoint}
 use Rattle.heap.specs.Codes.{linkIn}
 use Rattle.heap.specs.Place.{nowhere, cell}
 use Rattle.shape.proofs.Laws.{CellOf}

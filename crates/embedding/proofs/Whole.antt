@@ -2,14 +2,14 @@
 use mathlib.Core.Bool.{Bool, true, false, _&&_, _||_, not}
 use mathlib.Core.List.{List, []}
 use mathlib.Core.Path.{_≡_, refl, sym, ap, ap₂, _∙_}
-use Prim.Native.Nat.{ℕ, zero, suc, _+_, _≤_, _<_}
+use Prim.Native.Nat.{ℕ, zero, suc, _+_, _<_}
 use native.Mathlib.Decide.{decLt}
 use native.Mathlib.Omega.{arith}
 use lib.Dec.{eqb}
 use lib.ListN.{length, getD, take, drop, length-drop, List·getD-eq-default}
 use lib.Seq.{length-take-le, getD-take, getD-drop}
 use Rattle.lists.specs.Test.{allFrom}
-use Rattle.heap.specs.Place.{nowhere, cell}
+use Rattle.heap.specs.Place.{cell}
 use Rattle.shape.specs.Shape.{Shape, varAt, size}
 use Rattle.shape.proofs.InRange.{all-at}
 use Rattle.cover.specs.Test.{imageMap, varFits, linkMeets, pathUnshared, embeds?}
@@ -99,7 +99,7 @@ module _ (variables n : ℕ) (vars links : List ℕ) (h : Hold variables n vars 
         let swap : 1 + i ≡ i + 1 = omega arith in
         let have : varAt covered (suc i) ≡ getD vars (i + 1) 0 = rw (← swap) (getD-take variables (drop 1 vars) i 0 b ∙ getD-drop 1 vars i 0) in
         let want : imageMap images (getD cert (start + 2 + i) 0) ≡ getD codes (getD cert (start + 2 + i) 0) 0 =
-                sym (image-of cells n codes im (getD cert (start + 2 + i) 0) (var-below i b)) in
+        sym (image-of cells n codes im (getD cert (start + 2 + i) 0) (var-below i b)) in
         rw (← member-var i b, have, want) refl
 
     pub embeds-parts : embeds? member covered images

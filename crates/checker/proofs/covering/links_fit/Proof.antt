@@ -1,7 +1,5 @@
-use Prim.Native.Nat.{ℕ, _+_, _-_, _*_, _<_, _≤_}
-use mathlib.Core.Path.{_≡_, refl, ap, _∙_, sym}
+use Prim.Native.Nat.{_-_, _≤_}
 use native.Mathlib.Omega.{arith}
-use lib.ListN.{length, getD, take, drop, set}
 use mathlib.Core.Logic.{⊎-elim}
 use Rattle.shape.specs.Shape.{Shape}
 use Rattle.embedding.specs.Marks.{Linking}
@@ -9,10 +7,6 @@ use Rattle.embedding.proofs.Fitting.{Fitting, fit-none, fit-all, place-in, fit-
 use borrow.Author.Needs.{needs}
 use Rattle.checker.proofs.covering.links_fit.Statement.{statement}
 use Rattle.checker.proofs.covering.links_fit.Tie as tie
-use Rattle.checker.proofs.covering.links_fit.Reads as reads
-use Rattle.checker.proofs.covering.links_fit.Lts as lts
-use Rattle.checker.proofs.covering.walk.Reads as walk-reads
-use Rattle.checker.proofs.covering.wide.Reads as wide-reads
 
 abbrev Inv-loop : tie.InvT-loop
 Inv-loop cert first count images marks₀ links i₀ marks i = (i ≤ count) × ((member covered : Shape) (l : Linking member covered cert first count images marks₀ links) → Fitting member covered cert first count images marks₀ links l marks i)
@@ -20,63 +14,48 @@ Inv-loop cert first count images marks₀ links i₀ marks i = (i ≤ count) × 
 abbrev μ-loop : tie.MeasureT-loop
 μ-loop cert first count images marks₀ links i₀ marks i = count - i
 
--- src/covering.rt:105:5
 loop-holds : tie.Need-loop-holds Inv-loop μ-loop
 loop-holds c = (omega arith, λ m p l. fit-none _ _ _ _ _ _ _ _ l)
 
--- src/covering.rt:106:27
 add-wide : tie.Need-add-wide Inv-loop μ-loop
 add-wide c = let (m, p, l) = c .before .before .before .pre in omega (arith, l .inside)
 
--- src/covering.rt:106:22
 shared-slice-read-wide : tie.Need-shared-slice-read-wide Inv-loop μ-loop
 shared-slice-read-wide c = let (m, p, l) = c .before .before .before .before .pre in omega (arith, l .inside)
 
--- src/covering.rt:106:13
 wide-requires : tie.Need-wide-requires Inv-loop μ-loop
 wide-requires c κs = search needs
 
--- src/covering.rt:108:36
 add-wide-2 : tie.Need-add-wide-2 Inv-loop μ-loop
 add-wide-2 c = search needs
 
--- src/covering.rt:108:29
 element-copy-out-wide : tie.Need-element-copy-out-wide Inv-loop μ-loop
 element-copy-out-wide c = let (m, p, l) = c .before .before .before .before .before .before .pre in omega (arith, l .images .few)
 
--- src/covering.rt:108:17
 wide-requires-2 : tie.Need-wide-requires-2 Inv-loop μ-loop
 wide-requires-2 c κs = search needs
 
--- src/covering.rt:109:28
 element-copy-out-wide-2 : tie.Need-element-copy-out-wide-2 Inv-loop μ-loop
 element-copy-out-wide-2 c = let (m, p, l) = c .before .before .before .before .before .before .before .before .pre in omega (arith, l .images .few, place-in _ _ _ _ _ _ _ _ l _ _ (c .before .before .before .before .before .before .loop .inv .1 m p l) (omega arith) _ (c .before .before .before .wide .ensures .0))
 
--- src/covering.rt:109:17
 wide-requires-3 : tie.Need-wide-requires-3 Inv-loop μ-loop
 wide-requires-3 c κs = search needs
 
--- src/covering.rt:110:16
 walk-requires : tie.Need-walk-requires Inv-loop μ-loop
 walk-requires c κs = let (m, p, l) = c .before .before .before .before .before .before .before .before .before .before .before .pre in (p .links, _, _, fit-walk _ _ _ _ _ _ _ _ l _ _ (c .before .before .before .before .before .before .before .before .before .loop .inv .1 m p l) (omega arith) _ (c .before .before .before .before .before .before .wide .ensures .0) _ (c .before .before .before .wide2 .ensures .0))
 
--- src/covering.rt:111:17
 returns : tie.Need-returns Inv-loop μ-loop
 returns c = λ m p l. let f = c .before .before .before .before .before .before .before .before .before .before .before .loop .inv .1 m p l in let e = c .before .before .before .before .before .before .before .before .wide .ensures .0 in let s = c .before .before .before .before .before .wide2 .ensures .0 in fit-bad _ _ _ _ _ _ _ _ l _ _ f (omega arith) _ e _ s (c .before .before .before .before .before .before .before .if1 .taken) _ (c .before .before .before .wide3 .ensures .0) _ _ (c .before .walk .ensures _ _ _ (fit-walk _ _ _ _ _ _ _ _ l _ _ f (omega arith) _ e _ s)) (c .if2 .taken)
 
--- src/covering.rt:114:9
 add-i : tie.Need-add-i Inv-loop μ-loop
 add-i c = search needs
 
--- src/covering.rt:105:5
 loop-less : tie.Need-loop-less Inv-loop μ-loop
 loop-less c = search needs
 
--- src/covering.rt:105:5
 loop-again : tie.Need-loop-again Inv-loop μ-loop
 loop-again c = (omega arith, λ m p l. let f = c .before .before .before .before .loop .inv .1 m p l in let e = c .before .wide .ensures .0 in ⊎-elim (λ (n, _, s, _, t, _, w, z, y). rw y (fit-good _ _ _ _ _ _ _ _ l _ _ f (omega arith) _ e _ (s .ensures .0) (n .taken) _ (t .ensures .0) _ _ (w .ensures _ _ _ (fit-walk _ _ _ _ _ _ _ _ l _ _ f (omega arith) _ e _ (s .ensures .0))) (z .left))) (λ (n, y). fit-skip _ _ _ _ _ _ _ _ l _ _ f (omega arith) _ e _ y (n .left)) (c .if1 .came))
 
--- src/covering.rt:93:1
 returns-2 : tie.Need-returns-2 Inv-loop μ-loop
 returns-2 c = λ m p l. fit-all _ _ _ _ _ _ _ _ l _ _ (c .before .loop .inv .1 m p l) (omega arith)
 

@@ -1,77 +1,54 @@
-use Prim.Native.Nat.{ℕ, _+_, _-_, _*_, _<_, _≤_}
-use mathlib.Core.Path.{_≡_, refl, ap, _∙_, sym}
+use mathlib.Core.Path.{_∙_, sym}
 use native.Mathlib.Omega.{arith}
-use lib.ListN.{length, getD, take, drop, set}
-use mathlib.Core.Logic.{⊎-elim}
 use Rattle.embedding.proofs.Images.{images-none}
 use Rattle.checker.proofs.CoverTaking.{take-refused, other-state, no-embedding, take-embedding}
 use borrow.Author.Tests.{not-true, not-false}
 use borrow.Author.Needs.{needs}
 use Rattle.checker.proofs.covering.take_cover.Statement.{statement}
 use Rattle.checker.proofs.covering.take_cover.Tie as tie
-use Rattle.checker.proofs.covering.take_cover.Reads as reads
-use Rattle.checker.proofs.covering.take_cover.Lts as lts
-use Rattle.checker.proofs.covering.embeds.Reads as embeds-reads
-use Rattle.checker.proofs.covering.read_cover.Reads as read-cover-reads
-use Rattle.checker.proofs.covering.refused.Reads as refused-reads
 
--- src/covering.rt:224:5
 array-write-images : tie.Need-array-write-images
 array-write-images c = search needs
 
--- src/covering.rt:225:5
 array-write-images-2 : tie.Need-array-write-images-2
 array-write-images-2 c = search needs
 
--- src/covering.rt:226:9
 read-cover-requires : tie.Need-read-cover-requires
 read-cover-requires c κs = let p = c .before .before .pre in (images-none _, p .1 .cells-fit, (_, p .0))
 
--- src/covering.rt:227:26
 enum-known-r : tie.Need-enum-known-r
 enum-known-r c = search needs
 
--- src/covering.rt:228:9
 enum-told : tie.Need-enum-told
 enum-told c = search needs
 
--- src/covering.rt:228:9
 refused-requires : tie.Need-refused-requires
 refused-requires c κs = search needs
 
--- src/covering.rt:228:9
 returns : tie.Need-returns
 returns c = let p = c .before .before .before .before .before .before .pre in take-refused _ _ _ _ _ _ _ _ _ (p .1) _ _ (c .before .before .before .read-cover .ensures _ (p .0)) _ _ _ (c .refused .ensures) (c .before .enum-told .given .1)
 
--- src/covering.rt:230:17
 mul-start : tie.Need-mul-start
 mul-start c = let p = c .before .before .before .before .before .before .pre in let b = c .before .before .before .read-cover .ensures _ (p .0) .member _ _ (c .before .r .given .1) in omega (arith, p .0 .count-most)
 
--- src/covering.rt:230:17
 element-copy-out-start : tie.Need-element-copy-out-start
 element-copy-out-start c = let p = c .before .before .before .before .before .before .pre in let b = c .before .before .before .read-cover .ensures _ (p .0) .member _ _ (c .before .r .given .1) in omega (arith, p .0 .count-most)
 
--- src/covering.rt:230:17
 cast-start : tie.Need-cast-start
 cast-start c = let p = c .before .before .before .before .before .before .before .pre in let b = c .before .before .before .before .read-cover .ensures _ (p .0) .member _ _ (c .before .before .r .given .1) in let i = p .0 .entry _ b .inside in omega arith
 
--- src/covering.rt:231:8
 shared-slice-read-if1 : tie.Need-shared-slice-read-if1
 shared-slice-read-if1 c = let p = c .before .before .before .before .before .before .before .before .pre in let b = c .before .before .before .before .before .read-cover .ensures _ (p .0) .member _ _ (c .before .before .before .r .given .1) in let i = p .0 .entry _ b .inside in omega arith
 
--- src/covering.rt:232:9
 returns-2 : tie.Need-returns-2
 returns-2 c = let p = c .before .before .before .before .before .before .before .before .before .pre in other-state _ _ _ _ _ _ _ _ _ (p .1) _ _ (c .before .before .before .before .before .before .read-cover .ensures _ (p .0)) _ _ (c .before .before .before .before .r .given .1) (c .if1 .taken)
 
--- src/covering.rt:234:9
 embeds-requires : tie.Need-embeds-requires
 embeds-requires c κs = let p = c .before .before .before .before .before .before .before .before .before .before .pre in let k = c .before .before .before .before .before .before .before .read-cover .ensures _ (p .0) in let e = c .before .before .before .before .before .r .given .1 in (p .0 .entry _ (k .member _ _ e), (_, p .1, k .images _ _ e))
 
--- src/covering.rt:235:9
 returns-3 : tie.Need-returns-3
 returns-3 c = let p = c .before .before .before .before .before .before .before .before .before .before .before .before .pre in let k = c .before .before .before .before .before .before .before .before .before .read-cover .ensures _ (p .0) in let e = c .before .before .before .before .before .before .before .r .given .1 in no-embedding _ _ _ _ _ _ _ _ _ (p .1) _ _ k _ _ e (c .before .before .before .if1 .left) (sym (c .before .embeds .ensures _ (p .1) (k .images _ _ e)) ∙ not-true _ (c .if2 .taken))
 
--- src/covering.rt:209:1
 returns-4 : tie.Need-returns-4
 returns-4 c = let p = c .before .before .before .before .before .before .before .before .before .before .before .before .pre in let k = c .before .before .before .before .before .before .before .before .before .read-cover .ensures _ (p .0) in let e = c .before .before .before .before .before .before .before .r .given .1 in take-embedding _ _ _ _ _ _ _ _ _ (p .1) _ _ k _ _ e (c .before .before .before .if1 .left) (sym (c .before .embeds .ensures _ (p .1) (k .images _ _ e)) ∙ not-false _ (c .if2 .left))
 
