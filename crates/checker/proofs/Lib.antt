@@ -1,3 +1,5 @@
+pub mod CoverReading
+pub mod CoverTaking
 pub mod CoverPlace
 pub mod Taking
 pub mod Turning

@@ -1,3 +1,4 @@
 pub mod Taking
+pub mod Covering
 pub mod Loading
 pub mod Jobs
