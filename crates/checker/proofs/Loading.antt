@@ -1,17 +1,16 @@
 -- The loops that load a shape, and what the arrays then hold.
-use mathlib.Core.List.{List, [], _∷_, _++_}
-use mathlib.Core.Path.{_≡_, refl, sym, ap, ap₂, _∙_}
+use mathlib.Core.List.{List, _∷_, _++_}
+use mathlib.Core.Path.{_≡_, refl, ap, ap₂, _∙_}
 use Prim.Native.Nat.{ℕ, zero, suc, _+_, _-_, _≤_, _<_}
 use native.Mathlib.Decide.{decLt}
 use native.Mathlib.Numerals.{add-one}
 use native.Mathlib.Omega.{arith}
-use lib.ListN.{length, getD, take, drop, set, length-append, length-set, length-drop, replicate, getD-replicate, List·getD-append, List·getD-eq-default}
-use lib.Seq.{length-take-le, take-append-le, take-take, take-at, getD-append-add, getD-drop, paste, paste-zero, paste-suc, length-paste}
+use lib.ListN.{length, getD, take, drop, set, length-append, length-drop, replicate, getD-replicate, List·getD-append, List·getD-eq-default}
+use lib.Seq.{length-take-le, take-at, getD-append-add, getD-drop, paste, paste-suc}
 use Rattle.lists.proofs.List.{getD-mem}
-use Rattle.heap.specs.Place.{nowhere, null, cell}
+use Rattle.heap.specs.Place.{cell}
 use Rattle.shape.specs.Shape.{Shape, AllBelow}
-use Rattle.layout.specs.Arrays.{shapeIn, Hold}
-use Rattle.layout.specs.Entries.{locatedAt, Entry}
+use Rattle.layout.specs.Entries.{Entry}
 use Rattle.checker.specs.Loading.{Loaded}
 
 -- i bytes have been copied, and one more is

@@ -7,7 +7,7 @@ use native.Mathlib.Omega.{arith}
 use native.Mathlib.Decide.{decLe}
 use borrow.Author.Tests.{lt-leb, le-leb, lt-ltb, le-ltb, ltb-true}
 use lib.Dec.{leb, ltb}
-use lib.ListN.{length, getD, take, length-map}
+use lib.ListN.{length, getD, take}
 use lib.Seq.{length-take-le, getD-take}
 use Rattle.lists.specs.Range.{range}
 use Rattle.lists.proofs.Range.{tabled}
@@ -18,7 +18,7 @@ use Rattle.format.specs.Certificate.{Member, withoutPlaces, readMembers, testSt
 use Rattle.format.specs.Conditions.{SafeBytes, countsOf}
 use Rattle.format.specs.Job.{JobFile, readWholeJob}
 use Rattle.format.specs.Parser.{Parsed, parsed, fault, Parser, onward, each, certificateBuffer, jobBuffer, end}
-use Rattle.format.specs.Verdict.{Counts, Verdict, accepted, refused, answer, readCertificate, fits, verdict}
+use Rattle.format.specs.Verdict.{Counts, accepted, refused, answer, readCertificate, fits, verdict}
 use Rattle.format.proofs.Guarantee.{safe-bytes}
 use Rattle.layout.specs.Entries.{locatedAt, entryEnd, entriesAt, membersAt}
 use Rattle.reader.specs.Job.{JobRead}
@@ -61,20 +61,22 @@ module _ (cert : List ℕ) (j : Job) (ms : List Located) (at : ℕ) (g : Going) 
   by-each : (r : Parsed (List (Unit {0}))) → goingOf g ≡ onward r (λ us next. parsed (0 + length (owed j ms)) next)
       → ((why : Refusal) (place : ℕ) → g ≡ Refused why place → onward r after ≡ fault (refusalNumber why) place)
       × ((t : Taken) → g ≡ On t → (t .covers ≡ length (owed j ms)) × (onward r after ≡ after [] (t .at)))
-  by-each (parsed us next) e =
-      ((λ why place g-is. let z : _≡_ {A = ℕ} 0 1 = cc (ap goingOf g-is) in absurd (omega arith)),
-      (λ t g-is.
-      let f : _≡_ {A = Parsed ℕ} (parsed (t .covers) (t .at)) (parsed (0 + length (owed j ms)) next) = sym (ap goingOf g-is) ∙ e in
-      let covers-is : t .covers ≡ 0 + length (owed j ms) = cc in
-      let at-is : t .at ≡ next = cc in
-      (covers-is ∙ omega arith, ap (after []) (sym at-is))))
-  by-each (fault number place) e =
-      ((λ why q g-is.
-      let f : _≡_ {A = Parsed ℕ} (fault (refusalNumber why) q) (fault number place) = sym (ap goingOf g-is) ∙ e in
-      let number-is : number ≡ refusalNumber why = cc in
-      let place-is : place ≡ q = cc in
-      ap₂ fault number-is place-is),
-      (λ t g-is. let z : _≡_ {A = ℕ} 0 1 = cc (ap goingOf g-is) in absurd (omega arith)))
+  by-each (parsed us next) e = (
+    (λ why place g-is. let z : _≡_ {A = ℕ} 0 1 = cc (ap goingOf g-is) in absurd (omega arith)),
+    (λ t g-is.
+        let f : _≡_ {A = Parsed ℕ} (parsed (t .covers) (t .at)) (parsed (0 + length (owed j ms)) next) = sym (ap goingOf g-is) ∙ e in
+        let covers-is : t .covers ≡ 0 + length (owed j ms) = cc in
+        let at-is : t .at ≡ next = cc in
+        (covers-is ∙ omega arith, ap (after []) (sym at-is))),
+  )
+  by-each (fault number place) e = (
+    (λ why q g-is.
+        let f : _≡_ {A = Parsed ℕ} (fault (refusalNumber why) q) (fault number place) = sym (ap goingOf g-is) ∙ e in
+        let number-is : number ≡ refusalNumber why = cc in
+        let place-is : place ≡ q = cc in
+        ap₂ fault number-is place-is),
+    (λ t g-is. let z : _≡_ {A = ℕ} 0 1 = cc (ap goingOf g-is) in absurd (omega arith)),
+  )
 
   pub covers-refused : (why : Refusal) (place : ℕ) → g ≡ Refused why place → refused (refusalNumber why) place ≡ answer (readCovers cert j ms at)
   unfolding readCovers

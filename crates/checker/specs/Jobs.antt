@@ -9,7 +9,7 @@ use Rattle.cover.specs.Cover.{predecessorsBy, owed}
 use Rattle.format.specs.Certificate.{Member, withoutPlaces, testStart, readCover}
 use Rattle.format.specs.Conditions.{countsOf}
 use Rattle.format.specs.Job.{JobFile}
-use Rattle.format.specs.Parser.{Parsed, parsed, Parser, _>>=_, _>>_, return, each, certificateBuffer, end}
+use Rattle.format.specs.Parser.{Parser, _>>_, return, each, certificateBuffer, end}
 use Rattle.format.specs.Verdict.{Counts}
 use Rattle.layout.specs.Entries.{locatedAt, entriesAt}
 use Rattle.layout.specs.Transitions.{transitionAt}

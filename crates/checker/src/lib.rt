@@ -45,7 +45,14 @@ fn fits(len: usize) -> bool
 }
 
 // Takes the covers and sees that nothing is left after them.
-fn check_covers(job: &[u8], h: Header, cert: &[u8], starts: &[u16; 512], members: usize, at: usize) -> Verdict
+fn check_covers(
+    job: &[u8],
+    h: Header,
+    cert: &[u8],
+    starts: &[u16; 512],
+    members: usize,
+    at: usize,
+) -> Verdict
     requires { ⌜ (JobRead (now job) h) × (Table (now cert) (h .variables) (now starts) members) × (at ≤ length (now cert)) × (length (now cert) ≤ 65536) ⌝ }
     ensures { λ r. ⌜ verdictOf r ≡ answer (readCovers (now (cert .entry)) (fileIn (now (job .entry)) h .job) (membersAt (now (cert .entry)) (h .variables) (now (starts .entry)) members) at) ⌝ }
 {
@@ -66,7 +73,14 @@ fn check_covers(job: &[u8], h: Header, cert: &[u8], starts: &[u16; 512], members
 }
 
 // Tests the members that were read, and takes the covers.
-fn check_members(job: &[u8], h: Header, cert: &[u8], starts: &[u16; 512], members: usize, at: usize) -> Verdict
+fn check_members(
+    job: &[u8],
+    h: Header,
+    cert: &[u8],
+    starts: &[u16; 512],
+    members: usize,
+    at: usize,
+) -> Verdict
     requires { ⌜ (JobRead (now job) h) × (Table (now cert) (h .variables) (now starts) members) × (at ≤ length (now cert)) × (length (now cert) ≤ 65536) ⌝ }
     ensures { λ r. ⌜ verdictOf r ≡ answer (testThenCover (now (cert .entry)) (fileIn (now (job .entry)) h .job) (placedFrom (now (cert .entry)) (h .variables) (now (starts .entry)) members 0) at) ⌝ }
 {

@@ -32,7 +32,13 @@ fn load_links(bytes: &[u8], first: usize, count: usize, links: &mut [u8; 14])
 }
 
 // Loads the shape of the entry at a place into cleared arrays and gives its number of cells.
-pub(crate) fn load_shape(bytes: &[u8], at: usize, variables: usize, vars: &mut [u8; 10], links: &mut [u8; 14]) -> u8
+pub(crate) fn load_shape(
+    bytes: &[u8],
+    at: usize,
+    variables: usize,
+    vars: &mut [u8; 10],
+    links: &mut [u8; 14],
+) -> u8
     requires { ⌜ (Entry (now bytes) variables at) × (variables ≤ 8) × (now vars ≡ replicate 10 0) × (now links ≡ replicate 14 0) ⌝ }
     ensures { λ r. ⌜ Loaded (now (bytes .entry)) variables at r (now (vars .exit)) (now (links .exit)) ⌝ }
 {

@@ -45,7 +45,14 @@ fn holds_at_start(cert: &[u8], at: usize, variables: usize, start: usize) -> boo
 }
 
 // Tests every member; `at` is the place after them.
-pub(crate) fn test_start(cert: &[u8], starts: &[u16; 512], variables: usize, members: usize, start: usize, at: usize) -> Reached
+pub(crate) fn test_start(
+    cert: &[u8],
+    starts: &[u16; 512],
+    variables: usize,
+    members: usize,
+    start: usize,
+    at: usize,
+) -> Reached
     requires { ⌜ Table (now cert) variables (now starts) members ⌝ }
     ensures { λ r. ⌜ reachedOf r ≡ testAll start (placedFrom (now (cert .entry)) variables (now (starts .entry)) members 0) at ⌝ }
 {

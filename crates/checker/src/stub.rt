@@ -11,7 +11,12 @@ pub(crate) fn read_job(job: &[u8]) -> JobAnswer
     JobAnswer::Refused(Refusal::JobRange, 0)
 }
 
-pub(crate) fn read_members(cert: &[u8], variables: usize, states: usize, starts: &mut [u16; 512]) -> MembersAnswer
+pub(crate) fn read_members(
+    cert: &[u8],
+    variables: usize,
+    states: usize,
+    starts: &mut [u16; 512],
+) -> MembersAnswer
     ensures { λ r. ⌜ MembersAnswered (now (cert .entry)) variables states (now (starts .entry)) (now (starts .exit)) r ⌝ }
 {
     MembersAnswer::Refused(Refusal::CertificateRange, 0)

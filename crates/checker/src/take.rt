@@ -26,14 +26,32 @@ ghost use Rattle.order.specs.Index.{nextInto, Follows, Linked};
 ghost use Rattle.reader.specs.Job.{JobRead};
 
 // The cover of the forbidden shape at a place of the job.
-fn take_bad(job: &[u8], at: usize, cert: &[u8], starts: &[u16; 512], variables: usize, members: usize, t: Taken) -> Going
+fn take_bad(
+    job: &[u8],
+    at: usize,
+    cert: &[u8],
+    starts: &[u16; 512],
+    variables: usize,
+    members: usize,
+    t: Taken,
+) -> Going
     requires { ⌜ (Entry (now job) variables at) × (Table (now cert) variables (now starts) members) × (Within (now cert) t) ⌝ }
     ensures { λ r. ⌜ (goingOf r ≡ takeAll (now (cert .entry)) (membersAt (now (cert .entry)) variables (now (starts .entry)) members) (locatedAt (now (job .entry)) variables at ∷ []) (t .covers) (t .at)) × (StaysWithin (now (cert .entry)) r) ⌝ }
 {
     let mut vars = [0u8; 10];
     let mut links = [0u8; 14];
     let n = load_shape(job, at, variables, &mut vars, &mut links);
-    take_one(cert, starts, variables, members, job[at], n as usize, &vars, &links, t)
+    take_one(
+        cert,
+        starts,
+        variables,
+        members,
+        job[at],
+        n as usize,
+        &vars,
+        &links,
+        t,
+    )
 }
 
 // Covers of so many forbidden shapes, from a place of the job on.
@@ -84,12 +102,47 @@ fn take_op(
     ensures { λ r. ⌜ (goingOf r ≡ takeAll (now (cert .entry)) (membersAt (now (cert .entry)) variables (now (starts .entry)) members) (map (located state) (predecessors (opOf (kindOf kind) a b) (shapeIn variables n (now (vars .entry)) (now (links .entry))))) (t .covers) (t .at)) × (StaysWithin (now (cert .entry)) r) ⌝ }
 {
     if kind == 7 {
-        return take_delete(cert, starts, variables, members, state, a, n, vars, links, t);
+        return take_delete(
+            cert,
+            starts,
+            variables,
+            members,
+            state,
+            a,
+            n,
+            vars,
+            links,
+            t,
+        );
     }
     if kind == 6 {
-        return take_new(cert, starts, variables, members, state, a, n, vars, links, t);
+        return take_new(
+            cert,
+            starts,
+            variables,
+            members,
+            state,
+            a,
+            n,
+            vars,
+            links,
+            t,
+        );
     }
-    take_placed(cert, starts, variables, members, state, kind, a, b, n, vars, links, t)
+    take_placed(
+        cert,
+        starts,
+        variables,
+        members,
+        state,
+        kind,
+        a,
+        b,
+        n,
+        vars,
+        links,
+        t,
+    )
 }
 
 // Covers of the predecessors of a shape by the transition at a place of the job.
@@ -112,12 +165,30 @@ fn take_transition(
     let kind = job[at + 1];
     let a = job[at + 2];
     let b = job[at + 3];
-    take_op(cert, starts, variables, members, state, kind, a, b, n, vars, links, t)
+    take_op(
+        cert,
+        starts,
+        variables,
+        members,
+        state,
+        kind,
+        a,
+        b,
+        n,
+        vars,
+        links,
+        t,
+    )
 }
 
 // Links the transitions into each state, first to last: `heads[state]` and `nexts[transition]` are one more than a transition's number, 0 for
 // none.
-pub(crate) fn index_transitions(job: &[u8], h: Header, heads: &mut [u16; 64], nexts: &mut [u16; 256])
+pub(crate) fn index_transitions(
+    job: &[u8],
+    h: Header,
+    heads: &mut [u16; 64],
+    nexts: &mut [u16; 256],
+)
     requires { ⌜ (JobRead (now job) h) × (now heads ≡ replicate 64 0) × (now nexts ≡ replicate 256 0) ⌝ }
     ensures { λ r. ⌜ Linked (toState (now (job .entry)) h) (h .transitions) 0 (now (heads .exit)) (now (nexts .exit)) ⌝ }
 {
@@ -153,7 +224,18 @@ fn take_transitions(
     while 0 < k {
         let i = (k - 1) as usize;
         let at = h.transitions_at + 5 * i;
-        let g = take_transition(job, at, cert, starts, h.variables, members, n, vars, links, t);
+        let g = take_transition(
+            job,
+            at,
+            cert,
+            starts,
+            h.variables,
+            members,
+            n,
+            vars,
+            links,
+            t,
+        );
         let Going::On(u) = g else {
             return g;
         };
@@ -187,7 +269,20 @@ fn take_member(
     let mut vars = [0u8; 10];
     let mut links = [0u8; 14];
     let n = load_shape(cert, at, h.variables, &mut vars, &mut links);
-    take_transitions(job, h, head, nexts, cert, starts, members, state, n, &vars, &links, t)
+    take_transitions(
+        job,
+        h,
+        head,
+        nexts,
+        cert,
+        starts,
+        members,
+        state,
+        n,
+        &vars,
+        &links,
+        t,
+    )
 }
 
 // Covers of the predecessors of every member.
@@ -218,7 +313,14 @@ pub(crate) fn take_members(
 }
 
 // Covers of all that is owed, from a place of the certificate on.
-pub(crate) fn take_covers(job: &[u8], h: Header, cert: &[u8], starts: &[u16; 512], members: usize, at: usize) -> Going
+pub(crate) fn take_covers(
+    job: &[u8],
+    h: Header,
+    cert: &[u8],
+    starts: &[u16; 512],
+    members: usize,
+    at: usize,
+) -> Going
     requires { ⌜ (JobRead (now job) h) × (Table (now cert) (h .variables) (now starts) members) × (at ≤ length (now cert)) × (length (now cert) ≤ 65536) ⌝ }
     ensures { λ r. ⌜ goingOf r ≡ takeAll (now (cert .entry)) (membersAt (now (cert .entry)) (h .variables) (now (starts .entry)) members) (owed (fileIn (now (job .entry)) h .job) (membersAt (now (cert .entry)) (h .variables) (now (starts .entry)) members)) 0 at ⌝ }
 {
@@ -226,7 +328,16 @@ pub(crate) fn take_covers(job: &[u8], h: Header, cert: &[u8], starts: &[u16; 512
     let mut nexts = [0u16; 256];
     index_transitions(job, h, &mut heads, &mut nexts);
     let from = Taken { at, covers: 0 };
-    let g = take_bads(job, h.bads_at, h.bads, cert, starts, h.variables, members, from);
+    let g = take_bads(
+        job,
+        h.bads_at,
+        h.bads,
+        cert,
+        starts,
+        h.variables,
+        members,
+        from,
+    );
     let Going::On(t) = g else {
         return g;
     };

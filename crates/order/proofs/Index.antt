@@ -1,15 +1,14 @@
 -- The index of transitions, built back to front.
-use mathlib.Core.Bool.{Bool, true, false, cond}
 use mathlib.Core.List.{List}
 use mathlib.Core.Path.{_≡_, refl, sym, ap, _∙_}
-use Prim.Native.Nat.{ℕ, zero, suc, _+_, _-_, _≤_, _<_}
+use Prim.Native.Nat.{ℕ, suc, _+_, _-_, _≤_, _<_}
 use native.Mathlib.Decide.{ℕ-discrete}
 use native.Mathlib.Omega.{arith}
-use lib.Dec.{eqb, eqb→eq}
+use lib.Dec.{eqb}
 use lib.ListN.{length, getD, set, length-set, replicate, getD-replicate}
 use lib.Seq.{getD-set-same, getD-set-other}
-use Rattle.lists.proofs.Reflect.{cond-true, cond-false, r-eq, passes}
-use Rattle.order.specs.Index.{nextInto, Follows, Linked}
+use Rattle.lists.proofs.Reflect.{cond-true, cond-false, r-eq}
+use Rattle.order.specs.Index.{nextInto, Linked}
 
 module _ (to : ℕ → ℕ) (state left i : ℕ) where
   pub into-here : to i ≡ state → nextInto to state (suc left) i ≡ suc i

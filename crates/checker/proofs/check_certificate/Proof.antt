@@ -1,9 +1,5 @@
-use Prim.Native.Nat.{ℕ, _+_, _-_, _*_, _<_, _≤_}
-use mathlib.Core.Path.{_≡_, refl, ap, _∙_, sym}
+use mathlib.Core.Path.{ap, _∙_, sym}
 use native.Mathlib.Omega.{arith}
-use lib.ListN.{length, getD, take, drop, set}
-use mathlib.Core.Logic.{⊎-elim}
-use Rattle.reader.specs.Members.{MembersRead, MembersAnswered}
 use Rattle.checker.specs.Jobs.{fileIn}
 use Rattle.checker.proofs.Verdicts.{certificate-refused, certificate-members, members-placed}
 use Rattle.format.specs.Verdict.{answer}
@@ -12,32 +8,22 @@ use Rattle.checker.proofs.Verdicts.{bounds}
 use borrow.Author.Needs.{needs}
 use Rattle.checker.proofs.check_certificate.Statement.{statement}
 use Rattle.checker.proofs.check_certificate.Tie as tie
-use Rattle.checker.proofs.check_certificate.Reads as reads
-use Rattle.checker.proofs.check_certificate.Lts as lts
-use Rattle.checker.proofs.check_members.Reads as check-members-reads
-use Rattle.checker.proofs.stub.read_members.Reads as read-members-reads
 
--- src/lib.rt:86:9
 read-members-requires : tie.Need-read-members-requires
 read-members-requires c κs = search needs
 
--- src/lib.rt:88:32
 enum-known-r : tie.Need-enum-known-r
 enum-known-r c = search needs
 
--- src/lib.rt:89:32
 enum-known-r-2 : tie.Need-enum-known-r-2
 enum-known-r-2 c = search needs
 
--- src/lib.rt:89:48
 check-members-requires : tie.Need-check-members-requires
 check-members-requires c κs = let a = c .before .before .before .before .before .before .before .before .args in let p = c .before .before .before .before .before .before .before .before .pre in let v = c .before .before .r2 .given in let m = rw (v .1) at (c .before .before .before .before .read-members .ensures) in let b = bounds (a .job .now) (a .cert .now) (a .h) (p .0) (p .1) in (p .0, m .table b, m .inside, p .1)
 
--- src/lib.rt:81:1
 returns : tie.Need-returns
 returns c = let a = c .before .before .before .before .before .before .before .args in let v = c .before .r .given in certificate-refused (a .cert .now) (fileIn (a .job .now) (a .h)) _ _ (rw (v .1) at (c .before .before .before .read-members .ensures) .0)
 
--- src/lib.rt:81:1
 returns-2 : tie.Need-returns-2
 returns-2 c = let a = c .before .before .before .before .before .before .before .before .before .args in let p = c .before .before .before .before .before .before .before .before .before .pre in let v = c .before .before .before .r2 .given in let m = rw (v .1) at (c .before .before .before .before .before .read-members .ensures) in let b = bounds (a .job .now) (a .cert .now) (a .h) (p .0) (p .1) in let t = m .table b in let same = members-placed (a .cert .now) (a .h .variables) _ (m .members) (v .0 .0) (omega (arith, t .size, t .count-most)) (m .places-are b) (m .members-are b) in c .check-members .ensures ∙ ap answer (ap (λ ms. testThenCover (a .cert .now) ((fileIn (a .job .now) (a .h)) .job) ms (v .0 .1 .0)) (sym same) ∙ certificate-members (a .cert .now) (fileIn (a .job .now) (a .h)) (m .members) (v .0 .1 .0) (m .read))
 

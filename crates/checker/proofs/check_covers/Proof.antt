@@ -1,47 +1,32 @@
-use Prim.Native.Nat.{ℕ, _+_, _-_, _*_, _<_, _≤_}
-use mathlib.Core.Path.{_≡_, refl, ap, _∙_, sym}
 use native.Mathlib.Omega.{arith}
-use lib.ListN.{length, getD, take, drop, set}
-use mathlib.Core.Logic.{⊎-elim}
 use Rattle.layout.specs.Entries.{membersAt}
 use Rattle.checker.specs.Jobs.{fileIn}
 use Rattle.checker.proofs.Verdicts.{covers-refused, covers-left, covers-taken, entries-number, range-number}
 use borrow.Author.Needs.{needs}
 use Rattle.checker.proofs.check_covers.Statement.{statement}
 use Rattle.checker.proofs.check_covers.Tie as tie
-use Rattle.checker.proofs.check_covers.Reads as reads
-use Rattle.checker.proofs.check_covers.Lts as lts
-use Rattle.checker.proofs.take.take_covers.Reads as take-covers-reads
 
--- src/lib.rt:52:9
 take-covers-requires : tie.Need-take-covers-requires
 take-covers-requires c κs = c .before .before .pre
 
--- src/lib.rt:54:24
 enum-known-g : tie.Need-enum-known-g
 enum-known-g c = search needs
 
--- src/lib.rt:55:19
 enum-known-g-2 : tie.Need-enum-known-g-2
 enum-known-g-2 c = search needs
 
--- src/lib.rt:57:17
 returns : tie.Need-returns
 returns c = let a = c .before .before .before .before .before .before .before .before .args in let v = c .before .before .before .g2 .given in covers-left (a .cert .now) (fileIn (a .job .now) (a .h) .job) (membersAt (a .cert .now) (a .h .variables) (a .starts .now) (a .members)) (a .at) _ (c .before .before .before .before .before .take-covers .ensures) (v .0 .0) (v .1) (omega arith)
 
--- src/lib.rt:60:23
 cast-t15 : tie.Need-cast-t15
 cast-t15 c = omega (arith, c .before .before .before .before .before .before .before .before .before .pre .0 .bads-number)
 
--- src/lib.rt:61:26
 cast-t16 : tie.Need-cast-t16
 cast-t16 c = omega (arith, c .before .before .before .before .before .before .before .before .before .pre .1 .count-most)
 
--- src/lib.rt:48:1
 returns-2 : tie.Need-returns-2
 returns-2 c = let a = c .before .before .before .before .before .before .args in let v = c .before .g .given in covers-refused (a .cert .now) (fileIn (a .job .now) (a .h) .job) (membersAt (a .cert .now) (a .h .variables) (a .starts .now) (a .members)) (a .at) _ (c .before .before .before .take-covers .ensures) (v .0 .0) (v .0 .1 .0) (v .1)
 
--- src/lib.rt:48:1
 returns-3 : tie.Need-returns-3
 returns-3 c = let a = c .before .before .before .before .before .before .before .before .before .args in let v = c .before .before .before .before .g2 .given in covers-taken (a .cert .now) (fileIn (a .job .now) (a .h) .job) (membersAt (a .cert .now) (a .h .variables) (a .starts .now) (a .members)) (a .at) _ (c .before .before .before .before .before .before .take-covers .ensures) (v .0 .0) (v .1) (a .h .bads) (a .members) (omega arith) (entries-number (a .job .now) (a .h .variables) (a .h .«bads_at») (a .h .bads)) (range-number _ 0 (a .members))
 

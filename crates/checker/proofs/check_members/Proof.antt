@@ -1,40 +1,26 @@
-use Prim.Native.Nat.{ℕ, _+_, _-_, _*_, _<_, _≤_}
-use mathlib.Core.Path.{_≡_, refl, ap, _∙_, sym}
-use native.Mathlib.Omega.{arith}
-use lib.ListN.{length, getD, take, drop, set}
-use mathlib.Core.Logic.{⊎-elim}
+use mathlib.Core.Path.{ap, _∙_, sym}
 use Rattle.format.specs.Verdict.{answer}
 use Rattle.checker.specs.Jobs.{fileIn, placedFrom, readCovers}
 use Rattle.checker.proofs.Verdicts.{members-refused, members-passed, placed-without}
 use borrow.Author.Needs.{needs}
 use Rattle.checker.proofs.check_members.Statement.{statement}
 use Rattle.checker.proofs.check_members.Tie as tie
-use Rattle.checker.proofs.check_members.Reads as reads
-use Rattle.checker.proofs.check_members.Lts as lts
-use Rattle.checker.proofs.check_covers.Reads as check-covers-reads
-use Rattle.checker.proofs.start.test_start.Reads as test-start-reads
 
--- src/lib.rt:73:9
 test-start-requires : tie.Need-test-start-requires
 test-start-requires c κs = c .before .before .pre .1
 
--- src/lib.rt:75:26
 enum-known-r : tie.Need-enum-known-r
 enum-known-r c = search needs
 
--- src/lib.rt:76:27
 enum-told : tie.Need-enum-told
 enum-told c = search needs
 
--- src/lib.rt:76:27
 check-covers-requires : tie.Need-check-covers-requires
 check-covers-requires c κs = c .before .before .before .before .before .pre
 
--- src/lib.rt:69:1
 returns : tie.Need-returns
 returns c = let a = c .before .before .before .before .before .before .args in let v = c .before .r .given in members-refused (a .cert .now) (fileIn (a .job .now) (a .h) .job) (placedFrom (a .cert .now) (a .h .variables) (a .starts .now) (a .members) 0) (a .at) _ (c .before .before .before .test-start .ensures) (v .0 .0) (v .0 .1 .0) (v .1)
 
--- src/lib.rt:69:1
 returns-2 : tie.Need-returns-2
 returns-2 c = let a = c .before .before .before .before .before .before .args in let v = c .before .enum-told .given in c .check-covers .ensures ∙ ap answer (sym (members-passed (a .cert .now) (fileIn (a .job .now) (a .h) .job) (placedFrom (a .cert .now) (a .h .variables) (a .starts .now) (a .members) 0) (a .at) _ (c .before .before .before .test-start .ensures) (v .0 .0) (v .1) ∙ ap (λ ms. readCovers (a .cert .now) (fileIn (a .job .now) (a .h) .job) ms (a .at)) (placed-without (a .cert .now) (a .h .variables) (a .starts .now) (a .members) 0)))
 

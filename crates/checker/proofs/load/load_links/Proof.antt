@@ -1,15 +1,12 @@
-use Prim.Native.Nat.{ℕ, _+_, _-_, _*_, _<_, _≤_}
-use mathlib.Core.Path.{_≡_, refl, ap, _∙_, sym}
+use Prim.Native.Nat.{_-_, _≤_}
+use mathlib.Core.Path.{_≡_}
 use native.Mathlib.Omega.{arith}
-use lib.ListN.{length, getD, take, drop, set}
-use mathlib.Core.Logic.{⊎-elim}
+use lib.ListN.{drop}
 use lib.Seq.{paste, paste-zero}
 use Rattle.checker.proofs.Loading.{copied-more}
 use borrow.Author.Needs.{needs}
 use Rattle.checker.proofs.load.load_links.Statement.{statement}
 use Rattle.checker.proofs.load.load_links.Tie as tie
-use Rattle.checker.proofs.load.load_links.Reads as reads
-use Rattle.checker.proofs.load.load_links.Lts as lts
 
 abbrev Inv-loop : tie.InvT-loop
 Inv-loop bytes first count links₀ i₀ links i = (i ≤ count) × (links ≡ paste links₀ 0 (drop first bytes) i)
@@ -17,35 +14,27 @@ Inv-loop bytes first count links₀ i₀ links i = (i ≤ count) × (links ≡ p
 abbrev μ-loop : tie.MeasureT-loop
 μ-loop bytes first count links₀ i₀ links i = count - i
 
--- src/load.rt:28:5
 loop-holds : tie.Need-loop-holds Inv-loop μ-loop
 loop-holds c = let a = c .args in (omega arith, paste-zero (a .links .now) 0 (drop (a .first) (a .bytes .now)))
 
--- src/load.rt:29:26
 add-links : tie.Need-add-links Inv-loop μ-loop
 add-links c = search needs
 
--- src/load.rt:29:20
 shared-slice-read-links : tie.Need-shared-slice-read-links Inv-loop μ-loop
 shared-slice-read-links c = search needs
 
--- src/load.rt:29:9
 element-write-links : tie.Need-element-write-links Inv-loop μ-loop
 element-write-links c = search needs
 
--- src/load.rt:30:9
 add-i : tie.Need-add-i Inv-loop μ-loop
 add-i c = search needs
 
--- src/load.rt:28:5
 loop-less : tie.Need-loop-less Inv-loop μ-loop
 loop-less c = search needs
 
--- src/load.rt:28:5
 loop-again : tie.Need-loop-again Inv-loop μ-loop
 loop-again c = let a = c .before .before .before .args in let i = c .before .before .loop .i in (omega arith, copied-more (a .links .now) 0 (a .bytes .now) (a .first) i i (c .before .before .loop .links) (omega arith) (omega arith) (omega arith) (c .before .before .loop .inv .1))
 
--- src/load.rt:23:1
 returns : tie.Need-returns Inv-loop μ-loop
 returns c = let a = c .before .before .args in let e : c .before .loop .i ≡ a .count = omega arith in rw (← e) (c .before .loop .inv .1)
 

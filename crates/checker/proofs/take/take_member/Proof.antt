@@ -1,61 +1,43 @@
-use Prim.Native.Nat.{ℕ, _+_, _-_, _*_, _<_, _≤_}
-use mathlib.Core.Path.{_≡_, refl, ap, _∙_, sym}
+use mathlib.Core.Path.{refl}
 use native.Mathlib.Omega.{arith}
-use lib.ListN.{length, getD, take, drop, set}
-use mathlib.Core.Logic.{⊎-elim}
+use lib.ListN.{getD}
 use Rattle.order.proofs.Index.{linked-head}
 use Rattle.checker.specs.Jobs.{toState}
 use Rattle.layout.specs.Entries.{locatedAt}
 use Rattle.checker.proofs.Chain.{chain-begin, chain-end}
-use borrow.Author.Needs.{needs}
 use Rattle.checker.proofs.take.take_member.Statement.{statement}
 use Rattle.checker.proofs.take.take_member.Tie as tie
-use Rattle.checker.proofs.take.take_member.Reads as reads
-use Rattle.checker.proofs.take.take_member.Lts as lts
-use Rattle.checker.proofs.load.load_shape.Reads as load-shape-reads
-use Rattle.checker.proofs.take.take_transitions.Reads as take-transitions-reads
 
--- src/take.rt:182:14
 mul-at : tie.Need-mul-at
 mul-at c = omega (arith, c .before .before .pre .2 .count-most)
 
--- src/take.rt:182:14
 element-copy-out-at : tie.Need-element-copy-out-at
 element-copy-out-at c = omega (arith, c .before .before .pre .2 .count-most)
 
--- src/take.rt:182:14
 cast-at : tie.Need-cast-at
 cast-at c = let e = c .before .before .before .pre .2 .entry (c .before .before .before .args .m) (c .before .before .before .pre .3) in omega (arith, e .inside)
 
--- src/take.rt:183:17
 shared-slice-read-state : tie.Need-shared-slice-read-state
 shared-slice-read-state c = let e = c .before .before .before .before .pre .2 .entry (c .before .before .before .before .args .m) (c .before .before .before .before .pre .3) in omega (arith, e .inside)
 
--- src/take.rt:184:22
 cast-head : tie.Need-cast-head
 cast-head c = let e = c .before .before .before .before .pre .2 .entry (c .before .before .before .before .args .m) (c .before .before .before .before .pre .3) in omega (arith, e .state)
 
--- src/take.rt:184:16
 mul-head : tie.Need-mul-head
 mul-head c = let e = c .before .before .before .before .pre .2 .entry (c .before .before .before .before .args .m) (c .before .before .before .before .pre .3) in omega (arith, e .state)
 
--- src/take.rt:184:16
 element-copy-out-head : tie.Need-element-copy-out-head
 element-copy-out-head c = let e = c .before .before .before .before .pre .2 .entry (c .before .before .before .before .args .m) (c .before .before .before .before .pre .3) in omega (arith, e .state)
 
--- src/take.rt:186:9
 returns : tie.Need-returns
 returns c = let a = c .before .before .before .before .before .before .args in let p = c .before .before .before .before .before .before .pre in let e = c .before .before .before .before .before .before .pre .2 .entry (c .before .before .before .before .before .before .args .m) (c .before .before .before .before .before .before .pre .3) in let m = locatedAt (a .cert .now) (a .h .variables) (getD (a .starts .now) (a .m) 0) in let k = getD (a .heads .now) (m .state) 0 in chain-end (a .job .now) (a .h) (a .cert .now) _ m (a .t) k (a .t) (chain-begin (a .job .now) (a .h) (a .cert .now) _ m (a .t) k (linked-head (toState (a .job .now) (a .h)) (a .h .transitions) (a .heads .now) (a .nexts .now) (p .1) (getD (a .cert .now) (getD (a .starts .now) (a .m) 0) 0) (e .state)) (p .4)) (omega arith)
 
--- src/take.rt:190:9
 load-shape-requires : tie.Need-load-shape-requires
 load-shape-requires c κs = let p = c .before .before .before .before .before .before .before .before .pre in let e = c .before .before .before .before .before .before .before .before .pre .2 .entry (c .before .before .before .before .before .before .before .before .args .m) (c .before .before .before .before .before .before .before .before .pre .3) in (e, p .2 .variables-most, refl, refl)
 
--- src/take.rt:191:5
 take-transitions-requires : tie.Need-take-transitions-requires
 take-transitions-requires c κs = let a = c .before .before .before .before .before .before .before .before .before .before .before .args in let p = c .before .before .before .before .before .before .before .before .before .before .before .pre in let e = c .before .before .before .before .before .before .before .before .before .before .before .pre .2 .entry (c .before .before .before .before .before .before .before .before .before .before .before .args .m) (c .before .before .before .before .before .before .before .before .before .before .before .pre .3) in let l = c .before .before .load-shape .ensures in (p .0, p .1 .next, linked-head (toState (a .job .now) (a .h)) (a .h .transitions) (a .heads .now) (a .nexts .now) (p .1) (getD (a .cert .now) (getD (a .starts .now) (a .m) 0) 0) (e .state), p .2, l .hold, l .cells, p .4)
 
--- src/take.rt:168:1
 returns-2 : tie.Need-returns-2
 returns-2 c = (rw (c .before .before .before .load-shape .ensures .shape) at (c .take-transitions .ensures .0), c .take-transitions .ensures .1)
 

@@ -1,40 +1,25 @@
-use Prim.Native.Nat.{ℕ, _+_, _-_, _*_, _<_, _≤_}
-use mathlib.Core.Path.{_≡_, refl, ap, _∙_, sym}
+use mathlib.Core.Path.{_≡_, ap}
 use native.Mathlib.Omega.{arith}
-use lib.ListN.{length, getD, take, drop, set}
-use mathlib.Core.Logic.{⊎-elim}
 use Rattle.kinds.proofs.Rows.{row-of, known}
 use Rattle.heap.specs.Operation.{kindOf}
-use borrow.Author.Needs.{needs}
 use Rattle.checker.proofs.take.take_op.Statement.{statement}
 use Rattle.checker.proofs.take.take_op.Tie as tie
-use Rattle.checker.proofs.take.take_op.Reads as reads
-use Rattle.checker.proofs.take.take_op.Lts as lts
-use Rattle.checker.proofs.placing.take_placed.Reads as take-placed-reads
-use Rattle.checker.proofs.removal.take_delete.Reads as take-delete-reads
-use Rattle.checker.proofs.removal.take_new.Reads as take-new-reads
 
--- src/take.rt:88:9
 take-delete-requires : tie.Need-take-delete-requires
 take-delete-requires c κs = let p = c .before .before .pre in let is : c .before .before .args .kind ≡ 7 = omega arith in let r = row-of (c .before .before .args .variables) (c .before .before .args .kind) (c .before .before .args .a) (c .before .before .args .b) _ (ap kindOf is) (c .before .before .pre .3) .0 in (p .0, p .1, p .2, r .least-a, r .most-a, p .4)
 
--- src/take.rt:88:9
 returns : tie.Need-returns
 returns c = let is : c .before .before .before .args .kind ≡ 7 = omega arith in rw is (c .take-delete .ensures)
 
--- src/take.rt:91:9
 take-new-requires : tie.Need-take-new-requires
 take-new-requires c κs = let p = c .before .before .before .pre in let is : c .before .before .before .args .kind ≡ 6 = omega arith in let r = row-of (c .before .before .before .args .variables) (c .before .before .before .args .kind) (c .before .before .before .args .a) (c .before .before .before .args .b) _ (ap kindOf is) (c .before .before .before .pre .3) .0 in (p .0, p .1, p .2, r .least-a, r .most-a, p .4)
 
--- src/take.rt:91:9
 returns-2 : tie.Need-returns-2
 returns-2 c = let is : c .before .before .before .before .args .kind ≡ 6 = omega arith in rw is (c .take-new .ensures)
 
--- src/take.rt:93:5
 take-placed-requires : tie.Need-take-placed-requires
 take-placed-requires c κs = let p = c .before .before .before .pre in let a = c .before .before .before .args in (p .0, p .1, p .2, omega (arith, known (a .variables) (a .kind) (a .a) (a .b) (p .3)), p .3, p .4)
 
--- src/take.rt:70:1
 returns-3 : tie.Need-returns-3
 returns-3 c = c .take-placed .ensures
 
