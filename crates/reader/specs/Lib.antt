@@ -1,2 +1,0 @@
-pub mod Job
-pub mod Members
