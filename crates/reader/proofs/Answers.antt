@@ -7,13 +7,15 @@ use native.Mathlib.Omega.{arith}
 use Rattle.lists.proofs.Reflect.{r-le, r-lt, r-and, cond-true, cond-false}
 use Rattle.number.specs.Number.{numberAt}
 use Rattle.number.specs.declared.Read.the-variants.{Number, Unreadable}
-use Rattle.format.specs.Parser.{Parsed, parsed, fault, within, such, meant, readAs, ranged}
-use Rattle.format.proofs.Parsing.{read-complete, read-outside}
+use Rattle.format.specs.Parser.{Parsed, parsed, fault, Buffer, within, such, meant, readAs, ranged}
+use Rattle.format.proofs.Parsing.{read-complete, read-outside, ranged-exact}
 use Rattle.verdict.specs.Verdict.{refusalNumber, reachedOf}
 use Rattle.verdict.specs.declared.Reached.{Reached}
 use Rattle.verdict.specs.declared.Reached.the-variants.{At, Refused as ReachedRefused}
 use Rattle.verdict.specs.declared.Refusal.{Refusal}
+use Rattle.reader.specs.Job.{refusedFront}
 use Rattle.reader.specs.Number.{bufferOf, rangedOf, forget}
+use Rattle.reader.specs.declared.Front.{Front}
 use Rattle.reader.specs.declared.Ranged.{Ranged}
 use Rattle.reader.specs.declared.Ranged.the-variants.{Value, Refused}
 use Rattle.reader.specs.declared.Side.{Side}
@@ -32,6 +34,10 @@ module _ {r : Ranged} {x : Parsed ℕ} (h : rangedOf r ≡ x) where
   pub passed : {y : Parsed (Unit {0})} {why : Refusal} {place : ℕ} → y ≡ forget (rangedOf r) → r ≡ Refused why place
       → y ≡ fault (refusalNumber why) place
   passed k e = k ∙ ap (λ y. forget (rangedOf y)) e
+
+  pub stopped : {y : Parsed Front} {why : Refusal} {place : ℕ} → y ≡ refusedFront (rangedOf r) → r ≡ Refused why place
+      → y ≡ fault (refusalNumber why) place
+  stopped k e = k ∙ ap (λ y. refusedFront (rangedOf y)) e
 
 -- ---- a place that was reached, or a refusal
 
@@ -77,3 +83,6 @@ module _ (side : Side) (bytes : List ℕ) (at low limit : ℕ) where
         sym
         (read-complete (bufferOf side bytes) (such (within low limit)) at n next n (ap (λ l. numberAt l at) (bytes-of side bytes) ∙ g)
         (cond-true (within low limit n) (some n) none (r-and (r-le low n) (r-lt n limit) .tests (l, h))))
+
+pub in-range : (s : Buffer) (low limit at n next : ℕ) → ranged s low limit at ≡ parsed n next → (low ≤ n) × (n < limit)
+in-range s low limit at n next h = ranged-exact s low limit .sound at n next h .1

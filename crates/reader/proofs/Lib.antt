@@ -1,2 +1,6 @@
 pub mod Answers
 pub mod Many
+pub mod Entries
+pub mod Transitions
+pub mod Jobs
+pub mod Bytes

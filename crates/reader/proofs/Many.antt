@@ -20,17 +20,20 @@ pub bind-assoc : {A B C : Type 0} (x : Parsed A) (k : A → Parser B) (l : B →
 bind-assoc (parsed v next) k l = refl
 bind-assoc (fault number place) k l = refl
 
+-- a value made of what was read
+pub forget-made : {A B : Type 0} (x : Parsed A) (f : A → B) → forget x ≡ forget (onward x (λ v next. parsed (f v) next))
+forget-made (parsed v next) f = refl
+forget-made (fault number place) f = refl
+
 module _ {A : Type 0} (p : Parser A) where
   many-suc : (k at : ℕ) → many (suc k) p at ≡ onward (p at) (λ x mid. onward (many k p mid) (λ xs next. parsed (x ∷ xs) next))
   unfolding many
   many-suc k at = refl
 
   more : (k at next : ℕ) → forget (p at) ≡ parsed tt next → forget (many (suc k) p at) ≡ forget (many k p next)
-  more k at next e = let (x, g) = remembered (p at) next e in rw (many-suc k at, g) (dropped x (many k p next))
-    where
-      dropped : (x : A) (y : Parsed (List A)) → forget (onward y (λ xs k. parsed (x ∷ xs) k)) ≡ forget y
-      dropped x (parsed xs k) = refl
-      dropped x (fault number place) = refl
+  more k at next e =
+      let (x, g) = remembered (p at) next e in
+      rw (many-suc k at, g) (sym (forget-made (many k p next) (λ (xs : List A). x ∷ xs)))
 
   -- ---- a loop that has read i of n from `first` on, and is at a place
 

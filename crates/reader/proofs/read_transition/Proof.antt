@@ -3,6 +3,10 @@ use mathlib.Core.Path.{_≡_, refl, ap, _∙_, sym}
 use native.Mathlib.Omega.{arith}
 use lib.ListN.{length, getD, take, drop, set}
 use mathlib.Core.Logic.{⊎-elim}
+use Rattle.format.specs.Parser.{jobBuffer}
+use Rattle.reader.proofs.Answers.{got, lost, passed}
+use Rattle.reader.specs.Number.{forget, rangedOf}
+use Rattle.reader.proofs.Transitions.{most-bound, lost-from, lost-kind, lost-a, lost-b, to-last}
 use borrow.Author.Needs.{needs}
 use Rattle.reader.proofs.read_transition.Statement.{statement}
 use Rattle.reader.proofs.read_transition.Tie as tie
@@ -32,7 +36,7 @@ reached-requires c κs = search needs
 
 -- src/lib.rt:158:9
 returns : tie.Need-returns
-returns c = search needs
+returns c = let a = c .before .before .before .before .before .args in let e = c .before .enum-told .given .1 in passed (c .before .before .before .read-ranged .ensures) (c .reached .ensures) e ∙ lost-from (jobBuffer (a .job .now)) (a .variables) (a .states) (a .first) (lost (c .before .before .before .read-ranged .ensures) e)
 
 -- src/lib.rt:160:9
 read-ranged-requires-2 : tie.Need-read-ranged-requires-2
@@ -52,7 +56,7 @@ reached-requires-2 c κs = search needs
 
 -- src/lib.rt:162:9
 returns-2 : tie.Need-returns-2
-returns-2 c = search needs
+returns-2 c = let a = c .before .before .before .before .before .before .before .before .before .args in let e = c .before .enum-told2 .given .1 in passed (c .before .before .before .read-ranged2 .ensures) (c .reached2 .ensures) e ∙ lost-kind (jobBuffer (a .job .now)) (a .variables) (a .states) (a .first) (got (c .before .before .before .before .before .before .before .read-ranged .ensures) (c .before .before .before .before .before .from .given .1)) (lost (c .before .before .before .read-ranged2 .ensures) e)
 
 -- src/lib.rt:164:47
 least-a-requires : tie.Need-least-a-requires
@@ -80,7 +84,7 @@ reached-requires-3 c κs = search needs
 
 -- src/lib.rt:166:9
 returns-3 : tie.Need-returns-3
-returns-3 c = search needs
+returns-3 c = let a = c .before .before .before .before .before .before .before .before .before .before .before .before .before .before .args in let e = c .before .enum-told3 .given .1 in passed (c .before .before .before .read-ranged3 .ensures) (c .reached3 .ensures) e ∙ lost-a (jobBuffer (a .job .now)) (a .variables) (a .states) (a .first) (got (c .before .before .before .before .before .before .before .before .before .before .before .before .read-ranged .ensures) (c .before .before .before .before .before .before .before .before .before .before .from .given .1)) (got (c .before .before .before .before .before .before .before .before .read-ranged2 .ensures) (c .before .before .before .before .before .before .number .given .1)) (rw (← c .before .before .before .before .least-a .ensures) (lost (c .before .before .before .read-ranged3 .ensures) e))
 
 -- src/lib.rt:168:9
 most-b-requires : tie.Need-most-b-requires
@@ -92,7 +96,7 @@ least-b-requires c κs = search needs
 
 -- src/lib.rt:169:62
 add-read-ranged-2 : tie.Need-add-read-ranged-2
-add-read-ranged-2 c = search needs
+add-read-ranged-2 c = let a = c .before .before .before .before .before .before .before .before .before .before .before .before .before .before .before .before .args in omega (arith, c .before .most-b .ensures, most-bound (c .before .before .before .before .before .before .before .before .number .given .0 .0) (a .variables))
 
 -- src/lib.rt:169:9
 read-ranged-requires-4 : tie.Need-read-ranged-requires-4
@@ -112,7 +116,7 @@ reached-requires-4 c κs = search needs
 
 -- src/lib.rt:171:9
 returns-4 : tie.Need-returns-4
-returns-4 c = search needs
+returns-4 c = let a = c .before .before .before .before .before .before .before .before .before .before .before .before .before .before .before .before .before .before .before .before .args in let e = c .before .enum-told4 .given .1 in passed (c .before .before .before .read-ranged4 .ensures) (c .reached4 .ensures) e ∙ lost-b (jobBuffer (a .job .now)) (a .variables) (a .states) (a .first) (got (c .before .before .before .before .before .before .before .before .before .before .before .before .before .before .before .before .before .before .read-ranged .ensures) (c .before .before .before .before .before .before .before .before .before .before .before .before .before .before .before .before .from .given .1)) (got (c .before .before .before .before .before .before .before .before .before .before .before .before .before .before .read-ranged2 .ensures) (c .before .before .before .before .before .before .before .before .before .before .before .before .number .given .1)) (rw (c .before .before .before .before .before .before .before .before .before .before .least-a .ensures) at (got (c .before .before .before .before .before .before .before .before .before .read-ranged3 .ensures) (c .before .before .before .before .before .before .before .a .given .1))) (rw (← c .before .before .before .before .least-b .ensures, ← c .before .before .before .before .before .most-b .ensures) (lost (c .before .before .before .read-ranged4 .ensures) e))
 
 -- src/lib.rt:173:13
 read-ranged-requires-5 : tie.Need-read-ranged-requires-5
@@ -124,7 +128,7 @@ reached-requires-5 c κs = search needs
 
 -- src/lib.rt:152:1
 returns-5 : tie.Need-returns-5
-returns-5 c = search needs
+returns-5 c = let a = c .before .before .before .before .before .before .before .before .before .before .before .before .before .before .before .before .before .before .before .before .before .before .args in c .reached5 .ensures ∙ ap forget (c .before .read-ranged5 .ensures) ∙ to-last (jobBuffer (a .job .now)) (a .variables) (a .states) (a .first) (got (c .before .before .before .before .before .before .before .before .before .before .before .before .before .before .before .before .before .before .before .before .read-ranged .ensures) (c .before .before .before .before .before .before .before .before .before .before .before .before .before .before .before .before .before .before .from .given .1)) (got (c .before .before .before .before .before .before .before .before .before .before .before .before .before .before .before .before .read-ranged2 .ensures) (c .before .before .before .before .before .before .before .before .before .before .before .before .before .before .number .given .1)) (rw (c .before .before .before .before .before .before .before .before .before .before .before .before .least-a .ensures) at (got (c .before .before .before .before .before .before .before .before .before .before .before .read-ranged3 .ensures) (c .before .before .before .before .before .before .before .before .before .a .given .1))) (rw (c .before .before .before .before .before .before .least-b .ensures, c .before .before .before .before .before .before .before .most-b .ensures) at (got (c .before .before .before .before .before .read-ranged4 .ensures) (c .before .before .before .b .given .1)))
 
 pub read-transition-spec : {M : Type 1} → statement M
 read-transition-spec =
