@@ -3,8 +3,15 @@ use mathlib.Core.List.{List}
 use mathlib.Core.Path.{_≡_, refl, sym, ap, _∙_}
 use Prim.Native.Nat.{ℕ, _+_, _≤_, _<_}
 use native.Mathlib.Omega.{arith}
-use Rattle.format.specs.Parser.{Parsed, parsed, fault, onward, many, Buffer, ranged}
-use Rattle.reader.specs.Job.{readFront}
+use borrow.Author.Tests.{le-leb, lt-leb}
+use lib.ListN.{length}
+use Rattle.run.specs.Run.{Transition}
+use Rattle.format.specs.Job.{JobFile, readLocated, readTransition, readJob, readWholeJob}
+use Rattle.format.specs.Parser.{Parsed, parsed, fault, Parser, onward, _>>=_, _>>_, return, many, Buffer, jobBuffer, ranged, end}
+use Rattle.reader.specs.Job.{readFront, readRest}
+use Rattle.reader.specs.Number.{forget}
+use Rattle.reader.specs.declared.Front.{Front}
+use Rattle.reader.proofs.Many.{remembered, forget-fault, forget-onward, bind-assoc}
 
 -- ---- the numbers before the transitions
 
@@ -37,3 +44,72 @@ module _ (s : Buffer) (at : ℕ) where
               → parsed (record { variables = variables; states = states; start = start; transitions = count; at = p₅ }) p₅ ≡ readFront s at
           unfolding readFront
           front-made e = rw (e₁, e₂, e₃, e₄, e) refl
+
+-- ---- what follows the transitions
+
+module _ (job : List ℕ) (f : Front) (at : ℕ) where
+  abbrev s : Buffer
+  s = jobBuffer job
+
+  pub lost-bads : {number place : ℕ} → ranged s 1 65 at ≡ fault number place → readRest job f at ≡ fault number place
+  unfolding readRest
+  lost-bads e = rw e refl
+
+  module _ {bads p : ℕ} (e₁ : ranged s 1 65 at ≡ parsed bads p) where
+    pub lost-forbidden : {number place : ℕ} → forget (many bads (readLocated s (f .variables) (f .states)) p) ≡ fault number place
+        → readRest job f at ≡ fault number place
+    unfolding readRest
+    lost-forbidden {number} {place} e = rw (e₁, forget-fault (many bads (readLocated s (f .variables) (f .states)) p) number place e) refl
+
+    module _ {last : ℕ} (e₂ : forget (many bads (readLocated s (f .variables) (f .states)) p) ≡ parsed tt last) where
+      pub left-over : last < length job → readRest job f at ≡ fault 5 last
+      unfolding readRest end
+      left-over h =
+          let (ms, e₃) = remembered (many bads (readLocated s (f .variables) (f .states)) p) last e₂ in
+          rw (e₁, e₃, lt-leb (length job) last h) refl
+
+      pub rest-made : length job ≤ last
+          → readRest job f at
+          ≡ parsed
+          (record {
+            variables = f .variables;
+            states = f .states;
+            start = f .start;
+            transitions = f .transitions;
+            «transitions_at» = f .at;
+            bads = bads;
+            «bads_at» = p;
+          })
+          last
+      unfolding readRest end
+      rest-made h =
+          let (ms, e₃) = remembered (many bads (readLocated s (f .variables) (f .states)) p) last e₂ in
+          rw (e₁, e₃, le-leb (length job) last h) refl
+
+-- ---- a job is read by its parts
+
+module _ (job : List ℕ) where
+  fileRest : Front → List Transition → Parser JobFile
+  fileRest f transitions = do
+    bads ← ranged (jobBuffer job) 1 65
+    forbidden ← many bads (readLocated (jobBuffer job) (f .variables) (f .states))
+    end (jobBuffer job)
+    return
+        (record {
+          states = f .states;
+          job = record { variables = f .variables; start = f .start; transitions = transitions; forbidden = forbidden };
+        })
+
+  parts : readWholeJob (jobBuffer job) 0
+      ≡ onward (readFront (jobBuffer job) 0)
+      (λ f p. onward (many (f .transitions) (readTransition (jobBuffer job) (f .variables) (f .states)) p) (fileRest f))
+  unfolding readWholeJob readJob readFront fileRest
+  parts = simp bind-assoc
+
+  -- the rest is read alike, whatever is made of it
+  same-rest : (f : Front) (transitions : List Transition) (at : ℕ) → forget (readRest job f at) ≡ forget (fileRest f transitions at)
+  unfolding readRest fileRest
+  same-rest f transitions at =
+      forget-onward (ranged (jobBuffer job) 1 65 at) _ _
+      (λ bads p. forget-onward (many bads (readLocated (jobBuffer job) (f .variables) (f .states)) p) _ _
+      (λ ms q. forget-onward (end (jobBuffer job) q) _ _ (λ u last. refl)))

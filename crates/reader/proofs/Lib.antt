@@ -4,3 +4,4 @@ pub mod Entries
 pub mod Transitions
 pub mod Jobs
 pub mod Bytes
+pub mod Standing

@@ -20,6 +20,11 @@ pub bind-assoc : {A B C : Type 0} (x : Parsed A) (k : A → Parser B) (l : B →
 bind-assoc (parsed v next) k l = refl
 bind-assoc (fault number place) k l = refl
 
+pub forget-onward : {A B C : Type 0} (x : Parsed A) (k : A → Parser B) (l : A → Parser C) → ((v : A) (next : ℕ) → forget (k v next) ≡ forget (l v next))
+    → forget (onward x k) ≡ forget (onward x l)
+forget-onward (parsed v next) k l h = h v next
+forget-onward (fault number place) k l h = refl
+
 -- a value made of what was read
 pub forget-made : {A B : Type 0} (x : Parsed A) (f : A → B) → forget x ≡ forget (onward x (λ v next. parsed (f v) next))
 forget-made (parsed v next) f = refl
