@@ -8,9 +8,11 @@ use lib.ListN.{length}
 use Rattle.run.specs.Run.{Transition}
 use Rattle.format.specs.Job.{JobFile, readLocated, readTransition, readJob, readWholeJob}
 use Rattle.format.specs.Parser.{Parsed, parsed, fault, Parser, onward, _>>=_, _>>_, return, many, Buffer, jobBuffer, ranged, end}
+use Rattle.format.proofs.Parsing.{then}
 use Rattle.reader.specs.Job.{readFront, readRest}
 use Rattle.reader.specs.Number.{forget}
 use Rattle.reader.specs.declared.Front.{Front}
+use Rattle.reader.proofs.Answers.{in-range}
 use Rattle.reader.proofs.Many.{remembered, forget-fault, forget-onward, bind-assoc}
 
 -- ---- the numbers before the transitions
@@ -44,6 +46,19 @@ module _ (s : Buffer) (at : ℕ) where
               → parsed (record { variables = variables; states = states; start = start; transitions = count; at = p₅ }) p₅ ≡ readFront s at
           unfolding readFront
           front-made e = rw (e₁, e₂, e₃, e₄, e) refl
+
+pub front-variables : (s : Buffer) (at : ℕ) (f : Front) (next : ℕ) → readFront s at ≡ parsed f next → f .variables ≤ 8
+unfolding readFront
+front-variables s at f next =
+    then (ranged s 1 2 at) _
+    (λ version p₁ h₁. then (ranged s 1 9 p₁) _
+    (λ variables p₂ h₂. then (ranged s 1 65 p₂) _
+    (λ states p₃ h₃. then (ranged s 0 states p₃) _
+    (λ start p₄ h₄. then (ranged s 0 257 p₄) _
+    (λ transitions p₅ h₅ r.
+    let (_, most) = in-range s 1 9 p₁ variables p₂ h₂ in
+    let same : variables ≡ f .variables = cc in
+    omega arith)))))
 
 -- ---- what follows the transitions
 
@@ -85,31 +100,3 @@ module _ (job : List ℕ) (f : Front) (at : ℕ) where
       rest-made h =
           let (ms, e₃) = remembered (many bads (readLocated s (f .variables) (f .states)) p) last e₂ in
           rw (e₁, e₃, le-leb (length job) last h) refl
-
--- ---- a job is read by its parts
-
-module _ (job : List ℕ) where
-  fileRest : Front → List Transition → Parser JobFile
-  fileRest f transitions = do
-    bads ← ranged (jobBuffer job) 1 65
-    forbidden ← many bads (readLocated (jobBuffer job) (f .variables) (f .states))
-    end (jobBuffer job)
-    return
-        (record {
-          states = f .states;
-          job = record { variables = f .variables; start = f .start; transitions = transitions; forbidden = forbidden };
-        })
-
-  parts : readWholeJob (jobBuffer job) 0
-      ≡ onward (readFront (jobBuffer job) 0)
-      (λ f p. onward (many (f .transitions) (readTransition (jobBuffer job) (f .variables) (f .states)) p) (fileRest f))
-  unfolding readWholeJob readJob readFront fileRest
-  parts = simp bind-assoc
-
-  -- the rest is read alike, whatever is made of it
-  same-rest : (f : Front) (transitions : List Transition) (at : ℕ) → forget (readRest job f at) ≡ forget (fileRest f transitions at)
-  unfolding readRest fileRest
-  same-rest f transitions at =
-      forget-onward (ranged (jobBuffer job) 1 65 at) _ _
-      (λ bads p. forget-onward (many bads (readLocated (jobBuffer job) (f .variables) (f .states)) p) _ _
-      (λ ms q. forget-onward (end (jobBuffer job) q) _ _ (λ u last. refl)))

@@ -5,3 +5,4 @@ pub mod Transitions
 pub mod Jobs
 pub mod Bytes
 pub mod Standing
+pub mod WholeJob

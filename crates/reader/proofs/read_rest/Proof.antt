@@ -3,6 +3,8 @@ use mathlib.Core.Path.{_≡_, refl, ap, _∙_, sym}
 use native.Mathlib.Omega.{arith}
 use lib.ListN.{length, getD, take, drop, set}
 use mathlib.Core.Logic.{⊎-elim}
+use Rattle.reader.proofs.Answers.{got, lost, reached-got, reached-lost}
+use Rattle.reader.proofs.Jobs.{lost-bads, lost-forbidden, left-over, rest-made}
 use borrow.Author.Needs.{needs}
 use Rattle.reader.proofs.read_rest.Statement.{statement}
 use Rattle.reader.proofs.read_rest.Tie as tie
@@ -37,19 +39,19 @@ enum-known-r-2 c = search needs
 
 -- src/lib.rt:266:25
 returns : tie.Need-returns
-returns c = search needs
+returns c = let a = c .before .before .before .before .before .before .before .before .before .before .args in left-over (a .job .now) (a .front) (a .at) (got (c .before .before .before .before .before .before .before .before .read-ranged .ensures) (c .before .before .before .before .before .before .number2 .given .1)) (reached-got (c .before .before .before .before .read-forbidden .ensures) (c .before .before .r2 .given .1)) (omega arith)
 
 -- src/lib.rt:254:1
 returns-2 : tie.Need-returns-2
-returns-2 c = search needs
+returns-2 c = let a = c .before .before .before .before .before .args in lost-bads (a .job .now) (a .front) (a .at) (lost (c .before .before .before .read-ranged .ensures) (c .before .number .given .1))
 
 -- src/lib.rt:254:1
 returns-3 : tie.Need-returns-3
-returns-3 c = search needs
+returns-3 c = let a = c .before .before .before .before .before .before .before .before .before .args in lost-forbidden (a .job .now) (a .front) (a .at) (got (c .before .before .before .before .before .before .before .read-ranged .ensures) (c .before .before .before .before .before .number2 .given .1)) (reached-lost (c .before .before .before .read-forbidden .ensures) (c .before .r .given .1))
 
 -- src/lib.rt:254:1
 returns-4 : tie.Need-returns-4
-returns-4 c = search needs
+returns-4 c = let a = c .before .before .before .before .before .before .before .before .before .before .args in (_, rest-made (a .job .now) (a .front) (a .at) (got (c .before .before .before .before .before .before .before .before .read-ranged .ensures) (c .before .before .before .before .before .before .number2 .given .1)) (reached-got (c .before .before .before .before .read-forbidden .ensures) (c .before .before .r2 .given .1)) (omega arith))
 
 pub read-rest-spec : {M : Type 1} → statement M
 read-rest-spec =
