@@ -6,3 +6,4 @@ pub mod Jobs
 pub mod Bytes
 pub mod Standing
 pub mod WholeJob
+pub mod Noting

@@ -3,8 +3,9 @@ use mathlib.Core.List.{List, [], _∷_}
 use mathlib.Core.Path.{_≡_, refl, sym, ap, _∙_}
 use Prim.Native.Nat.{ℕ, zero, suc, _+_, _-_, _≤_, _<_}
 use native.Mathlib.Omega.{arith}
+use lib.ListN.{length}
 use Rattle.format.specs.Parser.{Parsed, parsed, fault, Parser, onward, many}
-use Rattle.format.proofs.Parsing.{not-fault}
+use Rattle.format.proofs.Parsing.{not-fault, then}
 use Rattle.reader.specs.Number.{forget}
 
 -- what was read, from where it ended
@@ -39,6 +40,17 @@ module _ {A : Type 0} (p : Parser A) where
   more k at next e =
       let (x, g) = remembered (p at) next e in
       rw (many-suc k at, g) (sym (forget-made (many k p next) (λ (xs : List A). x ∷ xs)))
+
+  pub many-length : (k at : ℕ) (xs : List A) (next : ℕ) → many k p at ≡ parsed xs next → length xs ≡ k
+  unfolding many
+  many-length zero at xs next e = let xs-are : [] ≡ xs = cc in ap length (sym xs-are)
+  many-length (suc k) at xs next e =
+      then (p at) _
+      (λ x mid h₁. then (many k p mid) _
+      (λ ys last h₂ r.
+      let xs-are : x ∷ ys ≡ xs = cc in
+      ap length (sym xs-are) ∙ ap suc (many-length k mid ys last h₂)))
+      e
 
   -- ---- a loop that has read i of n from `first` on, and is at a place
 

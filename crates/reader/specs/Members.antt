@@ -21,6 +21,7 @@ pub record Bounds (cert : List ℕ) (variables states : ℕ) : Type 0 where
 
 -- the table has the first places of so many entries, the first of them at a place; what it held behind them stays
 pub record Noted (cert : List ℕ) (variables states first count : ℕ) (before after : List ℕ) : Type 0 where
+  pub size : length after ≡ length before
   pub places : Bounds cert variables states → take count after ≡ placesAt cert variables first count
   pub rest : drop count after ≡ drop count before
 

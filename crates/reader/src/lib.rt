@@ -9,6 +9,7 @@ use verdict::Refusal;
 ghost use mathlib.Core.List.{[]};
 ghost use mathlib.Core.Path.{_≡_};
 ghost use Prim.Native.Nat.{_≤_};
+ghost use lib.ListN.{length};
 ghost use Rattle.format.specs.Certificate.{readMember};
 ghost use Rattle.format.specs.Job.{readLocated, readTransition};
 ghost use Rattle.format.specs.Parser.{jobBuffer, certificateBuffer, many, ranged};
@@ -298,8 +299,8 @@ pub fn read_job(job: &[u8]) -> JobAnswer
 }
 
 // The members of a certificate; the place where each starts goes to the table.
-fn note_members(cert: &[u8], first: usize, count: usize, variables: usize, states: usize, starts: &mut [u16; 512]) -> Reached
-    requires { ⌜ count ≤ 512 ⌝ }
+fn note_members(cert: &[u8], first: usize, count: usize, variables: usize, states: usize, starts: &mut [u16]) -> Reached
+    requires { ⌜ count ≤ length (now starts) ⌝ }
     ensures { λ r. ⌜ (reachedOf r ≡ forget (many count (readMember (certificateBuffer (now (cert .entry))) variables states) first)) × NotedBy (now (cert .entry)) variables states first count (now (starts .entry)) (now (starts .exit)) r ⌝ }
 {
     let mut at = first;
