@@ -1,12 +1,12 @@
 // The checker: one verdict for the bytes of a job and of a certificate.
 use crate::going::Going;
 use crate::start::test_start;
-use crate::stub::read_job;
-use crate::stub::read_members;
 use crate::take::take_covers;
 use reader::Header;
 use reader::JobAnswer;
 use reader::MembersAnswer;
+use reader::read_job;
+use reader::read_members;
 use verdict::Counts;
 use verdict::Reached;
 use verdict::Refusal;
@@ -31,7 +31,6 @@ mod one;
 mod placing;
 mod removal;
 mod start;
-mod stub;
 mod take;
 
 // Whether a buffer of this length is judged at all.
