@@ -10,7 +10,7 @@ use Rattle.order.proofs.Into.{before, owedFrom, FirstInto, none-into, some-into
 use Rattle.reader.specs.declared.Header.{Header}
 use Rattle.verdict.specs.declared.Refusal.{Refusal}
 use Rattle.checker.specs.Jobs.{transitionIn, toState, owedBy}
-use Rattle.checker.specs.Taking.{takeAll, goingOf, Within, StaysWithin}
+use Rattle.checker.specs.Taking.{takeAll, goingOf, Within, TakesAll}
 use Rattle.checker.specs.declared.going.Going.{Going}
 use Rattle.checker.specs.declared.going.Going.the-variants.{On, Refused}
 use Rattle.checker.specs.declared.going.Taken.{Taken}
@@ -39,7 +39,7 @@ module _ (job : List ℕ) (h : Header) (cert : List ℕ) (ms : List Located) (m 
       record { passed = 0; inside = omega arith; named = rw all e; progress = rw all (begin cert ms (owedBy job h m) from w) }
 
   pub chain-end : (k : ℕ) (t : Taken) → Chain k t → k ≤ 0
-      → (goingOf (On t) ≡ takeAll cert ms (owedBy job h m) (from .covers) (from .at)) × StaysWithin cert (On t)
+      → TakesAll cert ms (owedBy job h m) from (On t)
   chain-end k t c e =
       let none = none-into (transitionIn job h) m (h .transitions - c .passed) (c .passed) (sym (c .named) ∙ omega arith) in
       finish cert ms (owedBy job h m) from t (rw none at (c .progress))
@@ -62,7 +62,7 @@ module _ (job : List ℕ) (h : Header) (cert : List ℕ) (ms : List Located) (m 
 
     module _ (g : Going) (taken : goingOf g ≡ takeAll cert ms (before m (transitionIn job h (k - 1))) (t .covers) (t .at)) where
       pub chain-halt : (r : Refusal) (place : ℕ) → g ≡ Refused r place
-          → (goingOf g ≡ takeAll cert ms (owedBy job h m) (from .covers) (from .at)) × StaysWithin cert g
+          → TakesAll cert ms (owedBy job h m) from g
       chain-halt r place e = halt cert ms (owedBy job h m) from (before m (transitionIn job h (k - 1))) rest t here g r place e taken
 
       pub chain-more : (nexts : List ℕ) (u : Taken) → Follows (toState job h) (h .transitions) 0 nexts → g ≡ On u → Chain (getD nexts (k - 1) 0) u

@@ -10,7 +10,7 @@ use Rattle.format.specs.Parser.{Parsed, parsed, fault, onward, many, each, with
 use Rattle.format.proofs.Parsing.{then}
 use Rattle.verdict.specs.declared.Refusal.{Refusal}
 use Rattle.checker.proofs.CoverPlace.{cover-place}
-use Rattle.checker.specs.Taking.{takeAll, goingOf, Within, StaysWithin}
+use Rattle.checker.specs.Taking.{takeAll, goingOf, Within, TakesAll}
 use Rattle.checker.specs.declared.going.Going.{Going}
 use Rattle.checker.specs.declared.going.Going.the-variants.{On, Refused}
 use Rattle.checker.specs.declared.going.Taken.{Taken}
@@ -91,11 +91,11 @@ module _ (cert : List ℕ) (ms : List Located) where
 
     -- or refused, which ends it all
     pub halt : (g : Going) (r : Refusal) (place : ℕ) → g ≡ Refused r place → goingOf g ≡ takeAll cert ms os (t .covers) (t .at)
-        → (goingOf g ≡ takeAll cert ms all (from .covers) (from .at)) × StaysWithin cert g
+        → TakesAll cert ms all from g
     halt g r place g-is e =
         rw g-is (ap (λ r. onward r (takeAll cert ms rest)) (rw g-is at e) ∙ sym (takeAll-append os rest (t .covers) (t .at)) ∙ p .left, tt)
 
   pub finish : (all : List Located) (from t : Taken) → Progress all from [] t
-      → (goingOf (On t) ≡ takeAll cert ms all (from .covers) (from .at)) × StaysWithin cert (On t)
+      → TakesAll cert ms all from (On t)
   unfolding takeAll
   finish all from t p = (p .left, p .within)

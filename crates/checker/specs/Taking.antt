@@ -39,6 +39,10 @@ StaysWithin cert (Refused r place) = Unit {0}
 abbrev pub located : ℕ → Shape → Located
 located state s = record { state = state; shape = s }
 
--- g is how far the covers of shapes at a state are taken, from t on
+-- g is how far the covers of all these are taken, from t on
+abbrev pub TakesAll : List ℕ → List Located → List Located → Taken → Going → Type 0
+TakesAll cert ms os t g = (goingOf g ≡ takeAll cert ms os (t .covers) (t .at)) × StaysWithin cert g
+
+-- and those of shapes at a state
 abbrev pub Takes : List ℕ → List Located → ℕ → List Shape → Taken → Going → Type 0
-Takes cert ms state ss t g = (goingOf g ≡ takeAll cert ms (map (located state) ss) (t .covers) (t .at)) × StaysWithin cert g
+Takes cert ms state ss t g = TakesAll cert ms (map (located state) ss) t g

@@ -1,4 +1,5 @@
 // Shapes of entries that were read, as codes in two arrays. Every number of an entry is one byte.
+use place::Place;
 ghost use mathlib.Core.Path.{_≡_};
 ghost use Prim.Native.Nat.{_+_, _≤_};
 ghost use lib.ListN.{length, drop, set, replicate};
@@ -11,7 +12,8 @@ fn load_vars(bytes: &[u8], first: usize, count: usize, vars: &mut [u8; 10])
     requires { ⌜ (count ≤ 8) × (first + count ≤ length (now bytes)) × (length (now vars) ≡ 10) ⌝ }
     ensures { λ r. ⌜ now (vars .exit) ≡ paste (set (now (vars .entry)) 0 1) 1 (drop first (now (bytes .entry))) count ⌝ }
 {
-    vars[0] = 1;
+    let null = Place::NULL;
+    vars[0] = null.code;
     let mut i = 0;
     while i < count {
         vars[1 + i] = bytes[first + i];

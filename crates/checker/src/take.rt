@@ -8,7 +8,7 @@ use crate::removal::take_delete;
 use crate::removal::take_new;
 use reader::Header;
 ghost use mathlib.Core.Bool.{true};
-ghost use mathlib.Core.List.{[], _∷_, map};
+ghost use mathlib.Core.List.{[], _∷_};
 ghost use mathlib.Core.Path.{_≡_};
 ghost use Prim.Native.Nat.{ℕ, _+_, _≤_, _<_};
 ghost use lib.ListN.{length, getD, replicate};
@@ -17,7 +17,7 @@ ghost use Rattle.heap.specs.Operation.{kindOf};
 ghost use Rattle.backward.specs.Predecessors.{predecessors};
 ghost use Rattle.cover.specs.Cover.{owed};
 ghost use Rattle.checker.specs.Jobs.{toState, fileIn, owedBy};
-ghost use Rattle.checker.specs.Taking.{takeAll, goingOf, Within, StaysWithin, located};
+ghost use Rattle.checker.specs.Taking.{takeAll, goingOf, Within, located, TakesAll, Takes};
 ghost use Rattle.kinds.specs.Kinds.{allowed};
 ghost use Rattle.layout.specs.Arrays.{shapeIn, Hold};
 ghost use Rattle.layout.specs.Entries.{Entry, locatedAt, entriesAt, EntriesIn, membersAt, Table};
@@ -36,7 +36,7 @@ fn take_bad(
     t: Taken,
 ) -> Going
     requires { ⌜ (Entry (now job) variables at) × (Table (now cert) variables (now starts) members) × (Within (now cert) t) ⌝ }
-    ensures { λ r. ⌜ (goingOf r ≡ takeAll (now (cert .entry)) (membersAt (now (cert .entry)) variables (now (starts .entry)) members) (locatedAt (now (job .entry)) variables at ∷ []) (t .covers) (t .at)) × (StaysWithin (now (cert .entry)) r) ⌝ }
+    ensures { λ r. ⌜ TakesAll (now (cert .entry)) (membersAt (now (cert .entry)) variables (now (starts .entry)) members) (locatedAt (now (job .entry)) variables at ∷ []) t r ⌝ }
 {
     let mut vars = [0u8; 10];
     let mut links = [0u8; 14];
@@ -66,7 +66,7 @@ pub(crate) fn take_bads(
     from: Taken,
 ) -> Going
     requires { ⌜ (EntriesIn (now job) variables first bads) × (Table (now cert) variables (now starts) members) × (Within (now cert) from) ⌝ }
-    ensures { λ r. ⌜ (goingOf r ≡ takeAll (now (cert .entry)) (membersAt (now (cert .entry)) variables (now (starts .entry)) members) (entriesAt (now (job .entry)) variables first bads) (from .covers) (from .at)) × (StaysWithin (now (cert .entry)) r) ⌝ }
+    ensures { λ r. ⌜ TakesAll (now (cert .entry)) (membersAt (now (cert .entry)) variables (now (starts .entry)) members) (entriesAt (now (job .entry)) variables first bads) from r ⌝ }
 {
     let mut at = first;
     let mut t = from;
@@ -99,7 +99,7 @@ fn take_op(
     t: Taken,
 ) -> Going
     requires { ⌜ (Table (now cert) variables (now starts) members) × (Hold variables n (now vars) (now links)) × (n ≤ 12) × (allowed variables kind a b ≡ true) × (Within (now cert) t) ⌝ }
-    ensures { λ r. ⌜ (goingOf r ≡ takeAll (now (cert .entry)) (membersAt (now (cert .entry)) variables (now (starts .entry)) members) (map (located state) (predecessors (opOf (kindOf kind) a b) (shapeIn variables n (now (vars .entry)) (now (links .entry))))) (t .covers) (t .at)) × (StaysWithin (now (cert .entry)) r) ⌝ }
+    ensures { λ r. ⌜ Takes (now (cert .entry)) (membersAt (now (cert .entry)) variables (now (starts .entry)) members) state (predecessors (opOf (kindOf kind) a b) (shapeIn variables n (now (vars .entry)) (now (links .entry)))) t r ⌝ }
 {
     if kind == 7 {
         return take_delete(
@@ -159,7 +159,7 @@ fn take_transition(
     t: Taken,
 ) -> Going
     requires { ⌜ (at + 5 ≤ length (now job)) × (allowed variables (getD (now job) (at + 1) 0) (getD (now job) (at + 2) 0) (getD (now job) (at + 3) 0) ≡ true) × (Table (now cert) variables (now starts) members) × (Hold variables n (now vars) (now links)) × (n ≤ 12) × (Within (now cert) t) ⌝ }
-    ensures { λ r. ⌜ (goingOf r ≡ takeAll (now (cert .entry)) (membersAt (now (cert .entry)) variables (now (starts .entry)) members) (map (located (transitionAt (now (job .entry)) at .from)) (predecessors (transitionAt (now (job .entry)) at .op) (shapeIn variables n (now (vars .entry)) (now (links .entry))))) (t .covers) (t .at)) × (StaysWithin (now (cert .entry)) r) ⌝ }
+    ensures { λ r. ⌜ Takes (now (cert .entry)) (membersAt (now (cert .entry)) variables (now (starts .entry)) members) (transitionAt (now (job .entry)) at .from) (predecessors (transitionAt (now (job .entry)) at .op) (shapeIn variables n (now (vars .entry)) (now (links .entry)))) t r ⌝ }
 {
     let state = job[at];
     let kind = job[at + 1];
@@ -217,7 +217,7 @@ fn take_transitions(
     from: Taken,
 ) -> Going
     requires { ⌜ (JobRead (now job) h) × (Follows (toState (now job) h) (h .transitions) 0 (now nexts)) × (head ≡ nextInto (toState (now job) h) state (h .transitions) 0) × (Table (now cert) (h .variables) (now starts) members) × (Hold (h .variables) n (now vars) (now links)) × (n ≤ 12) × (Within (now cert) from) ⌝ }
-    ensures { λ r. ⌜ (goingOf r ≡ takeAll (now (cert .entry)) (membersAt (now (cert .entry)) (h .variables) (now (starts .entry)) members) (owedBy (now (job .entry)) h (located state (shapeIn (h .variables) n (now (vars .entry)) (now (links .entry))))) (from .covers) (from .at)) × (StaysWithin (now (cert .entry)) r) ⌝ }
+    ensures { λ r. ⌜ TakesAll (now (cert .entry)) (membersAt (now (cert .entry)) (h .variables) (now (starts .entry)) members) (owedBy (now (job .entry)) h (located state (shapeIn (h .variables) n (now (vars .entry)) (now (links .entry))))) from r ⌝ }
 {
     let mut t = from;
     let mut k = head;
@@ -258,7 +258,7 @@ fn take_member(
     t: Taken,
 ) -> Going
     requires { ⌜ (JobRead (now job) h) × (Linked (toState (now job) h) (h .transitions) 0 (now heads) (now nexts)) × (Table (now cert) (h .variables) (now starts) members) × (m < members) × (Within (now cert) t) ⌝ }
-    ensures { λ r. ⌜ (goingOf r ≡ takeAll (now (cert .entry)) (membersAt (now (cert .entry)) (h .variables) (now (starts .entry)) members) (owedBy (now (job .entry)) h (locatedAt (now (cert .entry)) (h .variables) (getD (now (starts .entry)) m 0))) (t .covers) (t .at)) × (StaysWithin (now (cert .entry)) r) ⌝ }
+    ensures { λ r. ⌜ TakesAll (now (cert .entry)) (membersAt (now (cert .entry)) (h .variables) (now (starts .entry)) members) (owedBy (now (job .entry)) h (locatedAt (now (cert .entry)) (h .variables) (getD (now (starts .entry)) m 0))) t r ⌝ }
 {
     let at = starts[m] as usize;
     let state = cert[at];
@@ -297,7 +297,7 @@ pub(crate) fn take_members(
     from: Taken,
 ) -> Going
     requires { ⌜ (JobRead (now job) h) × (Linked (toState (now job) h) (h .transitions) 0 (now heads) (now nexts)) × (Table (now cert) (h .variables) (now starts) members) × (Within (now cert) from) ⌝ }
-    ensures { λ r. ⌜ (goingOf r ≡ takeAll (now (cert .entry)) (membersAt (now (cert .entry)) (h .variables) (now (starts .entry)) members) (concatMap (owedBy (now (job .entry)) h) (membersAt (now (cert .entry)) (h .variables) (now (starts .entry)) members)) (from .covers) (from .at)) × (StaysWithin (now (cert .entry)) r) ⌝ }
+    ensures { λ r. ⌜ TakesAll (now (cert .entry)) (membersAt (now (cert .entry)) (h .variables) (now (starts .entry)) members) (concatMap (owedBy (now (job .entry)) h) (membersAt (now (cert .entry)) (h .variables) (now (starts .entry)) members)) from r ⌝ }
 {
     let mut t = from;
     let mut m = 0;
