@@ -10,7 +10,7 @@ use Rattle.order.proofs.Into.{before, owedFrom, FirstInto, none-into, some-into
 use Rattle.reader.specs.declared.Header.{Header}
 use Rattle.verdict.specs.declared.Refusal.{Refusal}
 use Rattle.checker.specs.Jobs.{transitionIn, toState, owedBy}
-use Rattle.checker.specs.Taking.{takeAll, goingOf, Within, TakesAll}
+use Rattle.checker.specs.Taking.{Within, TakesAll}
 use Rattle.checker.specs.declared.going.Going.{Going}
 use Rattle.checker.specs.declared.going.Going.the-variants.{On, Refused}
 use Rattle.checker.specs.declared.going.Taken.{Taken}
@@ -60,7 +60,7 @@ module _ (job : List ℕ) (h : Header) (cert : List ℕ) (ms : List Located) (m 
         let same : c .passed + (h .transitions - c .passed) - suc (k - 1) ≡ h .transitions - suc (k - 1) = omega (arith, c .inside) in
         rw same at (rw (first .owes) at (c .progress))
 
-    module _ (g : Going) (taken : goingOf g ≡ takeAll cert ms (before m (transitionIn job h (k - 1))) (t .covers) (t .at)) where
+    module _ (g : Going) (taken : TakesAll cert ms (before m (transitionIn job h (k - 1))) t g) where
       pub chain-halt : (r : Refusal) (place : ℕ) → g ≡ Refused r place
           → TakesAll cert ms (owedBy job h m) from g
       chain-halt r place e = halt cert ms (owedBy job h m) from (before m (transitionIn job h (k - 1))) rest t here g r place e taken

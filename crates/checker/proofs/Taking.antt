@@ -1,7 +1,7 @@
 -- Laws of taking covers in turn.
 use mathlib.Core.List.{List, [], _∷_, _++_}
 use mathlib.Core.Path.{_≡_, refl, sym, ap, _∙_}
-use Prim.Native.Nat.{ℕ, suc, _+_, _≤_}
+use Prim.Native.Nat.{ℕ, suc, _+_}
 use native.Mathlib.Omega.{arith}
 use lib.ListN.{length}
 use Rattle.run.specs.Run.{Located}
@@ -9,7 +9,6 @@ use Rattle.format.specs.Certificate.{readCover}
 use Rattle.format.specs.Parser.{Parsed, parsed, fault, onward, many, each, within, certificateBuffer}
 use Rattle.format.proofs.Parsing.{then}
 use Rattle.verdict.specs.declared.Refusal.{Refusal}
-use Rattle.checker.proofs.CoverPlace.{cover-place}
 use Rattle.checker.specs.Taking.{takeAll, goingOf, Within, TakesAll}
 use Rattle.checker.specs.declared.going.Going.{Going}
 use Rattle.checker.specs.declared.going.Going.the-variants.{On, Refused}
@@ -58,14 +57,6 @@ module _ (cert : List ℕ) (ms : List Located) where
       go (parsed u next) later = later next ∙ second (each (readCover (certificateBuffer cert) ms) os next) u
       go (fault number place) later = refl
 
-  pub takeAll-inside : (os : List Located) (covers at c next : ℕ) → takeAll cert ms os covers at ≡ parsed c next → covers ≤ at → at ≤ length cert
-      → (c ≤ next) × (next ≤ length cert)
-  unfolding takeAll
-  takeAll-inside [] covers at c next e h k = let z : at ≡ next = cc in let y : covers ≡ c = cc in (omega arith, omega arith)
-  takeAll-inside (o ∷ os) covers at c next e h k =
-      then (readCover (certificateBuffer cert) ms o at) _
-      (λ u a h₁ h₂. let (p, q) = cover-place (certificateBuffer cert) ms o at h₁ in takeAll-inside os (suc covers) a c next h₂ (omega arith) q) e
-
   -- ---- taking some, and then the rest
 
   -- t is reached from `from`; `rest` is left of all
@@ -77,25 +68,18 @@ module _ (cert : List ℕ) (ms : List Located) where
   begin all from w = record { within = w; left = refl }
 
   module _ (all : List Located) (from : Taken) (os rest : List Located) (t : Taken) (p : Progress all from (os ++ rest) t) where
-    onto : (u : Taken) → goingOf (On u) ≡ takeAll cert ms os (t .covers) (t .at) → Progress all from rest u
-    onto u e =
-        let (b, i) = takeAll-inside os (t .covers) (t .at) (u .covers) (u .at) (sym e) (p .within .counted) (p .within .inside) in
-        record {
-          within = record { counted = b; inside = i; fits = p .within .fits };
-          left = ap (λ r. onward r (takeAll cert ms rest)) e ∙ sym (takeAll-append os rest (t .covers) (t .at)) ∙ p .left;
-        }
+    -- what is left, after an answer for some of it
+    after : (r : Parsed ℕ) → r ≡ takeAll cert ms os (t .covers) (t .at) → onward r (takeAll cert ms rest) ≡ takeAll cert ms all (from .covers) (from .at)
+    after r e = ap (λ q. onward q (takeAll cert ms rest)) e ∙ sym (takeAll-append os rest (t .covers) (t .at)) ∙ p .left
 
     -- some of what was left is taken
-    pub advance : (g : Going) (u : Taken) → g ≡ On u → goingOf g ≡ takeAll cert ms os (t .covers) (t .at) → Progress all from rest u
-    advance g u g-is e = onto u (rw g-is at e)
+    pub advance : (g : Going) (u : Taken) → g ≡ On u → TakesAll cert ms os t g → Progress all from rest u
+    advance g u g-is (e, w) = record { within = rw g-is at w; left = after (goingOf (On u)) (rw g-is at e) }
 
     -- or refused, which ends it all
-    pub halt : (g : Going) (r : Refusal) (place : ℕ) → g ≡ Refused r place → goingOf g ≡ takeAll cert ms os (t .covers) (t .at)
-        → TakesAll cert ms all from g
-    halt g r place g-is e =
-        rw g-is (ap (λ r. onward r (takeAll cert ms rest)) (rw g-is at e) ∙ sym (takeAll-append os rest (t .covers) (t .at)) ∙ p .left, tt)
+    pub halt : (g : Going) (r : Refusal) (place : ℕ) → g ≡ Refused r place → TakesAll cert ms os t g → TakesAll cert ms all from g
+    halt g r place g-is (e, w) = rw g-is (after (goingOf (Refused r place)) (rw g-is at e), tt)
 
-  pub finish : (all : List Located) (from t : Taken) → Progress all from [] t
-      → TakesAll cert ms all from (On t)
+  pub finish : (all : List Located) (from t : Taken) → Progress all from [] t → TakesAll cert ms all from (On t)
   unfolding takeAll
   finish all from t p = (p .left, p .within)

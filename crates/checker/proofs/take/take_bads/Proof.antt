@@ -29,7 +29,7 @@ enum-told : tie.Need-enum-told Inv-loop μ-loop
 enum-told c = search needs
 
 returns : tie.Need-returns Inv-loop μ-loop
-returns c = let a = c .before .before .before .before .before .before .before .args in let l = c .before .before .before .before .loop in let v = c .enum-told .given in halt (a .cert .now) _ _ (a .from) (locatedAt (a .job .now) (a .variables) (l .at) ∷ []) _ (l .t) (rw (entries-next (a .bads) (l .i) (omega arith) (a .job .now) (a .variables) (l .at)) at (l .inv .2)) _ (v .0 .0) (v .0 .1 .0) (v .1) (c .before .before .take-bad .ensures .0)
+returns c = let a = c .before .before .before .before .before .before .before .args in let l = c .before .before .before .before .loop in let v = c .enum-told .given in halt (a .cert .now) _ _ (a .from) (locatedAt (a .job .now) (a .variables) (l .at) ∷ []) _ (l .t) (rw (entries-next (a .bads) (l .i) (omega arith) (a .job .now) (a .variables) (l .at)) at (l .inv .2)) _ (v .0 .0) (v .0 .1 .0) (v .1) (c .before .before .take-bad .ensures)
 
 add-at : tie.Need-add-at Inv-loop μ-loop
 add-at c = let a = c .before .before .before .before .before .before .before .before .args in let l = c .before .before .before .before .before .loop in let e = entry-next (a .bads) (l .i) (omega arith) (a .job .now) (a .variables) (l .at) (l .inv .1) .0 in omega arith
@@ -56,7 +56,7 @@ loop-less : tie.Need-loop-less Inv-loop μ-loop
 loop-less c = search needs
 
 loop-again : tie.Need-loop-again Inv-loop μ-loop
-loop-again c = let a = c .before .before .before .before .before .before .before .before .before .args in let l = c .before .before .before .before .before .before .loop in let v = c .before .before .g .given in (omega arith, entry-next (a .bads) (l .i) (omega arith) (a .job .now) (a .variables) (l .at) (l .inv .1) .1, advance (a .cert .now) _ _ (a .from) (locatedAt (a .job .now) (a .variables) (l .at) ∷ []) _ (l .t) (rw (entries-next (a .bads) (l .i) (omega arith) (a .job .now) (a .variables) (l .at)) at (l .inv .2)) _ (v .0 .0) (v .1) (c .before .before .before .before .take-bad .ensures .0))
+loop-again c = let a = c .before .before .before .before .before .before .before .before .before .args in let l = c .before .before .before .before .before .before .loop in let v = c .before .before .g .given in (omega arith, entry-next (a .bads) (l .i) (omega arith) (a .job .now) (a .variables) (l .at) (l .inv .1) .1, advance (a .cert .now) _ _ (a .from) (locatedAt (a .job .now) (a .variables) (l .at) ∷ []) _ (l .t) (rw (entries-next (a .bads) (l .i) (omega arith) (a .job .now) (a .variables) (l .at)) at (l .inv .2)) _ (v .0 .0) (v .1) (c .before .before .before .before .take-bad .ensures))
 
 returns-2 : tie.Need-returns-2 Inv-loop μ-loop
 returns-2 c = let a = c .before .before .before .before .args in let l = c .before .loop in finish (a .cert .now) _ _ (a .from) (l .t) (rw (entries-end (a .bads) (l .i) (omega arith) (a .job .now) (a .variables) (l .at)) at (l .inv .2))

@@ -32,7 +32,7 @@ enum-told : tie.Need-enum-told Inv-loop μ-loop
 enum-told c = search needs
 
 returns : tie.Need-returns Inv-loop μ-loop
-returns c = let a = c .before .before .before .before .before .before .before .args in let l = c .before .before .before .before .loop in let v = c .enum-told .given in halt (a .cert .now) _ _ (a .from) (owedBy (a .job .now) (a .h) (locatedAt (a .cert .now) (a .h .variables) (getD (a .starts .now) (l .m) 0))) _ (l .t) (rw (range-next (a .members) (l .m) (omega arith)) at (l .inv .1)) _ (v .0 .0) (v .0 .1 .0) (v .1) (c .before .before .take-member .ensures .0)
+returns c = let a = c .before .before .before .before .before .before .before .args in let l = c .before .before .before .before .loop in let v = c .enum-told .given in halt (a .cert .now) _ _ (a .from) (owedBy (a .job .now) (a .h) (locatedAt (a .cert .now) (a .h .variables) (getD (a .starts .now) (l .m) 0))) _ (l .t) (rw (range-next (a .members) (l .m) (omega arith)) at (l .inv .1)) _ (v .0 .0) (v .0 .1 .0) (v .1) (c .before .before .take-member .ensures)
 
 add-m : tie.Need-add-m Inv-loop μ-loop
 add-m c = search needs
@@ -41,7 +41,7 @@ loop-less : tie.Need-loop-less Inv-loop μ-loop
 loop-less c = search needs
 
 loop-again : tie.Need-loop-again Inv-loop μ-loop
-loop-again c = let a = c .before .before .before .before .before .before .before .before .args in let l = c .before .before .before .before .before .loop in let v = c .before .g .given in (omega arith, advance (a .cert .now) _ _ (a .from) (owedBy (a .job .now) (a .h) (locatedAt (a .cert .now) (a .h .variables) (getD (a .starts .now) (l .m) 0))) _ (l .t) (rw (range-next (a .members) (l .m) (omega arith)) at (l .inv .1)) _ (v .0 .0) (v .1) (c .before .before .before .take-member .ensures .0))
+loop-again c = let a = c .before .before .before .before .before .before .before .before .args in let l = c .before .before .before .before .before .loop in let v = c .before .g .given in (omega arith, advance (a .cert .now) _ _ (a .from) (owedBy (a .job .now) (a .h) (locatedAt (a .cert .now) (a .h .variables) (getD (a .starts .now) (l .m) 0))) _ (l .t) (rw (range-next (a .members) (l .m) (omega arith)) at (l .inv .1)) _ (v .0 .0) (v .1) (c .before .before .before .take-member .ensures))
 
 returns-2 : tie.Need-returns-2 Inv-loop μ-loop
 returns-2 c = let a = c .before .before .before .before .args in let l = c .before .loop in finish (a .cert .now) _ _ (a .from) (l .t) (rw (range-end (a .members) (l .m) (omega arith)) at (l .inv .1))

@@ -39,7 +39,7 @@ enum-told : tie.Need-enum-told Inv-loop μ-loop
 enum-told c = search needs
 
 returns : tie.Need-returns Inv-loop μ-loop
-returns c = let a = c .before .before .before .before .before .before .before .before .args in let l = c .before .before .before .before .before .loop in let v = c .enum-told .given in chain-halt (a .job .now) (a .h) (a .cert .now) _ (located (a .state) (shapeIn (a .h .variables) (a .n) (a .vars .now) (a .links .now))) (a .from) (l .k) (l .t) (l .inv) (omega arith) _ (c .before .before .take-transition .ensures .0) (v .0 .0) (v .0 .1 .0) (v .1)
+returns c = let a = c .before .before .before .before .before .before .before .before .args in let l = c .before .before .before .before .before .loop in let v = c .enum-told .given in chain-halt (a .job .now) (a .h) (a .cert .now) _ (located (a .state) (shapeIn (a .h .variables) (a .n) (a .vars .now) (a .links .now))) (a .from) (l .k) (l .t) (l .inv) (omega arith) _ (c .before .before .take-transition .ensures) (v .0 .0) (v .0 .1 .0) (v .1)
 
 mul-k : tie.Need-mul-k Inv-loop μ-loop
 mul-k c = let a = c .before .before .before .before .before .before .before .before .before .args in let l = c .before .before .before .before .before .before .loop in let b = chain-below (a .job .now) (a .h) (a .cert .now) _ (located (a .state) (shapeIn (a .h .variables) (a .n) (a .vars .now) (a .links .now))) (a .from) (l .k) (l .t) (l .inv) (omega arith) in omega (arith, c .before .before .before .before .before .before .before .before .before .pre .0 .transitions-number)
@@ -51,7 +51,7 @@ loop-less : tie.Need-loop-less Inv-loop μ-loop
 loop-less c = let a = c .before .before .before .before .before .before .before .before .before .before .args in let l = c .before .before .before .before .before .before .before .loop in chain-less (a .job .now) (a .h) (a .cert .now) _ (located (a .state) (shapeIn (a .h .variables) (a .n) (a .vars .now) (a .links .now))) (a .from) (l .k) (l .t) (l .inv) (omega arith) (a .nexts .now) (c .before .before .before .before .before .before .before .before .before .before .pre .1)
 
 loop-again : tie.Need-loop-again Inv-loop μ-loop
-loop-again c = let a = c .before .before .before .before .before .before .before .before .before .before .args in let l = c .before .before .before .before .before .before .before .loop in let v = c .before .before .g .given in chain-more (a .job .now) (a .h) (a .cert .now) _ (located (a .state) (shapeIn (a .h .variables) (a .n) (a .vars .now) (a .links .now))) (a .from) (l .k) (l .t) (l .inv) (omega arith) _ (c .before .before .before .before .take-transition .ensures .0) (a .nexts .now) (v .0 .0) (c .before .before .before .before .before .before .before .before .before .before .pre .1) (v .1)
+loop-again c = let a = c .before .before .before .before .before .before .before .before .before .before .args in let l = c .before .before .before .before .before .before .before .loop in let v = c .before .before .g .given in chain-more (a .job .now) (a .h) (a .cert .now) _ (located (a .state) (shapeIn (a .h .variables) (a .n) (a .vars .now) (a .links .now))) (a .from) (l .k) (l .t) (l .inv) (omega arith) _ (c .before .before .before .before .take-transition .ensures) (a .nexts .now) (v .0 .0) (c .before .before .before .before .before .before .before .before .before .before .pre .1) (v .1)
 
 returns-2 : tie.Need-returns-2 Inv-loop μ-loop
 returns-2 c = let a = c .before .before .before .before .args in let l = c .before .loop in chain-end (a .job .now) (a .h) (a .cert .now) _ _ (a .from) (l .k) (l .t) (l .inv) (omega arith)
