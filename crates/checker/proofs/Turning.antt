@@ -1,7 +1,7 @@
 -- Taking one cover, and loops that take the covers of shapes at one state.
-use mathlib.Core.List.{List, [], _∷_, _++_, map}
+use mathlib.Core.List.{List, [], _∷_, _++_, map, map-append}
 use mathlib.Core.Path.{_≡_, refl, sym, ap, _∙_}
-use Prim.Native.Nat.{ℕ, suc, _+_, _-_, _≤_, _<_}
+use Prim.Native.Nat.{ℕ, _+_, _-_, _≤_, _<_}
 use native.Mathlib.Numerals.{add-one}
 use native.Mathlib.Omega.{arith}
 use Rattle.lists.specs.List.{concatMap}
@@ -18,7 +18,8 @@ use Rattle.checker.specs.declared.going.Going.{Going}
 use Rattle.checker.specs.declared.going.Going.the-variants.{On, Refused}
 use Rattle.checker.specs.declared.going.Taken.{Taken}
 use Rattle.checker.proofs.CoverPlace.{cover-place}
-use Rattle.checker.proofs.Taking.{takeAll-none, takeAll-one, takeAll-append}
+use Rattle.checker.proofs.Lists.{range-next, range-end}
+use Rattle.checker.proofs.Taking.{takeAll-none, takeAll-one, takeAll-append, Progress, begin, advance, halt, finish}
 
 module _ (cert : List ℕ) (ms : List Located) where
   -- one cover
@@ -43,13 +44,9 @@ module _ (cert : List ℕ) (ms : List Located) where
     abbrev takeShapes : List Shape → Taken → Parsed ℕ
     takeShapes ss t = takeAll cert ms (map (located state) ss) (t .covers) (t .at)
 
-    map-append : (ss us : List Shape) → map (located state) (ss ++ us) ≡ map (located state) ss ++ map (located state) us
-    map-append [] us = refl
-    map-append (s ∷ ss) us = ap (λ (l : List Located). located state s ∷ l) (map-append ss us)
-
     shapes-append : (ss us : List Shape) (t : Taken) → takeShapes (ss ++ us) t ≡ onward (takeShapes ss t) (takeAll cert ms (map (located state) us))
     shapes-append ss us t =
-        ap (λ (l : List Located). takeAll cert ms l (t .covers) (t .at)) (map-append ss us)
+        ap (λ (l : List Located). takeAll cert ms l (t .covers) (t .at)) (map-append (located state) ss us)
         ∙ takeAll-append cert ms (map (located state) ss) (map (located state) us) (t .covers) (t .at)
 
     pub take-none : (ss : List Shape) (t : Taken) → ss ≡ [] → Within cert t → Takes cert ms state ss t (On t)
@@ -73,33 +70,33 @@ module _ (cert : List ℕ) (ms : List Located) where
 
     -- ---- a loop over k, from `first` on and below `end`, that takes the covers of the shapes f k
 
+    abbrev shapesAt : (ℕ → List Shape) → ℕ → ℕ → List Located
+    shapesAt f k n = map (located state) (concatMap f (range k n))
+
     pub record Turning (f : ℕ → List Shape) (first end : ℕ) (from t : Taken) (k : ℕ) : Type 0 where
       pub high : k ≤ end
-      pub within : Within cert t
-      pub left : takeShapes (concatMap f (range k (end - k))) t ≡ takeShapes (concatMap f (range first (end - first))) from
+      pub progress : Progress cert ms (shapesAt f first (end - first)) from (shapesAt f k (end - k)) t
 
     pub turn-none : (f : ℕ → List Shape) (first end : ℕ) (t : Taken) → first ≤ end → Within cert t → Turning f first end t t first
-    turn-none f first end t b w = record { high = b; within = w; left = refl }
+    turn-none f first end t b w = record { high = b; progress = begin cert ms (shapesAt f first (end - first)) t w }
 
     module _ {f : ℕ → List Shape} {first end : ℕ} {from t : Taken} {k : ℕ} (w : Turning f first end from t k) where
-      abbrev rest : List Shape
-      rest = concatMap f (range (k + 1) (end - (k + 1)))
+      abbrev all : List Located
+      all = shapesAt f first (end - first)
 
-      next : k < end → takeShapes (f k ++ rest) t ≡ takeShapes (concatMap f (range first (end - first))) from
+      abbrev rest : List Located
+      rest = shapesAt f (k + 1) (end - (k + 1))
+
+      next : k < end → Progress cert ms all from (map (located state) (f k) ++ rest) t
       next b =
-          let less : end - k ≡ suc (end - (k + 1)) = omega arith in
-          let now : range k (end - k) ≡ k ∷ range (k + 1) (end - (k + 1)) = rw (less, add-one k) refl in
-          ap (λ (l : List ℕ). takeShapes (concatMap f l) t) (sym now) ∙ w .left
+          rw (range-next end k b, map-append (located state) (f k) (concatMap f (range (k + 1) (end - (k + 1))))) at (w .progress)
 
       pub turn-more : k < end → (u : Taken) (g : Going) → g ≡ On u → Takes cert ms state (f k) t g → Turning f first end from u (k + 1)
-      turn-more b u g i (e, s) = record { high = omega arith; within = rw i at s; left = on-to (f k) rest t u g i e ∙ next b }
+      turn-more b u g i e = record { high = omega arith; progress = advance cert ms all from (map (located state) (f k)) rest t (next b) g u i e }
 
       pub turn-stop : k < end → (r : Refusal) (place : ℕ) (g : Going) → g ≡ Refused r place → Takes cert ms state (f k) t g
           → Takes cert ms state (concatMap f (range first (end - first))) from g
-      turn-stop b r place g i e = let (e′, s) = take-stop (f k) rest t r place g i e in (e′ ∙ next b, s)
+      turn-stop b r place g i e = halt cert ms all from (map (located state) (f k)) rest t (next b) g r place i e
 
       pub turn-all : end ≤ k → Takes cert ms state (concatMap f (range first (end - first))) from (On t)
-      turn-all b =
-          let none : end - k ≡ 0 = omega arith in
-          let (e, s) = take-none (concatMap f (range k (end - k))) t (rw none refl) (w .within) in
-          (e ∙ w .left, s)
+      turn-all b = finish cert ms all from t (rw (range-end end k b) at (w .progress))

@@ -193,8 +193,7 @@ module _ (s : Buffer) (variables states : ℕ) (few : states ≤ 64) where
         (λ rest last h₂ r.
         let e = transition-read at t mid h₁ in
         let (same, each) = transitions-read base k (suc j) mid rest last (omega (arith, e .after)) h₂ in
-        let ts-are : t ∷ rest ≡ ts = cc in
-        (
+        let ts-are : t ∷ rest ≡ ts = cc in (
           sym ts-are ∙ ap₂ _∷_ (e .same ∙ ap (transitionAt (s .bytes)) at-is) same,
           λ i l b. by-index i l b (ℕ-discrete j i) (subst (TransitionIn (s .bytes) variables states) at-is (e .transition)) each,
         )))

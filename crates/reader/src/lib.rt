@@ -174,7 +174,13 @@ fn read_transition(job: &[u8], first: usize, variables: usize, states: usize) ->
     reached(read_ranged(Side::Job, job, to_at, 0, states))
 }
 
-fn read_transitions(job: &[u8], first: usize, count: usize, variables: usize, states: usize) -> Reached
+fn read_transitions(
+    job: &[u8],
+    first: usize,
+    count: usize,
+    variables: usize,
+    states: usize,
+) -> Reached
     requires { ⌜ variables ≤ 8 ⌝ }
     ensures { λ r. ⌜ reachedOf r ≡ forget (many count (readTransition (jobBuffer (now (job .entry))) variables states) first) ⌝ }
 {
@@ -192,7 +198,13 @@ fn read_transitions(job: &[u8], first: usize, count: usize, variables: usize, st
 }
 
 // The forbidden shapes of a job.
-fn read_forbidden(job: &[u8], first: usize, count: usize, variables: usize, states: usize) -> Reached
+fn read_forbidden(
+    job: &[u8],
+    first: usize,
+    count: usize,
+    variables: usize,
+    states: usize,
+) -> Reached
     ensures { λ r. ⌜ reachedOf r ≡ forget (many count (readLocated (jobBuffer (now (job .entry))) variables states) first) ⌝ }
 {
     let mut at = first;
@@ -289,7 +301,13 @@ pub fn read_job(job: &[u8]) -> JobAnswer
     match first {
         FrontAnswer::Refused(why, place) => JobAnswer::Refused(why, place),
         FrontAnswer::Read(front) => {
-            let r = read_transitions(job, front.at, front.transitions, front.variables, front.states);
+            let r = read_transitions(
+                job,
+                front.at,
+                front.transitions,
+                front.variables,
+                front.states,
+            );
             match r {
                 Reached::Refused(why, place) => JobAnswer::Refused(why, place),
                 Reached::At(at) => read_rest(job, front, at),
@@ -299,7 +317,14 @@ pub fn read_job(job: &[u8]) -> JobAnswer
 }
 
 // The members of a certificate; the place where each starts goes to the table.
-fn note_members(cert: &[u8], first: usize, count: usize, variables: usize, states: usize, starts: &mut [u16]) -> Reached
+fn note_members(
+    cert: &[u8],
+    first: usize,
+    count: usize,
+    variables: usize,
+    states: usize,
+    starts: &mut [u16],
+) -> Reached
     requires { ⌜ count ≤ length (now starts) ⌝ }
     ensures { λ r. ⌜ (reachedOf r ≡ forget (many count (readMember (certificateBuffer (now (cert .entry))) variables states) first)) × NotedBy (now (cert .entry)) variables states first count (now (starts .entry)) (now (starts .exit)) r ⌝ }
 {
@@ -319,7 +344,12 @@ fn note_members(cert: &[u8], first: usize, count: usize, variables: usize, state
 }
 
 // Reads the members of a certificate.
-pub fn read_members(cert: &[u8], variables: usize, states: usize, starts: &mut [u16; 512]) -> MembersAnswer
+pub fn read_members(
+    cert: &[u8],
+    variables: usize,
+    states: usize,
+    starts: &mut [u16; 512],
+) -> MembersAnswer
     ensures { λ r. ⌜ MembersAnswered (now (cert .entry)) variables states (now (starts .entry)) (now (starts .exit)) r ⌝ }
 {
     let version = read_ranged(Side::Certificate, cert, 0, 1, 2);

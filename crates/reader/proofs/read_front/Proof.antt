@@ -32,7 +32,7 @@ front-refused-requires c κs = search needs
 
 -- src/lib.rt:226:9
 returns : tie.Need-returns
-returns c = let a = c .before .before .before .before .before .args in stopped (c .before .before .before .read-ranged .ensures) (c .front-refused .ensures) (c .before .enum-told .given .1) ∙ lost-version (jobBuffer (a .job .now)) 0  (lost (c .before .before .before .read-ranged .ensures) (c .before .enum-told .given .1))
+returns c = let a = c .before .before .before .before .before .args in stopped (c .before .before .before .read-ranged .ensures) (c .front-refused .ensures) (c .before .enum-told .given .1) ∙ lost-version (jobBuffer (a .job .now)) 0 (lost (c .before .before .before .read-ranged .ensures) (c .before .enum-told .given .1))
 
 -- src/lib.rt:228:9
 read-ranged-requires-2 : tie.Need-read-ranged-requires-2

@@ -18,7 +18,7 @@ loop-holds : tie.Need-loop-holds Inv-loop μ-loop
 loop-holds c = let a = c .before .args in turn-none (a .cert .now) (membersAt (a .cert .now) (a .variables) (a .starts .now) (a .members)) (a .state) (without (shapeIn (a .variables) (a .n) (a .vars .now) (a .links .now))) (a .first) (a .end) (a .from) (c .before .pre .2) (c .before .pre .4)
 
 take-cell-requires : tie.Need-take-cell-requires Inv-loop μ-loop
-take-cell-requires c κs = (c .before .before .before .pre .0, c .before .before .before .pre .1, omega arith, c .before .loop .inv .within)
+take-cell-requires c κs = (c .before .before .before .pre .0, c .before .before .before .pre .1, omega arith, c .before .loop .inv .progress .within)
 
 enum-known-g : tie.Need-enum-known-g Inv-loop μ-loop
 enum-known-g c = search needs
