@@ -1,0 +1,4 @@
+pub mod Lists
+pub mod ByNumber
+pub mod Tried
+pub mod Operations

@@ -1,0 +1,80 @@
+-- Kinds 1 to 5: what is retained of two placings, how it is changed, and the same by the numbers of the choices.
+use mathlib.Core.Bool.{Bool, true, false, _||_, _&&_, not, cond}
+use mathlib.Core.List.{List, []}
+use mathlib.Core.Option.{Option, none, some}
+use Prim.Native.Nat.{ℕ, suc}
+use lib.Dec.{eqb, ltb}
+use Rattle.lists.specs.List.{keep}
+use Rattle.heap.specs.Codes.{linkIn}
+use Rattle.heap.specs.Operation.{Kind, kindOf}
+use Rattle.heap.specs.Place.{nowhere, null, dangling}
+use Rattle.shape.specs.Placing.{setVar, place, placeBoth}
+use Rattle.shape.specs.Shape.{Shape, varAt, size}
+use Rattle.backward.specs.Predecessors.{setLink, dropHelper, retain, predecessors}
+use Rattle.choices.specs.Choice.{chosen, exists, opened, made, put}
+
+abbrev pub predecessorsBy : Option Kind → ℕ → ℕ → Shape → List Shape
+predecessorsBy none a b s = []
+predecessorsBy (some k) a b s = predecessors (k .op a b) s
+
+-- the predecessors under the operation that the table of kinds names
+unfoldable pub predecessorsOf : ℕ → ℕ → ℕ → Shape → List Shape
+predecessorsOf kind a b s = predecessorsBy (kindOf kind) a b s
+
+-- ---- one result of the placings
+
+-- p is "a cell whose link is nowhere or equals" q
+unfoldable pub linkOpen : List ℕ → ℕ → ℕ → Bool
+linkOpen links p q = ltb dangling p && (eqb (linkIn links p) nowhere || eqb (linkIn links p) q)
+
+-- a at x and b at y are retained
+unfoldable pub retained : ℕ → ℕ → ℕ → List ℕ → Bool
+retained kind x y links =
+    cond (eqb kind 2) (not (eqb x y)) (cond (ltb kind 4) (eqb x y) (cond (eqb kind 4) (linkOpen links y x) (linkOpen links x y)))
+
+unfoldable pub tested : ℕ → ℕ → ℕ → Shape → Bool
+tested kind a b s = retained kind (varAt s a) (varAt s b) (s .links)
+
+-- where there are so many variables; one more is the helper of kind 4
+unfoldable pub changed : ℕ → ℕ → ℕ → ℕ → Shape → Shape
+changed variables kind a b s =
+    let loaded = setVar a nowhere (setLink (varAt s b) (varAt s a) s) in
+    cond (ltb kind 3) s
+    (cond (eqb kind 3) (cond (eqb a b) s (setVar a nowhere s))
+    (cond (eqb kind 4) (cond (ltb variables b) (dropHelper a variables loaded) loaded) (setLink (varAt s a) nowhere s)))
+
+-- ---- all results
+
+-- where a is placed
+abbrev pub seconds : ℕ → ℕ → ℕ → ℕ → Shape → List Shape
+seconds variables kind a b s = retain (tested kind a b) (changed variables kind a b) (place b s)
+
+abbrev pub firsts : ℕ → ℕ → ℕ → ℕ → Shape → List Shape
+firsts variables kind a b s = retain (tested kind a b) (changed variables kind a b) (placeBoth a b s)
+
+-- no choices of a, at x, and of b, at y, are retained
+unfoldable pub hopeless : ℕ → ℕ → ℕ → ℕ → ℕ → Bool
+hopeless kind a b x y =
+    (eqb x dangling || eqb y dangling) || cond (eqb kind 2) (eqb a b) (cond (eqb kind 4) (eqb y null) (eqb kind 5 && eqb x null))
+
+-- ---- by the number of a choice
+
+-- choice k of b is retained
+unfoldable pub secondFits : ℕ → ℕ → ℕ → Shape → ℕ → Bool
+secondFits kind a b s k =
+    cond (eqb (varAt s b) nowhere) (exists (s .links) k && retained kind (varAt s a) (chosen (size s) k) (opened (s .links) k))
+    (retained kind (varAt s a) (varAt s b) (s .links))
+
+unfoldable pub secondOf : ℕ → ℕ → ℕ → ℕ → Shape → ℕ → List Shape
+secondOf variables kind a b s k = keep (secondFits kind a b s k) (changed variables kind a b (put b s k))
+
+-- choice k of a, which stands nowhere, is there; and where b then has a place, the kind retains it
+unfoldable pub firstFits : ℕ → ℕ → ℕ → Shape → ℕ → Bool
+firstFits kind a b s k =
+    let x = chosen (size s) k in
+    let links = opened (s .links) k in
+    exists (s .links) k && cond (eqb a b) (retained kind x x links) (eqb (varAt s b) nowhere || retained kind x (varAt s b) links)
+
+unfoldable pub firstOf : ℕ → ℕ → ℕ → ℕ → Shape → ℕ → List Shape
+firstOf variables kind a b s k =
+    cond (not (eqb (varAt s a) nowhere) || firstFits kind a b s k) (seconds variables kind a b (put a s k)) []
