@@ -47,7 +47,7 @@ pub made-other : (v : ℕ) (s : Shape) (k u : ℕ) → u ≢ v → varAt (made v
 unfolding made
 made-other v s k u n = var-set-other v (chosen (size s) k) (s .vars) u n
 
-not-null : (s : Shape) (v : ℕ) → varAt s v ≡ nowhere → v ≢ 0
+pub not-null : (s : Shape) (v : ℕ) → varAt s v ≡ nowhere → v ≢ 0
 not-null s zero e z = let q : null ≡ nowhere = e in omega arith
 not-null s (suc v) e z = omega arith
 
@@ -175,7 +175,7 @@ module _ (variables kind a b : ℕ) (s : Shape) where
       ∙ ap (concatMap keepOne) (place-by-number b s)
 
   -- where b has a place once a is placed, the kind decides at once
-  first-fails : (k : ℕ) → a ≤ length (s .vars) → varAt s a ≡ nowhere → exists (s .links) k ≡ true → firstFits kind a b s k ≡ false
+  first-fails : (k : ℕ) → a ≤ length (s .vars) → varAt s a ≡ nowhere → exists (s .links) k ≡ true → firstFits kind a b (varAt s b) (s .links) k ≡ false
       → seconds variables kind a b (made a s k) ≡ []
   unfolding firstFits
   first-fails k h e there f = go (ℕ-discrete a b) (ℕ-discrete (varAt s b) nowhere)
@@ -203,9 +203,9 @@ module _ (variables kind a b : ℕ) (s : Shape) where
   unfolding firstOf firstFits put
   first-made k h e =
       rw (choice-made a s k, concatMap-keep (seconds variables kind a b) (exists (s .links) k) (made a s k))
-      (simp (eq-eqb (varAt s a) nowhere e) (go (exists (s .links) k) (firstFits kind a b s k) refl refl))
+      (simp (eq-eqb (varAt s a) nowhere e) (go (exists (s .links) k) (firstFits kind a b (varAt s b) (s .links) k) refl refl))
     where
-      go : (x f : Bool) → exists (s .links) k ≡ x → firstFits kind a b s k ≡ f
+      go : (x f : Bool) → exists (s .links) k ≡ x → firstFits kind a b (varAt s b) (s .links) k ≡ f
           → cond f (seconds variables kind a b (made a s k)) [] ≡ cond x (seconds variables kind a b (made a s k)) []
       go true true p q = refl
       go true false p q = sym (first-fails k h e p q)

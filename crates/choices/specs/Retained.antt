@@ -4,14 +4,15 @@ use mathlib.Core.List.{List, []}
 use mathlib.Core.Option.{Option, none, some}
 use Prim.Native.Nat.{ℕ, suc}
 use lib.Dec.{eqb, ltb}
+use lib.ListN.{length}
 use Rattle.lists.specs.List.{keep}
 use Rattle.heap.specs.Codes.{linkIn}
 use Rattle.heap.specs.Operation.{Kind, kindOf}
 use Rattle.heap.specs.Place.{nowhere, null, dangling}
 use Rattle.shape.specs.Placing.{setVar, place, placeBoth}
-use Rattle.shape.specs.Shape.{Shape, varAt, size}
+use Rattle.shape.specs.Shape.{Shape, varAt}
 use Rattle.backward.specs.Predecessors.{setLink, dropHelper, retain, predecessors}
-use Rattle.choices.specs.Choice.{chosen, exists, opened, made, put}
+use Rattle.choices.specs.Choice.{chosen, exists, opened, put}
 
 abbrev pub predecessorsBy : Option Kind → ℕ → ℕ → Shape → List Shape
 predecessorsBy none a b s = []
@@ -59,22 +60,21 @@ hopeless kind a b x y =
 
 -- ---- by the number of a choice
 
--- choice k of b is retained
-unfoldable pub secondFits : ℕ → ℕ → ℕ → Shape → ℕ → Bool
-secondFits kind a b s k =
-    cond (eqb (varAt s b) nowhere) (exists (s .links) k && retained kind (varAt s a) (chosen (size s) k) (opened (s .links) k))
-    (retained kind (varAt s a) (varAt s b) (s .links))
+-- choice k of b is retained, where a is at x and b at y
+unfoldable pub secondFits : ℕ → ℕ → ℕ → List ℕ → ℕ → Bool
+secondFits kind x y links k =
+    cond (eqb y nowhere) (exists links k && retained kind x (chosen (length links) k) (opened links k)) (retained kind x y links)
 
 unfoldable pub secondOf : ℕ → ℕ → ℕ → ℕ → Shape → ℕ → List Shape
-secondOf variables kind a b s k = keep (secondFits kind a b s k) (changed variables kind a b (put b s k))
+secondOf variables kind a b s k = keep (secondFits kind (varAt s a) (varAt s b) (s .links) k) (changed variables kind a b (put b s k))
 
--- choice k of a, which stands nowhere, is there; and where b then has a place, the kind retains it
-unfoldable pub firstFits : ℕ → ℕ → ℕ → Shape → ℕ → Bool
-firstFits kind a b s k =
-    let x = chosen (size s) k in
-    let links = opened (s .links) k in
-    exists (s .links) k && cond (eqb a b) (retained kind x x links) (eqb (varAt s b) nowhere || retained kind x (varAt s b) links)
+-- choice k of a, which stands nowhere, is there; and where b, at y, then has a place, the kind retains it
+unfoldable pub firstFits : ℕ → ℕ → ℕ → ℕ → List ℕ → ℕ → Bool
+firstFits kind a b y links k =
+    let x = chosen (length links) k in
+    let after = opened links k in
+    exists links k && cond (eqb a b) (retained kind x x after) (eqb y nowhere || retained kind x y after)
 
 unfoldable pub firstOf : ℕ → ℕ → ℕ → ℕ → Shape → ℕ → List Shape
 firstOf variables kind a b s k =
-    cond (not (eqb (varAt s a) nowhere) || firstFits kind a b s k) (seconds variables kind a b (put a s k)) []
+    cond (not (eqb (varAt s a) nowhere) || firstFits kind a b (varAt s b) (s .links) k) (seconds variables kind a b (put a s k)) []
