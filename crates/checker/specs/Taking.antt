@@ -2,6 +2,7 @@
 use mathlib.Core.List.{List, [], _∷_}
 use Prim.Native.Nat.{ℕ, suc, _≤_}
 use lib.ListN.{length}
+use Rattle.shape.specs.Shape.{Shape}
 use Rattle.run.specs.Run.{Located}
 use Rattle.format.specs.Certificate.{readCover}
 use Rattle.format.specs.Parser.{Parsed, parsed, fault, Parser, _>>=_, _>>_, return, certificateBuffer}
@@ -27,3 +28,12 @@ pub record Within (cert : List ℕ) (t : Taken) : Type 0 where
   pub counted : t .covers ≤ t .at
   pub inside : t .at ≤ length cert
   pub fits : length cert ≤ 65536
+
+-- what goes on is within the certificate
+abbrev pub StaysWithin : List ℕ → Going → Type 0
+StaysWithin cert (On t) = Within cert t
+StaysWithin cert (Refused r place) = Unit {0}
+
+-- a shape at a state
+abbrev pub located : ℕ → Shape → Located
+located state s = record { state = state; shape = s }

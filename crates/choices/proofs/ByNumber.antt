@@ -19,7 +19,7 @@ use Rattle.shape.proofs.Laws.{var-set-same, var-set-other}
 use Rattle.shape.proofs.PlacingByNumber.{choice, choicesFrom, choiceFrom, place-by-number}
 use Rattle.backward.specs.Predecessors.{retain}
 use Rattle.choices.specs.Choice.{chosen, choiceOf, exists, opened, made, put}
-use Rattle.choices.specs.Retained.{retained, tested, changed, seconds, firsts, secondFits, secondOf, firstFits, firstOf}
+use Rattle.choices.specs.Retained.{retained, tested, changed, seconds, firsts, secondFits, secondOf, placedFits, firstFits, firstOf}
 use Rattle.choices.proofs.Lists.{concatMap-none, concatMap-one, concatMap-same, concatMap-concatMap, concatMap-stretch}
 
 pub choice-made : (v : ℕ) (s : Shape) (k : ℕ) → choice v s k ≡ keep (exists (s .links) k) (made v s k)
@@ -175,9 +175,9 @@ module _ (variables kind a b : ℕ) (s : Shape) where
       ∙ ap (concatMap keepOne) (place-by-number b s)
 
   -- where b has a place once a is placed, the kind decides at once
-  first-fails : (k : ℕ) → a ≤ length (s .vars) → varAt s a ≡ nowhere → exists (s .links) k ≡ true → firstFits kind a b (varAt s b) (s .links) k ≡ false
+  first-fails : (k : ℕ) → a ≤ length (s .vars) → varAt s a ≡ nowhere → exists (s .links) k ≡ true → placedFits kind a b (varAt s b) (s .links) k ≡ false
       → seconds variables kind a b (made a s k) ≡ []
-  unfolding firstFits
+  unfolding placedFits
   first-fails k h e there f = go (ℕ-discrete a b) (ℕ-discrete (varAt s b) nowhere)
     where
       a-at : varAt (made a s k) a ≡ chosen (size s) k
@@ -200,12 +200,12 @@ module _ (variables kind a b : ℕ) (s : Shape) where
 
   first-made : (k : ℕ) → a ≤ length (s .vars) → varAt s a ≡ nowhere
       → firstOf variables kind a b s k ≡ concatMap (seconds variables kind a b) (choice a s k)
-  unfolding firstOf firstFits put
+  unfolding firstOf firstFits placedFits put
   first-made k h e =
       rw (choice-made a s k, concatMap-keep (seconds variables kind a b) (exists (s .links) k) (made a s k))
-      (simp (eq-eqb (varAt s a) nowhere e) (go (exists (s .links) k) (firstFits kind a b (varAt s b) (s .links) k) refl refl))
+      (simp (eq-eqb (varAt s a) nowhere e) (go (exists (s .links) k) (placedFits kind a b (varAt s b) (s .links) k) refl refl))
     where
-      go : (x f : Bool) → exists (s .links) k ≡ x → firstFits kind a b (varAt s b) (s .links) k ≡ f
+      go : (x f : Bool) → exists (s .links) k ≡ x → placedFits kind a b (varAt s b) (s .links) k ≡ f
           → cond f (seconds variables kind a b (made a s k)) [] ≡ cond x (seconds variables kind a b (made a s k)) []
       go true true p q = refl
       go true false p q = sym (first-fails k h e p q)
@@ -214,7 +214,7 @@ module _ (variables kind a b : ℕ) (s : Shape) where
 
   first-choice : (k : ℕ) → a ≤ length (s .vars)
       → firstOf variables kind a b s k ≡ concatMap (seconds variables kind a b) (choiceFrom (varAt s a) a s k)
-  unfolding firstOf put
+  unfolding firstOf firstFits put
   first-choice k h = go (varAt s a) refl
     where
       go : (p : ℕ) → varAt s a ≡ p → firstOf variables kind a b s k ≡ concatMap (seconds variables kind a b) (choiceFrom p a s k)

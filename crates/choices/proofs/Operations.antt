@@ -9,19 +9,21 @@ use borrow.Author.Tests.{lt-ltb, le-ltb, eq-eqb, ne-eqb}
 use lib.Dec.{eqb, ltb}
 use lib.ListN.{length}
 use Rattle.lists.specs.List.{concatMap, keep}
+use Rattle.heap.specs.Operation.{kindOf}
 use Rattle.heap.specs.Place.{nowhere}
 use Rattle.kinds.proofs.Rows.{by-kind}
 use Rattle.shape.specs.Placing.{setVar, placeBoth}
 use Rattle.shape.specs.Shape.{Shape, varAt}
-use Rattle.backward.specs.Predecessors.{setLink, linkFits, addHelper, dropHelper, retain}
-use Rattle.choices.specs.Retained.{predecessorsOf, linkOpen, retained, tested, changed, firsts}
+use Rattle.backward.specs.Predecessors.{setLink, linkFits, addHelper, dropHelper, retain, predecessors}
+use Rattle.layout.specs.Transitions.{opOf}
+use Rattle.choices.specs.Retained.{linkOpen, retained, tested, changed, firsts}
 
 module _ (variables a b : ℕ) (s : Shape) where
   -- but where kind 4 has one variable
-  pub by-two : (kind : ℕ) → 1 ≤ kind → kind ≤ 5 → (kind ≡ 4 → a ≢ b) → b ≤ variables → predecessorsOf kind a b s ≡ firsts variables kind a b s
-  unfolding predecessorsOf tested retained changed linkOpen
+  pub by-two : (kind : ℕ) → 1 ≤ kind → kind ≤ 5 → (kind ≡ 4 → a ≢ b) → b ≤ variables → predecessors (opOf (kindOf kind) a b) s ≡ firsts variables kind a b s
+  unfolding tested retained changed linkOpen
   by-two kind l h apart most =
-      by-kind (λ k. k ≤ 5 → (k ≡ 4 → a ≢ b) → predecessorsOf k a b s ≡ firsts variables k a b s)
+      by-kind (λ k. k ≤ 5 → (k ≡ 4 → a ≢ b) → predecessors (opOf (kindOf k) a b) s ≡ firsts variables k a b s)
       (λ _ _. refl) (λ _ _. refl) (λ _ _. refl)
       (λ _ n. simp (ne-eqb a b (n refl), le-ltb variables b most))
       (λ _ _. refl) (λ h _. absurd (omega arith)) (λ h _. absurd (omega arith)) kind l (omega arith) h apart
@@ -38,8 +40,8 @@ map-retain f test change (s ∷ l) = go (test s) (map-retain f test change l)
 
 -- kind 4 with one variable: the helper plays b
 pub by-one : (variables a : ℕ) (s : Shape) → length (s .vars) ≡ variables
-    → predecessorsOf 4 a a s ≡ firsts variables 4 a (suc variables) (addHelper s)
-unfolding predecessorsOf tested retained changed linkOpen
+    → predecessors (opOf (kindOf 4) a a) s ≡ firsts variables 4 a (suc variables) (addHelper s)
+unfolding tested retained changed linkOpen
 by-one variables a s e = rw e (simp (eq-eqb a a refl, lt-ltb variables (suc variables) (omega arith)) 
     (map-retain (dropHelper a variables) (λ t. linkFits (varAt t (suc variables)) (varAt t a) t)
     (λ t. setVar a nowhere (setLink (varAt t (suc variables)) (varAt t a) t)) (placeBoth a (suc variables) (addHelper s))))

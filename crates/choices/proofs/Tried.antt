@@ -17,15 +17,10 @@ use Rattle.shape.specs.Placing.{place}
 use Rattle.shape.specs.Shape.{Shape, varAt, size}
 use Rattle.shape.proofs.PlacingByNumber.{choicesFrom}
 use Rattle.choices.specs.Choice.{chosen, choiceOf, exists, opened, put, wantsSame, firstTried, pastTried}
-use Rattle.choices.specs.Retained.{linkOpen, retained, tested, changed, seconds, firsts, hopeless, secondFits, secondOf, firstFits, firstOf}
+use Rattle.choices.specs.Held.{At}
+use Rattle.choices.specs.Retained.{linkOpen, retained, tested, changed, seconds, firsts, hopeless, secondFits, secondOf, placedFits, firstFits, firstOf}
 use Rattle.choices.proofs.ByNumber.{chosen-other, choice-of-most, place-keeps, place-dangling, both-keeps, retain-none, seconds-by-number, firsts-by-number}
 use Rattle.choices.proofs.Lists.{concatMap-none, concatMap-stretch}
-
--- p has a place in a shape of n cells, and that is not *
-pub record At (n p : ℕ) : Type 0 where
-  pub some : p ≢ nowhere
-  pub safe : p ≢ dangling
-  pub inside : p < cell n
 
 and-false : (x : Bool) → x && false ≡ false
 and-false true = refl
@@ -86,7 +81,7 @@ module _ (variables kind a b : ℕ) (s : Shape) (n : ℕ) (size-is : size s ≡ 
 
   first-drops : wantsSame kind ≡ true → varAt s a ≡ nowhere → At n (varAt s b) → (k : ℕ) → k ≢ choiceOf n (varAt s b)
       → firstOf variables kind a b s k ≡ []
-  unfolding firstOf firstFits
+  unfolding firstOf firstFits placedFits
   first-drops w e y k o =
       let other : chosen (size s) k ≢ varAt s b = λ z. chosen-other n k (varAt s b) (y .some) (y .safe) (y .inside) o (rw size-is at z) in
       let apart : a ≢ b = λ z. y .some (ap (varAt s) (sym z) ∙ e) in

@@ -6,7 +6,7 @@ use mathlib.Core.Path.{_≡_}
 use Prim.Native.Nat.{ℕ, suc, _≤_, _<_}
 use lib.Dec.{ltb}
 use lib.ListN.{getD, take}
-use Rattle.heap.specs.Place.{nowhere, cell}
+use Rattle.heap.specs.Place.{nowhere, dangling, cell}
 use Rattle.shape.specs.Shape.{Shape}
 use Rattle.layout.specs.Arrays.{shapeIn, Hold}
 use Rattle.choices.specs.Choice.{opened, put}
@@ -46,7 +46,31 @@ pub record Operands (variables kind a b : ℕ) : Type 0 where
   pub helper : variables < b → kind ≡ 4
   pub apart : kind ≡ 4 → a ≢ b
 
--- what the operation changes is put back, where the kind retains the places of a and b
+-- p has a place in a shape of n cells, and that is not *
+pub record At (n p : ℕ) : Type 0 where
+  pub some : p ≢ nowhere
+  pub safe : p ≢ dangling
+  pub inside : p < cell n
+
+-- the arrays hold a shape with at most so many cells to work on
+pub record Working (most variables kind a b n : ℕ) (vars links : List ℕ) : Type 0 where
+  pub operands : Operands variables kind a b
+  pub cells : n ≤ most
+  pub hold : Hold (working variables b) n vars links
+
+-- and a is placed
+pub record Placed (variables kind a b n : ℕ) (vars links : List ℕ) : Type 0 where
+  pub work : Working 13 variables kind a b n vars links
+  pub a-at : At n (getD vars a nowhere)
+  pub b-safe : getD vars b nowhere ≢ dangling
+
+-- the cells whose links the operation changes are there
+pub record Undoable (variables kind a b : ℕ) (vars : List ℕ) : Type 0 where
+  pub operands : Operands variables kind a b
+  pub load : kind ≡ 4 → (3 ≤ getD vars b nowhere) × (getD vars b nowhere < 17)
+  pub store : kind ≡ 5 → (3 ≤ getD vars a nowhere) × (getD vars a nowhere < 17)
+
+-- what the operation changes is put back
 pub record Undoes (variables kind a b : ℕ) (vars links vars′ links′ : List ℕ) : Type 0 where
   pub held : (n : ℕ) → Hold (working variables b) n vars links
       → Held variables n vars′ links′ (changed variables kind a b (shapeIn (working variables b) n vars links))

@@ -1,26 +1,16 @@
 -- Kinds 1 to 5: what is retained of two placings, how it is changed, and the same by the numbers of the choices.
-use mathlib.Core.Bool.{Bool, true, false, _||_, _&&_, not, cond}
+use mathlib.Core.Bool.{Bool, _||_, _&&_, not, cond}
 use mathlib.Core.List.{List, []}
-use mathlib.Core.Option.{Option, none, some}
 use Prim.Native.Nat.{ℕ, suc}
 use lib.Dec.{eqb, ltb}
 use lib.ListN.{length}
 use Rattle.lists.specs.List.{keep}
 use Rattle.heap.specs.Codes.{linkIn}
-use Rattle.heap.specs.Operation.{Kind, kindOf}
 use Rattle.heap.specs.Place.{nowhere, null, dangling}
 use Rattle.shape.specs.Placing.{setVar, place, placeBoth}
 use Rattle.shape.specs.Shape.{Shape, varAt}
-use Rattle.backward.specs.Predecessors.{setLink, dropHelper, retain, predecessors}
+use Rattle.backward.specs.Predecessors.{setLink, dropHelper, retain}
 use Rattle.choices.specs.Choice.{chosen, exists, opened, put}
-
-abbrev pub predecessorsBy : Option Kind → ℕ → ℕ → Shape → List Shape
-predecessorsBy none a b s = []
-predecessorsBy (some k) a b s = predecessors (k .op a b) s
-
--- the predecessors under the operation that the table of kinds names
-unfoldable pub predecessorsOf : ℕ → ℕ → ℕ → Shape → List Shape
-predecessorsOf kind a b s = predecessorsBy (kindOf kind) a b s
 
 -- ---- one result of the placings
 
@@ -69,12 +59,16 @@ unfoldable pub secondOf : ℕ → ℕ → ℕ → ℕ → Shape → ℕ → List
 secondOf variables kind a b s k = keep (secondFits kind (varAt s a) (varAt s b) (s .links) k) (changed variables kind a b (put b s k))
 
 -- choice k of a, which stands nowhere, is there; and where b, at y, then has a place, the kind retains it
-unfoldable pub firstFits : ℕ → ℕ → ℕ → ℕ → List ℕ → ℕ → Bool
-firstFits kind a b y links k =
+unfoldable pub placedFits : ℕ → ℕ → ℕ → ℕ → List ℕ → ℕ → Bool
+placedFits kind a b y links k =
     let x = chosen (length links) k in
     let after = opened links k in
     exists links k && cond (eqb a b) (retained kind x x after) (eqb y nowhere || retained kind x y after)
 
+-- the same of a at x
+unfoldable pub firstFits : ℕ → ℕ → ℕ → ℕ → ℕ → List ℕ → ℕ → Bool
+firstFits kind a b x y links k = not (eqb x nowhere) || placedFits kind a b y links k
+
 unfoldable pub firstOf : ℕ → ℕ → ℕ → ℕ → Shape → ℕ → List Shape
 firstOf variables kind a b s k =
-    cond (not (eqb (varAt s a) nowhere) || firstFits kind a b (varAt s b) (s .links) k) (seconds variables kind a b (put a s k)) []
+    cond (firstFits kind a b (varAt s a) (varAt s b) (s .links) k) (seconds variables kind a b (put a s k)) []

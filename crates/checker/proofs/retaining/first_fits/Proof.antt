@@ -1,0 +1,63 @@
+use Prim.Native.Nat.{ℕ, _+_, _-_, _*_, _<_, _≤_}
+use mathlib.Core.Path.{_≡_, refl, ap, _∙_, sym}
+use native.Mathlib.Omega.{arith}
+use lib.ListN.{length, getD, take, drop, set}
+use mathlib.Core.Logic.{⊎-elim}
+use borrow.Author.Needs.{needs}
+use Rattle.checker.proofs.retaining.first_fits.Statement.{statement}
+use Rattle.checker.proofs.retaining.first_fits.Tie as tie
+use Rattle.checker.proofs.retaining.first_fits.Reads as reads
+use Rattle.checker.proofs.retaining.first_fits.Lts as lts
+use Rattle.checker.proofs.choice.choice_exists.Reads as choice-exists-reads
+use Rattle.checker.proofs.choice.chosen_place.Reads as chosen-place-reads
+use Rattle.checker.proofs.retaining.retains.Reads as retains-reads
+
+-- src/retaining.rt:99:9
+returns : tie.Need-returns
+returns c = search needs
+
+-- src/retaining.rt:101:9
+choice-exists-requires : tie.Need-choice-exists-requires
+choice-exists-requires c κs = search needs
+
+-- src/retaining.rt:102:9
+returns-2 : tie.Need-returns-2
+returns-2 c = search needs
+
+-- src/retaining.rt:104:9
+chosen-place-requires : tie.Need-chosen-place-requires
+chosen-place-requires c κs = search needs
+
+-- src/retaining.rt:106:9
+retains-requires : tie.Need-retains-requires
+retains-requires c κs = search needs
+
+-- src/retaining.rt:106:9
+returns-3 : tie.Need-returns-3
+returns-3 c = search needs
+
+-- src/retaining.rt:109:9
+returns-4 : tie.Need-returns-4
+returns-4 c = search needs
+
+-- src/retaining.rt:111:5
+retains-requires-2 : tie.Need-retains-requires-2
+retains-requires-2 c κs = search needs
+
+-- src/retaining.rt:94:1
+returns-5 : tie.Need-returns-5
+returns-5 c = search needs
+
+pub first-fits-spec : {M : Type 1} → statement M
+first-fits-spec =
+    tie.close
+    (tie.spec
+    returns
+    choice-exists-requires
+    returns-2
+    chosen-place-requires
+    retains-requires
+    returns-3
+    returns-4
+    retains-requires-2
+    returns-5)
