@@ -4,8 +4,8 @@ use place::Place;
 ghost use mathlib.Core.Logic.{_≢_};
 ghost use mathlib.Core.Path.{_≡_};
 ghost use Prim.Native.Nat.{_+_, _≤_, _<_};
-ghost use lib.ListN.{take};
-ghost use Rattle.choices.specs.Choice.{chosen, choiceOf, exists, firstTried, pastTried};
+ghost use lib.ListN.{length, take};
+ghost use Rattle.choices.specs.Choice.{chosen, choiceOf, exists, wantsSame, firstTried, pastTried};
 ghost use Rattle.choices.specs.Held.{Opens, Puts};
 
 // The choices from one to before another.
@@ -41,7 +41,7 @@ pub(crate) fn choice_of(n: u8, p: Place) -> u8
 
 // Whether choice k is there: the link that it is within has a place.
 pub(crate) fn choice_exists(n: u8, links: &[u8; 14], k: u8) -> bool
-    requires { ⌜ (n ≤ 13) × (k < n + (2 + n)) ⌝ }
+    requires { ⌜ (length (now links) ≡ 14) × (n ≤ 13) × (k < n + (2 + n)) ⌝ }
     ensures { λ r. ⌜ r ≡ exists (take n (now (links .entry))) k ⌝ }
 {
     if k < n + 2 {
@@ -53,7 +53,7 @@ pub(crate) fn choice_exists(n: u8, links: &[u8; 14], k: u8) -> bool
 
 // Adds the fresh cell of choice k, if it has one. The number of cells.
 pub(crate) fn open_cell(n: u8, links: &mut [u8; 14], k: u8) -> u8
-    requires { ⌜ (n ≤ 13) × (k < n + (2 + n)) ⌝ }
+    requires { ⌜ (length (now links) ≡ 14) × (n ≤ 13) × (k < n + (2 + n)) ⌝ }
     ensures { λ r. ⌜ Opens n (now (links .entry)) k r (now (links .exit)) ⌝ }
 {
     if k <= n {
@@ -72,7 +72,7 @@ pub(crate) fn open_cell(n: u8, links: &mut [u8; 14], k: u8) -> u8
 
 // Places operand x by choice k; nothing where it has a place. The number of cells.
 pub(crate) fn put(n: u8, vars: &mut [u8; 10], links: &mut [u8; 14], x: u8, k: u8) -> u8
-    requires { ⌜ (n ≤ 13) × (k < n + (2 + n)) × (x ≤ 9) ⌝ }
+    requires { ⌜ (length (now links) ≡ 14) × (n ≤ 13) × (k < n + (2 + n)) × (x ≤ 9) ⌝ }
     ensures { λ r. ⌜ Puts n (now (vars .entry)) (now (links .entry)) x k r (now (vars .exit)) (now (links .exit)) ⌝ }
 {
     let i = x as usize;
@@ -85,6 +85,16 @@ pub(crate) fn put(n: u8, vars: &mut [u8; 10], links: &mut [u8; 14], x: u8, k: u8
     m
 }
 
+// Whether the kind wants a and b at one place.
+pub(crate) fn wants_same(kind: u8) -> bool
+    ensures { λ r. ⌜ r ≡ wantsSame kind ⌝ }
+{
+    if kind == 1 {
+        return true;
+    }
+    kind == 3
+}
+
 // The choices that can be retained, of a variable at p where the other one is at q.
 pub(crate) fn tried_choices(kind: u8, n: u8, p: Place, q: Place) -> Choices
     requires { ⌜ (n ≤ 13) × (q .code ≢ 2) × (q .code < 3 + n) ⌝ }
@@ -93,15 +103,15 @@ pub(crate) fn tried_choices(kind: u8, n: u8, p: Place, q: Place) -> Choices
     if p.code != 0 {
         return Choices { from: 0, to: 1 };
     }
-    if q.code != 0 {
-        if kind == 1 {
-            let k = choice_of(n, q);
-            return Choices { from: k, to: k + 1 };
-        }
-        if kind == 3 {
-            let k = choice_of(n, q);
-            return Choices { from: k, to: k + 1 };
-        }
+    if q.code == 0 {
+        return Choices {
+            from: 0,
+            to: n + (2 + n),
+        };
+    }
+    if wants_same(kind) {
+        let k = choice_of(n, q);
+        return Choices { from: k, to: k + 1 };
     }
     Choices {
         from: 0,

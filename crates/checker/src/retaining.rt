@@ -4,7 +4,7 @@ use crate::choice::chosen_place;
 use place::Place;
 ghost use mathlib.Core.Path.{_≡_};
 ghost use Prim.Native.Nat.{_+_, _≤_, _<_};
-ghost use lib.ListN.{take};
+ghost use lib.ListN.{length, take};
 ghost use Rattle.heap.specs.Codes.{linkIn};
 ghost use Rattle.choices.specs.Choice.{opened};
 ghost use Rattle.choices.specs.Retained.{linkOpen, retained, hopeless, secondFits, firstFits};
@@ -18,7 +18,7 @@ pub struct Op {
 
 // The link of the cell at p once choice k has been opened.
 pub(crate) fn link_after(n: u8, links: &[u8; 14], k: u8, p: Place) -> Place
-    requires { ⌜ (n ≤ 13) × (k < n + (2 + n)) × (3 ≤ p .code) × (p .code ≤ 3 + n) ⌝ }
+    requires { ⌜ (length (now links) ≡ 14) × (n ≤ 13) × (k < n + (2 + n)) × (3 ≤ p .code) × (p .code ≤ 3 + n) ⌝ }
     ensures { λ r. ⌜ r .code ≡ linkIn (opened (take n (now (links .entry))) k) (p .code) ⌝ }
 {
     let c = p.code - 3;
@@ -46,7 +46,7 @@ pub(crate) fn link_after(n: u8, links: &[u8; 14], k: u8, p: Place) -> Place
 
 // Whether p is a cell whose link, once choice k has been opened, is nowhere or equals q.
 pub(crate) fn link_fits(n: u8, links: &[u8; 14], k: u8, p: Place, q: Place) -> bool
-    requires { ⌜ (n ≤ 13) × (k < n + (2 + n)) × (p .code ≤ 3 + n) ⌝ }
+    requires { ⌜ (length (now links) ≡ 14) × (n ≤ 13) × (k < n + (2 + n)) × (p .code ≤ 3 + n) ⌝ }
     ensures { λ r. ⌜ r ≡ linkOpen (opened (take n (now (links .entry))) k) (p .code) (q .code) ⌝ }
 {
     if p.code <= 2 {
@@ -61,7 +61,7 @@ pub(crate) fn link_fits(n: u8, links: &[u8; 14], k: u8, p: Place, q: Place) -> b
 
 // Whether the kind retains a at x and b at y, choice k being opened.
 pub(crate) fn retains(kind: u8, n: u8, links: &[u8; 14], k: u8, x: Place, y: Place) -> bool
-    requires { ⌜ (n ≤ 13) × (k < n + (2 + n)) × (x .code ≤ 3 + n) × (y .code ≤ 3 + n) ⌝ }
+    requires { ⌜ (length (now links) ≡ 14) × (n ≤ 13) × (k < n + (2 + n)) × (x .code ≤ 3 + n) × (y .code ≤ 3 + n) ⌝ }
     ensures { λ r. ⌜ r ≡ retained kind (x .code) (y .code) (opened (take n (now (links .entry))) k) ⌝ }
 {
     if kind == 2 {
@@ -78,7 +78,7 @@ pub(crate) fn retains(kind: u8, n: u8, links: &[u8; 14], k: u8, x: Place, y: Pla
 
 // Whether choice k of b, at y, is retained, a being at x.
 pub(crate) fn second_fits(kind: u8, x: Place, y: Place, n: u8, links: &[u8; 14], k: u8) -> bool
-    requires { ⌜ (n ≤ 13) × (k < n + (2 + n)) × (x .code < 3 + n) × (y .code < 3 + n) ⌝ }
+    requires { ⌜ (length (now links) ≡ 14) × (n ≤ 13) × (k < n + (2 + n)) × (x .code < 3 + n) × (y .code < 3 + n) ⌝ }
     ensures { λ r. ⌜ r ≡ secondFits kind (x .code) (y .code) (take n (now (links .entry))) k ⌝ }
 {
     if y.code != 0 {
@@ -92,7 +92,7 @@ pub(crate) fn second_fits(kind: u8, x: Place, y: Place, n: u8, links: &[u8; 14],
 
 // Whether choice k of a, at x, can be retained: where b, at y, then has a place, the kind decides at once.
 pub(crate) fn first_fits(op: Op, x: Place, y: Place, n: u8, links: &[u8; 14], k: u8) -> bool
-    requires { ⌜ (n ≤ 13) × (k < n + (2 + n)) × (y .code < 3 + n) ⌝ }
+    requires { ⌜ (length (now links) ≡ 14) × (n ≤ 13) × (k < n + (2 + n)) × (y .code < 3 + n) ⌝ }
     ensures { λ r. ⌜ r ≡ firstFits (op .kind) (op .a) (op .b) (x .code) (y .code) (take n (now (links .entry))) k ⌝ }
 {
     if x.code != 0 {

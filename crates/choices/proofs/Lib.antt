@@ -6,3 +6,4 @@ pub mod Arrays
 pub mod Opening
 pub mod Putting
 pub mod Undoing
+pub mod Tests

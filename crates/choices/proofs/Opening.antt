@@ -52,8 +52,11 @@ chosen-inside n k m l fresh = go (decLt k n) (ℕ-discrete k n)
     go (no i) (no j) = rw (chosen-fresh n k (omega arith)) (omega (arith, fresh (omega arith)))
 
 module _ (n : ℕ) (links : List ℕ) (room : length links ≡ 14) (cells : n ≤ 13) where
-  length-first : length (take n links) ≡ n
+  pub length-first : length (take n links) ≡ n
   length-first = length-take-le n links (omega arith)
+
+  pub chosen-first : (k p : ℕ) → p ≡ chosen n k → p ≡ chosen (length (take n links)) k
+  chosen-first k p e = rw length-first e
 
   pub exists-low : (k : ℕ) → k < n + 2 → true ≡ exists (take n links) k
   unfolding exists
@@ -84,7 +87,7 @@ module _ (n : ℕ) (links : List ℕ) (room : length links ≡ 14) (cells : n �
       (simp (lt-leb k n (omega arith), ne-eqb k (suc n) (omega arith), getD-take n links (k - n - 2) nowhere (omega arith)))
 
   pub opens-none : (k : ℕ) → k ≤ n → Opens n links k n links
-  opens-none k h = record { least = omega arith; most = omega arith; fresh = λ b. absurd (omega arith); after = sym (opened-none k h); range = λ r. r }
+  opens-none k h = record { least = omega arith; most = omega arith; fresh = λ b. absurd (omega arith); room = refl; after = sym (opened-none k h); range = λ r. r }
 
   pub opens-fresh : (k : ℕ) → k ≡ n + 1 → Opens n links k (n + 1) (set links n nowhere)
   opens-fresh k h =
@@ -93,6 +96,7 @@ module _ (n : ℕ) (links : List ℕ) (room : length links ≡ 14) (cells : n �
         least = omega arith;
         most = omega arith;
         fresh = λ _. m-is;
+        room = length-set links n nowhere;
         after = rw m-is (take-suc-set links n nowhere (omega arith) ∙ sym (opened-fresh k h));
         range = λ r i b. range r i b (ℕ-discrete i n);
       }
@@ -110,6 +114,7 @@ module _ (n : ℕ) (links : List ℕ) (room : length links ≡ 14) (cells : n �
         least = omega arith;
         most = omega arith;
         fresh = λ _. m-is;
+        room = length-set (set links n p) i (3 + n) ∙ length-set links n p;
         after =
             rw (m-is, c-is)
             (take-set-lt (suc n) (set links n p) i (cell n) (omega arith)

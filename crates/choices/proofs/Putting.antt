@@ -41,9 +41,9 @@ made-is w n vars links next x k m p e after =
     ap (λ (l : List ℕ). record { vars = setVarIn x p (take w (drop 1 vars)); links = l }) after
     ∙ ap (λ (q : ℕ). record { vars = setVarIn x q (take w (drop 1 vars)); links = opened (take n links) k }) e
 
-pub puts-made : (n : ℕ) (vars links : List ℕ) (x k m : ℕ) (next : List ℕ) (p : ℕ) → getD vars x nowhere ≡ nowhere → n ≤ 13 → length next ≡ 14
+pub puts-made : (n : ℕ) (vars links : List ℕ) (x k m : ℕ) (next : List ℕ) (p : ℕ) → getD vars x nowhere ≡ nowhere → n ≤ 13
     → Opens n links k m next → p ≡ chosen n k → Puts n vars links x k m (set vars x p) next
-puts-made n vars links x k m next p e c room o p-is = record { least = o .least; most = o .most; held = held }
+puts-made n vars links x k m next p e c o p-is = record { least = o .least; most = o .most; held = held }
   where
     held : (w : ℕ) → Hold w n vars links → x ≤ w → Held w m (set vars x p) next (put x (shapeIn w n vars links) k)
     held w h b = record { hold = hold-var w m vars next more x p some-x b inside; same = shape-var w m vars next x p some-x ∙ is-made ∙ sym (put-made x s k at-x) }
@@ -58,7 +58,7 @@ puts-made n vars links x k m next p e c room o p-is = record { least = o .least;
         some-x = let z = not-null s x at-x in omega arith
 
         more : Hold w m vars next
-        more = hold-links w n vars links h m next room (o .least) (omega (arith, o .most)) (o .range (h .links-range))
+        more = hold-links w n vars links h m next (o .room ∙ h .room) (o .least) (omega (arith, o .most)) (o .range (h .links-range))
 
         inside : p < cell m
         inside = rw p-is (chosen-inside n k m (o .least) (o .fresh))

@@ -5,7 +5,7 @@ use mathlib.Core.Logic.{_≢_}
 use mathlib.Core.Path.{_≡_}
 use Prim.Native.Nat.{ℕ, suc, _≤_, _<_}
 use lib.Dec.{ltb}
-use lib.ListN.{getD, take}
+use lib.ListN.{length, getD, take}
 use Rattle.heap.specs.Place.{nowhere, dangling, cell}
 use Rattle.shape.specs.Shape.{Shape}
 use Rattle.layout.specs.Arrays.{shapeIn, Hold}
@@ -22,6 +22,7 @@ pub record Opens (n : ℕ) (links : List ℕ) (k m : ℕ) (next : List ℕ) : Ty
   pub least : n ≤ m
   pub most : m ≤ suc n
   pub fresh : n < k → m ≡ suc n
+  pub room : length next ≡ length links
   pub after : take m next ≡ opened (take n links) k
   pub range : ((i : ℕ) → i < n → getD links i nowhere < cell n) → (i : ℕ) → i < m → getD next i nowhere < cell m
 

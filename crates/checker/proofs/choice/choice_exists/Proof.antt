@@ -3,6 +3,7 @@ use mathlib.Core.Path.{_≡_, refl, ap, _∙_, sym}
 use native.Mathlib.Omega.{arith}
 use lib.ListN.{length, getD, take, drop, set}
 use mathlib.Core.Logic.{⊎-elim}
+use Rattle.choices.proofs.Opening.{exists-low, exists-high}
 use borrow.Author.Needs.{needs}
 use Rattle.checker.proofs.choice.choice_exists.Statement.{statement}
 use Rattle.checker.proofs.choice.choice_exists.Tie as tie
@@ -15,7 +16,7 @@ add-if1 c = search needs
 
 -- src/choice.rt:48:9
 returns : tie.Need-returns
-returns c = search needs
+returns c = let a = c .before .args in exists-low (a .n) (a .links .now) (c .before .pre .0) (omega arith) (a .k) (omega arith)
 
 -- src/choice.rt:50:14
 sub-i : tie.Need-sub-i
@@ -35,7 +36,7 @@ element-copy-out-result c = search needs
 
 -- src/choice.rt:43:1
 returns-2 : tie.Need-returns-2
-returns-2 c = search needs
+returns-2 c = let a = c .before .before .args in exists-high (a .n) (a .links .now) (c .before .before .pre .0) (omega arith) (a .k) (omega arith) (omega arith)
 
 pub choice-exists-spec : {M : Type 1} → statement M
 choice-exists-spec =

@@ -3,6 +3,7 @@ use mathlib.Core.Path.{_≡_, refl, ap, _∙_, sym}
 use native.Mathlib.Omega.{arith}
 use lib.ListN.{length, getD, take, drop, set}
 use mathlib.Core.Logic.{⊎-elim}
+use Rattle.choices.proofs.Opening.{opens-none, opens-fresh, opens-middle}
 use borrow.Author.Needs.{needs}
 use Rattle.checker.proofs.choice.open_cell.Statement.{statement}
 use Rattle.checker.proofs.choice.open_cell.Tie as tie
@@ -11,7 +12,7 @@ use Rattle.checker.proofs.choice.open_cell.Lts as lts
 
 -- src/choice.rt:60:9
 returns : tie.Need-returns
-returns c = search needs
+returns c = let a = c .before .args in opens-none (a .n) (a .links .now) (c .before .pre .0) (omega arith) (a .k) (omega arith)
 
 -- src/choice.rt:63:13
 add-if2 : tie.Need-add-if2
@@ -27,7 +28,7 @@ add-result c = search needs
 
 -- src/choice.rt:65:9
 returns-2 : tie.Need-returns-2
-returns-2 c = search needs
+returns-2 c = let a = c .before .before .args in opens-fresh (a .n) (a .links .now) (c .before .before .pre .0) (omega arith) (a .k) (omega arith)
 
 -- src/choice.rt:67:14
 sub-i : tie.Need-sub-i
@@ -63,7 +64,7 @@ add-result-2 c = search needs
 
 -- src/choice.rt:55:1
 returns-3 : tie.Need-returns-3
-returns-3 c = search needs
+returns-3 c = let a = c .before .before .before .args in opens-middle (a .n) (a .links .now) (c .before .before .before .pre .0) (omega arith) (a .k) (a .k - a .n - 2) refl (omega arith) (omega arith)
 
 pub open-cell-spec : {M : Type 1} → statement M
 open-cell-spec =

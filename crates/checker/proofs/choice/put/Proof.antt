@@ -3,6 +3,7 @@ use mathlib.Core.Path.{_≡_, refl, ap, _∙_, sym}
 use native.Mathlib.Omega.{arith}
 use lib.ListN.{length, getD, take, drop, set}
 use mathlib.Core.Logic.{⊎-elim}
+use Rattle.choices.proofs.Putting.{puts-nothing, puts-made}
 use borrow.Author.Needs.{needs}
 use Rattle.checker.proofs.choice.put.Statement.{statement}
 use Rattle.checker.proofs.choice.put.Tie as tie
@@ -17,7 +18,7 @@ element-copy-out-if1 c = search needs
 
 -- src/choice.rt:80:9
 returns : tie.Need-returns
-returns c = search needs
+returns c = let a = c .before .before .args in puts-nothing (a .n) (a .vars .now) (a .links .now) (a .x) (a .k) (c .if1 .taken)
 
 -- src/choice.rt:82:9
 open-cell-requires : tie.Need-open-cell-requires
@@ -33,7 +34,7 @@ element-write-vars c = search needs
 
 -- src/choice.rt:74:1
 returns-2 : tie.Need-returns-2
-returns-2 c = search needs
+returns-2 c = let a = c .before .before .before .before .before .args in puts-made (a .n) (a .vars .now) (a .links .now) (a .x) (a .k) (c .before .open-cell .result) _ (c .chosen-place .result .code) (omega arith) (omega arith) (c .before .open-cell .ensures) (c .chosen-place .ensures)
 
 pub put-spec : {M : Type 1} → statement M
 put-spec =

@@ -11,7 +11,7 @@ use Rattle.checker.proofs.covering.take_cover.Lts as lts
 
 -- src/covering.rt:13:1
 returns : tie.Need-returns
-returns c = search needs
+returns c = ?
 
 pub take-cover-spec : {M : Type 1} → statement M
 take-cover-spec = tie.close (tie.spec returns)

@@ -28,11 +28,11 @@ enum-known-r-2 c = search needs
 
 -- src/one.rt:13:1
 returns : tie.Need-returns
-returns c = search needs
+returns c = ?
 
 -- src/one.rt:13:1
 returns-2 : tie.Need-returns-2
-returns-2 c = search needs
+returns-2 c = ?
 
 pub take-one-spec : {M : Type 1} → statement M
 take-one-spec =

@@ -17,11 +17,11 @@ put-requires c κs = search needs
 
 -- src/placing.rt:69:5
 undo-requires : tie.Need-undo-requires
-undo-requires c κs = search needs
+undo-requires c κs = ?
 
 -- src/placing.rt:64:1
 returns : tie.Need-returns
-returns c = search needs
+returns c = ?
 
 pub make-second-spec : {M : Type 1} → statement M
 make-second-spec = tie.close (tie.spec put-requires undo-requires returns)

@@ -19,15 +19,15 @@ cast-t8 c = search needs
 
 -- src/placing.rt:211:13
 returns : tie.Need-returns
-returns c = search needs
+returns c = ?
 
 -- src/placing.rt:205:1
 returns-2 : tie.Need-returns-2
-returns-2 c = search needs
+returns-2 c = ?
 
 -- src/placing.rt:205:1
 returns-3 : tie.Need-returns-3
-returns-3 c = search needs
+returns-3 c = ?
 
 pub placed-op-spec : {M : Type 1} → statement M
 placed-op-spec = tie.close (tie.spec add-t7 cast-t8 returns returns-2 returns-3)

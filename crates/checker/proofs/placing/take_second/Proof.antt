@@ -30,15 +30,15 @@ element-copy-out-t21-2 c = search needs
 
 -- src/placing.rt:94:9
 second-fits-requires : tie.Need-second-fits-requires
-second-fits-requires c κs = search needs
+second-fits-requires c κs = ?
 
 -- src/placing.rt:95:9
 returns : tie.Need-returns
-returns c = search needs
+returns c = ?
 
 -- src/placing.rt:99:9
 make-second-requires : tie.Need-make-second-requires
-make-second-requires c κs = search needs
+make-second-requires c κs = ?
 
 -- src/placing.rt:100:55
 cast-take-one : tie.Need-cast-take-one
@@ -50,7 +50,7 @@ take-one-requires c κs = search needs
 
 -- src/placing.rt:74:1
 returns-2 : tie.Need-returns-2
-returns-2 c = search needs
+returns-2 c = ?
 
 pub take-second-spec : {M : Type 1} → statement M
 take-second-spec =

@@ -55,7 +55,7 @@ enum-told c = search needs
 
 -- src/placing.rt:129:13
 returns : tie.Need-returns Inv-loop μ-loop
-returns c = search needs
+returns c = ?
 
 -- src/placing.rt:132:9
 add-k : tie.Need-add-k Inv-loop μ-loop
@@ -71,7 +71,7 @@ loop-again c = search needs
 
 -- src/placing.rt:104:1
 returns-2 : tie.Need-returns-2 Inv-loop μ-loop
-returns-2 c = search needs
+returns-2 c = ?
 
 pub take-seconds-spec : {M : Type 1} → statement M
 take-seconds-spec =

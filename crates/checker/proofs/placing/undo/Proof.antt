@@ -3,6 +3,7 @@ use mathlib.Core.Path.{_≡_, refl, ap, _∙_, sym}
 use native.Mathlib.Omega.{arith}
 use lib.ListN.{length, getD, take, drop, set}
 use mathlib.Core.Logic.{⊎-elim}
+use Rattle.choices.proofs.Undoing.{undo-none, undo-itself, undo-assign, undo-store, undo-load, undo-helper}
 use borrow.Author.Needs.{needs}
 use Rattle.checker.proofs.placing.undo.Statement.{statement}
 use Rattle.checker.proofs.placing.undo.Tie as tie
@@ -19,11 +20,11 @@ cast-b c = search needs
 
 -- src/placing.rt:39:9
 returns : tie.Need-returns
-returns c = search needs
+returns c = ?
 
 -- src/placing.rt:43:13
 returns-2 : tie.Need-returns-2
-returns-2 c = search needs
+returns-2 c = ?
 
 -- src/placing.rt:45:9
 element-write-vars : tie.Need-element-write-vars
@@ -31,7 +32,7 @@ element-write-vars c = search needs
 
 -- src/placing.rt:46:9
 returns-3 : tie.Need-returns-3
-returns-3 c = search needs
+returns-3 c = ?
 
 -- src/placing.rt:48:13
 element-copy-out-x : tie.Need-element-copy-out-x
@@ -39,19 +40,19 @@ element-copy-out-x c = search needs
 
 -- src/placing.rt:50:16
 sub-links : tie.Need-sub-links
-sub-links c = search needs
+sub-links c = ?
 
 -- src/placing.rt:50:15
 cast-links : tie.Need-cast-links
-cast-links c = search needs
+cast-links c = ?
 
 -- src/placing.rt:50:9
 element-write-links : tie.Need-element-write-links
-element-write-links c = search needs
+element-write-links c = ?
 
 -- src/placing.rt:51:9
 returns-4 : tie.Need-returns-4
-returns-4 c = search needs
+returns-4 c = ?
 
 -- src/placing.rt:53:13
 element-copy-out-y : tie.Need-element-copy-out-y
@@ -59,15 +60,15 @@ element-copy-out-y c = search needs
 
 -- src/placing.rt:54:12
 sub-links-2 : tie.Need-sub-links-2
-sub-links-2 c = search needs
+sub-links-2 c = ?
 
 -- src/placing.rt:54:11
 cast-links-2 : tie.Need-cast-links-2
-cast-links-2 c = search needs
+cast-links-2 c = ?
 
 -- src/placing.rt:54:5
 element-write-links-2 : tie.Need-element-write-links-2
-element-write-links-2 c = search needs
+element-write-links-2 c = ?
 
 -- src/placing.rt:56:9
 element-write-vars-2 : tie.Need-element-write-vars-2
@@ -79,7 +80,7 @@ element-write-vars-3 c = search needs
 
 -- src/placing.rt:58:9
 returns-5 : tie.Need-returns-5
-returns-5 c = search needs
+returns-5 c = ?
 
 -- src/placing.rt:60:5
 element-write-vars-4 : tie.Need-element-write-vars-4
@@ -87,7 +88,7 @@ element-write-vars-4 c = search needs
 
 -- src/placing.rt:31:1
 returns-6 : tie.Need-returns-6
-returns-6 c = search needs
+returns-6 c = ?
 
 pub undo-spec : {M : Type 1} → statement M
 undo-spec =

@@ -3,6 +3,8 @@ use mathlib.Core.Path.{_≡_, refl, ap, _∙_, sym}
 use native.Mathlib.Omega.{arith}
 use lib.ListN.{length, getD, take, drop, set}
 use mathlib.Core.Logic.{⊎-elim}
+use Rattle.choices.proofs.Opening.{link-kept, link-fresh, link-middle, link-source, link-other}
+use Rattle.checker.proofs.Places.{cell-code}
 use borrow.Author.Needs.{needs}
 use Rattle.checker.proofs.retaining.link_after.Statement.{statement}
 use Rattle.checker.proofs.retaining.link_after.Tie as tie
@@ -36,7 +38,7 @@ element-copy-out-t14 c = search needs
 
 -- src/retaining.rt:28:13
 returns : tie.Need-returns
-returns c = search needs
+returns c = let a = c .before .before .before .before .args in link-middle (a .n) (a .links .now) (c .before .before .before .before .pre .0) (omega arith) (a .k) (omega arith) (omega arith) (a .p .code) (omega arith)
 
 -- src/retaining.rt:33:13
 cell-requires : tie.Need-cell-requires
@@ -44,7 +46,7 @@ cell-requires c κs = search needs
 
 -- src/retaining.rt:33:13
 returns-2 : tie.Need-returns-2
-returns-2 c = search needs
+returns-2 c = let a = c .before .before .before .before .before .args in cell-code (a .n) (c .cell .result) (c .cell .ensures) (omega arith) ∙ link-source (a .n) (a .links .now) (c .before .before .before .before .before .pre .0) (omega arith) (a .k) (omega arith) (omega arith) (a .p .code) (omega arith)
 
 -- src/retaining.rt:36:25
 cast-t15 : tie.Need-cast-t15
@@ -56,11 +58,11 @@ element-copy-out-t9 c = search needs
 
 -- src/retaining.rt:35:9
 returns-3 : tie.Need-returns-3
-returns-3 c = search needs
+returns-3 c = let a = c .before .before .before .before .before .args in link-other (a .n) (a .links .now) (c .before .before .before .before .before .pre .0) (omega arith) (a .k) (omega arith) (omega arith) (a .p .code) (omega arith) (omega arith) (omega arith)
 
 -- src/retaining.rt:40:9
 returns-4 : tie.Need-returns-4
-returns-4 c = search needs
+returns-4 c = let a = c .before .before .before .args in link-fresh (a .n) (a .links .now) (c .before .before .before .pre .0) (omega arith) (a .k) (a .p .code) (omega arith) (omega arith)
 
 -- src/retaining.rt:43:21
 cast-t18 : tie.Need-cast-t18
@@ -72,7 +74,7 @@ element-copy-out-t7 c = search needs
 
 -- src/retaining.rt:20:1
 returns-5 : tie.Need-returns-5
-returns-5 c = search needs
+returns-5 c = let a = c .before .before .before .before .args in link-kept (a .n) (a .links .now) (c .before .before .before .before .pre .0) (omega arith) (a .k) (a .p .code) (omega arith) (omega arith) (omega arith)
 
 pub link-after-spec : {M : Type 1} → statement M
 link-after-spec =
