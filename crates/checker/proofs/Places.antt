@@ -3,6 +3,8 @@ use mathlib.Core.Bool.{Bool, true, false, not, _||_, _&&_, cond}
 use mathlib.Core.Logic.{_≢_}
 use mathlib.Core.Path.{_≡_, refl, sym, ap, _∙_}
 use Prim.Native.Nat.{ℕ, suc, _+_, _-_, _≤_, _<_}
+use native.Mathlib.Decide.{ℕ-discrete}
+use native.Mathlib.Numerals.{add-one}
 use native.Mathlib.Omega.{arith}
 use borrow.Author.Tests.{lt-ltb, eq-eqb, ne-eqb}
 use lib.Dec.{eqb}
@@ -10,6 +12,7 @@ use Rattle.heap.specs.Place.{cell}
 use Rattle.place.specs.Place.{cellPlace}
 use Rattle.place.specs.declared.Place.{Place}
 use Rattle.choices.specs.Choice.{chosen, choiceOf, wantsSame, firstTried, pastTried}
+use Rattle.checker.specs.Placing.{secondOperand}
 use Rattle.choices.proofs.Opening.{chosen-cell, chosen-fresh}
 
 pub cell-code : (i : ℕ) (p : Place) → p ≡ cellPlace i → i < 253 → p .code ≡ cell i
@@ -20,3 +23,19 @@ placed-cell n k p e h l = cell-code k p e (omega arith) ∙ sym (chosen-cell n k
 
 pub placed-fresh : (n k : ℕ) (p : Place) → p ≡ cellPlace n → n ≤ 14 → n < k → p .code ≡ chosen n k
 placed-fresh n k p e h l = cell-code n p e (omega arith) ∙ sym (chosen-fresh n k l)
+
+-- ---- the operand that plays b
+
+module _ (variables kind a b : ℕ) where
+  pub second-helper : kind ≡ 4 → a ≡ b → variables + 1 ≡ secondOperand variables kind a b
+  unfolding secondOperand
+  second-helper k e = simp (eq-eqb kind 4 k, eq-eqb a b e) (add-one variables)
+
+  pub second-itself : (kind ≡ 4 → a ≢ b) → b ≡ secondOperand variables kind a b
+  unfolding secondOperand
+  second-itself n = go (ℕ-discrete kind 4) (ℕ-discrete a b)
+    where
+      go : Dec (kind ≡ 4) → Dec (a ≡ b) → b ≡ secondOperand variables kind a b
+      go (yes k) (yes e) = absurd (n k e)
+      go (yes k) (no e) = simp (eq-eqb kind 4 k, ne-eqb a b e)
+      go (no k) d = simp (ne-eqb kind 4 k)

@@ -40,6 +40,14 @@ working-room variables b h = go (decLt variables b)
     go (yes l) = rw (working-more variables b l) (omega arith)
     go (no l) = rw (working-same variables b (omega arith)) (omega arith)
 
+-- only kind 4 has a helper
+pub no-helper : (variables kind a b : ℕ) → Operands variables kind a b → kind ≢ 4 → b ≤ variables
+no-helper variables kind a b o n = go (decLt variables b)
+  where
+    go : Dec (variables < b) → b ≤ variables
+    go (yes h) = absurd (n (o .helper h))
+    go (no h) = omega arith
+
 -- ---- the helper goes
 
 drop-hold : (v n : ℕ) (vars links : List ℕ) → Hold (suc v) n vars links → Hold v n (set vars (suc v) nowhere) links
@@ -165,6 +173,6 @@ module _ (variables kind a b : ℕ) (vars links : List ℕ) where
 
 -- ---- what the kind retains
 
-retained-cell : (kind x y : ℕ) (links : List ℕ) → retained kind x y links ≡ true → (kind ≡ 4 → 3 ≤ y) × (kind ≡ 5 → 3 ≤ x)
+pub retained-cell : (kind x y : ℕ) (links : List ℕ) → retained kind x y links ≡ true → (kind ≡ 4 → 3 ≤ y) × (kind ≡ 5 → 3 ≤ x)
 unfolding retained linkOpen
 retained-cell kind x y links e = (λ k. let t = rw k at e in ltb-true 2 y (and-left (ltb 2 y) _ t), λ k. let t = rw k at e in ltb-true 2 x (and-left (ltb 2 x) _ t))
