@@ -1,2 +1,3 @@
 pub mod Taking
 pub mod Places
+pub mod Trying

@@ -7,3 +7,4 @@ pub mod Opening
 pub mod Putting
 pub mod Undoing
 pub mod Tests
+pub mod Steps

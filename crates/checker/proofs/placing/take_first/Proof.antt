@@ -30,23 +30,23 @@ element-copy-out-t21-2 c = search needs
 
 -- src/placing.rt:158:9
 first-fits-requires : tie.Need-first-fits-requires
-first-fits-requires c κs = search needs
+first-fits-requires c κs = ?
 
 -- src/placing.rt:159:9
 returns : tie.Need-returns
-returns c = search needs
+returns c = ?
 
 -- src/placing.rt:163:9
 put-requires : tie.Need-put-requires
-put-requires c κs = search needs
+put-requires c κs = ?
 
 -- src/placing.rt:164:5
 take-seconds-requires : tie.Need-take-seconds-requires
-take-seconds-requires c κs = search needs
+take-seconds-requires c κs = ?
 
 -- src/placing.rt:138:1
 returns-2 : tie.Need-returns-2
-returns-2 c = search needs
+returns-2 c = ?
 
 pub take-first-spec : {M : Type 1} → statement M
 take-first-spec =

@@ -36,35 +36,35 @@ element-copy-out-t22-2 c = search needs
 
 -- src/placing.rt:187:8
 is-hopeless-requires : tie.Need-is-hopeless-requires Inv-loop μ-loop
-is-hopeless-requires c κs = search needs
+is-hopeless-requires c κs = ?
 
 -- src/placing.rt:188:9
 returns : tie.Need-returns Inv-loop μ-loop
-returns c = search needs
+returns c = ?
 
 -- src/placing.rt:190:9
 tried-choices-requires : tie.Need-tried-choices-requires Inv-loop μ-loop
-tried-choices-requires c κs = search needs
+tried-choices-requires c κs = ?
 
 -- src/placing.rt:193:5
 loop-holds : tie.Need-loop-holds Inv-loop μ-loop
-loop-holds c = search needs
+loop-holds c = ?
 
 -- src/placing.rt:194:13
 take-first-requires : tie.Need-take-first-requires Inv-loop μ-loop
-take-first-requires c κs = search needs
+take-first-requires c κs = ?
 
 -- src/placing.rt:195:23
 enum-known-g : tie.Need-enum-known-g Inv-loop μ-loop
-enum-known-g c = search needs
+enum-known-g c = ?
 
 -- src/placing.rt:196:13
 enum-told : tie.Need-enum-told Inv-loop μ-loop
-enum-told c = search needs
+enum-told c = ?
 
 -- src/placing.rt:196:13
 returns-2 : tie.Need-returns-2 Inv-loop μ-loop
-returns-2 c = search needs
+returns-2 c = ?
 
 -- src/placing.rt:199:9
 add-k : tie.Need-add-k Inv-loop μ-loop
@@ -72,15 +72,15 @@ add-k c = search needs
 
 -- src/placing.rt:193:5
 loop-less : tie.Need-loop-less Inv-loop μ-loop
-loop-less c = search needs
+loop-less c = ?
 
 -- src/placing.rt:193:5
 loop-again : tie.Need-loop-again Inv-loop μ-loop
-loop-again c = search needs
+loop-again c = ?
 
 -- src/placing.rt:168:1
 returns-3 : tie.Need-returns-3 Inv-loop μ-loop
-returns-3 c = search needs
+returns-3 c = ?
 
 pub take-firsts-spec : {M : Type 1} → statement M
 take-firsts-spec =
