@@ -16,11 +16,11 @@ use Rattle.shape.specs.Shape.{Shape, varAt, size}
 use Rattle.layout.specs.Arrays.{shapeIn, Hold}
 use Rattle.choices.specs.Choice.{chosen, exists, opened, put, firstTried, pastTried}
 use Rattle.choices.specs.Held.{Held, Puts, working, Operands, At, Working, Placed, Undoable, Undoes}
-use Rattle.choices.specs.Retained.{retained, changed, seconds, firsts, secondFits, secondOf, firstFits, firstOf}
+use Rattle.choices.specs.Retained.{retained, changed, seconds, firsts, hopeless, secondFits, secondOf, firstFits, firstOf}
 use Rattle.choices.proofs.Arrays.{size-in, vars-in, var-in}
 use Rattle.choices.proofs.ByNumber.{chosen-placed}
 use Rattle.choices.proofs.Putting.{put-keeps, put-other, put-same}
-use Rattle.choices.proofs.Tried.{seconds-tried, firsts-tried}
+use Rattle.choices.proofs.Tried.{seconds-tried, firsts-tried, no-hope}
 use Rattle.choices.proofs.Undoing.{working-room, retained-cell}
 
 -- a choice that is retained leaves a cell where the operation changes a link
@@ -122,6 +122,11 @@ module _ (variables kind a b n : ℕ) (vars links : List ℕ) where
         rw (from-is, to-is, ← at-a, ← at-b)
         (seconds-tried variables kind a b s n (size-in (working variables b) n vars links (p .work .hold)) (rw at-a (p .a-at)) (rw at-b (p .b-safe))
         (rw (vars-in (working variables b) n vars links (p .work .hold)) (room 13 (p .work) .1)))
+
+  pub no-choices : (most : ℕ) → Working most variables kind a b n vars links → hopeless kind a b (getD vars a nowhere) (getD vars b nowhere) ≡ true
+      → firsts variables kind a b (shapeIn (working variables b) n vars links) ≡ []
+  no-choices most p e =
+      no-hope variables kind a b (shapeIn (working variables b) n vars links) (rw (at-operand most p a, at-operand most p b) e)
 
   module _ (p : Working 12 variables kind a b n vars links) (a-safe : getD vars a nowhere ≢ dangling) (b-safe : getD vars b nowhere ≢ dangling) where
     pub first-range : (from to : ℕ) → from ≡ firstTried kind n (getD vars a nowhere) (getD vars b nowhere)

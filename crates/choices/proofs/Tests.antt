@@ -4,6 +4,7 @@ use mathlib.Core.List.{List}
 use mathlib.Core.Logic.{_≢_}
 use mathlib.Core.Path.{_≡_, refl, sym, _∙_}
 use Prim.Native.Nat.{ℕ, suc, _+_, _≤_, _<_}
+use native.Mathlib.Decide.{ℕ-discrete}
 use native.Mathlib.Numerals.{add-one}
 use native.Mathlib.Omega.{arith}
 use borrow.Author.Tests.{lt-ltb, le-ltb, le-leb, eq-eqb, ne-eqb}
@@ -82,6 +83,18 @@ module _ (kind a b x y : ℕ) where
         pub hopeful : kind ≢ 5 → false ≡ hopeless kind a b x y
         unfolding hopeless
         hopeful e = simp (ne-eqb x dangling nx, ne-eqb y dangling ny, ne-eqb kind 2 n, ne-eqb kind 4 m, ne-eqb kind 5 e)
+
+  -- neither is at * where there is hope
+  pub hope-safe : hopeless kind a b x y ≡ false → (x ≢ dangling) × (y ≢ dangling)
+  unfolding hopeless
+  hope-safe h = (λ e. clash (simp (eq-eqb x dangling e) at h), λ e. by-a e (ℕ-discrete x dangling))
+    where
+      clash : true ≡ false → ⊥
+      clash e = let z : _≡_ {A = ℕ} 0 1 = cc in omega arith
+
+      by-a : y ≡ dangling → Dec (x ≡ dangling) → ⊥
+      by-a e (yes f) = clash (simp (eq-eqb x dangling f) at h)
+      by-a e (no f) = clash (simp (ne-eqb x dangling f, eq-eqb y dangling e) at h)
 
 -- ---- what is retained
 
