@@ -1,3 +1,4 @@
 pub mod Taking
 pub mod Places
 pub mod Trying
+pub mod Operands
