@@ -1,14 +1,15 @@
 -- Laws of taking covers in turn.
 use mathlib.Core.List.{List, [], _∷_, _++_}
 use mathlib.Core.Path.{_≡_, refl, sym, ap, _∙_}
-use Prim.Native.Nat.{ℕ, suc, _+_}
+use Prim.Native.Nat.{ℕ, suc, _+_, _≤_}
 use native.Mathlib.Omega.{arith}
 use lib.ListN.{length}
 use Rattle.run.specs.Run.{Located}
 use Rattle.format.specs.Certificate.{readCover}
 use Rattle.format.specs.Parser.{Parsed, parsed, fault, onward, many, each, within, certificateBuffer}
-use Rattle.format.proofs.Parsing.{then}
 use Rattle.verdict.specs.declared.Refusal.{Refusal}
+use Rattle.format.proofs.Parsing.{then}
+use Rattle.checker.proofs.CoverPlace.{cover-place}
 use Rattle.checker.specs.Taking.{takeAll, goingOf, Within, TakesAll}
 use Rattle.checker.specs.declared.going.Going.{Going}
 use Rattle.checker.specs.declared.going.Going.the-variants.{On, Refused}
@@ -56,6 +57,14 @@ module _ (cert : List ℕ) (ms : List Located) where
           ≡ onward (onward r (λ u next. onward (each (readCover (certificateBuffer cert) ms) os next) (λ us next. parsed (u ∷ us) next))) (λ us next. parsed (covers + suc (length os)) next)
       go (parsed u next) later = later next ∙ second (each (readCover (certificateBuffer cert) ms) os next) u
       go (fault number place) later = refl
+
+  pub takeAll-inside : (os : List Located) (covers at c next : ℕ) → takeAll cert ms os covers at ≡ parsed c next → covers ≤ at → at ≤ length cert
+      → (c ≤ next) × (next ≤ length cert)
+  unfolding takeAll
+  takeAll-inside [] covers at c next e h k = let z : at ≡ next = cc in let y : covers ≡ c = cc in (omega arith, omega arith)
+  takeAll-inside (o ∷ os) covers at c next e h k =
+      then (readCover (certificateBuffer cert) ms o at) _
+      (λ u a h₁ h₂. let (p, q) = cover-place (certificateBuffer cert) ms o at h₁ in takeAll-inside os (suc covers) a c next h₂ (omega arith) q) e
 
   -- ---- taking some, and then the rest
 

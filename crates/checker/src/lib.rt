@@ -24,12 +24,14 @@ ghost use Rattle.verdict.specs.Verdict.{verdictOf};
 ghost use Rattle.verdict.specs.declared.Counts.{Counts as CountsAnswer};
 ghost use Rattle.verdict.specs.declared.Verdict.the-variants.{Accepted};
 
+mod choice;
 mod covering;
 mod going;
 mod load;
 mod one;
 mod placing;
 mod removal;
+mod retaining;
 mod start;
 mod take;
 
