@@ -1,0 +1,103 @@
+-- An operation of kinds 1 to 5 that the table of kinds allows, with the operand that plays b.
+use mathlib.Core.Bool.{true}
+use mathlib.Core.List.{List}
+use mathlib.Core.Logic.{_≢_}
+use mathlib.Core.Path.{_≡_, refl, sym, ap, _∙_}
+use Prim.Native.Nat.{ℕ, suc, _≤_, _<_}
+use native.Mathlib.Decide.{ℕ-discrete}
+use native.Mathlib.Numerals.{add-one}
+use native.Mathlib.Omega.{arith}
+use Rattle.heap.specs.Operation.{kindOf}
+use Rattle.backward.specs.Predecessors.{predecessors, addHelper}
+use Rattle.kinds.specs.Kinds.{allowed}
+use Rattle.kinds.proofs.Rows.{by-kind, known, row-of}
+use Rattle.layout.specs.Arrays.{shapeIn, Hold}
+use Rattle.layout.specs.Transitions.{opOf}
+use Rattle.choices.specs.Held.{working, Operands, Working}
+use Rattle.choices.specs.Retained.{firsts}
+use Rattle.choices.proofs.Arrays.{vars-in, hold-helper, with-helper}
+use Rattle.choices.proofs.Operations.{by-two, by-one}
+use Rattle.choices.proofs.Undoing.{working-more, working-same}
+use Rattle.checker.specs.Placing.{secondOperand}
+use Rattle.checker.proofs.Places.{second-helper, second-itself}
+
+module _ (variables kind a b : ℕ) (most : kind ≤ 5) (allows : allowed variables kind a b ≡ true) where
+  least : 1 ≤ kind
+  least = known variables kind a b allows .0
+
+  within : (3 ≤ kind → 1 ≤ a) × (a ≤ variables) × (b ≤ variables)
+  within =
+      by-kind (λ k. k ≤ 5 → allowed variables k a b ≡ true → (3 ≤ k → 1 ≤ a) × (a ≤ variables) × (b ≤ variables))
+      (λ _ e. let r = row-of variables 1 a b _ refl e .0 in (λ z. absurd (omega arith), r .most-a, r .most-b))
+      (λ _ e. let r = row-of variables 2 a b _ refl e .0 in (λ z. absurd (omega arith), r .most-a, r .most-b))
+      (λ _ e. let r = row-of variables 3 a b _ refl e .0 in (λ _. r .least-a, r .most-a, r .most-b))
+      (λ _ e. let r = row-of variables 4 a b _ refl e .0 in (λ _. r .least-a, r .most-a, r .most-b))
+      (λ _ e. let r = row-of variables 5 a b _ refl e .0 in (λ _. r .least-a, r .most-a, r .most-b))
+      (λ h _. absurd (omega arith)) (λ h _. absurd (omega arith)) kind least (omega arith) most allows
+
+  module _ (n : ℕ) (vars links : List ℕ) (room : variables ≤ 8) (cells : n ≤ 12) (hold : Hold variables n vars links) where
+    -- d plays b: the shape to work on, and that its choices are the predecessors
+    pub record Plays (d : ℕ) : Type 0 where
+      pub work : Working 12 variables kind a d n vars links
+      pub same : firsts variables kind a d (shapeIn (working variables d) n vars links) ≡ predecessors (opOf (kindOf kind) a b) (shapeIn variables n vars links)
+
+    itself : (kind ≡ 4 → a ≢ b) → Plays b
+    itself apart =
+        let (a-some, a-most, b-most) = within in
+        let w = working-same variables b b-most in
+        record {
+          work =
+              record {
+                operands =
+                    record {
+                      kind-least = least;
+                      kind-most = most;
+                      variables-most = room;
+                      a-some = a-some;
+                      a-most = a-most;
+                      b-most = omega arith;
+                      helper = λ h. absurd (omega arith);
+                      apart = apart;
+                    };
+                cells = cells;
+                hold = rw w hold;
+              };
+          same = rw w (sym (by-two variables a b (shapeIn variables n vars links) kind least most apart b-most));
+        }
+
+    helper : kind ≡ 4 → a ≡ b → Plays (suc variables)
+    helper k e =
+        let (a-some, a-most, b-most) = within in
+        let w = working-more variables (suc variables) (omega arith) in
+        record {
+          work =
+              record {
+                operands =
+                    record {
+                      kind-least = least;
+                      kind-most = most;
+                      variables-most = room;
+                      a-some = a-some;
+                      a-most = a-most;
+                      b-most = omega arith;
+                      helper = λ h. k;
+                      apart = λ _ i. omega arith;
+                    };
+                cells = cells;
+                hold = rw w (hold-helper variables n vars links hold room);
+              };
+          same =
+              rw (w, k, ← e)
+              (ap (firsts variables 4 a (suc variables)) (sym (with-helper variables n vars links hold room))
+              ∙ sym (by-one variables a (shapeIn variables n vars links) (vars-in variables n vars links hold)));
+        }
+
+    pub plays : (d : ℕ) → d ≡ secondOperand variables kind a b → Plays d
+    plays d d-is = go (ℕ-discrete kind 4) (ℕ-discrete a b)
+      where
+        go : Dec (kind ≡ 4) → Dec (a ≡ b) → Plays d
+        go (yes k) (yes e) =
+            let z : d ≡ suc variables = d-is ∙ sym (second-helper variables kind a b k e) ∙ add-one variables in
+            rw z (helper k e)
+        go (yes k) (no e) = rw (d-is ∙ sym (second-itself variables kind a b (λ _. e))) (itself (λ _. e))
+        go (no k) f = rw (d-is ∙ sym (second-itself variables kind a b (λ z. absurd (k z)))) (itself (λ z. absurd (k z)))

@@ -1,0 +1,94 @@
+-- Laws of taking covers in turn.
+use mathlib.Core.List.{List, [], _∷_, _++_}
+use mathlib.Core.Path.{_≡_, refl, sym, ap, _∙_}
+use Prim.Native.Nat.{ℕ, suc, _+_, _≤_}
+use native.Mathlib.Omega.{arith}
+use lib.ListN.{length}
+use Rattle.run.specs.Run.{Located}
+use Rattle.format.specs.Certificate.{readCover}
+use Rattle.format.specs.Parser.{Parsed, parsed, fault, onward, many, each, within, certificateBuffer}
+use Rattle.verdict.specs.declared.Refusal.{Refusal}
+use Rattle.format.proofs.Parsing.{then}
+use Rattle.checker.proofs.CoverPlace.{cover-place}
+use Rattle.checker.specs.Taking.{takeAll, goingOf, Within, TakesAll}
+use Rattle.checker.specs.declared.going.Going.{Going}
+use Rattle.checker.specs.declared.going.Going.the-variants.{On, Refused}
+use Rattle.checker.specs.declared.going.Taken.{Taken}
+
+module _ (cert : List ℕ) (ms : List Located) where
+  pub takeAll-none : (covers at : ℕ) → takeAll cert ms [] covers at ≡ parsed covers at
+  unfolding takeAll
+  takeAll-none covers at = refl
+
+  pub takeAll-one : (o : Located) (covers at : ℕ)
+      → takeAll cert ms (o ∷ []) covers at ≡ onward (readCover (certificateBuffer cert) ms o at) (λ u next. parsed (suc covers) next)
+  unfolding takeAll
+  takeAll-one o covers at = refl
+
+  pub takeAll-append : (os rest : List Located) (covers at : ℕ)
+      → takeAll cert ms (os ++ rest) covers at ≡ onward (takeAll cert ms os covers at) (takeAll cert ms rest)
+  unfolding takeAll
+  takeAll-append [] rest covers at = refl
+  takeAll-append (o ∷ os) rest covers at = go (readCover (certificateBuffer cert) ms o at) (takeAll-append os rest (suc covers))
+    where
+      go : (r : Parsed (Unit {0}))
+          → ((next : ℕ) → takeAll cert ms (os ++ rest) (suc covers) next ≡ onward (takeAll cert ms os (suc covers) next) (takeAll cert ms rest))
+          → onward r (λ u. takeAll cert ms (os ++ rest) (suc covers))
+          ≡ onward (onward r (λ u. takeAll cert ms os (suc covers))) (takeAll cert ms rest)
+      go (parsed u next) later = later next
+      go (fault number place) later = refl
+
+  -- as many are counted as are taken
+  pub takeAll-each : (os : List Located) (covers at : ℕ)
+      → takeAll cert ms os covers at ≡ onward (each (readCover (certificateBuffer cert) ms) os at) (λ us next. parsed (covers + length os) next)
+  unfolding takeAll each
+  takeAll-each [] covers at = ap (λ (k : ℕ). parsed k at) (omega arith)
+  takeAll-each (o ∷ os) covers at = go (readCover (certificateBuffer cert) ms o at) (takeAll-each os (suc covers))
+    where
+      second : (r : Parsed (List (Unit {0}))) (u : Unit {0})
+          → onward r (λ us next. parsed (suc covers + length os) next)
+          ≡ onward (onward r (λ us next. parsed (u ∷ us) next)) (λ us next. parsed (covers + suc (length os)) next)
+      second (parsed us next) u = ap (λ (k : ℕ). parsed k next) (omega arith)
+      second (fault number place) u = refl
+
+      go : (r : Parsed (Unit {0}))
+          → ((next : ℕ) → takeAll cert ms os (suc covers) next ≡ onward (each (readCover (certificateBuffer cert) ms) os next) (λ us next. parsed (suc covers + length os) next))
+          → onward r (λ u. takeAll cert ms os (suc covers))
+          ≡ onward (onward r (λ u next. onward (each (readCover (certificateBuffer cert) ms) os next) (λ us next. parsed (u ∷ us) next))) (λ us next. parsed (covers + suc (length os)) next)
+      go (parsed u next) later = later next ∙ second (each (readCover (certificateBuffer cert) ms) os next) u
+      go (fault number place) later = refl
+
+  pub takeAll-inside : (os : List Located) (covers at c next : ℕ) → takeAll cert ms os covers at ≡ parsed c next → covers ≤ at → at ≤ length cert
+      → (c ≤ next) × (next ≤ length cert)
+  unfolding takeAll
+  takeAll-inside [] covers at c next e h k = let z : at ≡ next = cc in let y : covers ≡ c = cc in (omega arith, omega arith)
+  takeAll-inside (o ∷ os) covers at c next e h k =
+      then (readCover (certificateBuffer cert) ms o at) _
+      (λ u a h₁ h₂. let (p, q) = cover-place (certificateBuffer cert) ms o at h₁ in takeAll-inside os (suc covers) a c next h₂ (omega arith) q) e
+
+  -- ---- taking some, and then the rest
+
+  -- t is reached from `from`; `rest` is left of all
+  pub record Progress (all : List Located) (from : Taken) (rest : List Located) (t : Taken) : Type 0 where
+    pub within : Within cert t
+    pub left : takeAll cert ms rest (t .covers) (t .at) ≡ takeAll cert ms all (from .covers) (from .at)
+
+  pub begin : (all : List Located) (from : Taken) → Within cert from → Progress all from all from
+  begin all from w = record { within = w; left = refl }
+
+  module _ (all : List Located) (from : Taken) (os rest : List Located) (t : Taken) (p : Progress all from (os ++ rest) t) where
+    -- what is left, after an answer for some of it
+    after : (r : Parsed ℕ) → r ≡ takeAll cert ms os (t .covers) (t .at) → onward r (takeAll cert ms rest) ≡ takeAll cert ms all (from .covers) (from .at)
+    after r e = ap (λ q. onward q (takeAll cert ms rest)) e ∙ sym (takeAll-append os rest (t .covers) (t .at)) ∙ p .left
+
+    -- some of what was left is taken
+    pub advance : (g : Going) (u : Taken) → g ≡ On u → TakesAll cert ms os t g → Progress all from rest u
+    advance g u g-is (e, w) = record { within = rw g-is at w; left = after (goingOf (On u)) (rw g-is at e) }
+
+    -- or refused, which ends it all
+    pub halt : (g : Going) (r : Refusal) (place : ℕ) → g ≡ Refused r place → TakesAll cert ms os t g → TakesAll cert ms all from g
+    halt g r place g-is (e, w) = rw g-is (after (goingOf (Refused r place)) (rw g-is at e), tt)
+
+  pub finish : (all : List Located) (from t : Taken) → Progress all from [] t → TakesAll cert ms all from (On t)
+  unfolding takeAll
+  finish all from t p = (p .left, p .within)

@@ -1,0 +1,241 @@
+// Covers of the predecessors under kinds 1 to 5: first choices, of a, and second choices, of b.
+use crate::choice::put;
+use crate::choice::tried_choices;
+use crate::going::Going;
+use crate::going::Taken;
+use crate::one::take_one;
+use crate::retaining::Op;
+use crate::retaining::first_fits;
+use crate::retaining::is_hopeless;
+use crate::retaining::second_fits;
+use place::Place;
+ghost use mathlib.Core.Bool.{true};
+ghost use mathlib.Core.List.{map};
+ghost use mathlib.Core.Logic.{_≢_};
+ghost use mathlib.Core.Path.{_≡_};
+ghost use Prim.Native.Nat.{_+_, _≤_, _<_};
+ghost use lib.ListN.{getD, take};
+ghost use Rattle.heap.specs.Operation.{kindOf};
+ghost use Rattle.backward.specs.Predecessors.{predecessors};
+ghost use Rattle.kinds.specs.Kinds.{allowed};
+ghost use Rattle.layout.specs.Arrays.{shapeIn, Hold};
+ghost use Rattle.layout.specs.Entries.{membersAt, Table};
+ghost use Rattle.layout.specs.Transitions.{opOf};
+ghost use Rattle.choices.specs.Choice.{put as putBy};
+ghost use Rattle.choices.specs.Held.{Held, working, Working, Placed, Undoable, Undoes};
+ghost use Rattle.choices.specs.Retained.{changed, seconds, firsts, secondFits, secondOf, firstOf};
+ghost use Rattle.checker.specs.Placing.{takeShapes, secondOperand};
+ghost use Rattle.checker.specs.Taking.{takeAll, goingOf, Within, StaysWithin, located};
+
+// What the operation changes is put back.
+pub(crate) fn undo(variables: usize, op: Op, vars: &mut [u8; 10], links: &mut [u8; 14])
+    requires { ⌜ Undoable variables (op .kind) (op .a) (op .b) (now vars) ⌝ }
+    ensures { λ r. ⌜ Undoes variables (op .kind) (op .a) (op .b) (now (vars .entry)) (now (links .entry)) (now (vars .exit)) (now (links .exit)) ⌝ }
+{
+    let kind = op.kind;
+    let a = op.a as usize;
+    let b = op.b as usize;
+    if kind < 3 {
+        return;
+    }
+    if kind == 3 {
+        if a == b {
+            return;
+        }
+        vars[a] = 0;
+        return;
+    }
+    let x = vars[a];
+    if kind == 5 {
+        links[(x - 3) as usize] = 0;
+        return;
+    }
+    let y = vars[b];
+    links[(y - 3) as usize] = x;
+    if variables < b {
+        vars[a] = y;
+        vars[b] = 0;
+        return;
+    }
+    vars[a] = 0;
+}
+
+// The predecessor of choice k of b, which is retained, in place. Its number of cells.
+pub(crate) fn make_second(variables: usize, op: Op, n: u8, vars: &mut [u8; 10], links: &mut [u8; 14], k: u8) -> u8
+    requires { ⌜ (Placed variables (op .kind) (op .a) (op .b) n (now vars) (now links)) × (k < n + (2 + n)) × (secondFits (op .kind) (getD (now vars) (op .a) 0) (getD (now vars) (op .b) 0) (take n (now links)) k ≡ true) ⌝ }
+    ensures { λ r. ⌜ Held variables r (now (vars .exit)) (now (links .exit)) (changed variables (op .kind) (op .a) (op .b) (putBy (op .b) (shapeIn (working variables (op .b)) n (now (vars .entry)) (now (links .entry))) k)) ⌝ }
+{
+    let m = put(n, vars, links, op.b, k);
+    undo(variables, op, vars, links);
+    m
+}
+
+// The cover of choice k of b, if it is retained.
+pub(crate) fn take_second(
+    cert: &[u8],
+    starts: &[u16; 512],
+    variables: usize,
+    members: usize,
+    state: u8,
+    op: Op,
+    n: u8,
+    vars: &[u8; 10],
+    links: &[u8; 14],
+    k: u8,
+    t: Taken,
+) -> Going
+    requires { ⌜ (Table (now cert) variables (now starts) members) × (Placed variables (op .kind) (op .a) (op .b) n (now vars) (now links)) × (k < n + (2 + n)) × (Within (now cert) t) ⌝ }
+    ensures { λ r. ⌜ goingOf r ≡ takeShapes (now (cert .entry)) variables (now (starts .entry)) members state (secondOf variables (op .kind) (op .a) (op .b) (shapeIn (working variables (op .b)) n (now (vars .entry)) (now (links .entry))) k) t ⌝ }
+{
+    let a = op.a as usize;
+    let b = op.b as usize;
+    let x = Place { code: vars[a] };
+    let y = Place { code: vars[b] };
+    if !second_fits(op.kind, x, y, n, links, k) {
+        return Going::On(t);
+    }
+    let mut v = *vars;
+    let mut l = *links;
+    let m = make_second(variables, op, n, &mut v, &mut l, k);
+    take_one(cert, starts, variables, members, state, m as usize, &v, &l, t)
+}
+
+// Covers of the predecessors that share a first choice: a is placed.
+pub(crate) fn take_seconds(
+    cert: &[u8],
+    starts: &[u16; 512],
+    variables: usize,
+    members: usize,
+    state: u8,
+    op: Op,
+    n: u8,
+    vars: &[u8; 10],
+    links: &[u8; 14],
+    from: Taken,
+) -> Going
+    requires { ⌜ (Table (now cert) variables (now starts) members) × (Placed variables (op .kind) (op .a) (op .b) n (now vars) (now links)) × (Within (now cert) from) ⌝ }
+    ensures { λ r. ⌜ goingOf r ≡ takeShapes (now (cert .entry)) variables (now (starts .entry)) members state (seconds variables (op .kind) (op .a) (op .b) (shapeIn (working variables (op .b)) n (now (vars .entry)) (now (links .entry)))) from ⌝ }
+{
+    let a = op.a as usize;
+    let b = op.b as usize;
+    let x = Place { code: vars[a] };
+    let y = Place { code: vars[b] };
+    let c = tried_choices(op.kind, n, y, x);
+    let mut t = from;
+    let mut k = c.from;
+    while k < c.to {
+        let g = take_second(cert, starts, variables, members, state, op, n, vars, links, k, t);
+        let Going::On(u) = g else {
+            return g;
+        };
+        t = u;
+        k += 1;
+    }
+    Going::On(t)
+}
+
+// Covers of the predecessors of choice k of a.
+pub(crate) fn take_first(
+    cert: &[u8],
+    starts: &[u16; 512],
+    variables: usize,
+    members: usize,
+    state: u8,
+    op: Op,
+    n: u8,
+    vars: &[u8; 10],
+    links: &[u8; 14],
+    k: u8,
+    t: Taken,
+) -> Going
+    requires { ⌜ (Table (now cert) variables (now starts) members) × (Working 12 variables (op .kind) (op .a) (op .b) n (now vars) (now links)) × (getD (now vars) (op .a) 0 ≢ 2) × (getD (now vars) (op .b) 0 ≢ 2) × (k < n + (2 + n)) × (Within (now cert) t) ⌝ }
+    ensures { λ r. ⌜ goingOf r ≡ takeShapes (now (cert .entry)) variables (now (starts .entry)) members state (firstOf variables (op .kind) (op .a) (op .b) (shapeIn (working variables (op .b)) n (now (vars .entry)) (now (links .entry))) k) t ⌝ }
+{
+    let a = op.a as usize;
+    let b = op.b as usize;
+    let x = Place { code: vars[a] };
+    let y = Place { code: vars[b] };
+    if !first_fits(op, x, y, n, links, k) {
+        return Going::On(t);
+    }
+    let mut v = *vars;
+    let mut l = *links;
+    let m = put(n, &mut v, &mut l, op.a, k);
+    take_seconds(cert, starts, variables, members, state, op, m, &v, &l, t)
+}
+
+// Covers of all choices of a and b.
+pub(crate) fn take_firsts(
+    cert: &[u8],
+    starts: &[u16; 512],
+    variables: usize,
+    members: usize,
+    state: u8,
+    op: Op,
+    n: u8,
+    vars: &[u8; 10],
+    links: &[u8; 14],
+    from: Taken,
+) -> Going
+    requires { ⌜ (Table (now cert) variables (now starts) members) × (Working 12 variables (op .kind) (op .a) (op .b) n (now vars) (now links)) × (Within (now cert) from) ⌝ }
+    ensures { λ r. ⌜ goingOf r ≡ takeShapes (now (cert .entry)) variables (now (starts .entry)) members state (firsts variables (op .kind) (op .a) (op .b) (shapeIn (working variables (op .b)) n (now (vars .entry)) (now (links .entry)))) from ⌝ }
+{
+    let a = op.a as usize;
+    let b = op.b as usize;
+    let x = Place { code: vars[a] };
+    let y = Place { code: vars[b] };
+    if is_hopeless(op, x, y) {
+        return Going::On(from);
+    }
+    let c = tried_choices(op.kind, n, x, y);
+    let mut t = from;
+    let mut k = c.from;
+    while k < c.to {
+        let g = take_first(cert, starts, variables, members, state, op, n, vars, links, k, t);
+        let Going::On(u) = g else {
+            return g;
+        };
+        t = u;
+        k += 1;
+    }
+    Going::On(t)
+}
+
+// The operation by its kind and operands; the helper plays b where kind 4 has one variable.
+pub(crate) fn placed_op(variables: usize, kind: u8, a: u8, b: u8) -> Op
+    requires { ⌜ variables ≤ 8 ⌝ }
+    ensures { λ r. ⌜ (r .kind ≡ kind) × (r .a ≡ a) × (r .b ≡ secondOperand variables kind a b) ⌝ }
+{
+    if kind == 4 {
+        if a == b {
+            return Op {
+                kind,
+                a,
+                b: (variables + 1) as u8,
+            };
+        }
+    }
+    Op { kind, a, b }
+}
+
+// Covers of the predecessors of a shape under an operation of kinds 1 to 5.
+pub(crate) fn take_placed(
+    cert: &[u8],
+    starts: &[u16; 512],
+    variables: usize,
+    members: usize,
+    state: u8,
+    kind: u8,
+    a: u8,
+    b: u8,
+    n: u8,
+    vars: &[u8; 10],
+    links: &[u8; 14],
+    t: Taken,
+) -> Going
+    requires { ⌜ (Table (now cert) variables (now starts) members) × (Hold variables n (now vars) (now links)) × (n ≤ 12) × (kind ≤ 5) × (allowed variables kind a b ≡ true) × (Within (now cert) t) ⌝ }
+    ensures { λ r. ⌜ (goingOf r ≡ takeAll (now (cert .entry)) (membersAt (now (cert .entry)) variables (now (starts .entry)) members) (map (located state) (predecessors (opOf (kindOf kind) a b) (shapeIn variables n (now (vars .entry)) (now (links .entry))))) (t .covers) (t .at)) × (StaysWithin (now (cert .entry)) r) ⌝ }
+{
+    let op = placed_op(variables, kind, a, b);
+    take_firsts(cert, starts, variables, members, state, op, n, vars, links, t)
+}

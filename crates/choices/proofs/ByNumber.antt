@@ -1,0 +1,234 @@
+-- What each choice gives, and the predecessors of kinds 1 to 5 by choices.
+use mathlib.Core.Bool.{Bool, true, false, not, _&&_, _||_, cond}
+use mathlib.Core.List.{List, [], _∷_, _++_, append-nil, List·Memᴰ·not-nil, List·Memᴰ·eq-of-singleton}
+use mathlib.Core.Logic.{_≢_, _⊎_, inl, inr}
+use mathlib.Core.Path.{_≡_, refl, sym, ap, ap₂, _∙_}
+use Prim.Native.Nat.{ℕ, zero, suc, _+_, _-_, _≤_, _<_}
+use native.Mathlib.Decide.{ℕ-discrete, decLt}
+use native.Mathlib.Omega.{arith}
+use borrow.Author.Tests.{lt-ltb, le-ltb, le-leb, lt-leb, eq-eqb, ne-eqb}
+use lib.Dec.{eqb, ltb, leb}
+use lib.ListN.{length}
+use Rattle.lists.specs.List.{_∈_, concatMap, keep}
+use Rattle.lists.specs.Range.{range}
+use Rattle.lists.proofs.List.{keep-mem, concatMap-mem}
+use Rattle.heap.specs.Place.{nowhere, null, dangling, cell}
+use Rattle.shape.specs.Placing.{setVarIn, place, placedFrom, placeBoth}
+use Rattle.shape.specs.Shape.{Shape, varAt, size}
+use Rattle.shape.proofs.Laws.{var-set-same, var-set-other}
+use Rattle.shape.proofs.PlacingByNumber.{choice, choicesFrom, choiceFrom, place-by-number}
+use Rattle.backward.specs.Predecessors.{retain}
+use Rattle.choices.specs.Choice.{chosen, choiceOf, exists, opened, made, put}
+use Rattle.choices.specs.Retained.{retained, tested, changed, seconds, firsts, secondFits, secondOf, placedFits, firstFits, firstOf}
+use Rattle.choices.proofs.Lists.{concatMap-none, concatMap-one, concatMap-same, concatMap-concatMap, concatMap-stretch}
+
+pub choice-made : (v : ℕ) (s : Shape) (k : ℕ) → choice v s k ≡ keep (exists (s .links) k) (made v s k)
+unfolding exists made chosen opened
+choice-made v s k = go (decLt k n) (ℕ-discrete k n) (ℕ-discrete k (suc n))
+  where
+    n : ℕ
+    n = size s
+
+    go : Dec (k < n) → Dec (k ≡ n) → Dec (k ≡ suc n) → choice v s k ≡ keep (exists (s .links) k) (made v s k)
+    go (yes h) e f = simp (lt-ltb k n h, lt-ltb k (n + 2) (omega arith), le-leb k n (omega arith))
+    go (no h) (yes e) f = simp (le-ltb k n (omega arith), eq-eqb k n e, lt-ltb k (n + 2) (omega arith), le-leb k n (omega arith))
+    go (no h) (no e) (yes f) =
+        simp (le-ltb k n (omega arith), ne-eqb k n e, eq-eqb k (suc n) f, lt-ltb k (n + 2) (omega arith), lt-leb k n (omega arith))
+    go (no h) (no e) (no f) =
+        simp (le-ltb k n (omega arith), ne-eqb k n e, ne-eqb k (suc n) f, le-ltb k (n + 2) (omega arith), lt-leb k n (omega arith))
+
+-- ---- where variables stand
+
+pub made-same : (v : ℕ) (s : Shape) (k : ℕ) → v ≢ 0 → v ≤ length (s .vars) → varAt (made v s k) v ≡ chosen (size s) k
+unfolding made
+made-same v s k n h = var-set-same v (chosen (size s) k) (s .vars) n h
+
+pub made-other : (v : ℕ) (s : Shape) (k u : ℕ) → u ≢ v → varAt (made v s k) u ≡ varAt s u
+unfolding made
+made-other v s k u n = var-set-other v (chosen (size s) k) (s .vars) u n
+
+pub not-null : (s : Shape) (v : ℕ) → varAt s v ≡ nowhere → v ≢ 0
+not-null s zero e z = let q : null ≡ nowhere = e in omega arith
+not-null s (suc v) e z = omega arith
+
+-- a choice puts a variable at # or at a cell
+pub chosen-placed : (n k : ℕ) → (chosen n k ≢ nowhere) × (chosen n k ≢ dangling)
+unfolding chosen
+chosen-placed n k = go (ltb k n) (eqb k n)
+  where
+    go : (a b : Bool) → (cond a (cell k) (cond b null (cell n)) ≢ nowhere) × (cond a (cell k) (cond b null (cell n)) ≢ dangling)
+    go true b = (λ e. omega arith, λ e. omega arith)
+    go false true = (λ e. omega arith, λ e. omega arith)
+    go false false = (λ e. omega arith, λ e. omega arith)
+
+-- only one choice puts a variable at a place of the shape
+pub chosen-other : (n k q : ℕ) → q ≢ nowhere → q ≢ dangling → q < cell n → k ≢ choiceOf n q → chosen n k ≢ q
+unfolding chosen choiceOf
+chosen-other n k q nn nd h other = go (decLt k n) (ℕ-discrete k n) (ℕ-discrete q null)
+  where
+    go : Dec (k < n) → Dec (k ≡ n) → Dec (q ≡ null) → chosen n k ≢ q
+    go (yes l) e (yes z) c = let w : cell k ≡ q = simp (lt-ltb k n l) at c in omega arith
+    go (yes l) e (no z) c =
+        let w : cell k ≡ q = simp (lt-ltb k n l) at c in
+        let o : k ≢ q - 3 = simp (ne-eqb q null z) at other in
+        o (omega arith)
+    go (no l) (yes e) d c =
+        let w : null ≡ q = simp (le-ltb k n (omega arith), eq-eqb k n e) at c in
+        let o : k ≢ n = simp (eq-eqb q null (sym w)) at other in
+        o e
+    go (no l) (no e) d c = let w : cell n ≡ q = simp (le-ltb k n (omega arith), ne-eqb k n e) at c in omega arith
+
+pub choice-of-most : (n q : ℕ) → q < cell n → choiceOf n q ≤ n
+unfolding choiceOf
+choice-of-most n q h = go (eqb q null)
+  where
+    go : (b : Bool) → cond b n (q - 3) ≤ n
+    go true = omega arith
+    go false = omega arith
+
+-- a variable that has a place keeps it
+pub place-keeps : (v : ℕ) (s t : Shape) (u : ℕ) → t ∈ place v s → varAt s u ≢ nowhere → varAt t u ≡ varAt s u
+place-keeps v s t u m n =
+    let (k, _, i) = concatMap-mem (choiceFrom (varAt s v) v s) (range 0 (choicesFrom (varAt s v) s)) t (rw (← place-by-number v s) at m) in
+    go (varAt s v) refl k i
+  where
+    go : (p : ℕ) → varAt s v ≡ p → (k : ℕ) → t ∈ choiceFrom p v s k → varAt t u ≡ varAt s u
+    go zero e k i =
+        let (_, t-is) = keep-mem (exists (s .links) k) (made v s k) t (rw (choice-made v s k) at i) in
+        ap (λ (t : Shape). varAt t u) t-is ∙ made-other v s k u (λ z. n (ap (varAt s) z ∙ e))
+    go (suc p) e k i = let t-is = List·Memᴰ·eq-of-singleton i in ap (λ (t : Shape). varAt t u) t-is
+
+-- a variable that has a place stays where it is
+pub place-placed : (v : ℕ) (s t : Shape) → varAt s v ≢ nowhere → t ∈ place v s → t ≡ s
+place-placed v s t n = go (varAt s v) n
+  where
+    go : (p : ℕ) → p ≢ nowhere → t ∈ placedFrom p v s → t ≡ s
+    go zero n m = absurd (n refl)
+    go (suc zero) n m = List·Memᴰ·eq-of-singleton m
+    go (suc (suc zero)) n m = absurd (List·Memᴰ·not-nil m)
+    go (suc (suc (suc i))) n m = List·Memᴰ·eq-of-singleton m
+
+pub place-dangling : (v : ℕ) (s : Shape) → varAt s v ≡ dangling → place v s ≡ []
+place-dangling v s e = rw e refl
+
+pub both-keeps : (a b : ℕ) (s t : Shape) (u : ℕ) → t ∈ placeBoth a b s → varAt s u ≢ nowhere → varAt t u ≡ varAt s u
+both-keeps a b s t u m n =
+    let (r, i, j) = concatMap-mem (place b) (place a s) t m in
+    let e = place-keeps a s r u i n in
+    place-keeps b r t u j (λ z. n (sym e ∙ z)) ∙ e
+
+pub retain-none : (test : Shape → Bool) (change : Shape → Shape) (l : List Shape) → ((t : Shape) → t ∈ l → test t ≡ false) → retain test change l ≡ []
+retain-none test change l h = concatMap-none (λ s. keep (test s) (change s)) l (λ t m. ap (λ b. keep b (change t)) (h t m))
+
+-- ---- the choices of b, and of a, by their numbers
+
+retain-keep : (test : Shape → Bool) (change : Shape → Shape) (x : Bool) (t : Shape) → retain test change (keep x t) ≡ keep (x && test t) (change t)
+retain-keep test change true t = append-nil (keep (test t) (change t))
+retain-keep test change false t = refl
+
+concatMap-keep : (f : Shape → List Shape) (x : Bool) (t : Shape) → concatMap f (keep x t) ≡ cond x (f t) []
+concatMap-keep f true t = append-nil (f t)
+concatMap-keep f false t = refl
+
+made-links : (v : ℕ) (s : Shape) (k : ℕ) → made v s k .links ≡ opened (s .links) k
+unfolding made
+made-links v s k = refl
+
+tested-at : (kind a b : ℕ) (t : Shape) (x y : ℕ) (links : List ℕ) → varAt t a ≡ x → varAt t b ≡ y → t .links ≡ links
+    → tested kind a b t ≡ retained kind x y links
+unfolding tested
+tested-at kind a b t x y links ex ey el = rw (← ex, ← ey, ← el) refl
+
+module _ (variables kind a b : ℕ) (s : Shape) where
+  second-placed : (k : ℕ) → varAt s b ≢ nowhere
+      → secondOf variables kind a b s k ≡ retain (tested kind a b) (changed variables kind a b) (s ∷ [])
+  unfolding secondOf secondFits tested put
+  second-placed k n = simp (ne-eqb (varAt s b) nowhere n) (sym (append-nil (keep (tested kind a b s) (changed variables kind a b s))))
+
+  second-made : (k : ℕ) → varAt s a ≢ nowhere → b ≤ length (s .vars) → varAt s b ≡ nowhere
+      → secondOf variables kind a b s k ≡ retain (tested kind a b) (changed variables kind a b) (choice b s k)
+  unfolding secondOf secondFits put
+  second-made k n h e =
+      rw (choice-made b s k, retain-keep (tested kind a b) (changed variables kind a b) (exists (s .links) k) (made b s k), ← same)
+      (simp (eq-eqb (varAt s b) nowhere e))
+    where
+      same : retained kind (varAt s a) (chosen (size s) k) (opened (s .links) k) ≡ tested kind a b (made b s k)
+      same =
+          sym (tested-at kind a b (made b s k) (varAt s a) (chosen (size s) k) (opened (s .links) k)
+          (made-other b s k a (λ z. n (ap (varAt s) z ∙ e))) (made-same b s k (not-null s b e) h) (made-links b s k))
+
+  second-choice : (k : ℕ) → varAt s a ≢ nowhere → b ≤ length (s .vars)
+      → secondOf variables kind a b s k ≡ retain (tested kind a b) (changed variables kind a b) (choiceFrom (varAt s b) b s k)
+  second-choice k n h = go (varAt s b) refl
+    where
+      go : (p : ℕ) → varAt s b ≡ p → secondOf variables kind a b s k ≡ retain (tested kind a b) (changed variables kind a b) (choiceFrom p b s k)
+      go zero e = second-made k n h e
+      go (suc p) e = second-placed k (λ z. let q : suc p ≡ 0 = sym e ∙ z in omega arith)
+
+  pub seconds-by-number : varAt s a ≢ nowhere → b ≤ length (s .vars)
+      → concatMap (secondOf variables kind a b s) (range 0 (choicesFrom (varAt s b) s)) ≡ seconds variables kind a b s
+  seconds-by-number n h =
+      let numbers = range 0 (choicesFrom (varAt s b) s) in
+      let keepOne : Shape → List Shape = λ t. keep (tested kind a b t) (changed variables kind a b t) in
+      concatMap-same (secondOf variables kind a b s) (λ k. concatMap keepOne (choiceFrom (varAt s b) b s k)) numbers (λ k m. second-choice k n h)
+      ∙ sym (concatMap-concatMap keepOne (choiceFrom (varAt s b) b s) numbers)
+      ∙ ap (concatMap keepOne) (place-by-number b s)
+
+  -- where b has a place once a is placed, the kind decides at once
+  first-fails : (k : ℕ) → a ≤ length (s .vars) → varAt s a ≡ nowhere → exists (s .links) k ≡ true → placedFits kind a b (varAt s b) (s .links) k ≡ false
+      → seconds variables kind a b (made a s k) ≡ []
+  unfolding placedFits
+  first-fails k h e there f = go (ℕ-discrete a b) (ℕ-discrete (varAt s b) nowhere)
+    where
+      a-at : varAt (made a s k) a ≡ chosen (size s) k
+      a-at = made-same a s k (not-null s a e) h
+
+      fails : (y : ℕ) → y ≢ nowhere → varAt (made a s k) b ≡ y → retained kind (chosen (size s) k) y (opened (s .links) k) ≡ false
+          → seconds variables kind a b (made a s k) ≡ []
+      fails y n b-at r =
+          retain-none (tested kind a b) (changed variables kind a b) (place b (made a s k))
+          (λ t m.
+          let t-is = place-placed b (made a s k) t (λ z. n (sym b-at ∙ z)) m in
+          rw t-is (tested-at kind a b (made a s k) (chosen (size s) k) y (opened (s .links) k) a-at b-at (made-links a s k) ∙ r))
+
+      go : Dec (a ≡ b) → Dec (varAt s b ≡ nowhere) → seconds variables kind a b (made a s k) ≡ []
+      go (yes i) d =
+          fails (chosen (size s) k) (chosen-placed (size s) k .0) (ap (varAt (made a s k)) (sym i) ∙ a-at) (simp (there, eq-eqb a b i) at f)
+      go (no i) (yes z) = let q : true ≡ false = simp (there, ne-eqb a b i, eq-eqb (varAt s b) nowhere z) at f in let w : _≡_ {A = ℕ} 0 1 = cc in absurd (omega arith)
+      go (no i) (no z) =
+          fails (varAt s b) z (made-other a s k b (λ j. i (sym j))) (simp (there, ne-eqb a b i, ne-eqb (varAt s b) nowhere z) at f)
+
+  first-made : (k : ℕ) → a ≤ length (s .vars) → varAt s a ≡ nowhere
+      → firstOf variables kind a b s k ≡ concatMap (seconds variables kind a b) (choice a s k)
+  unfolding firstOf firstFits placedFits put
+  first-made k h e =
+      rw (choice-made a s k, concatMap-keep (seconds variables kind a b) (exists (s .links) k) (made a s k))
+      (simp (eq-eqb (varAt s a) nowhere e) (go (exists (s .links) k) (placedFits kind a b (varAt s b) (s .links) k) refl refl))
+    where
+      go : (x f : Bool) → exists (s .links) k ≡ x → placedFits kind a b (varAt s b) (s .links) k ≡ f
+          → cond f (seconds variables kind a b (made a s k)) [] ≡ cond x (seconds variables kind a b (made a s k)) []
+      go true true p q = refl
+      go true false p q = sym (first-fails k h e p q)
+      go false true p q = let z : false ≡ true = simp p at q in let w : _≡_ {A = ℕ} 0 1 = cc in absurd (omega arith)
+      go false false p q = refl
+
+  first-choice : (k : ℕ) → a ≤ length (s .vars)
+      → firstOf variables kind a b s k ≡ concatMap (seconds variables kind a b) (choiceFrom (varAt s a) a s k)
+  unfolding firstOf firstFits put
+  first-choice k h = go (varAt s a) refl
+    where
+      go : (p : ℕ) → varAt s a ≡ p → firstOf variables kind a b s k ≡ concatMap (seconds variables kind a b) (choiceFrom p a s k)
+      go zero e = first-made k h e
+      go (suc p) e =
+          simp (ne-eqb (varAt s a) nowhere (λ z. let q : suc p ≡ 0 = sym e ∙ z in omega arith)) (sym (append-nil (seconds variables kind a b s)))
+
+  pub firsts-by-number : a ≤ length (s .vars)
+      → concatMap (firstOf variables kind a b s) (range 0 (choicesFrom (varAt s a) s)) ≡ firsts variables kind a b s
+  firsts-by-number h =
+      let numbers = range 0 (choicesFrom (varAt s a) s) in
+      let keepOne : Shape → List Shape = λ t. keep (tested kind a b t) (changed variables kind a b t) in
+      concatMap-same (firstOf variables kind a b s) (λ k. concatMap (seconds variables kind a b) (choiceFrom (varAt s a) a s k)) numbers
+      (λ k m. first-choice k h)
+      ∙ sym (concatMap-concatMap (seconds variables kind a b) (choiceFrom (varAt s a) a s) numbers)
+      ∙ ap (concatMap (seconds variables kind a b)) (place-by-number a s)
+      ∙ sym (concatMap-concatMap keepOne (place b) (place a s))

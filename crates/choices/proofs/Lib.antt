@@ -1,0 +1,10 @@
+pub mod Lists
+pub mod ByNumber
+pub mod Tried
+pub mod Operations
+pub mod Arrays
+pub mod Opening
+pub mod Putting
+pub mod Undoing
+pub mod Tests
+pub mod Steps
