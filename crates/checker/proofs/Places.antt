@@ -1,17 +1,15 @@
 -- Places in the code and where choices put variables.
-use mathlib.Core.Bool.{Bool, true, false, not, _||_, _&&_, cond}
 use mathlib.Core.Logic.{_≢_}
-use mathlib.Core.Path.{_≡_, refl, sym, ap, _∙_}
-use Prim.Native.Nat.{ℕ, suc, _+_, _-_, _≤_, _<_}
+use mathlib.Core.Path.{_≡_, sym, _∙_}
+use Prim.Native.Nat.{ℕ, _+_, _≤_, _<_}
 use native.Mathlib.Decide.{ℕ-discrete}
 use native.Mathlib.Numerals.{add-one}
 use native.Mathlib.Omega.{arith}
 use borrow.Author.Tests.{lt-ltb, eq-eqb, ne-eqb}
-use lib.Dec.{eqb}
 use Rattle.heap.specs.Place.{cell}
 use Rattle.place.specs.Place.{cellPlace}
 use Rattle.place.specs.declared.Place.{Place}
-use Rattle.choices.specs.Choice.{chosen, choiceOf, wantsSame, firstTried, pastTried}
+use Rattle.choices.specs.Choice.{chosen}
 use Rattle.checker.specs.Placing.{secondOperand}
 use Rattle.choices.proofs.Opening.{chosen-cell, chosen-fresh}
 

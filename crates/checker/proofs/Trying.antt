@@ -8,8 +8,7 @@ use Rattle.lists.specs.List.{concatMap}
 use Rattle.lists.specs.Range.{range}
 use Rattle.shape.specs.Shape.{Shape}
 use Rattle.run.specs.Run.{Located}
-use Rattle.format.specs.Parser.{fault, onward}
-use Rattle.verdict.specs.Verdict.{refusalNumber}
+use Rattle.format.specs.Parser.{onward}
 use Rattle.verdict.specs.declared.Refusal.{Refusal}
 use Rattle.checker.specs.Taking.{takeAll, goingOf, Within, StaysWithin, located}
 use Rattle.checker.specs.declared.going.Going.{Going}

@@ -1,21 +1,21 @@
 -- One choice of b, and one of a, in arrays.
-use mathlib.Core.Bool.{Bool, true, false, _&&_, cond}
+use mathlib.Core.Bool.{true, false, _&&_}
 use mathlib.Core.List.{List, [], _∷_}
 use mathlib.Core.Logic.{_≢_}
 use mathlib.Core.Path.{_≡_, refl, sym, ap, _∙_}
-use Prim.Native.Nat.{ℕ, zero, suc, _+_, _-_, _≤_, _<_}
+use Prim.Native.Nat.{ℕ, suc, _-_, _≤_, _<_}
 use native.Mathlib.Decide.{ℕ-discrete}
 use native.Mathlib.Omega.{arith}
 use borrow.Author.Tests.{eq-eqb, ne-eqb}
 use lib.ListN.{length, getD, take}
-use Rattle.lists.specs.List.{concatMap, keep}
+use Rattle.lists.specs.List.{concatMap}
 use Rattle.lists.specs.Range.{range}
 use Rattle.lists.proofs.Test.{and-right}
 use Rattle.heap.specs.Place.{nowhere, dangling, cell}
 use Rattle.shape.specs.Shape.{Shape, varAt, size}
-use Rattle.layout.specs.Arrays.{shapeIn, Hold}
+use Rattle.layout.specs.Arrays.{shapeIn}
 use Rattle.choices.specs.Choice.{chosen, exists, opened, put, firstTried, pastTried}
-use Rattle.choices.specs.Held.{Held, Puts, working, Operands, At, Working, Placed, Undoable, Undoes}
+use Rattle.choices.specs.Held.{Held, Puts, working, At, Working, Placed, Undoable, Undoes}
 use Rattle.choices.specs.Retained.{retained, changed, seconds, firsts, hopeless, secondFits, secondOf, firstFits, firstOf}
 use Rattle.choices.proofs.Arrays.{size-in, vars-in, var-in}
 use Rattle.choices.proofs.ByNumber.{chosen-placed}
@@ -37,9 +37,6 @@ second-cell kind x y links k e = go (ℕ-discrete y nowhere)
     go (no z) = let (l, s) = retained-cell kind x y links (simp (ne-eqb y nowhere z) at e) in (λ q. absurd (z q), λ _. l, s)
 
 module _ (variables kind a b n : ℕ) (vars links : List ℕ) where
-  abbrev shape : Shape
-  shape = shapeIn (working variables b) n vars links
-
   module _ (most : ℕ) (p : Working most variables kind a b n vars links) where
     room : (variables ≤ working variables b) × (b ≤ working variables b) × (working variables b ≤ suc variables)
     room = working-room variables b (p .operands .b-most)
@@ -48,9 +45,6 @@ module _ (variables kind a b n : ℕ) (vars links : List ℕ) where
     at-operand v = var-in (working variables b) n vars links (p .hold) v
 
   module _ (p : Placed variables kind a b n vars links) (k : ℕ) where
-    w : ℕ
-    w = working variables b
-
     placed : (m : ℕ) (vars′ links′ : List ℕ) → Puts n vars links b k m vars′ links′ → Held (working variables b) m vars′ links′ (put b (shapeIn (working variables b) n vars links) k)
     placed m vars′ links′ q = q .held (working variables b) (p .work .hold) (room 13 (p .work) .1)
 
