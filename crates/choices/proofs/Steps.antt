@@ -36,7 +36,7 @@ second-cell kind x y links k e = go (ℕ-discrete y nowhere)
         (λ _. l, λ n. absurd (n z), s)
     go (no z) = let (l, s) = retained-cell kind x y links (simp (ne-eqb y nowhere z) at e) in (λ q. absurd (z q), λ _. l, s)
 
-module _ (variables kind a b n : ℕ) (vars links : List ℕ) where
+module _ {variables kind a b n : ℕ} {vars links : List ℕ} where
   module _ (most : ℕ) (p : Working most variables kind a b n vars links) where
     room : (variables ≤ working variables b) × (b ≤ working variables b) × (working variables b ≤ suc variables)
     room = working-room variables b (p .operands .b-most)

@@ -23,7 +23,9 @@ element-copy-out-result : tie.Need-element-copy-out-result
 element-copy-out-result c = search needs
 
 returns-2 : tie.Need-returns-2
-returns-2 c = let a = c .before .before .args in exists-high (a .n) (a .links .now) (c .before .before .pre .0) (omega arith) (a .k) (omega arith) (omega arith)
+returns-2 c =
+    let a = c .before .before .args in
+    exists-high (a .n) (a .links .now) (c .before .before .pre .0) (omega arith) (a .k) (omega arith) (omega arith)
 
 pub choice-exists-spec : {M : Type 1} → statement M
 choice-exists-spec =

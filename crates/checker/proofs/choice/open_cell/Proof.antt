@@ -46,7 +46,9 @@ add-result-2 : tie.Need-add-result-2
 add-result-2 c = search needs
 
 returns-3 : tie.Need-returns-3
-returns-3 c = let a = c .before .before .before .args in opens-middle (a .n) (a .links .now) (c .before .before .before .pre .0) (omega arith) (a .k) (a .k - a .n - 2) refl (omega arith) (omega arith)
+returns-3 c =
+    let a = c .before .before .before .args in
+    opens-middle (a .n) (a .links .now) (c .before .before .before .pre .0) (omega arith) (a .k) (a .k - a .n - 2) refl (omega arith) (omega arith)
 
 pub open-cell-spec : {M : Type 1} → statement M
 open-cell-spec =

@@ -20,7 +20,10 @@ element-write-vars : tie.Need-element-write-vars
 element-write-vars c = search needs
 
 returns-2 : tie.Need-returns-2
-returns-2 c = let a = c .before .before .before .before .before .args in puts-made (a .n) (a .vars .now) (a .links .now) (a .x) (a .k) (c .before .open-cell .result) _ (c .chosen-place .result .code) (omega arith) (omega arith) (c .before .open-cell .ensures) (c .chosen-place .ensures)
+returns-2 c =
+    let a = c .before .before .before .before .before .args in
+    puts-made (a .n) (a .vars .now) (a .links .now) (a .x) (a .k) (c .before .open-cell .result) _ (c .chosen-place .result .code) (omega arith)
+    (omega arith) (c .before .open-cell .ensures) (c .chosen-place .ensures)
 
 pub put-spec : {M : Type 1} → statement M
 put-spec =

@@ -35,16 +35,27 @@ is-hopeless-requires : tie.Need-is-hopeless-requires Inv-loop μ-loop
 is-hopeless-requires c κs = tt
 
 returns : tie.Need-returns Inv-loop μ-loop
-returns c = let a = c .before .before .before .before .before .before .before .args in rw (no-choices (a .variables) (a .op .kind) (a .op .a) (a .op .b) (a .n) (a .vars .now) (a .links .now) 12 (c .before .before .before .before .before .before .before .pre .1) (sym (c .before .is-hopeless .ensures) ∙ c .if1 .taken)) (sym (take-none (a .cert .now) (membersAt (a .cert .now) (a .variables) (a .starts .now) (a .members)) (a .from .covers) (a .from .at)))
+returns c =
+    let a = c .before .before .before .before .before .before .before .args in
+    rw (no-choices 12 (c .before .before .before .before .before .before .before .pre .1) (sym (c .before .is-hopeless .ensures) ∙ c .if1 .taken))
+    (sym (take-none (a .cert .now) (membersAt (a .cert .now) (a .variables) (a .starts .now) (a .members)) (a .from .covers) (a .from .at)))
 
 tried-choices-requires : tie.Need-tried-choices-requires Inv-loop μ-loop
-tried-choices-requires c κs = let a = c .before .before .before .before .before .before .before .args in let p = c .before .before .before .before .before .before .before .pre .1 in let e = hope-safe (a .op .kind) (a .op .a) (a .op .b) _ _ (sym (c .before .is-hopeless .ensures) ∙ c .if1 .left) in (omega arith, e .1, omega (arith, p .hold .vars-range (a .op .b)))
+tried-choices-requires c κs =
+    let a = c .before .before .before .before .before .before .before .args in
+    let p = c .before .before .before .before .before .before .before .pre .1 in
+    let e = hope-safe (a .op .kind) (a .op .a) (a .op .b) _ _ (sym (c .before .is-hopeless .ensures) ∙ c .if1 .left) in
+    (omega arith, e .1, omega (arith, p .hold .vars-range (a .op .b)))
 
 loop-holds : tie.Need-loop-holds Inv-loop μ-loop
 loop-holds c = trying-none _ _ _ _ _ _ _ (c .before .before .before .before .before .before .before .before .pre .2)
 
 take-first-requires : tie.Need-take-first-requires Inv-loop μ-loop
-take-first-requires c κs = let a = c .before .before .before .before .before .before .before .before .before .before .before .args in let e = hope-safe (a .op .kind) (a .op .a) (a .op .b) _ _ (sym (c .before .before .before .before .before .is-hopeless .ensures) ∙ c .before .before .before .before .if1 .left) in (c .before .before .before .before .before .before .before .before .before .before .before .pre .0, c .before .before .before .before .before .before .before .before .before .before .before .pre .1, e .0, e .1, omega arith, c .before .before .loop .inv .within)
+take-first-requires c κs =
+    let a = c .before .before .before .before .before .before .before .before .before .before .before .args in
+    let e = hope-safe (a .op .kind) (a .op .a) (a .op .b) _ _
+    (sym (c .before .before .before .before .before .is-hopeless .ensures) ∙ c .before .before .before .before .if1 .left) in
+    (c .before .before .before .before .before .before .before .before .before .before .before .pre .0, c .before .before .before .before .before .before .before .before .before .before .before .pre .1, e .0, e .1, omega arith, c .before .before .loop .inv .within)
 
 enum-known-g : tie.Need-enum-known-g Inv-loop μ-loop
 enum-known-g c = search needs
@@ -53,7 +64,16 @@ enum-told : tie.Need-enum-told Inv-loop μ-loop
 enum-told c = search needs
 
 returns-2 : tie.Need-returns-2 Inv-loop μ-loop
-returns-2 c = let v = c .enum-told .given in let a = c .before .before .before .before .before .before .before .before .before .before .before .before .before .before .args in let r = c .before .before .before .before .before .before .tried-choices .ensures in let e = hope-safe (a .op .kind) (a .op .a) (a .op .b) _ _ (sym (c .before .before .before .before .before .before .before .before .is-hopeless .ensures) ∙ c .before .before .before .before .before .before .before .if1 .left) in trying-stop _ _ _ _ _ _ _ (c .before .before .before .before .before .loop .k) (c .before .before .before .before .before .loop .t) (c .before .before .before .before .before .loop .inv) (omega arith) (c .before .before .take-first .result) (c .before .before .take-first .ensures) (v .0 .0) (v .0 .1 .0) (v .1) _ (first-range (a .variables) (a .op .kind) (a .op .a) (a .op .b) (a .n) (a .vars .now) (a .links .now) (c .before .before .before .before .before .before .before .before .before .before .before .before .before .before .pre .1) (e .0) (e .1) (c .before .before .before .before .before .before .tried-choices .result .from) (c .before .before .before .before .before .before .tried-choices .result .to) (r .0) (r .1))
+returns-2 c =
+    let v = c .enum-told .given in
+    let a = c .before .before .before .before .before .before .before .before .before .before .before .before .before .before .args in
+    let r = c .before .before .before .before .before .before .tried-choices .ensures in
+    let e = hope-safe (a .op .kind) (a .op .a) (a .op .b) _ _
+    (sym (c .before .before .before .before .before .before .before .before .is-hopeless .ensures) ∙ c .before .before .before .before .before .before .before .if1 .left) in
+    trying-stop _ _ _ _ _ _ _ (c .before .before .before .before .before .loop .k) (c .before .before .before .before .before .loop .t)
+    (c .before .before .before .before .before .loop .inv) (omega arith) (c .before .before .take-first .result)
+    (c .before .before .take-first .ensures) (v .0 .0) (v .0 .1 .0) (v .1) _
+    (first-range (c .before .before .before .before .before .before .before .before .before .before .before .before .before .before .pre .1) (e .0) (e .1) (c .before .before .before .before .before .before .tried-choices .result .from) (c .before .before .before .before .before .before .tried-choices .result .to) (r .0) (r .1))
 
 add-k : tie.Need-add-k Inv-loop μ-loop
 add-k c = search needs
@@ -62,10 +82,20 @@ loop-less : tie.Need-loop-less Inv-loop μ-loop
 loop-less c = omega arith
 
 loop-again : tie.Need-loop-again Inv-loop μ-loop
-loop-again c = let v = c .before .g .given in trying-more _ _ _ _ _ _ _ (c .before .before .before .before .before .before .loop .k) (c .before .before .before .before .before .before .loop .t) (c .before .before .before .before .before .before .loop .inv) (omega arith) (c .before .before .before .take-first .result) (c .before .before .before .take-first .ensures) (v .0 .0) (v .1)
+loop-again c =
+    let v = c .before .g .given in
+    trying-more _ _ _ _ _ _ _ (c .before .before .before .before .before .before .loop .k)
+    (c .before .before .before .before .before .before .loop .t) (c .before .before .before .before .before .before .loop .inv) (omega arith)
+    (c .before .before .before .take-first .result) (c .before .before .before .take-first .ensures) (v .0 .0) (v .1)
 
 returns-3 : tie.Need-returns-3 Inv-loop μ-loop
-returns-3 c = let a = c .before .before .before .before .before .before .before .before .before .before .before .args in let r = c .before .before .before .tried-choices .ensures in let e = hope-safe (a .op .kind) (a .op .a) (a .op .b) _ _ (sym (c .before .before .before .before .before .is-hopeless .ensures) ∙ c .before .before .before .before .if1 .left) in trying-all _ _ _ _ _ _ _ _ _ (c .before .before .loop .inv) (omega arith) _ (first-range (a .variables) (a .op .kind) (a .op .a) (a .op .b) (a .n) (a .vars .now) (a .links .now) (c .before .before .before .before .before .before .before .before .before .before .before .pre .1) (e .0) (e .1) (c .before .before .before .tried-choices .result .from) (c .before .before .before .tried-choices .result .to) (r .0) (r .1))
+returns-3 c =
+    let a = c .before .before .before .before .before .before .before .before .before .before .before .args in
+    let r = c .before .before .before .tried-choices .ensures in
+    let e = hope-safe (a .op .kind) (a .op .a) (a .op .b) _ _
+    (sym (c .before .before .before .before .before .is-hopeless .ensures) ∙ c .before .before .before .before .if1 .left) in
+    trying-all _ _ _ _ _ _ _ _ _ (c .before .before .loop .inv) (omega arith) _
+    (first-range (c .before .before .before .before .before .before .before .before .before .before .before .pre .1) (e .0) (e .1) (c .before .before .before .tried-choices .result .from) (c .before .before .before .tried-choices .result .to) (r .0) (r .1))
 
 pub take-firsts-spec : {M : Type 1} → statement M
 take-firsts-spec =

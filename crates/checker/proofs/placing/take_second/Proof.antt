@@ -21,13 +21,22 @@ element-copy-out-t21-2 : tie.Need-element-copy-out-t21-2
 element-copy-out-t21-2 c = search needs
 
 second-fits-requires : tie.Need-second-fits-requires
-second-fits-requires c κs = let a = c .before .before .before .before .before .args in let p = c .before .before .before .before .before .pre .1 in let h = p .work .hold in (h .room, p .work .cells, c .before .before .before .before .before .pre .2, omega (arith, h .vars-range (a .op .a)), omega (arith, h .vars-range (a .op .b)))
+second-fits-requires c κs =
+    let a = c .before .before .before .before .before .args in
+    let p = c .before .before .before .before .before .pre .1 in
+    let h = p .work .hold in
+    (h .room, p .work .cells, c .before .before .before .before .before .pre .2, omega (arith, h .vars-range (a .op .a)), omega (arith, h .vars-range (a .op .b)))
 
 returns : tie.Need-returns
-returns c = let a = c .before .before .before .before .before .before .before .args in rw (second-none (a .variables) (a .op .kind) (a .op .a) (a .op .b) (a .n) (a .vars .now) (a .links .now) (c .before .before .before .before .before .before .before .pre .1) (a .k) (sym (c .before .second-fits .ensures) ∙ not-true _ (c .if1 .taken))) (sym (take-none (a .cert .now) (membersAt (a .cert .now) (a .variables) (a .starts .now) (a .members)) (a .t .covers) (a .t .at)))
+returns c =
+    let a = c .before .before .before .before .before .before .before .args in
+    rw
+    (second-none (c .before .before .before .before .before .before .before .pre .1) (a .k) (sym (c .before .second-fits .ensures) ∙ not-true _ (c .if1 .taken)))
+    (sym (take-none (a .cert .now) (membersAt (a .cert .now) (a .variables) (a .starts .now) (a .members)) (a .t .covers) (a .t .at)))
 
 make-second-requires : tie.Need-make-second-requires
-make-second-requires c κs = (c .before .before .before .before .before .before .before .before .before .before .before .pre .1, c .before .before .before .before .before .before .before .before .before .before .before .pre .2, sym (c .before .before .before .before .before .second-fits .ensures) ∙ not-false _ (c .before .before .before .before .if1 .left))
+make-second-requires c κs =
+    (c .before .before .before .before .before .before .before .before .before .before .before .pre .1, c .before .before .before .before .before .before .before .before .before .before .before .pre .2, sym (c .before .before .before .before .before .second-fits .ensures) ∙ not-false _ (c .before .before .before .before .if1 .left))
 
 cast-take-one : tie.Need-cast-take-one
 cast-take-one c = search needs
@@ -36,7 +45,11 @@ take-one-requires : tie.Need-take-one-requires
 take-one-requires c κs = search needs
 
 returns-2 : tie.Need-returns-2
-returns-2 c = let a = c .before .before .before .before .before .before .before .before .before .before .before .before .before .before .before .args in rw (second-one (a .variables) (a .op .kind) (a .op .a) (a .op .b) (a .n) (a .vars .now) (a .links .now) (c .before .before .before .before .before .before .before .before .before .before .before .before .before .before .before .pre .1) (a .k) (sym (c .before .before .before .before .before .before .before .before .before .second-fits .ensures) ∙ not-false _ (c .before .before .before .before .before .before .before .before .if1 .left)), ← c .before .before .before .make-second .ensures .same) (c .take-one .ensures .0)
+returns-2 c =
+    let a = c .before .before .before .before .before .before .before .before .before .before .before .before .before .before .before .args in
+    rw
+    (second-one (c .before .before .before .before .before .before .before .before .before .before .before .before .before .before .before .pre .1) (a .k) (sym (c .before .before .before .before .before .before .before .before .before .second-fits .ensures) ∙ not-false _ (c .before .before .before .before .before .before .before .before .if1 .left)), ← c .before .before .before .make-second .ensures .same)
+    (c .take-one .ensures .0)
 
 pub take-second-spec : {M : Type 1} → statement M
 take-second-spec =

@@ -29,13 +29,18 @@ element-copy-out-t22-2 : tie.Need-element-copy-out-t22-2 Inv-loop μ-loop
 element-copy-out-t22-2 c = search needs
 
 tried-choices-requires : tie.Need-tried-choices-requires Inv-loop μ-loop
-tried-choices-requires c κs = let a = c .before .before .before .before .before .args in let p = c .before .before .before .before .before .pre .1 in let h = p .work .hold in (p .work .cells, p .a-at .safe, omega (arith, h .vars-range (a .op .a)))
+tried-choices-requires c κs =
+    let a = c .before .before .before .before .before .args in
+    let p = c .before .before .before .before .before .pre .1 in
+    let h = p .work .hold in
+    (p .work .cells, p .a-at .safe, omega (arith, h .vars-range (a .op .a)))
 
 loop-holds : tie.Need-loop-holds Inv-loop μ-loop
 loop-holds c = trying-none _ _ _ _ _ _ _ (c .before .before .before .before .before .before .pre .2)
 
 take-second-requires : tie.Need-take-second-requires Inv-loop μ-loop
-take-second-requires c κs = (c .before .before .before .before .before .before .before .before .before .pre .0, c .before .before .before .before .before .before .before .before .before .pre .1, omega arith, c .before .before .loop .inv .within)
+take-second-requires c κs =
+    (c .before .before .before .before .before .before .before .before .before .pre .0, c .before .before .before .before .before .before .before .before .before .pre .1, omega arith, c .before .before .loop .inv .within)
 
 enum-known-g : tie.Need-enum-known-g Inv-loop μ-loop
 enum-known-g c = search needs
@@ -44,7 +49,14 @@ enum-told : tie.Need-enum-told Inv-loop μ-loop
 enum-told c = search needs
 
 returns : tie.Need-returns Inv-loop μ-loop
-returns c = let v = c .enum-told .given in let a = c .before .before .before .before .before .before .before .before .before .before .before .before .args in let r = c .before .before .before .before .before .before .tried-choices .ensures in trying-stop _ _ _ _ _ _ _ (c .before .before .before .before .before .loop .k) (c .before .before .before .before .before .loop .t) (c .before .before .before .before .before .loop .inv) (omega arith) (c .before .before .take-second .result) (c .before .before .take-second .ensures) (v .0 .0) (v .0 .1 .0) (v .1) _ (second-range (a .variables) (a .op .kind) (a .op .a) (a .op .b) (a .n) (a .vars .now) (a .links .now) (c .before .before .before .before .before .before .before .before .before .before .before .before .pre .1) 0 (c .before .before .before .before .before .before .tried-choices .result .from) (c .before .before .before .before .before .before .tried-choices .result .to) (r .0) (r .1))
+returns c =
+    let v = c .enum-told .given in
+    let a = c .before .before .before .before .before .before .before .before .before .before .before .before .args in
+    let r = c .before .before .before .before .before .before .tried-choices .ensures in
+    trying-stop _ _ _ _ _ _ _ (c .before .before .before .before .before .loop .k) (c .before .before .before .before .before .loop .t)
+    (c .before .before .before .before .before .loop .inv) (omega arith) (c .before .before .take-second .result)
+    (c .before .before .take-second .ensures) (v .0 .0) (v .0 .1 .0) (v .1) _
+    (second-range (c .before .before .before .before .before .before .before .before .before .before .before .before .pre .1) 0 (c .before .before .before .before .before .before .tried-choices .result .from) (c .before .before .before .before .before .before .tried-choices .result .to) (r .0) (r .1))
 
 add-k : tie.Need-add-k Inv-loop μ-loop
 add-k c = search needs
@@ -53,10 +65,18 @@ loop-less : tie.Need-loop-less Inv-loop μ-loop
 loop-less c = omega arith
 
 loop-again : tie.Need-loop-again Inv-loop μ-loop
-loop-again c = let v = c .before .g .given in trying-more _ _ _ _ _ _ _ (c .before .before .before .before .before .before .loop .k) (c .before .before .before .before .before .before .loop .t) (c .before .before .before .before .before .before .loop .inv) (omega arith) (c .before .before .before .take-second .result) (c .before .before .before .take-second .ensures) (v .0 .0) (v .1)
+loop-again c =
+    let v = c .before .g .given in
+    trying-more _ _ _ _ _ _ _ (c .before .before .before .before .before .before .loop .k)
+    (c .before .before .before .before .before .before .loop .t) (c .before .before .before .before .before .before .loop .inv) (omega arith)
+    (c .before .before .before .take-second .result) (c .before .before .before .take-second .ensures) (v .0 .0) (v .1)
 
 returns-2 : tie.Need-returns-2 Inv-loop μ-loop
-returns-2 c = let a = c .before .before .before .before .before .before .before .before .before .args in let r = c .before .before .before .tried-choices .ensures in trying-all _ _ _ _ _ _ _ _ _ (c .before .before .loop .inv) (omega arith) _ (second-range (a .variables) (a .op .kind) (a .op .a) (a .op .b) (a .n) (a .vars .now) (a .links .now) (c .before .before .before .before .before .before .before .before .before .pre .1) 0 (c .before .before .before .tried-choices .result .from) (c .before .before .before .tried-choices .result .to) (r .0) (r .1))
+returns-2 c =
+    let a = c .before .before .before .before .before .before .before .before .before .args in
+    let r = c .before .before .before .tried-choices .ensures in
+    trying-all _ _ _ _ _ _ _ _ _ (c .before .before .loop .inv) (omega arith) _
+    (second-range (c .before .before .before .before .before .before .before .before .before .pre .1) 0 (c .before .before .before .tried-choices .result .from) (c .before .before .before .tried-choices .result .to) (r .0) (r .1))
 
 pub take-seconds-spec : {M : Type 1} → statement M
 take-seconds-spec =

@@ -25,13 +25,19 @@ element-copy-out-t14 : tie.Need-element-copy-out-t14
 element-copy-out-t14 c = search needs
 
 returns : tie.Need-returns
-returns c = let a = c .before .before .before .before .args in link-middle (a .n) (a .links .now) (c .before .before .before .before .pre .0) (omega arith) (a .k) (omega arith) (omega arith) (a .p .code) (omega arith)
+returns c =
+    let a = c .before .before .before .before .args in
+    link-middle (a .n) (a .links .now) (c .before .before .before .before .pre .0) (omega arith) (a .k) (omega arith) (omega arith) (a .p .code)
+    (omega arith)
 
 cell-requires : tie.Need-cell-requires
 cell-requires c κs = search needs
 
 returns-2 : tie.Need-returns-2
-returns-2 c = let a = c .before .before .before .before .before .args in cell-code (a .n) (c .cell .result) (c .cell .ensures) (omega arith) ∙ link-source (a .n) (a .links .now) (c .before .before .before .before .before .pre .0) (omega arith) (a .k) (omega arith) (omega arith) (a .p .code) (omega arith)
+returns-2 c =
+    let a = c .before .before .before .before .before .args in
+    cell-code (a .n) (c .cell .result) (c .cell .ensures) (omega arith) ∙ link-source (a .n) (a .links .now)
+    (c .before .before .before .before .before .pre .0) (omega arith) (a .k) (omega arith) (omega arith) (a .p .code) (omega arith)
 
 cast-t15 : tie.Need-cast-t15
 cast-t15 c = search needs
@@ -40,10 +46,15 @@ element-copy-out-t9 : tie.Need-element-copy-out-t9
 element-copy-out-t9 c = search needs
 
 returns-3 : tie.Need-returns-3
-returns-3 c = let a = c .before .before .before .before .before .args in link-other (a .n) (a .links .now) (c .before .before .before .before .before .pre .0) (omega arith) (a .k) (omega arith) (omega arith) (a .p .code) (omega arith) (omega arith) (omega arith)
+returns-3 c =
+    let a = c .before .before .before .before .before .args in
+    link-other (a .n) (a .links .now) (c .before .before .before .before .before .pre .0) (omega arith) (a .k) (omega arith) (omega arith)
+    (a .p .code) (omega arith) (omega arith) (omega arith)
 
 returns-4 : tie.Need-returns-4
-returns-4 c = let a = c .before .before .before .args in link-fresh (a .n) (a .links .now) (c .before .before .before .pre .0) (omega arith) (a .k) (a .p .code) (omega arith) (omega arith)
+returns-4 c =
+    let a = c .before .before .before .args in
+    link-fresh (a .n) (a .links .now) (c .before .before .before .pre .0) (omega arith) (a .k) (a .p .code) (omega arith) (omega arith)
 
 cast-t18 : tie.Need-cast-t18
 cast-t18 c = search needs
@@ -52,7 +63,10 @@ element-copy-out-t7 : tie.Need-element-copy-out-t7
 element-copy-out-t7 c = search needs
 
 returns-5 : tie.Need-returns-5
-returns-5 c = let a = c .before .before .before .before .args in link-kept (a .n) (a .links .now) (c .before .before .before .before .pre .0) (omega arith) (a .k) (a .p .code) (omega arith) (omega arith) (omega arith)
+returns-5 c =
+    let a = c .before .before .before .before .args in
+    link-kept (a .n) (a .links .now) (c .before .before .before .before .pre .0) (omega arith) (a .k) (a .p .code) (omega arith) (omega arith)
+    (omega arith)
 
 pub link-after-spec : {M : Type 1} → statement M
 link-after-spec =

@@ -8,22 +8,32 @@ use Rattle.checker.proofs.retaining.retains.Statement.{statement}
 use Rattle.checker.proofs.retaining.retains.Tie as tie
 
 returns : tie.Need-returns
-returns c = let a = c .before .before .before .args in retains-different (a .kind) (a .x .code) (a .y .code) (opened (take (a .n) (a .links .now)) (a .k)) (omega arith)
+returns c =
+    let a = c .before .before .before .args in
+    retains-different (a .kind) (a .x .code) (a .y .code) (opened (take (a .n) (a .links .now)) (a .k)) (omega arith)
 
 returns-2 : tie.Need-returns-2
-returns-2 c = let a = c .before .before .before .before .args in retains-equal (a .kind) (a .x .code) (a .y .code) (opened (take (a .n) (a .links .now)) (a .k)) (c .before .before .before .if1 .left) (omega arith)
+returns-2 c =
+    let a = c .before .before .before .before .args in
+    retains-equal (a .kind) (a .x .code) (a .y .code) (opened (take (a .n) (a .links .now)) (a .k)) (c .before .before .before .if1 .left)
+    (omega arith)
 
 link-fits-requires : tie.Need-link-fits-requires
 link-fits-requires c κs = search needs
 
 returns-3 : tie.Need-returns-3
-returns-3 c = let a = c .before .before .before .before .args in c .link-fits .ensures ∙ retains-load (a .kind) (a .x .code) (a .y .code) (opened (take (a .n) (a .links .now)) (a .k)) (omega arith)
+returns-3 c =
+    let a = c .before .before .before .before .args in
+    c .link-fits .ensures ∙ retains-load (a .kind) (a .x .code) (a .y .code) (opened (take (a .n) (a .links .now)) (a .k)) (omega arith)
 
 link-fits-requires-2 : tie.Need-link-fits-requires-2
 link-fits-requires-2 c κs = search needs
 
 returns-4 : tie.Need-returns-4
-returns-4 c = let a = c .before .before .before .before .args in c .link-fits2 .ensures ∙ retains-store (a .kind) (a .x .code) (a .y .code) (opened (take (a .n) (a .links .now)) (a .k)) (omega arith) (c .before .if3 .left)
+returns-4 c =
+    let a = c .before .before .before .before .args in
+    c .link-fits2 .ensures ∙ retains-store (a .kind) (a .x .code) (a .y .code) (opened (take (a .n) (a .links .now)) (a .k)) (omega arith)
+    (c .before .if3 .left)
 
 pub retains-spec : {M : Type 1} → statement M
 retains-spec =
