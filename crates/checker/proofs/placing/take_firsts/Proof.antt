@@ -48,7 +48,8 @@ tried-choices-requires c κs =
     (omega arith, e .1, omega (arith, p .hold .vars-range (a .op .b)))
 
 loop-holds : tie.Need-loop-holds Inv-loop μ-loop
-loop-holds c = trying-none _ _ _ _ _ _ _ (c .before .before .before .before .before .before .before .before .pre .2)
+loop-holds c =
+    trying-none (c .before .before .before .before .before .before .before .before .pre .2)
 
 take-first-requires : tie.Need-take-first-requires Inv-loop μ-loop
 take-first-requires c κs =
@@ -65,15 +66,11 @@ enum-told c = search needs
 
 returns-2 : tie.Need-returns-2 Inv-loop μ-loop
 returns-2 c =
-    let v = c .enum-told .given in
     let a = c .before .before .before .before .before .before .before .before .before .before .before .before .before .before .args in
     let r = c .before .before .before .before .before .before .tried-choices .ensures in
-    let e = hope-safe (a .op .kind) (a .op .a) (a .op .b) _ _
-    (sym (c .before .before .before .before .before .before .before .before .is-hopeless .ensures) ∙ c .before .before .before .before .before .before .before .if1 .left) in
-    trying-stop _ _ _ _ _ _ _ (c .before .before .before .before .before .loop .k) (c .before .before .before .before .before .loop .t)
-    (c .before .before .before .before .before .loop .inv) (omega arith) (c .before .before .take-first .result)
-    (c .before .before .take-first .ensures) (v .0 .0) (v .0 .1 .0) (v .1) _
-    (first-range (c .before .before .before .before .before .before .before .before .before .before .before .before .before .before .pre .1) (e .0) (e .1) (c .before .before .before .before .before .before .tried-choices .result .from) (c .before .before .before .before .before .before .tried-choices .result .to) (r .0) (r .1))
+    let e = hope-safe (a .op .kind) (a .op .a) (a .op .b) _ _ (sym (c .before .before .before .before .before .before .before .before .is-hopeless .ensures) ∙ c .before .before .before .before .before .before .before .if1 .left) in
+    trying-stop (c .before .before .before .before .before .loop .inv) (omega arith) (c .before .before .take-first .ensures) (c .enum-told .given .1)
+    (first-range (c .before .before .before .before .before .before .before .before .before .before .before .before .before .before .pre .1) (e .0) (e .1) (r .0) (r .1))
 
 add-k : tie.Need-add-k Inv-loop μ-loop
 add-k c = search needs
@@ -83,19 +80,14 @@ loop-less c = omega arith
 
 loop-again : tie.Need-loop-again Inv-loop μ-loop
 loop-again c =
-    let v = c .before .g .given in
-    trying-more _ _ _ _ _ _ _ (c .before .before .before .before .before .before .loop .k)
-    (c .before .before .before .before .before .before .loop .t) (c .before .before .before .before .before .before .loop .inv) (omega arith)
-    (c .before .before .before .take-first .result) (c .before .before .before .take-first .ensures) (v .0 .0) (v .1)
+    trying-more (c .before .before .before .before .before .before .loop .inv) (omega arith) (c .before .before .before .take-first .ensures) (c .before .g .given .1)
 
 returns-3 : tie.Need-returns-3 Inv-loop μ-loop
 returns-3 c =
     let a = c .before .before .before .before .before .before .before .before .before .before .before .args in
     let r = c .before .before .before .tried-choices .ensures in
-    let e = hope-safe (a .op .kind) (a .op .a) (a .op .b) _ _
-    (sym (c .before .before .before .before .before .is-hopeless .ensures) ∙ c .before .before .before .before .if1 .left) in
-    trying-all _ _ _ _ _ _ _ _ _ (c .before .before .loop .inv) (omega arith) _
-    (first-range (c .before .before .before .before .before .before .before .before .before .before .before .pre .1) (e .0) (e .1) (c .before .before .before .tried-choices .result .from) (c .before .before .before .tried-choices .result .to) (r .0) (r .1))
+    let e = hope-safe (a .op .kind) (a .op .a) (a .op .b) _ _ (sym (c .before .before .before .before .before .is-hopeless .ensures) ∙ c .before .before .before .before .if1 .left) in
+    trying-all (c .before .before .loop .inv) (omega arith) (first-range (c .before .before .before .before .before .before .before .before .before .before .before .pre .1) (e .0) (e .1) (r .0) (r .1))
 
 pub take-firsts-spec : {M : Type 1} → statement M
 take-firsts-spec =

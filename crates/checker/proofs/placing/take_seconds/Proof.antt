@@ -36,7 +36,8 @@ tried-choices-requires c κs =
     (p .work .cells, p .a-at .safe, omega (arith, h .vars-range (a .op .a)))
 
 loop-holds : tie.Need-loop-holds Inv-loop μ-loop
-loop-holds c = trying-none _ _ _ _ _ _ _ (c .before .before .before .before .before .before .pre .2)
+loop-holds c =
+    trying-none (c .before .before .before .before .before .before .pre .2)
 
 take-second-requires : tie.Need-take-second-requires Inv-loop μ-loop
 take-second-requires c κs =
@@ -50,13 +51,9 @@ enum-told c = search needs
 
 returns : tie.Need-returns Inv-loop μ-loop
 returns c =
-    let v = c .enum-told .given in
-    let a = c .before .before .before .before .before .before .before .before .before .before .before .before .args in
     let r = c .before .before .before .before .before .before .tried-choices .ensures in
-    trying-stop _ _ _ _ _ _ _ (c .before .before .before .before .before .loop .k) (c .before .before .before .before .before .loop .t)
-    (c .before .before .before .before .before .loop .inv) (omega arith) (c .before .before .take-second .result)
-    (c .before .before .take-second .ensures) (v .0 .0) (v .0 .1 .0) (v .1) _
-    (second-range (c .before .before .before .before .before .before .before .before .before .before .before .before .pre .1) 0 (c .before .before .before .before .before .before .tried-choices .result .from) (c .before .before .before .before .before .before .tried-choices .result .to) (r .0) (r .1))
+    trying-stop (c .before .before .before .before .before .loop .inv) (omega arith) (c .before .before .take-second .ensures) (c .enum-told .given .1)
+    (second-range (c .before .before .before .before .before .before .before .before .before .before .before .before .pre .1) (r .0) (r .1))
 
 add-k : tie.Need-add-k Inv-loop μ-loop
 add-k c = search needs
@@ -66,17 +63,12 @@ loop-less c = omega arith
 
 loop-again : tie.Need-loop-again Inv-loop μ-loop
 loop-again c =
-    let v = c .before .g .given in
-    trying-more _ _ _ _ _ _ _ (c .before .before .before .before .before .before .loop .k)
-    (c .before .before .before .before .before .before .loop .t) (c .before .before .before .before .before .before .loop .inv) (omega arith)
-    (c .before .before .before .take-second .result) (c .before .before .before .take-second .ensures) (v .0 .0) (v .1)
+    trying-more (c .before .before .before .before .before .before .loop .inv) (omega arith) (c .before .before .before .take-second .ensures) (c .before .g .given .1)
 
 returns-2 : tie.Need-returns-2 Inv-loop μ-loop
 returns-2 c =
-    let a = c .before .before .before .before .before .before .before .before .before .args in
     let r = c .before .before .before .tried-choices .ensures in
-    trying-all _ _ _ _ _ _ _ _ _ (c .before .before .loop .inv) (omega arith) _
-    (second-range (c .before .before .before .before .before .before .before .before .before .pre .1) 0 (c .before .before .before .tried-choices .result .from) (c .before .before .before .tried-choices .result .to) (r .0) (r .1))
+    trying-all (c .before .before .loop .inv) (omega arith) (second-range (c .before .before .before .before .before .before .before .before .before .pre .1) (r .0) (r .1))
 
 pub take-seconds-spec : {M : Type 1} → statement M
 take-seconds-spec =
