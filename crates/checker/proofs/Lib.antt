@@ -1,4 +1,14 @@
+pub mod CoverReading
+pub mod CoverTaking
+pub mod CoverPlace
 pub mod Taking
-pub mod Places
+pub mod Lists
+pub mod Turning
 pub mod Trying
+pub mod Places
 pub mod Operands
+pub mod Made
+pub mod Loading
+pub mod Chain
+pub mod Empty
+pub mod Verdicts

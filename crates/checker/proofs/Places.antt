@@ -13,14 +13,14 @@ use Rattle.choices.specs.Choice.{chosen}
 use Rattle.checker.specs.Placing.{secondOperand}
 use Rattle.choices.proofs.Opening.{chosen-cell, chosen-fresh}
 
-pub cell-code : (i : ℕ) (p : Place) → p ≡ cellPlace i → i < 253 → p .code ≡ cell i
-cell-code i p e h = rw e (simp (lt-ltb i 253 h) (omega arith))
+pub cell-code : (p : Place) (i : ℕ) → p ≡ cellPlace i → i < 253 → p .code ≡ cell i
+cell-code p i e h = rw e (simp (lt-ltb i 253 h) (omega arith))
 
 pub placed-cell : (n k : ℕ) (p : Place) → p ≡ cellPlace k → n ≤ 14 → k < n → p .code ≡ chosen n k
-placed-cell n k p e h l = cell-code k p e (omega arith) ∙ sym (chosen-cell n k l)
+placed-cell n k p e h l = cell-code p k e (omega arith) ∙ sym (chosen-cell n k l)
 
 pub placed-fresh : (n k : ℕ) (p : Place) → p ≡ cellPlace n → n ≤ 14 → n < k → p .code ≡ chosen n k
-placed-fresh n k p e h l = cell-code n p e (omega arith) ∙ sym (chosen-fresh n k l)
+placed-fresh n k p e h l = cell-code p n e (omega arith) ∙ sym (chosen-fresh n k l)
 
 -- ---- the operand that plays b
 

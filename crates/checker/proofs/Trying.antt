@@ -14,7 +14,7 @@ use Rattle.checker.specs.Taking.{takeAll, goingOf, Within, StaysWithin, 
 use Rattle.checker.specs.declared.going.Going.{Going}
 use Rattle.checker.specs.declared.going.Going.the-variants.{On, Refused}
 use Rattle.checker.specs.declared.going.Taken.{Taken}
-use Rattle.checker.proofs.Taking.{take-none, take-append, take-inside}
+use Rattle.checker.proofs.Taking.{takeAll-none, takeAll-append, takeAll-inside}
 
 map-append : {A B : Type 0} (f : A → B) (xs ys : List A) → map f (xs ++ ys) ≡ map f xs ++ map f ys
 map-append f [] ys = refl
@@ -24,7 +24,7 @@ map-append f (x ∷ xs) ys = ap (λ l. f x ∷ l) (map-append f xs ys)
 pub stays : (cert : List ℕ) (ms os : List Located) (t : Taken) → Within cert t → (g : Going) → goingOf g ≡ takeAll cert ms os (t .covers) (t .at)
     → StaysWithin cert g
 stays cert ms os t w (On u) e =
-    let (p, q) = take-inside cert ms os (t .covers) (t .at) (u .covers) (u .at) (sym e) (w .counted) (w .inside) in
+    let (p, q) = takeAll-inside cert ms os (t .covers) (t .at) (u .covers) (u .at) (sym e) (w .counted) (w .inside) in
     record { counted = p; inside = q; fits = w .fits }
 stays cert ms os t w (Refused r place) e = tt
 
@@ -50,7 +50,7 @@ module _ {cert : List ℕ} {ms : List Located} {state : ℕ} {f : ℕ → List S
     onto : k < to → onward (takeAll cert ms (map (located state) (f k)) (t .covers) (t .at)) (takeAll cert ms (rest state f (k + 1) to))
         ≡ takeAll cert ms (rest state f from to) (t₀ .covers) (t₀ .at)
     onto h =
-        sym (take-append cert ms (map (located state) (f k)) (rest state f (k + 1) to) (t .covers) (t .at))
+        sym (takeAll-append cert ms (map (located state) (f k)) (rest state f (k + 1) to) (t .covers) (t .at))
         ∙ ap (λ os. takeAll cert ms os (t .covers) (t .at)) (sym (next h))
         ∙ now .left
 
@@ -74,6 +74,6 @@ module _ {cert : List ℕ} {ms : List Located} {state : ℕ} {f : ℕ → List S
     trying-all h {all} all-is =
         let none : to - k ≡ 0 = omega arith in
         rw (← all-is)
-        (sym (take-none cert ms (t .covers) (t .at))
+        (sym (takeAll-none cert ms (t .covers) (t .at))
         ∙ ap (λ (n : ℕ). takeAll cert ms (map (located state) (concatMap f (range k n))) (t .covers) (t .at)) (sym none)
         ∙ now .left)

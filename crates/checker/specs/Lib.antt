@@ -1,2 +1,5 @@
 pub mod Taking
+pub mod Covering
 pub mod Placing
+pub mod Loading
+pub mod Jobs

@@ -1,5 +1,6 @@
 -- Taking covers in turn: "In turn, each cover is taken as read or refused on the spot."
-use mathlib.Core.List.{List, [], _∷_}
+use mathlib.Core.List.{List, [], _∷_, map}
+use mathlib.Core.Path.{_≡_}
 use Prim.Native.Nat.{ℕ, suc, _≤_}
 use lib.ListN.{length}
 use Rattle.shape.specs.Shape.{Shape}
@@ -37,3 +38,11 @@ StaysWithin cert (Refused r place) = Unit {0}
 -- a shape at a state
 abbrev pub located : ℕ → Shape → Located
 located state s = record { state = state; shape = s }
+
+-- g is how far the covers of all these are taken, from t on
+abbrev pub TakesAll : List ℕ → List Located → List Located → Taken → Going → Type 0
+TakesAll cert ms os t g = (goingOf g ≡ takeAll cert ms os (t .covers) (t .at)) × StaysWithin cert g
+
+-- and those of shapes at a state
+abbrev pub Takes : List ℕ → List Located → ℕ → List Shape → Taken → Going → Type 0
+Takes cert ms state ss t g = TakesAll cert ms (map (located state) ss) t g

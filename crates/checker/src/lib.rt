@@ -1,7 +1,124 @@
 // The checker: one verdict for the bytes of a job and of a certificate.
+use crate::going::Going;
+use crate::start::test_start;
+use crate::take::take_covers;
+use reader::Header;
+use reader::JobAnswer;
+use reader::MembersAnswer;
+use reader::read_job;
+use reader::read_members;
+use verdict::Counts;
+use verdict::Reached;
+use verdict::Refusal;
+use verdict::Verdict;
+ghost use mathlib.Core.Path.{_≡_};
+ghost use Prim.Native.Nat.{_≤_};
+ghost use lib.ListN.{length};
+ghost use Rattle.checker.specs.Jobs.{fileIn, placedFrom, readCovers, testThenCover};
+ghost use Rattle.format.specs.Conditions.{SafeBytes};
+ghost use Rattle.format.specs.Parser.{certificateBuffer, within};
+ghost use Rattle.format.specs.Verdict.{answer, readCertificate, verdict};
+ghost use Rattle.layout.specs.Entries.{membersAt, Table};
+ghost use Rattle.reader.specs.Job.{JobRead};
+ghost use Rattle.verdict.specs.Verdict.{verdictOf};
+ghost use Rattle.verdict.specs.declared.Counts.{Counts as CountsAnswer};
+ghost use Rattle.verdict.specs.declared.Verdict.the-variants.{Accepted};
+
 mod choice;
 mod covering;
 mod going;
+mod load;
 mod one;
 mod placing;
+mod removal;
 mod retaining;
+mod start;
+mod take;
+
+// Whether a buffer of this length is judged at all.
+fn fits(len: usize) -> bool
+    ensures { λ r. ⌜ r ≡ within 1 65537 len ⌝ }
+{
+    if len == 0 {
+        return false;
+    }
+    len <= 65536
+}
+
+// Takes the covers and sees that nothing is left after them.
+fn check_covers(
+    job: &[u8],
+    h: Header,
+    cert: &[u8],
+    starts: &[u16; 512],
+    members: usize,
+    at: usize,
+) -> Verdict
+    requires { ⌜ (JobRead (now job) h) × (Table (now cert) (h .variables) (now starts) members) × (at ≤ length (now cert)) × (length (now cert) ≤ 65536) ⌝ }
+    ensures { λ r. ⌜ verdictOf r ≡ answer (readCovers (now (cert .entry)) (fileIn (now (job .entry)) h .job) (membersAt (now (cert .entry)) (h .variables) (now (starts .entry)) members) at) ⌝ }
+{
+    let g = take_covers(job, h, cert, starts, members, at);
+    match g {
+        Going::Refused(why, place) => Verdict::Refused(why, place),
+        Going::On(t) => {
+            if t.at < cert.len() {
+                return Verdict::Refused(Refusal::CertificateLeft, t.at);
+            }
+            Verdict::Accepted(Counts {
+                bads: h.bads as u32,
+                members: members as u32,
+                covers: t.covers,
+            })
+        }
+    }
+}
+
+// Tests the members that were read, and takes the covers.
+fn check_members(
+    job: &[u8],
+    h: Header,
+    cert: &[u8],
+    starts: &[u16; 512],
+    members: usize,
+    at: usize,
+) -> Verdict
+    requires { ⌜ (JobRead (now job) h) × (Table (now cert) (h .variables) (now starts) members) × (at ≤ length (now cert)) × (length (now cert) ≤ 65536) ⌝ }
+    ensures { λ r. ⌜ verdictOf r ≡ answer (testThenCover (now (cert .entry)) (fileIn (now (job .entry)) h .job) (placedFrom (now (cert .entry)) (h .variables) (now (starts .entry)) members 0) at) ⌝ }
+{
+    let r = test_start(cert, starts, h.variables, members, h.start, at);
+    match r {
+        Reached::Refused(why, place) => Verdict::Refused(why, place),
+        Reached::At(_) => check_covers(job, h, cert, starts, members, at),
+    }
+}
+
+// Checks a certificate for a job that was read.
+fn check_certificate(job: &[u8], h: Header, cert: &[u8]) -> Verdict
+    requires { ⌜ (JobRead (now job) h) × (length (now cert) ≤ 65536) ⌝ }
+    ensures { λ r. ⌜ verdictOf r ≡ answer (readCertificate (certificateBuffer (now (cert .entry))) (fileIn (now (job .entry)) h) 0) ⌝ }
+{
+    let mut starts = [0u16; 512];
+    let r = read_members(cert, h.variables, h.states, &mut starts);
+    match r {
+        MembersAnswer::Refused(why, place) => Verdict::Refused(why, place),
+        MembersAnswer::Members(members, at) => check_members(job, h, cert, &starts, members, at),
+    }
+}
+
+// The verdict on a job and a certificate. An accepted job is safe.
+pub fn check(job: &[u8], cert: &[u8]) -> Verdict
+    ensures exact { λ r. ⌜ verdictOf r ≡ verdict (now (job .entry)) (now (cert .entry)) ⌝ }
+    ensures safe { λ r. ⌜ ((c : CountsAnswer) → r ≡ Accepted c → SafeBytes (now (job .entry))) ⌝ }
+{
+    if !fits(job.len()) {
+        return Verdict::Refused(Refusal::JobLength, 0);
+    }
+    if !fits(cert.len()) {
+        return Verdict::Refused(Refusal::CertificateLength, 0);
+    }
+    let r = read_job(job);
+    match r {
+        JobAnswer::Refused(why, place) => Verdict::Refused(why, place),
+        JobAnswer::Read(h) => check_certificate(job, h, cert),
+    }
+}

@@ -5,7 +5,7 @@ use crate::going::Taken;
 use verdict::Reached;
 ghost use mathlib.Core.List.{[], _∷_};
 ghost use mathlib.Core.Path.{_≡_};
-ghost use Rattle.checker.specs.Taking.{takeAll, goingOf, Within, StaysWithin};
+ghost use Rattle.checker.specs.Taking.{Within, Takes};
 ghost use Rattle.layout.specs.Arrays.{shapeIn, Hold};
 ghost use Rattle.layout.specs.Entries.{membersAt, Table};
 
@@ -22,9 +22,19 @@ pub(crate) fn take_one(
     t: Taken,
 ) -> Going
     requires { ⌜ (Table (now cert) variables (now starts) members) × (Hold variables n (now vars) (now links)) × (Within (now cert) t) ⌝ }
-    ensures { λ r. ⌜ (goingOf r ≡ takeAll (now (cert .entry)) (membersAt (now (cert .entry)) variables (now (starts .entry)) members) (record { state = state; shape = shapeIn variables n (now (vars .entry)) (now (links .entry)) } ∷ []) (t .covers) (t .at)) × (StaysWithin (now (cert .entry)) r) ⌝ }
+    ensures { λ r. ⌜ Takes (now (cert .entry)) (membersAt (now (cert .entry)) variables (now (starts .entry)) members) state (shapeIn variables n (now (vars .entry)) (now (links .entry)) ∷ []) t r ⌝ }
 {
-    let r = take_cover(cert, starts, variables, members, t.at, state, n, vars, links);
+    let r = take_cover(
+        cert,
+        starts,
+        variables,
+        members,
+        t.at,
+        state,
+        n,
+        vars,
+        links,
+    );
     match r {
         Reached::At(at) => Going::On(Taken {
             at,

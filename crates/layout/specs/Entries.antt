@@ -1,7 +1,7 @@
 -- Entries as they stand in a buffer that was read: in range, every number of them is one byte.
-use mathlib.Core.List.{List, map}
+use mathlib.Core.List.{List, [], _∷_, map}
 use mathlib.Core.Path.{_≡_}
-use Prim.Native.Nat.{ℕ, _+_, _≤_, _<_}
+use Prim.Native.Nat.{ℕ, zero, suc, _+_, _≤_, _<_}
 use lib.ListN.{length, getD, take, drop}
 use Rattle.lists.specs.Range.{range}
 use Rattle.shape.specs.Shape.{InRange}
@@ -21,6 +21,25 @@ pub record Entry (bytes : List ℕ) (variables at : ℕ) : Type 0 where
   pub cells : getD bytes (at + 1) 0 ≤ 12
   pub state : getD bytes at 0 < 64
   pub range : InRange variables 12 (locatedAt bytes variables at .shape)
+
+-- the place after the entry at a place
+abbrev pub entryEnd : List ℕ → ℕ → ℕ → ℕ
+entryEnd bytes variables at = at + 2 + variables + getD bytes (at + 1) 0
+
+-- so many entries, one after the other
+unfoldable pub entriesAt : List ℕ → ℕ → ℕ → ℕ → List Located
+entriesAt bytes variables at zero = []
+entriesAt bytes variables at (suc left) = locatedAt bytes variables at ∷ entriesAt bytes variables (entryEnd bytes variables at) left
+
+-- their first places
+unfoldable pub placesAt : List ℕ → ℕ → ℕ → ℕ → List ℕ
+placesAt bytes variables at zero = []
+placesAt bytes variables at (suc left) = at ∷ placesAt bytes variables (entryEnd bytes variables at) left
+
+-- each of them is whole and in range
+unfoldable pub EntriesIn : List ℕ → ℕ → ℕ → ℕ → Type 0
+EntriesIn bytes variables at zero = at ≤ length bytes
+EntriesIn bytes variables at (suc left) = Entry bytes variables at × EntriesIn bytes variables (entryEnd bytes variables at) left
 
 -- the members of a certificate, by the table of their first places
 abbrev pub membersAt : List ℕ → ℕ → List ℕ → ℕ → List Located

@@ -1,38 +1,30 @@
-use Prim.Native.Nat.{ℕ, _+_, _-_, _*_, _<_, _≤_}
-use mathlib.Core.Path.{_≡_, refl, ap, _∙_, sym}
-use native.Mathlib.Omega.{arith}
-use lib.ListN.{length, getD, take, drop, set}
-use mathlib.Core.Logic.{⊎-elim}
+use mathlib.Core.Path.{ap, _∙_, sym}
+use Rattle.layout.specs.Arrays.{shapeIn}
+use Rattle.layout.specs.Entries.{membersAt}
+use Rattle.verdict.specs.Verdict.{reachedOf}
+use Rattle.checker.specs.Taking.{located}
+use Rattle.checker.proofs.Turning.{one-taken, one-refused, within-next}
 use borrow.Author.Needs.{needs}
 use Rattle.checker.proofs.one.take_one.Statement.{statement}
 use Rattle.checker.proofs.one.take_one.Tie as tie
-use Rattle.checker.proofs.one.take_one.Reads as reads
-use Rattle.checker.proofs.one.take_one.Lts as lts
-use Rattle.checker.proofs.covering.take_cover.Reads as take-cover-reads
 
--- src/one.rt:27:9
 take-cover-requires : tie.Need-take-cover-requires
 take-cover-requires c κs = search needs
 
--- src/one.rt:29:21
 enum-known-r : tie.Need-enum-known-r
 enum-known-r c = search needs
 
--- src/one.rt:31:21
 add-t15 : tie.Need-add-t15
 add-t15 c = search needs
 
--- src/one.rt:33:26
 enum-known-r-2 : tie.Need-enum-known-r-2
 enum-known-r-2 c = search needs
 
--- src/one.rt:13:1
 returns : tie.Need-returns
-returns c = ?
+returns c = let a = c .before .before .before .before .before .before .args in let ms = membersAt (a .cert .now) (a .variables) (a .starts .now) (a .members) in let o = located (a .state) (shapeIn (a .variables) (a .n) (a .vars .now) (a .links .now)) in let next = c .before .before .r .given .0 .0 in let e = ap reachedOf (sym (c .before .before .r .given .1)) ∙ c .before .before .before .before .take-cover .ensures in (one-taken (a .cert .now) ms o (a .t) next e, within-next (a .cert .now) ms o (a .t) (c .before .before .before .before .before .before .pre .2) next e)
 
--- src/one.rt:13:1
 returns-2 : tie.Need-returns-2
-returns-2 c = ?
+returns-2 c = let a = c .before .before .before .before .before .args in let ms = membersAt (a .cert .now) (a .variables) (a .starts .now) (a .members) in let o = located (a .state) (shapeIn (a .variables) (a .n) (a .vars .now) (a .links .now)) in let v = c .before .r2 .given .0 in (one-refused (a .cert .now) ms o (a .t) (v .0) (v .1 .0) (ap reachedOf (sym (c .before .r2 .given .1)) ∙ c .before .before .before .take-cover .ensures), tt)
 
 pub take-one-spec : {M : Type 1} → statement M
 take-one-spec =

@@ -3,7 +3,7 @@ use native.Mathlib.Omega.{arith}
 use borrow.Author.Tests.{not-true, not-false}
 use Rattle.layout.specs.Entries.{membersAt}
 use Rattle.choices.proofs.Steps.{first-none, first-some, first-same, first-placed}
-use Rattle.checker.proofs.Taking.{take-none}
+use Rattle.checker.proofs.Taking.{takeAll-none}
 use borrow.Author.Needs.{needs}
 use Rattle.checker.proofs.placing.take_first.Statement.{statement}
 use Rattle.checker.proofs.placing.take_first.Tie as tie
@@ -32,7 +32,7 @@ returns c =
     let a = c .before .before .before .before .before .before .before .args in
     let q = c .before .before .before .before .before .before .before .pre in
     rw (first-none (q .1) (q .2) (q .3) (a .k) (sym (c .before .first-fits .ensures) ∙ not-true _ (c .if1 .taken)))
-    (sym (take-none (a .cert .now) (membersAt (a .cert .now) (a .variables) (a .starts .now) (a .members)) (a .t .covers) (a .t .at)))
+    (sym (takeAll-none (a .cert .now) (membersAt (a .cert .now) (a .variables) (a .starts .now) (a .members)) (a .t .covers) (a .t .at)))
 
 put-requires : tie.Need-put-requires
 put-requires c κs =

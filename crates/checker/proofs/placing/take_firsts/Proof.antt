@@ -7,7 +7,7 @@ use Rattle.choices.specs.Held.{working}
 use Rattle.choices.specs.Retained.{firstOf}
 use Rattle.choices.proofs.Steps.{no-choices, first-range}
 use Rattle.choices.proofs.Tests.{hope-safe}
-use Rattle.checker.proofs.Taking.{take-none}
+use Rattle.checker.proofs.Taking.{takeAll-none}
 use Rattle.checker.proofs.Trying.{Trying, trying-none, trying-more, trying-stop, trying-all}
 use borrow.Author.Needs.{needs}
 use Rattle.checker.proofs.placing.take_firsts.Statement.{statement}
@@ -38,7 +38,7 @@ returns : tie.Need-returns Inv-loop μ-loop
 returns c =
     let a = c .before .before .before .before .before .before .before .args in
     rw (no-choices 12 (c .before .before .before .before .before .before .before .pre .1) (sym (c .before .is-hopeless .ensures) ∙ c .if1 .taken))
-    (sym (take-none (a .cert .now) (membersAt (a .cert .now) (a .variables) (a .starts .now) (a .members)) (a .from .covers) (a .from .at)))
+    (sym (takeAll-none (a .cert .now) (membersAt (a .cert .now) (a .variables) (a .starts .now) (a .members)) (a .from .covers) (a .from .at)))
 
 tried-choices-requires : tie.Need-tried-choices-requires Inv-loop μ-loop
 tried-choices-requires c κs =

@@ -3,7 +3,7 @@ use native.Mathlib.Omega.{arith}
 use borrow.Author.Tests.{not-true, not-false}
 use Rattle.layout.specs.Entries.{membersAt}
 use Rattle.choices.proofs.Steps.{second-none, second-one}
-use Rattle.checker.proofs.Taking.{take-none}
+use Rattle.checker.proofs.Taking.{takeAll-none}
 use borrow.Author.Needs.{needs}
 use Rattle.checker.proofs.placing.take_second.Statement.{statement}
 use Rattle.checker.proofs.placing.take_second.Tie as tie
@@ -32,7 +32,7 @@ returns c =
     let a = c .before .before .before .before .before .before .before .args in
     rw
     (second-none (c .before .before .before .before .before .before .before .pre .1) (a .k) (sym (c .before .second-fits .ensures) ∙ not-true _ (c .if1 .taken)))
-    (sym (take-none (a .cert .now) (membersAt (a .cert .now) (a .variables) (a .starts .now) (a .members)) (a .t .covers) (a .t .at)))
+    (sym (takeAll-none (a .cert .now) (membersAt (a .cert .now) (a .variables) (a .starts .now) (a .members)) (a .t .covers) (a .t .at)))
 
 make-second-requires : tie.Need-make-second-requires
 make-second-requires c κs =

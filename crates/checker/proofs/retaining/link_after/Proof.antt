@@ -36,7 +36,7 @@ cell-requires c κs = search needs
 returns-2 : tie.Need-returns-2
 returns-2 c =
     let a = c .before .before .before .before .before .args in
-    cell-code (a .n) (c .cell .result) (c .cell .ensures) (omega arith) ∙ link-source (a .n) (a .links .now)
+    cell-code (c .cell .result) (a .n) (c .cell .ensures) (omega arith) ∙ link-source (a .n) (a .links .now)
     (c .before .before .before .before .before .pre .0) (omega arith) (a .k) (omega arith) (omega arith) (a .p .code) (omega arith)
 
 cast-t15 : tie.Need-cast-t15

@@ -1,0 +1,53 @@
+-- One cover as it is read: "A cover is a member number below N and one image for each of its cells, below the number of cells of the covered
+-- shape."
+use mathlib.Core.List.{List}
+use mathlib.Core.Path.{_≡_}
+use Prim.Native.Nat.{ℕ, _+_, _<_}
+use lib.ListN.{getD}
+use Rattle.shape.specs.Shape.{size}
+use Rattle.run.specs.Run.{Located}
+use Rattle.cover.specs.Cover.{holds?}
+use Rattle.format.specs.Certificate.{readCover}
+use Rattle.format.specs.Parser.{Parsed, parsed, fault, many, ranged, require, certificateBuffer}
+use Rattle.verdict.specs.Verdict.{refusalNumber}
+use Rattle.verdict.specs.declared.Reached.{Reached}
+use Rattle.verdict.specs.declared.Reached.the-variants.{At, Refused}
+use Rattle.layout.specs.Entries.{locatedAt, membersAt}
+use Rattle.embedding.specs.Images.{imagesIn, Images}
+use Rattle.checker.specs.declared.covering.CoverRead.{CoverRead}
+use Rattle.checker.specs.declared.covering.CoverRead.the-variants.{Taken, Refused as NotRead}
+
+-- a place reached with images beside, as the answer of a parser
+abbrev pub imagesOf : Reached → List ℕ → Parsed (List ℕ)
+imagesOf (At next) images = parsed images next
+imagesOf (Refused r place) images = fault (refusalNumber r) place
+
+-- so many images below n are read from a place on, into an array
+pub record ImagesRead (cert : List ℕ) (first n count : ℕ) (r : Reached) (codes : List ℕ) : Type 0 where
+  pub reads : imagesOf r (imagesIn count codes) ≡ many count (ranged (certificateBuffer cert) 0 n) first
+  pub images : (next : ℕ) → r ≡ At next → Images count n codes
+
+-- where the reading of a cover ended
+abbrev pub withoutMember : CoverRead → Reached
+withoutMember (Taken m next) = At next
+withoutMember (NotRead r place) = Refused r place
+
+module _ (cert : List ℕ) (variables : ℕ) (starts : List ℕ) where
+  -- member m of the table
+  abbrev pub memberAt : ℕ → Located
+  memberAt m = locatedAt cert variables (getD starts m 0)
+
+  -- how many cells it has
+  abbrev pub cellsAt : ℕ → ℕ
+  cellsAt m = getD cert (getD starts m 0 + 1) 0
+
+  -- what becomes of the cover at a place, once it is read: it is refused, or judged
+  abbrev pub coverOf : ℕ → Located → CoverRead → List ℕ → Parsed (Unit {0})
+  coverOf at covered (Taken m next) codes = require (holds? (memberAt m) (imagesIn (cellsAt m) codes) covered) 9 at next
+  coverOf at covered (NotRead r place) codes = fault (refusalNumber r) place
+
+  pub record CoverIs (members at n : ℕ) (r : CoverRead) (codes : List ℕ) : Type 0 where
+    pub reads : (covered : Located) → size (covered .shape) ≡ n
+        → coverOf at covered r codes ≡ readCover (certificateBuffer cert) (membersAt cert variables starts members) covered at
+    pub member : (m next : ℕ) → r ≡ Taken m next → m < members
+    pub images : (m next : ℕ) → r ≡ Taken m next → Images (cellsAt m) n codes

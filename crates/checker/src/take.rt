@@ -1,0 +1,345 @@
+// Takes the covers in their order: those of the forbidden shapes; then for each member, each transition into its state.
+use crate::going::Going;
+use crate::going::Taken;
+use crate::load::load_shape;
+use crate::one::take_one;
+use crate::placing::take_placed;
+use crate::removal::take_delete;
+use crate::removal::take_new;
+use reader::Header;
+ghost use mathlib.Core.Bool.{true};
+ghost use mathlib.Core.List.{[], _∷_};
+ghost use mathlib.Core.Path.{_≡_};
+ghost use Prim.Native.Nat.{ℕ, _+_, _≤_, _<_};
+ghost use lib.ListN.{length, getD, replicate};
+ghost use Rattle.lists.specs.List.{concatMap};
+ghost use Rattle.heap.specs.Operation.{kindOf};
+ghost use Rattle.backward.specs.Predecessors.{predecessors};
+ghost use Rattle.cover.specs.Cover.{owed};
+ghost use Rattle.checker.specs.Jobs.{toState, fileIn, owedBy};
+ghost use Rattle.checker.specs.Taking.{takeAll, goingOf, Within, located, TakesAll, Takes};
+ghost use Rattle.kinds.specs.Kinds.{allowed};
+ghost use Rattle.layout.specs.Arrays.{shapeIn, Hold};
+ghost use Rattle.layout.specs.Entries.{Entry, locatedAt, entriesAt, EntriesIn, membersAt, Table};
+ghost use Rattle.layout.specs.Transitions.{opOf, transitionAt};
+ghost use Rattle.order.specs.Index.{nextInto, Follows, Linked};
+ghost use Rattle.reader.specs.Job.{JobRead};
+
+// The cover of the forbidden shape at a place of the job.
+fn take_bad(
+    job: &[u8],
+    at: usize,
+    cert: &[u8],
+    starts: &[u16; 512],
+    variables: usize,
+    members: usize,
+    t: Taken,
+) -> Going
+    requires { ⌜ (Entry (now job) variables at) × (Table (now cert) variables (now starts) members) × (Within (now cert) t) ⌝ }
+    ensures { λ r. ⌜ TakesAll (now (cert .entry)) (membersAt (now (cert .entry)) variables (now (starts .entry)) members) (locatedAt (now (job .entry)) variables at ∷ []) t r ⌝ }
+{
+    let mut vars = [0u8; 10];
+    let mut links = [0u8; 14];
+    let n = load_shape(job, at, variables, &mut vars, &mut links);
+    take_one(
+        cert,
+        starts,
+        variables,
+        members,
+        job[at],
+        n as usize,
+        &vars,
+        &links,
+        t,
+    )
+}
+
+// Covers of so many forbidden shapes, from a place of the job on.
+pub(crate) fn take_bads(
+    job: &[u8],
+    first: usize,
+    bads: usize,
+    cert: &[u8],
+    starts: &[u16; 512],
+    variables: usize,
+    members: usize,
+    from: Taken,
+) -> Going
+    requires { ⌜ (EntriesIn (now job) variables first bads) × (Table (now cert) variables (now starts) members) × (Within (now cert) from) ⌝ }
+    ensures { λ r. ⌜ TakesAll (now (cert .entry)) (membersAt (now (cert .entry)) variables (now (starts .entry)) members) (entriesAt (now (job .entry)) variables first bads) from r ⌝ }
+{
+    let mut at = first;
+    let mut t = from;
+    let mut i = 0;
+    while i < bads {
+        let g = take_bad(job, at, cert, starts, variables, members, t);
+        let Going::On(u) = g else {
+            return g;
+        };
+        t = u;
+        at = at + 2 + variables + job[at + 1] as usize;
+        i += 1;
+    }
+    Going::On(t)
+}
+
+// Covers of the predecessors of a shape by one operation.
+fn take_op(
+    cert: &[u8],
+    starts: &[u16; 512],
+    variables: usize,
+    members: usize,
+    state: u8,
+    kind: u8,
+    a: u8,
+    b: u8,
+    n: u8,
+    vars: &[u8; 10],
+    links: &[u8; 14],
+    t: Taken,
+) -> Going
+    requires { ⌜ (Table (now cert) variables (now starts) members) × (Hold variables n (now vars) (now links)) × (n ≤ 12) × (allowed variables kind a b ≡ true) × (Within (now cert) t) ⌝ }
+    ensures { λ r. ⌜ Takes (now (cert .entry)) (membersAt (now (cert .entry)) variables (now (starts .entry)) members) state (predecessors (opOf (kindOf kind) a b) (shapeIn variables n (now (vars .entry)) (now (links .entry)))) t r ⌝ }
+{
+    if kind == 7 {
+        return take_delete(
+            cert,
+            starts,
+            variables,
+            members,
+            state,
+            a,
+            n,
+            vars,
+            links,
+            t,
+        );
+    }
+    if kind == 6 {
+        return take_new(
+            cert,
+            starts,
+            variables,
+            members,
+            state,
+            a,
+            n,
+            vars,
+            links,
+            t,
+        );
+    }
+    take_placed(
+        cert,
+        starts,
+        variables,
+        members,
+        state,
+        kind,
+        a,
+        b,
+        n,
+        vars,
+        links,
+        t,
+    )
+}
+
+// Covers of the predecessors of a shape by the transition at a place of the job.
+fn take_transition(
+    job: &[u8],
+    at: usize,
+    cert: &[u8],
+    starts: &[u16; 512],
+    variables: usize,
+    members: usize,
+    n: u8,
+    vars: &[u8; 10],
+    links: &[u8; 14],
+    t: Taken,
+) -> Going
+    requires { ⌜ (at + 5 ≤ length (now job)) × (allowed variables (getD (now job) (at + 1) 0) (getD (now job) (at + 2) 0) (getD (now job) (at + 3) 0) ≡ true) × (Table (now cert) variables (now starts) members) × (Hold variables n (now vars) (now links)) × (n ≤ 12) × (Within (now cert) t) ⌝ }
+    ensures { λ r. ⌜ Takes (now (cert .entry)) (membersAt (now (cert .entry)) variables (now (starts .entry)) members) (transitionAt (now (job .entry)) at .from) (predecessors (transitionAt (now (job .entry)) at .op) (shapeIn variables n (now (vars .entry)) (now (links .entry)))) t r ⌝ }
+{
+    let state = job[at];
+    let kind = job[at + 1];
+    let a = job[at + 2];
+    let b = job[at + 3];
+    take_op(
+        cert,
+        starts,
+        variables,
+        members,
+        state,
+        kind,
+        a,
+        b,
+        n,
+        vars,
+        links,
+        t,
+    )
+}
+
+// Links the transitions into each state, first to last: `heads[state]` and `nexts[transition]` are one more than a transition's number, 0 for
+// none.
+pub(crate) fn index_transitions(
+    job: &[u8],
+    h: Header,
+    heads: &mut [u16; 64],
+    nexts: &mut [u16; 256],
+)
+    requires { ⌜ (JobRead (now job) h) × (now heads ≡ replicate 64 0) × (now nexts ≡ replicate 256 0) ⌝ }
+    ensures { λ r. ⌜ Linked (toState (now (job .entry)) h) (h .transitions) 0 (now (heads .exit)) (now (nexts .exit)) ⌝ }
+{
+    let mut i = h.transitions;
+    while 0 < i {
+        i -= 1;
+        let to = job[h.transitions_at + 5 * i + 4] as usize;
+        nexts[i] = heads[to];
+        heads[to] = i as u16 + 1;
+    }
+}
+
+// Covers of a shape's predecessors by each transition into its state; `head` is the first of them.
+fn take_transitions(
+    job: &[u8],
+    h: Header,
+    head: u16,
+    nexts: &[u16; 256],
+    cert: &[u8],
+    starts: &[u16; 512],
+    members: usize,
+    state: u8,
+    n: u8,
+    vars: &[u8; 10],
+    links: &[u8; 14],
+    from: Taken,
+) -> Going
+    requires { ⌜ (JobRead (now job) h) × (Follows (toState (now job) h) (h .transitions) 0 (now nexts)) × (head ≡ nextInto (toState (now job) h) state (h .transitions) 0) × (Table (now cert) (h .variables) (now starts) members) × (Hold (h .variables) n (now vars) (now links)) × (n ≤ 12) × (Within (now cert) from) ⌝ }
+    ensures { λ r. ⌜ TakesAll (now (cert .entry)) (membersAt (now (cert .entry)) (h .variables) (now (starts .entry)) members) (owedBy (now (job .entry)) h (located state (shapeIn (h .variables) n (now (vars .entry)) (now (links .entry))))) from r ⌝ }
+{
+    let mut t = from;
+    let mut k = head;
+    while 0 < k {
+        let i = (k - 1) as usize;
+        let at = h.transitions_at + 5 * i;
+        let g = take_transition(
+            job,
+            at,
+            cert,
+            starts,
+            h.variables,
+            members,
+            n,
+            vars,
+            links,
+            t,
+        );
+        let Going::On(u) = g else {
+            return g;
+        };
+        t = u;
+        k = nexts[i];
+    }
+    Going::On(t)
+}
+
+// Covers of the predecessors of member m.
+fn take_member(
+    job: &[u8],
+    h: Header,
+    heads: &[u16; 64],
+    nexts: &[u16; 256],
+    cert: &[u8],
+    starts: &[u16; 512],
+    members: usize,
+    m: usize,
+    t: Taken,
+) -> Going
+    requires { ⌜ (JobRead (now job) h) × (Linked (toState (now job) h) (h .transitions) 0 (now heads) (now nexts)) × (Table (now cert) (h .variables) (now starts) members) × (m < members) × (Within (now cert) t) ⌝ }
+    ensures { λ r. ⌜ TakesAll (now (cert .entry)) (membersAt (now (cert .entry)) (h .variables) (now (starts .entry)) members) (owedBy (now (job .entry)) h (locatedAt (now (cert .entry)) (h .variables) (getD (now (starts .entry)) m 0))) t r ⌝ }
+{
+    let at = starts[m] as usize;
+    let state = cert[at];
+    let head = heads[state as usize];
+    if head == 0 {
+        return Going::On(t);
+    }
+    let mut vars = [0u8; 10];
+    let mut links = [0u8; 14];
+    let n = load_shape(cert, at, h.variables, &mut vars, &mut links);
+    take_transitions(
+        job,
+        h,
+        head,
+        nexts,
+        cert,
+        starts,
+        members,
+        state,
+        n,
+        &vars,
+        &links,
+        t,
+    )
+}
+
+// Covers of the predecessors of every member.
+pub(crate) fn take_members(
+    job: &[u8],
+    h: Header,
+    heads: &[u16; 64],
+    nexts: &[u16; 256],
+    cert: &[u8],
+    starts: &[u16; 512],
+    members: usize,
+    from: Taken,
+) -> Going
+    requires { ⌜ (JobRead (now job) h) × (Linked (toState (now job) h) (h .transitions) 0 (now heads) (now nexts)) × (Table (now cert) (h .variables) (now starts) members) × (Within (now cert) from) ⌝ }
+    ensures { λ r. ⌜ TakesAll (now (cert .entry)) (membersAt (now (cert .entry)) (h .variables) (now (starts .entry)) members) (concatMap (owedBy (now (job .entry)) h) (membersAt (now (cert .entry)) (h .variables) (now (starts .entry)) members)) from r ⌝ }
+{
+    let mut t = from;
+    let mut m = 0;
+    while m < members {
+        let g = take_member(job, h, heads, nexts, cert, starts, members, m, t);
+        let Going::On(u) = g else {
+            return g;
+        };
+        t = u;
+        m += 1;
+    }
+    Going::On(t)
+}
+
+// Covers of all that is owed, from a place of the certificate on.
+pub(crate) fn take_covers(
+    job: &[u8],
+    h: Header,
+    cert: &[u8],
+    starts: &[u16; 512],
+    members: usize,
+    at: usize,
+) -> Going
+    requires { ⌜ (JobRead (now job) h) × (Table (now cert) (h .variables) (now starts) members) × (at ≤ length (now cert)) × (length (now cert) ≤ 65536) ⌝ }
+    ensures { λ r. ⌜ goingOf r ≡ takeAll (now (cert .entry)) (membersAt (now (cert .entry)) (h .variables) (now (starts .entry)) members) (owed (fileIn (now (job .entry)) h .job) (membersAt (now (cert .entry)) (h .variables) (now (starts .entry)) members)) 0 at ⌝ }
+{
+    let mut heads = [0u16; 64];
+    let mut nexts = [0u16; 256];
+    index_transitions(job, h, &mut heads, &mut nexts);
+    let from = Taken { at, covers: 0 };
+    let g = take_bads(
+        job,
+        h.bads_at,
+        h.bads,
+        cert,
+        starts,
+        h.variables,
+        members,
+        from,
+    );
+    let Going::On(t) = g else {
+        return g;
+    };
+    take_members(job, h, &heads, &nexts, cert, starts, members, t)
+}

@@ -1,0 +1,93 @@
+-- The test of the links, cell by cell.
+use mathlib.Core.Bool.{Bool, true, false}
+use mathlib.Core.List.{List}
+use mathlib.Core.Logic.{_≢_}
+use mathlib.Core.Path.{_≡_, sym, ap, _∙_}
+use Prim.Native.Nat.{ℕ, _+_, _-_, _≤_, _<_}
+use native.Mathlib.Numerals.{add-one}
+use native.Mathlib.Omega.{arith}
+use lib.ListN.{getD}
+use Rattle.lists.specs.Test.{allFrom}
+use Rattle.lists.proofs.Reflect.{is-true}
+use Rattle.lists.proofs.Test.{all-passed, all-failed, all-done}
+use Rattle.heap.specs.Place.{nowhere, cell}
+use Rattle.shape.specs.Shape.{Shape, linkAt, size}
+use Rattle.cover.specs.Test.{imageMap, stops, betweenBelow}
+use Rattle.cover.proofs.Embeds.{r-stops}
+use Rattle.embedding.specs.Images.{imagesIn, pathFits}
+use Rattle.embedding.specs.Marks.{Marks, Walking, Followed, Linking}
+use Rattle.embedding.proofs.Images.{images-length, image-at, image-of}
+use Rattle.embedding.proofs.Paths.{path-none, below-none, path-good, path-bad}
+
+module _ (member covered : Shape) (cert : List ℕ) (first count : ℕ) (codes marks₀ links : List ℕ) (l : Linking member covered cert first count codes marks₀ links) where
+  abbrev images : List ℕ
+  images = imagesIn count codes
+
+  abbrev test : ℕ → Bool
+  test = pathFits member covered images
+
+  -- the links of the first i cells fit, and their paths are marked
+  pub record Fitting (marks : List ℕ) (i : ℕ) : Type 0 where
+    pub inside : i ≤ count
+    pub marked : Marks images (betweenBelow member covered images i) marks
+    pub whole : allFrom (count - i) i test ≡ allFrom count 0 test
+
+  pub fit-none : Fitting marks₀ 0
+  fit-none = record { inside = omega arith; marked = l .marked; whole = ap (λ (k : ℕ). allFrom k 0 test) (omega arith) }
+
+  module _ (marks : List ℕ) (i : ℕ) (f : Fitting marks i) where
+    pub fit-all : count ≤ i → true ≡ allFrom count 0 test
+    fit-all b = sym (all-done test count i b) ∙ f .whole
+
+    module _ (b : i < count) (p : ℕ) (e : p ≡ getD cert (first + i) 0) where
+      to : p ≡ linkAt member (cell i)
+      to = e ∙ l .same i b
+
+      pub place-in : p < cell count
+      place-in = omega (arith, to, l .closed i)
+
+      pub fit-skip : (marks′ : List ℕ) → marks′ ≡ marks → p ≡ nowhere → Fitting marks′ (i + 1)
+      fit-skip marks′ y z =
+          let none : linkAt member (cell i) ≡ nowhere = sym to ∙ z in
+          record {
+            inside = omega arith;
+            marked = rw (y, add-one i, below-none member covered images i none) (f .marked);
+            whole = sym (all-passed test count i b (path-none member covered images i none)) ∙ f .whole;
+          }
+
+      module _ (from : ℕ) (s : from ≡ getD codes (i + 3) 0) where
+        start : from ≡ imageMap images (cell i)
+        start = s ∙ sym (image-at count (size covered) codes (l .images) i b)
+
+        pub fit-walk : Walking (covered .links) images (betweenBelow member covered images i) links marks from
+        fit-walk =
+            record {
+              linked = l .linked;
+              marked = f .marked;
+              low = omega (arith, s, l .images .low i b);
+              high = omega (arith, s, l .images .high i b);
+              image =
+                  is-true (stops images from)
+                  (r-stops images from .tests (λ _. (i, omega (arith, images-length count (size covered) codes (l .images)), start)));
+            }
+
+        module _ (n : p ≢ nowhere) (end : ℕ) (t : end ≡ getD codes p 0) (r : ℕ) (marks′ : List ℕ)
+            (w : Followed (covered .links) images (betweenBelow member covered images i) from r marks′) where
+          stop : end ≡ imageMap images (linkAt member (cell i))
+          stop = t ∙ image-of count (size covered) codes (l .images) p place-in ∙ ap (imageMap images) to
+
+          some : linkAt member (cell i) ≢ nowhere
+          some z = n (to ∙ z)
+
+          pub fit-good : r ≡ end → Fitting marks′ (i + 1)
+          fit-good z =
+              let (good, marked) = path-good member covered images i some r marks′ (rw (← start) w) (z ∙ stop) in
+              record {
+                inside = omega arith;
+                marked = rw (add-one i) marked;
+                whole = sym (all-passed test count i b good) ∙ f .whole;
+              }
+
+          pub fit-bad : r ≢ end → false ≡ allFrom count 0 test
+          fit-bad m =
+              sym (all-failed test count i b (path-bad member covered images i some r marks′ (rw (← start) w) (λ z. m (z ∙ sym stop)))) ∙ f .whole

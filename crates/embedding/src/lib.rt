@@ -1,0 +1,1 @@
+// How a cover is tested by marks: definitions and theorems alone.

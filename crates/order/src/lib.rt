@@ -1,0 +1,1 @@
+// The order of covers: definitions and laws, no code.

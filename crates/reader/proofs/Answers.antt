@@ -1,0 +1,88 @@
+-- What the code's answers say of the parsers.
+use mathlib.Core.List.{List, []}
+use mathlib.Core.Option.{none, some}
+use mathlib.Core.Path.{_≡_, refl, sym, ap, _∙_}
+use Prim.Native.Nat.{ℕ, _≤_, _<_}
+use native.Mathlib.Omega.{arith}
+use Rattle.lists.proofs.Reflect.{r-le, r-lt, r-and, cond-true, cond-false}
+use Rattle.number.specs.Number.{numberAt}
+use Rattle.number.specs.declared.Read.the-variants.{Number, Unreadable}
+use Rattle.format.specs.Parser.{Parsed, parsed, fault, Buffer, within, such, meant, readAs, ranged}
+use Rattle.format.proofs.Parsing.{read-complete, read-outside, ranged-exact}
+use Rattle.verdict.specs.Verdict.{refusalNumber, reachedOf}
+use Rattle.verdict.specs.declared.Reached.{Reached}
+use Rattle.verdict.specs.declared.Reached.the-variants.{At, Refused as ReachedRefused}
+use Rattle.verdict.specs.declared.Refusal.{Refusal}
+use Rattle.reader.specs.Job.{refusedFront}
+use Rattle.reader.specs.Number.{bufferOf, rangedOf, forget}
+use Rattle.reader.specs.declared.Front.{Front}
+use Rattle.reader.specs.declared.Ranged.{Ranged}
+use Rattle.reader.specs.declared.Ranged.the-variants.{Value, Refused}
+use Rattle.reader.specs.declared.Side.{Side}
+use Rattle.reader.specs.declared.Side.the-variants.{Job, Certificate}
+
+-- ---- a number that was read, or refused
+
+module _ {r : Ranged} {x : Parsed ℕ} (h : rangedOf r ≡ x) where
+  pub got : {n next : ℕ} → r ≡ Value n next → x ≡ parsed n next
+  got e = sym h ∙ ap rangedOf e
+
+  pub lost : {why : Refusal} {place : ℕ} → r ≡ Refused why place → x ≡ fault (refusalNumber why) place
+  lost e = sym h ∙ ap rangedOf e
+
+  -- the refusal, handed on
+  pub passed : {y : Parsed (Unit {0})} {why : Refusal} {place : ℕ} → y ≡ forget (rangedOf r) → r ≡ Refused why place
+      → y ≡ fault (refusalNumber why) place
+  passed k e = k ∙ ap (λ y. forget (rangedOf y)) e
+
+  pub stopped : {y : Parsed Front} {why : Refusal} {place : ℕ} → y ≡ refusedFront (rangedOf r) → r ≡ Refused why place
+      → y ≡ fault (refusalNumber why) place
+  stopped k e = k ∙ ap (λ y. refusedFront (rangedOf y)) e
+
+-- ---- a place that was reached, or a refusal
+
+module _ {r : Reached} {x : Parsed (Unit {0})} (h : reachedOf r ≡ x) where
+  pub reached-got : {next : ℕ} → r ≡ At next → x ≡ parsed tt next
+  reached-got e = sym h ∙ ap reachedOf e
+
+  pub reached-lost : {why : Refusal} {place : ℕ} → r ≡ ReachedRefused why place → x ≡ fault (refusalNumber why) place
+  reached-lost e = sym h ∙ ap reachedOf e
+
+-- ---- a number in its range
+
+bytes-of : (side : Side) (bytes : List ℕ) → bufferOf side bytes .bytes ≡ bytes
+bytes-of Job bytes = refl
+bytes-of Certificate bytes = refl
+
+outside-of : (side : Side) (bytes : List ℕ) → bufferOf side [] .outside ≡ bufferOf side bytes .outside
+outside-of Job bytes = refl
+outside-of Certificate bytes = refl
+
+unreadable-of : (side : Side) (bytes : List ℕ) → bufferOf side [] .unreadable ≡ bufferOf side bytes .unreadable
+unreadable-of Job bytes = refl
+unreadable-of Certificate bytes = refl
+
+module _ (side : Side) (bytes : List ℕ) (at low limit : ℕ) where
+  pub unread : (k p : ℕ) → k ≡ bufferOf side [] .unreadable → numberAt bytes at ≡ Unreadable p
+      → fault k at ≡ ranged (bufferOf side bytes) low limit at
+  unfolding readAs
+  unread k p e g =
+      ap (λ z. fault z at) (e ∙ unreadable-of side bytes)
+      ∙ sym (ap (meant (bufferOf side bytes) (such (within low limit)) at) (ap (λ l. numberAt l at) (bytes-of side bytes) ∙ g))
+
+  module _ (n next : ℕ) (g : numberAt bytes at ≡ Number n next) where
+    pub outside : (k : ℕ) → k ≡ bufferOf side [] .outside → ((low ≤ n) × (n < limit) → ⊥) → fault k at ≡ ranged (bufferOf side bytes) low limit at
+    outside k e h =
+        ap (λ z. fault z at) (e ∙ outside-of side bytes)
+        ∙ sym
+        (read-outside (bufferOf side bytes) (such (within low limit)) at n next (ap (λ l. numberAt l at) (bytes-of side bytes) ∙ g)
+        (cond-false (within low limit n) (some n) none (λ t. h (r-and (r-le low n) (r-lt n limit) .holds t))))
+
+    pub value : low ≤ n → n < limit → parsed n next ≡ ranged (bufferOf side bytes) low limit at
+    value l h =
+        sym
+        (read-complete (bufferOf side bytes) (such (within low limit)) at n next n (ap (λ l. numberAt l at) (bytes-of side bytes) ∙ g)
+        (cond-true (within low limit n) (some n) none (r-and (r-le low n) (r-lt n limit) .tests (l, h))))
+
+pub in-range : (s : Buffer) (low limit at n next : ℕ) → ranged s low limit at ≡ parsed n next → (low ≤ n) × (n < limit)
+in-range s low limit at n next h = ranged-exact s low limit .sound at n next h .1

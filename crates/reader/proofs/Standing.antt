@@ -1,0 +1,206 @@
+-- Where what was read stands in the buffer.
+use mathlib.Core.Bool.{true}
+use mathlib.Core.List.{List, [], _∷_, _++_, map}
+use mathlib.Core.Option.{some}
+use mathlib.Core.Path.{_≡_, refl, sym, ap, ap₂, subst, _∙_}
+use Prim.Native.Nat.{ℕ, zero, suc, _+_, _*_, _≤_, _<_}
+use native.Mathlib.Decide.{ℕ-discrete}
+use native.Mathlib.Omega.{arith}
+use lib.ListN.{length, getD, take, drop}
+use Rattle.lists.specs.Range.{range}
+use Rattle.lists.proofs.Reflect.{r-le, r-and}
+use Rattle.heap.specs.Operation.{Op, Kind, kindOf}
+use Rattle.shape.specs.Shape.{Shape, size, InRange}
+use Rattle.run.specs.Run.{Transition, Located}
+use Rattle.kinds.specs.Kinds.{mostB, isSome, allowed}
+use Rattle.kinds.proofs.Rows.{known}
+use Rattle.format.specs.Certificate.{Member, readMember}
+use Rattle.format.specs.Job.{readLocated, readTransition}
+use Rattle.format.specs.Parser.{parsed, many, Buffer}
+use Rattle.format.proofs.Files.{InTable, in-table, op-numbers, located-exact, transition-exact}
+use Rattle.format.proofs.Parsing.{then}
+use Rattle.format.proofs.Sequence.{Reads, reads-first, reads-one, reads-split}
+use Rattle.layout.specs.Entries.{locatedAt, Entry, entryEnd, entriesAt, placesAt, EntriesIn}
+use Rattle.layout.specs.Transitions.{opOf, transitionAt}
+use Rattle.reader.specs.Job.{TransitionIn}
+use Rattle.reader.proofs.Bytes.{Single, single, reads-inside, reads-bytes}
+use Rattle.reader.proofs.Transitions.{most-bound}
+
+module _ (s : Buffer) (variables states : ℕ) (few : states ≤ 64) where
+  -- ---- an entry
+
+  pub record EntryRead (at : ℕ) (m : Located) (next : ℕ) : Type 0 where
+    pub same : m ≡ locatedAt (s .bytes) variables at
+    pub after : next ≡ entryEnd (s .bytes) variables at
+    pub entry : Entry (s .bytes) variables at
+
+  located-is : (at n : ℕ) (m : Located) (b c : ℕ) → m .state ≡ getD (s .bytes) at 0 → n ≡ getD (s .bytes) (at + 1) 0 → b ≡ at + 2 → c ≡ at + 2 + variables
+      → m .shape .vars ≡ take variables (drop b (s .bytes)) → m .shape .links ≡ take n (drop c (s .bytes)) → m ≡ locatedAt (s .bytes) variables at
+  located-is at n m b c state-is n-is b-is c-is vars-are links-are =
+      let vars-at : m .shape .vars ≡ take variables (drop (at + 2) (s .bytes)) = rw b-is at vars-are in
+      let links-at : m .shape .links ≡ take (getD (s .bytes) (at + 1) 0) (drop (at + 2 + variables) (s .bytes)) = rw (c-is, n-is) at links-are in
+      λ i. record { state = state-is i; shape = record { vars = vars-at i; links = links-at i } }
+
+  pub entry-read : (at : ℕ) (m : Located) (next : ℕ) → readLocated s variables states at ≡ parsed m next → EntryRead at m next
+  entry-read at m next h =
+      let (r, ok) = located-exact s variables states .sound at m next h in
+      let vars : List ℕ = m .shape .vars in
+      let links : List ℕ = m .shape .links in
+      let (a, g₁, r₁) = reads-first r in
+      let (b, g₂, r₂) = reads-first r₁ in
+      let (c, r₃, r₄) = reads-split vars r₂ in
+      let cells : length links ≤ 12 = ok .shape .cells in
+      let t₁ = single (s .bytes) at (m .state) a g₁ (omega (arith, ok .state)) in
+      let t₂ = single (s .bytes) a (length links) b g₂ (omega arith) in
+      let (vars-are, c-is) = reads-bytes r₃ (λ x i. omega (arith, ok .shape .vars x i)) in
+      let (links-are, next-is) = reads-bytes r₄ (λ x i. omega (arith, ok .shape .links x i)) in
+      let long : length vars ≡ variables = ok .shape .variables-number in
+      let a-is : a ≡ at + 1 = t₁ .after in
+      let n-is : length links ≡ getD (s .bytes) (at + 1) 0 = t₂ .value ∙ ap (λ k. getD (s .bytes) k 0) a-is in
+      let after : next ≡ entryEnd (s .bytes) variables at = omega (arith, t₂ .after) in
+      let same : m ≡ locatedAt (s .bytes) variables at =
+      located-is at (length links) m b c (t₁ .value) n-is (omega (arith, t₂ .after)) (omega (arith, t₂ .after)) (rw long at vars-are) links-are in
+      record {
+        same = same;
+        after = after;
+        entry = record {
+          inside = omega (arith, reads-inside r (omega (arith, t₁ .inside)));
+          cells = omega arith;
+          state = omega (arith, t₁ .value, ok .state);
+          range = subst (λ (k : Located). InRange variables 12 (k .shape)) same (ok .shape);
+        };
+      }
+
+  -- ---- entries, one after the other
+
+  pub record EntriesRead (k at : ℕ) (ms : List Located) (next : ℕ) : Type 0 where
+    pub same : ms ≡ entriesAt (s .bytes) variables at k
+    pub entries : EntriesIn (s .bytes) variables at k
+
+  pub entries-read : (k at : ℕ) (ms : List Located) (next : ℕ) → at ≤ length (s .bytes) → many k (readLocated s variables states) at ≡ parsed ms next
+      → EntriesRead k at ms next
+  unfolding many entriesAt EntriesIn
+  entries-read zero at ms next inside h = let ms-are : [] ≡ ms = cc in record { same = sym ms-are; entries = inside }
+  entries-read (suc k) at ms next inside h =
+      then (readLocated s variables states at) _
+      (λ m mid h₁. then (many k (readLocated s variables states) mid) _
+      (λ rest last h₂ r.
+      let e = entry-read at m mid h₁ in
+      let es = entries-read k mid rest last (omega (arith, e .after, e .entry .inside)) h₂ in
+      let ms-are : m ∷ rest ≡ ms = cc in
+      record {
+        same = sym ms-are ∙ ap₂ _∷_ (e .same) (es .same ∙ ap (λ p. entriesAt (s .bytes) variables p k) (e .after));
+        entries = (e .entry, subst (λ (p : ℕ). EntriesIn (s .bytes) variables p k) (e .after) (es .entries));
+      }))
+      h
+
+  -- ---- members, each with its first place
+
+  pub record MembersAre (k at : ℕ) (ms : List Member) (next : ℕ) : Type 0 where
+    pub located : map (λ m. m .located) ms ≡ map (locatedAt (s .bytes) variables) (placesAt (s .bytes) variables at k)
+    pub places : map (λ m. m .first) ms ≡ placesAt (s .bytes) variables at k
+    pub entries : EntriesIn (s .bytes) variables at k
+
+  pub members-read : (k at : ℕ) (ms : List Member) (next : ℕ) → at ≤ length (s .bytes) → many k (readMember s variables states) at ≡ parsed ms next
+      → MembersAre k at ms next
+  unfolding many readMember placesAt EntriesIn
+  members-read zero at ms next inside h =
+      let ms-are : [] ≡ ms = cc in
+      rw (← ms-are) (record { located = refl; places = refl; entries = inside })
+  members-read (suc k) at ms next inside h =
+      then (readMember s variables states at) _
+      (λ m mid h₀. then (many k (readMember s variables states) mid) _
+      (λ rest last h₂ r. then (readLocated s variables states at) _
+      (λ l p h₁ q.
+      let m-is : record { first = at; located = l } ≡ m = cc in
+      let p-is : p ≡ mid = cc in
+      let e = entry-read at l p h₁ in
+      let after : mid ≡ entryEnd (s .bytes) variables at = sym p-is ∙ e .after in
+      let es = members-read k mid rest last (omega (arith, e .entry .inside)) h₂ in
+      let ms-are : m ∷ rest ≡ ms = cc in
+      rw (← ms-are, ← m-is) (record {
+        located = ap₂ _∷_ (e .same) (es .located ∙ ap (λ p. map (locatedAt (s .bytes) variables) (placesAt (s .bytes) variables p k)) after);
+        places = ap₂ _∷_ refl (es .places ∙ ap (λ p. placesAt (s .bytes) variables p k) after);
+        entries = (e .entry, subst (λ (p : ℕ). EntriesIn (s .bytes) variables p k) after (es .entries));
+      }))
+      h₀))
+      h
+
+  -- ---- transitions
+
+  module _ (some-variables : variables ≤ 8) where
+    pub record TransitionRead (at : ℕ) (t : Transition) (next : ℕ) : Type 0 where
+      pub same : t ≡ transitionAt (s .bytes) at
+      pub after : next ≡ at + 5
+      pub transition : TransitionIn (s .bytes) variables states at
+
+    byte-at : (at k p n next : ℕ) → Single (s .bytes) p n next → p ≡ at + k → n ≡ getD (s .bytes) (at + k) 0
+    byte-at at k p n next t e = t .value ∙ ap (λ q. getD (s .bytes) q 0) e
+
+    pub transition-read : (at : ℕ) (t : Transition) (next : ℕ) → readTransition s variables states at ≡ parsed t next → TransitionRead at t next
+    unfolding allowed mostB
+    transition-read at t next h =
+        let (r, ok) = transition-exact s variables states .sound at t next h in
+        let (kind, a, b, named) = ok .op in
+        let row = in-table variables kind a b (t .op) named in
+        let r′ : Reads (s .bytes) at (t .from ∷ kind ∷ a ∷ b ∷ t .to ∷ []) next =
+        subst (λ (l : List ℕ). Reads (s .bytes) at (t .from ∷ l ++ (t .to ∷ [])) next) (op-numbers variables kind a b (t .op) named) r in
+        let (p₁, g₁, r₁) = reads-first r′ in
+        let (p₂, g₂, r₂) = reads-first r₁ in
+        let (p₃, g₃, r₃) = reads-first r₂ in
+        let (p₄, g₄, r₄) = reads-first r₃ in
+        let g₅ = reads-one r₄ in
+        let allows : allowed variables kind a b ≡ true = ap isSome named in
+        let (low, high) = known variables kind a b allows in
+        let (_, a-most) = r-and (r-le (row .row .least-a) a) (r-le a variables) .holds (row .first) in
+        let (_, b-most) = r-and (r-le (row .row .least-b) b) (r-le b (row .row .most-b variables)) .holds (row .second) in
+        let most : mostB kind variables ≡ row .row .most-b variables = rw (row .found) refl in
+        let t₁ = single (s .bytes) at (t .from) p₁ g₁ (omega (arith, ok .from)) in
+        let t₂ = single (s .bytes) p₁ kind p₂ g₂ (omega arith) in
+        let t₃ = single (s .bytes) p₂ a p₃ g₃ (omega arith) in
+        let t₄ = single (s .bytes) p₃ b p₄ g₄ (omega (arith, most-bound kind variables)) in
+        let t₅ = single (s .bytes) p₄ (t .to) next g₅ (omega (arith, ok .to)) in
+        let kind-is = byte-at at 1 p₁ kind p₂ t₂ (omega (arith, t₁ .after)) in
+        let a-is = byte-at at 2 p₂ a p₃ t₃ (omega (arith, t₁ .after, t₂ .after)) in
+        let b-is = byte-at at 3 p₃ b p₄ t₄ (omega (arith, t₁ .after, t₂ .after, t₃ .after)) in
+        let to-is = byte-at at 4 p₄ (t .to) next t₅ (omega (arith, t₁ .after, t₂ .after, t₃ .after, t₄ .after)) in
+        let op-is : t .op ≡ opOf (kindOf (getD (s .bytes) (at + 1) 0)) (getD (s .bytes) (at + 2) 0) (getD (s .bytes) (at + 3) 0) =
+        sym (row .named) ∙ ap (λ k. opOf k a b) (sym (row .found)) ∙ rw (kind-is, a-is, b-is) refl in
+        record {
+          same = λ i. record { from = t₁ .value i; op = op-is i; to = to-is i };
+          after = omega (arith, t₁ .after, t₂ .after, t₃ .after, t₄ .after, t₅ .after);
+          transition = record {
+            inside = omega (arith, t₁ .after, t₂ .after, t₃ .after, t₄ .after, t₅ .inside);
+            from = omega (arith, t₁ .value, ok .from);
+            kind = (omega arith, omega arith);
+            operands = rw (← kind-is, ← a-is, ← b-is) allows;
+            to = omega (arith, ok .to);
+          };
+        }
+
+    -- transitions, the first of them number j of those that start at `base`
+    pub transitions-read : (base k j at : ℕ) (ts : List Transition) (next : ℕ) → at ≡ base + 5 * j
+        → many k (readTransition s variables states) at ≡ parsed ts next
+        → (ts ≡ map (λ i. transitionAt (s .bytes) (base + 5 * i)) (range j k))
+        × ((i : ℕ) → j ≤ i → i < j + k → TransitionIn (s .bytes) variables states (base + 5 * i))
+    unfolding many
+    transitions-read base zero j at ts next at-is h =
+        let ts-are : [] ≡ ts = cc in
+        (sym ts-are, λ i l b. absurd (omega arith))
+    transitions-read base (suc k) j at ts next at-is h =
+        then (readTransition s variables states at) _
+        (λ t mid h₁. then (many k (readTransition s variables states) mid) _
+        (λ rest last h₂ r.
+        let e = transition-read at t mid h₁ in
+        let (same, each) = transitions-read base k (suc j) mid rest last (omega (arith, e .after)) h₂ in
+        let ts-are : t ∷ rest ≡ ts = cc in (
+          sym ts-are ∙ ap₂ _∷_ (e .same ∙ ap (transitionAt (s .bytes)) at-is) same,
+          λ i l b. by-index i l b (ℕ-discrete j i) (subst (TransitionIn (s .bytes) variables states) at-is (e .transition)) each,
+        )))
+        h
+      where
+        by-index : (i : ℕ) → j ≤ i → i < j + suc k → Dec (j ≡ i) → TransitionIn (s .bytes) variables states (base + 5 * j)
+            → ((i : ℕ) → suc j ≤ i → i < suc j + k → TransitionIn (s .bytes) variables states (base + 5 * i))
+            → TransitionIn (s .bytes) variables states (base + 5 * i)
+        by-index i l b (yes z) first each = subst (λ (n : ℕ). TransitionIn (s .bytes) variables states (base + 5 * n)) z first
+        by-index i l b (no z) first each = each i (omega arith) (omega arith)

@@ -1,0 +1,117 @@
+-- Reading a transition, number after number, by the columns of the table of kinds.
+use mathlib.Core.Bool.{Bool, _&&_}
+use mathlib.Core.Logic.{_⊎_, inl, inr}
+use mathlib.Core.Option.{Option, none, some}
+use mathlib.Core.Path.{_≡_, refl, sym, ap, _∙_}
+use Prim.Native.Nat.{ℕ, _+_, _≤_, _<_}
+use native.Mathlib.Decide.{decLe}
+use native.Mathlib.Omega.{arith}
+use borrow.Author.Tests.{le-leb, lt-leb, lt-ltb, le-ltb}
+use lib.Dec.{leb, ltb}
+use Rattle.lists.proofs.Reflect.{r-le, r-lt, r-and, cond-true}
+use Rattle.number.specs.Number.{numberAt}
+use Rattle.number.specs.declared.Read.the-variants.{Number, Unreadable}
+use Rattle.heap.specs.Operation.{Kind, kindOf, allowsA, allowsB}
+use Rattle.run.specs.Run.{Transition}
+use Rattle.kinds.specs.Kinds.{leastA, leastB, mostB}
+use Rattle.kinds.proofs.Rows.{by-kind, no-kind, most-b-all, most-b-none}
+use Rattle.format.specs.Job.{readTransition}
+use Rattle.format.specs.Parser.{Parsed, parsed, fault, onward, Buffer, within, such, meant, readAs, ranged}
+use Rattle.format.proofs.Parsing.{read-complete, read-outside, read-fault, Faulty, ranged-exact}
+use Rattle.format.proofs.Sequence.{reads-one}
+use Rattle.reader.specs.Number.{forget}
+use Rattle.reader.proofs.Many.{forget-made}
+
+-- ---- a kind
+
+row-of : (k : ℕ) → 1 ≤ k → k < 8 → (row : Kind) × (kindOf k ≡ some row)
+row-of k l h =
+    by-kind (λ k. (row : Kind) × (kindOf k ≡ some row)) (_, refl) (_, refl) (_, refl) (_, refl) (_, refl) (_, refl) (_, refl) k l (omega arith)
+
+module _ (s : Buffer) (at : ℕ) where
+  pub kind-got : (kind next : ℕ) → ranged s 1 8 at ≡ parsed kind next → (row : Kind) × (kindOf kind ≡ some row) × (readAs s kindOf at ≡ parsed row next)
+  kind-got kind next e =
+      let (g, (l, h)) = ranged-exact s 1 8 .sound at kind next e in
+      let (row, r) = row-of kind l h in
+      (row, r, read-complete s kindOf at kind next row (reads-one g) r)
+
+  pub kind-lost : (number place : ℕ) → ranged s 1 8 at ≡ fault number place → readAs s kindOf at ≡ fault number place
+  unfolding readAs
+  kind-lost number place e = by-fault (read-fault s (such (within 1 8)) at number place e)
+    where
+      by-fault : (at ≡ place) × Faulty s (λ n. such (within 1 8) n ≡ none) number at → readAs s kindOf at ≡ fault number place
+      by-fault (z, inl (k, g)) = ap (meant s kindOf at) g ∙ cc
+      by-fault (z, inr (k, (n, next, g, out))) =
+          read-outside s kindOf at n next g
+          (no-kind n (λ l h.
+          let y : some n ≡ none = sym (cond-true (within 1 8 n) (some n) none (r-and (r-le 1 n) (r-lt n 8) .tests (l, omega arith))) ∙ out in
+          let q : _≡_ {A = ℕ} 0 1 = cc in
+          omega arith))
+          ∙ cc
+
+-- ---- an operand
+
+pub most-bound : (kind n : ℕ) → mostB kind n ≤ n
+most-bound kind n = go (decLe 1 kind) (decLe kind 5)
+  where
+    go : Dec (1 ≤ kind) → Dec (kind ≤ 5) → mostB kind n ≤ n
+    go (yes l) (yes h) = omega (arith, most-b-all kind n l h)
+    go (yes l) (no h) = omega (arith, most-b-none kind n (λ p q. h q))
+    go (no l) d = omega (arith, most-b-none kind n (λ p q. l p))
+
+same-test : (a n : ℕ) → leb a n ≡ ltb a (n + 1)
+same-test a n = go (decLe a n)
+  where
+    go : Dec (a ≤ n) → leb a n ≡ ltb a (n + 1)
+    go (yes h) = le-leb a n h ∙ sym (lt-ltb a (n + 1) (omega arith))
+    go (no h) = lt-leb a n (omega arith) ∙ sym (le-ltb a (n + 1) (omega arith))
+
+module _ (s : Buffer) (n kind : ℕ) (row : Kind) (r : kindOf kind ≡ some row) (at : ℕ) where
+  operand : (low most low′ : ℕ) → low′ ≡ low → ranged s low′ (most + 1) at ≡ readAs s (such (λ a. leb low a && leb a most)) at
+  operand low most low′ e = rw e (ap (λ (test : ℕ → Bool). readAs s (such test) at) (λ i a. leb low a && sym (same-test a most) i))
+
+  pub operand-a : ranged s (leastA kind) (n + 1) at ≡ readAs s (such (allowsA n row)) at
+  unfolding leastA
+  operand-a = operand (row .least-a) n (leastA kind) (rw r refl)
+
+  pub operand-b : ranged s (leastB kind) (mostB kind n + 1) at ≡ readAs s (such (allowsB n row)) at
+  unfolding leastB mostB
+  operand-b =
+      let most : mostB kind n ≡ row .most-b n = rw r refl in
+      rw most (operand (row .least-b) (row .most-b n) (leastB kind) (rw r refl))
+
+-- ---- a transition
+
+module _ (s : Buffer) (variables states at : ℕ) where
+  pub lost-from : {number place : ℕ} → ranged s 0 states at ≡ fault number place → fault number place ≡ forget (readTransition s variables states at)
+  unfolding readTransition
+  lost-from e = rw e refl
+
+  module _ {from p₁ : ℕ} (e₁ : ranged s 0 states at ≡ parsed from p₁) where
+    pub lost-kind : {number place : ℕ} → ranged s 1 8 p₁ ≡ fault number place → fault number place ≡ forget (readTransition s variables states at)
+    unfolding readTransition
+    lost-kind {number} {place} e = rw (e₁, kind-lost s p₁ number place e) refl
+
+    module _ {kind p₂ : ℕ} (e₂ : ranged s 1 8 p₁ ≡ parsed kind p₂) where
+      pub lost-a : {number place : ℕ} → ranged s (leastA kind) (variables + 1) p₂ ≡ fault number place
+          → fault number place ≡ forget (readTransition s variables states at)
+      unfolding readTransition
+      lost-a e =
+          let (row, r, k) = kind-got s p₁ kind p₂ e₂ in
+          rw (e₁, k, sym (operand-a s variables kind row r p₂) ∙ e) refl
+
+      module _ {a p₃ : ℕ} (e₃ : ranged s (leastA kind) (variables + 1) p₂ ≡ parsed a p₃) where
+        pub lost-b : {number place : ℕ} → ranged s (leastB kind) (mostB kind variables + 1) p₃ ≡ fault number place
+            → fault number place ≡ forget (readTransition s variables states at)
+        unfolding readTransition
+        lost-b e =
+            let (row, r, k) = kind-got s p₁ kind p₂ e₂ in
+            rw (e₁, k, sym (operand-a s variables kind row r p₂) ∙ e₃, sym (operand-b s variables kind row r p₃) ∙ e) refl
+
+        pub to-last : {b p₄ : ℕ} → ranged s (leastB kind) (mostB kind variables + 1) p₃ ≡ parsed b p₄
+            → forget (ranged s 0 states p₄) ≡ forget (readTransition s variables states at)
+        unfolding readTransition
+        to-last {b} {p₄} e₄ =
+            let (row, r, k) = kind-got s p₁ kind p₂ e₂ in
+            let transition : ℕ → Transition = λ to. record { from = from; op = row .op a b; to = to } in
+            rw (e₁, k, sym (operand-a s variables kind row r p₂) ∙ e₃, sym (operand-b s variables kind row r p₃) ∙ e₄) (forget-made (ranged s 0 states p₄) transition)

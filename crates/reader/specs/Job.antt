@@ -1,0 +1,91 @@
+-- What reading a job answers.
+use mathlib.Core.Bool.{true}
+use mathlib.Core.List.{List, map}
+use mathlib.Core.Path.{_≡_}
+use Prim.Native.Nat.{ℕ, _+_, _*_, _≤_, _<_}
+use lib.ListN.{length, getD}
+use Rattle.lists.specs.Range.{range}
+use Rattle.format.specs.Conditions.{Between}
+use Rattle.format.specs.Job.{JobFile, readLocated, readWholeJob}
+use Rattle.format.specs.Parser.{Parsed, parsed, fault, Parser, _>>=_, _>>_, return, here, many, Buffer, jobBuffer, ranged, end}
+use Rattle.kinds.specs.Kinds.{allowed}
+use Rattle.layout.specs.Entries.{entriesAt, EntriesIn}
+use Rattle.layout.specs.Transitions.{transitionAt}
+use Rattle.verdict.specs.Verdict.{refusalNumber}
+use Rattle.reader.specs.declared.Front.{Front}
+use Rattle.reader.specs.declared.FrontAnswer.{FrontAnswer}
+use Rattle.reader.specs.declared.FrontAnswer.the-variants.{Read as FrontRead, Refused as FrontRefused}
+use Rattle.reader.specs.declared.Header.{Header}
+use Rattle.reader.specs.declared.JobAnswer.{JobAnswer}
+use Rattle.reader.specs.declared.JobAnswer.the-variants.{Read, Refused}
+
+-- the numbers of a job before its transitions, and the place after them
+unfoldable pub readFront : Buffer → Parser Front
+readFront s = do
+  ranged s 1 2
+  variables ← ranged s 1 9
+  states ← ranged s 1 65
+  start ← ranged s 0 states
+  transitions ← ranged s 0 257
+  at ← here
+  return (record { variables = variables; states = states; start = start; transitions = transitions; at = at })
+
+abbrev pub frontOf : FrontAnswer → Parsed Front
+frontOf (FrontRead f) = parsed f (f .at)
+frontOf (FrontRefused r place) = fault (refusalNumber r) place
+
+-- a refusal as it is; it is asked of no number that reads
+abbrev pub refusedFront : Parsed ℕ → Parsed Front
+refusedFront (parsed n next) = fault 4 next
+refusedFront (fault number place) = fault number place
+
+-- the transition at a place is whole and in range
+pub record TransitionIn (bytes : List ℕ) (variables states at : ℕ) : Type 0 where
+  pub inside : at + 5 ≤ length bytes
+  pub from : getD bytes at 0 < states
+  pub kind : Between 1 7 (getD bytes (at + 1) 0)
+  pub operands : allowed variables (getD bytes (at + 1) 0) (getD bytes (at + 2) 0) (getD bytes (at + 3) 0) ≡ true
+  pub to : getD bytes (at + 4) 0 < states
+
+-- the job's bytes are read as a job, and the header says what it is
+pub record JobRead (job : List ℕ) (h : Header) : Type 0 where
+  pub file : JobFile
+  pub read : readWholeJob (jobBuffer job) 0 ≡ parsed file (length job)
+  pub variables-are : file .job .variables ≡ h .variables
+  pub states-are : file .states ≡ h .states
+  pub start-is : file .job .start ≡ h .start
+  pub transitions-are : file .job .transitions ≡ map (λ i. transitionAt job (h .«transitions_at» + 5 * i)) (range 0 (h .transitions))
+  pub forbidden-are : file .job .forbidden ≡ entriesAt job (h .variables) (h .«bads_at») (h .bads)
+  pub variables : Between 1 8 (h .variables)
+  pub states : Between 1 64 (h .states)
+  pub start : h .start < h .states
+  pub transitions-number : h .transitions ≤ 256
+  pub transitions : (i : ℕ) → i < h .transitions → TransitionIn job (h .variables) (h .states) (h .«transitions_at» + 5 * i)
+  pub bads-number : Between 1 64 (h .bads)
+  pub bads : EntriesIn job (h .variables) (h .«bads_at») (h .bads)
+
+-- what follows the transitions: the forbidden shapes, and nothing after them; with the numbers before, it makes a header
+unfoldable pub readRest : List ℕ → Front → Parser Header
+readRest job f = do
+  bads ← ranged (jobBuffer job) 1 65
+  bads-at ← here
+  many bads (readLocated (jobBuffer job) (f .variables) (f .states))
+  end (jobBuffer job)
+  return
+      (record {
+        variables = f .variables;
+        states = f .states;
+        start = f .start;
+        transitions = f .transitions;
+        «transitions_at» = f .at;
+        bads = bads;
+        «bads_at» = bads-at;
+      })
+
+abbrev pub RestAnswered : List ℕ → Front → ℕ → JobAnswer → Type 0
+RestAnswered job f at (Read h) = (next : ℕ) × (readRest job f at ≡ parsed h next)
+RestAnswered job f at (Refused r place) = readRest job f at ≡ fault (refusalNumber r) place
+
+abbrev pub JobAnswered : List ℕ → JobAnswer → Type 0
+JobAnswered job (Read h) = JobRead job h
+JobAnswered job (Refused r place) = readWholeJob (jobBuffer job) 0 ≡ fault (refusalNumber r) place

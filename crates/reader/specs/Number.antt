@@ -1,0 +1,23 @@
+-- The code's answers on single numbers as those of the parsers.
+use mathlib.Core.List.{List}
+use Prim.Native.Nat.{ℕ}
+use Rattle.format.specs.Parser.{Parsed, parsed, fault, Buffer, jobBuffer, certificateBuffer}
+use Rattle.verdict.specs.Verdict.{refusalNumber}
+use Rattle.reader.specs.declared.Ranged.{Ranged}
+use Rattle.reader.specs.declared.Ranged.the-variants.{Value, Refused}
+use Rattle.reader.specs.declared.Side.{Side}
+use Rattle.reader.specs.declared.Side.the-variants.{Job, Certificate}
+
+-- the buffer that is read, with its refusals
+abbrev pub bufferOf : Side → List ℕ → Buffer
+bufferOf Job bytes = jobBuffer bytes
+bufferOf Certificate bytes = certificateBuffer bytes
+
+abbrev pub rangedOf : Ranged → Parsed ℕ
+rangedOf (Value n next) = parsed n next
+rangedOf (Refused r place) = fault (refusalNumber r) place
+
+-- what a parser answers, without the value
+abbrev pub forget : {A : Type 0} → Parsed A → Parsed (Unit {0})
+forget (parsed x next) = parsed tt next
+forget (fault number place) = fault number place

@@ -1,0 +1,371 @@
+// Reads the numbers of a job and of the members of a certificate, each held to its range.
+use kinds::least_a;
+use kinds::least_b;
+use kinds::most_b;
+use number::Read;
+use number::read_number;
+use verdict::Reached;
+use verdict::Refusal;
+ghost use mathlib.Core.List.{[]};
+ghost use mathlib.Core.Path.{_≡_};
+ghost use Prim.Native.Nat.{_≤_};
+ghost use lib.ListN.{length};
+ghost use Rattle.format.specs.Certificate.{readMember};
+ghost use Rattle.format.specs.Job.{readLocated, readTransition};
+ghost use Rattle.format.specs.Parser.{jobBuffer, certificateBuffer, many, ranged};
+ghost use Rattle.verdict.specs.Verdict.{refusalNumber, reachedOf};
+ghost use Rattle.reader.specs.Job.{refusedFront, readFront, frontOf, RestAnswered, JobAnswered};
+ghost use Rattle.reader.specs.Members.{NotedBy, MembersAnswered};
+ghost use Rattle.reader.specs.Number.{bufferOf, rangedOf, forget};
+
+// Which buffer is read: it decides the refusals.
+pub enum Side {
+    Job,
+    Certificate,
+}
+
+// A number in its range and the place after it, or a refusal with its place.
+pub enum Ranged {
+    Value(usize, usize),
+    Refused(Refusal, usize),
+}
+
+// The numbers of a job before its transitions, and the place after them.
+pub struct Front {
+    pub variables: usize,
+    pub states: usize,
+    pub start: usize,
+    pub transitions: usize,
+    pub at: usize,
+}
+
+pub enum FrontAnswer {
+    Read(Front),
+    Refused(Refusal, usize),
+}
+
+// The numbers of a job, and where its transitions and its forbidden shapes start.
+pub struct Header {
+    pub variables: usize,
+    pub states: usize,
+    pub start: usize,
+    pub transitions: usize,
+    pub transitions_at: usize,
+    pub bads: usize,
+    pub bads_at: usize,
+}
+
+pub enum JobAnswer {
+    Read(Header),
+    Refused(Refusal, usize),
+}
+
+// How many members there are and the place after them, or a refusal with its place.
+pub enum MembersAnswer {
+    Members(usize, usize),
+    Refused(Refusal, usize),
+}
+
+fn unreadable(side: Side) -> Refusal
+    ensures { λ r. ⌜ refusalNumber r ≡ bufferOf side [] .unreadable ⌝ }
+{
+    match side {
+        Side::Job => Refusal::JobUnreadable,
+        Side::Certificate => Refusal::CertificateUnreadable,
+    }
+}
+
+fn outside(side: Side) -> Refusal
+    ensures { λ r. ⌜ refusalNumber r ≡ bufferOf side [] .outside ⌝ }
+{
+    match side {
+        Side::Job => Refusal::JobRange,
+        Side::Certificate => Refusal::CertificateRange,
+    }
+}
+
+// The number at a place, from `low` on and below `limit`.
+pub fn read_ranged(side: Side, bytes: &[u8], at: usize, low: usize, limit: usize) -> Ranged
+    ensures { λ r. ⌜ rangedOf r ≡ ranged (bufferOf side (now (bytes .entry))) low limit at ⌝ }
+{
+    let read = read_number(bytes, at);
+    match read {
+        Read::Unreadable(_) => Ranged::Refused(unreadable(side), at),
+        Read::Number(n, next) => {
+            if n < low {
+                return Ranged::Refused(outside(side), at);
+            }
+            if limit <= n {
+                return Ranged::Refused(outside(side), at);
+            }
+            Ranged::Value(n, next)
+        }
+    }
+}
+
+// The place after a number, or the refusal that it ended in.
+fn reached(r: Ranged) -> Reached
+    ensures { λ q. ⌜ reachedOf q ≡ forget (rangedOf r) ⌝ }
+{
+    match r {
+        Ranged::Value(_, next) => Reached::At(next),
+        Ranged::Refused(why, place) => Reached::Refused(why, place),
+    }
+}
+
+// So many numbers below a limit.
+fn read_codes(side: Side, bytes: &[u8], first: usize, count: usize, limit: usize) -> Reached
+    ensures { λ r. ⌜ reachedOf r ≡ forget (many count (ranged (bufferOf side (now (bytes .entry))) 0 limit) first) ⌝ }
+{
+    let mut at = first;
+    let mut i = 0;
+    while i < count {
+        let r = read_ranged(side, bytes, at, 0, limit);
+        let Ranged::Value(_, next) = r else {
+            return reached(r);
+        };
+        at = next;
+        i += 1;
+    }
+    Reached::At(at)
+}
+
+// A state and a shape: state, n, the places of the variables, n links.
+fn read_entry(side: Side, bytes: &[u8], first: usize, variables: usize, states: usize) -> Reached
+    ensures { λ r. ⌜ reachedOf r ≡ forget (readLocated (bufferOf side (now (bytes .entry))) variables states first) ⌝ }
+{
+    let state = read_ranged(side, bytes, first, 0, states);
+    let Ranged::Value(_, n_at) = state else {
+        return reached(state);
+    };
+    let size = read_ranged(side, bytes, n_at, 0, 13);
+    let Ranged::Value(n, vars_at) = size else {
+        return reached(size);
+    };
+    let vars = read_codes(side, bytes, vars_at, variables, 3 + n);
+    let Reached::At(links_at) = vars else {
+        return vars;
+    };
+    read_codes(side, bytes, links_at, n, 3 + n)
+}
+
+// One transition: from, kind, a, b, to.
+fn read_transition(job: &[u8], first: usize, variables: usize, states: usize) -> Reached
+    requires { ⌜ variables ≤ 8 ⌝ }
+    ensures { λ r. ⌜ reachedOf r ≡ forget (readTransition (jobBuffer (now (job .entry))) variables states first) ⌝ }
+{
+    let from = read_ranged(Side::Job, job, first, 0, states);
+    let Ranged::Value(_, kind_at) = from else {
+        return reached(from);
+    };
+    let number = read_ranged(Side::Job, job, kind_at, 1, 8);
+    let Ranged::Value(kind, a_at) = number else {
+        return reached(number);
+    };
+    let a = read_ranged(Side::Job, job, a_at, least_a(kind), variables + 1);
+    let Ranged::Value(_, b_at) = a else {
+        return reached(a);
+    };
+    let most = most_b(kind, variables);
+    let b = read_ranged(Side::Job, job, b_at, least_b(kind), most + 1);
+    let Ranged::Value(_, to_at) = b else {
+        return reached(b);
+    };
+    reached(read_ranged(Side::Job, job, to_at, 0, states))
+}
+
+fn read_transitions(
+    job: &[u8],
+    first: usize,
+    count: usize,
+    variables: usize,
+    states: usize,
+) -> Reached
+    requires { ⌜ variables ≤ 8 ⌝ }
+    ensures { λ r. ⌜ reachedOf r ≡ forget (many count (readTransition (jobBuffer (now (job .entry))) variables states) first) ⌝ }
+{
+    let mut at = first;
+    let mut i = 0;
+    while i < count {
+        let r = read_transition(job, at, variables, states);
+        let Reached::At(next) = r else {
+            return r;
+        };
+        at = next;
+        i += 1;
+    }
+    Reached::At(at)
+}
+
+// The forbidden shapes of a job.
+fn read_forbidden(
+    job: &[u8],
+    first: usize,
+    count: usize,
+    variables: usize,
+    states: usize,
+) -> Reached
+    ensures { λ r. ⌜ reachedOf r ≡ forget (many count (readLocated (jobBuffer (now (job .entry))) variables states) first) ⌝ }
+{
+    let mut at = first;
+    let mut i = 0;
+    while i < count {
+        let r = read_entry(Side::Job, job, at, variables, states);
+        let Reached::At(next) = r else {
+            return r;
+        };
+        at = next;
+        i += 1;
+    }
+    Reached::At(at)
+}
+
+// The refusal of one of a job's first numbers; it is asked of no other answer.
+fn front_refused(r: Ranged) -> FrontAnswer
+    ensures { λ q. ⌜ frontOf q ≡ refusedFront (rangedOf r) ⌝ }
+{
+    match r {
+        Ranged::Refused(why, place) => FrontAnswer::Refused(why, place),
+        Ranged::Value(_, next) => FrontAnswer::Refused(Refusal::JobRange, next),
+    }
+}
+
+// The numbers of a job before its transitions.
+fn read_front(job: &[u8]) -> FrontAnswer
+    ensures { λ r. ⌜ frontOf r ≡ readFront (jobBuffer (now (job .entry))) 0 ⌝ }
+{
+    let version = read_ranged(Side::Job, job, 0, 1, 2);
+    let Ranged::Value(_, variables_at) = version else {
+        return front_refused(version);
+    };
+    let second = read_ranged(Side::Job, job, variables_at, 1, 9);
+    let Ranged::Value(variables, states_at) = second else {
+        return front_refused(second);
+    };
+    let third = read_ranged(Side::Job, job, states_at, 1, 65);
+    let Ranged::Value(states, start_at) = third else {
+        return front_refused(third);
+    };
+    let fourth = read_ranged(Side::Job, job, start_at, 0, states);
+    let Ranged::Value(start, count_at) = fourth else {
+        return front_refused(fourth);
+    };
+    let fifth = read_ranged(Side::Job, job, count_at, 0, 257);
+    let Ranged::Value(transitions, at) = fifth else {
+        return front_refused(fifth);
+    };
+    FrontAnswer::Read(Front {
+        variables,
+        states,
+        start,
+        transitions,
+        at,
+    })
+}
+
+// What stands in a job after its transitions, and nothing behind it.
+fn read_rest(job: &[u8], front: Front, at: usize) -> JobAnswer
+    ensures { λ r. ⌜ RestAnswered (now (job .entry)) front at r ⌝ }
+{
+    let number = read_ranged(Side::Job, job, at, 1, 65);
+    match number {
+        Ranged::Refused(why, place) => JobAnswer::Refused(why, place),
+        Ranged::Value(bads, bads_at) => {
+            let r = read_forbidden(job, bads_at, bads, front.variables, front.states);
+            match r {
+                Reached::Refused(why, place) => JobAnswer::Refused(why, place),
+                Reached::At(end) => {
+                    if end < job.len() {
+                        return JobAnswer::Refused(Refusal::JobLeft, end);
+                    }
+                    JobAnswer::Read(Header {
+                        variables: front.variables,
+                        states: front.states,
+                        start: front.start,
+                        transitions: front.transitions,
+                        transitions_at: front.at,
+                        bads,
+                        bads_at,
+                    })
+                }
+            }
+        }
+    }
+}
+
+// Reads a job whole.
+pub fn read_job(job: &[u8]) -> JobAnswer
+    ensures { λ r. ⌜ JobAnswered (now (job .entry)) r ⌝ }
+{
+    let first = read_front(job);
+    match first {
+        FrontAnswer::Refused(why, place) => JobAnswer::Refused(why, place),
+        FrontAnswer::Read(front) => {
+            let r = read_transitions(
+                job,
+                front.at,
+                front.transitions,
+                front.variables,
+                front.states,
+            );
+            match r {
+                Reached::Refused(why, place) => JobAnswer::Refused(why, place),
+                Reached::At(at) => read_rest(job, front, at),
+            }
+        }
+    }
+}
+
+// The members of a certificate; the place where each starts goes to the table.
+fn note_members(
+    cert: &[u8],
+    first: usize,
+    count: usize,
+    variables: usize,
+    states: usize,
+    starts: &mut [u16],
+) -> Reached
+    requires { ⌜ count ≤ length (now starts) ⌝ }
+    ensures { λ r. ⌜ (reachedOf r ≡ forget (many count (readMember (certificateBuffer (now (cert .entry))) variables states) first)) × NotedBy (now (cert .entry)) variables states first count (now (starts .entry)) (now (starts .exit)) r ⌝ }
+{
+    let mut at = first;
+    let mut i = 0;
+    while i < count {
+        // every place of a certificate of up to 65,536 bytes fits
+        starts[i] = (at % 65536) as u16;
+        let r = read_entry(Side::Certificate, cert, at, variables, states);
+        let Reached::At(next) = r else {
+            return r;
+        };
+        at = next;
+        i += 1;
+    }
+    Reached::At(at)
+}
+
+// Reads the members of a certificate.
+pub fn read_members(
+    cert: &[u8],
+    variables: usize,
+    states: usize,
+    starts: &mut [u16; 512],
+) -> MembersAnswer
+    ensures { λ r. ⌜ MembersAnswered (now (cert .entry)) variables states (now (starts .entry)) (now (starts .exit)) r ⌝ }
+{
+    let version = read_ranged(Side::Certificate, cert, 0, 1, 2);
+    let at = match version {
+        Ranged::Refused(why, place) => return MembersAnswer::Refused(why, place),
+        Ranged::Value(_, next) => next,
+    };
+    let number = read_ranged(Side::Certificate, cert, at, 1, 513);
+    match number {
+        Ranged::Refused(why, place) => MembersAnswer::Refused(why, place),
+        Ranged::Value(count, first) => {
+            let r = note_members(cert, first, count, variables, states, starts);
+            match r {
+                Reached::Refused(why, place) => MembersAnswer::Refused(why, place),
+                Reached::At(next) => MembersAnswer::Members(count, next),
+            }
+        }
+    }
+}

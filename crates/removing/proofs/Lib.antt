@@ -1,0 +1,4 @@
+pub mod Loops
+pub mod New
+pub mod Arrays
+pub mod Free
