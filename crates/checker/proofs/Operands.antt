@@ -3,17 +3,17 @@ use mathlib.Core.Bool.{true}
 use mathlib.Core.List.{List}
 use mathlib.Core.Logic.{_≢_}
 use mathlib.Core.Path.{_≡_, refl, sym, ap, _∙_}
-use Prim.Native.Nat.{ℕ, suc, _≤_, _<_}
+use Prim.Native.Nat.{ℕ, suc, _≤_}
 use native.Mathlib.Decide.{ℕ-discrete}
 use native.Mathlib.Numerals.{add-one}
 use native.Mathlib.Omega.{arith}
 use Rattle.heap.specs.Operation.{kindOf}
-use Rattle.backward.specs.Predecessors.{predecessors, addHelper}
+use Rattle.backward.specs.Predecessors.{predecessors}
 use Rattle.kinds.specs.Kinds.{allowed}
 use Rattle.kinds.proofs.Rows.{by-kind, known, row-of}
 use Rattle.layout.specs.Arrays.{shapeIn, Hold}
 use Rattle.layout.specs.Transitions.{opOf}
-use Rattle.choices.specs.Held.{working, Operands, Working}
+use Rattle.choices.specs.Held.{working, Working}
 use Rattle.choices.specs.Retained.{firsts}
 use Rattle.choices.proofs.Arrays.{vars-in, hold-helper, with-helper}
 use Rattle.choices.proofs.Operations.{by-two, by-one}

@@ -8,8 +8,7 @@ use Rattle.lists.specs.List.{concatMap}
 use Rattle.lists.specs.Range.{range}
 use Rattle.shape.specs.Shape.{Shape}
 use Rattle.run.specs.Run.{Located}
-use Rattle.format.specs.Parser.{fault, onward}
-use Rattle.verdict.specs.Verdict.{refusalNumber}
+use Rattle.format.specs.Parser.{onward}
 use Rattle.verdict.specs.declared.Refusal.{Refusal}
 use Rattle.checker.specs.Taking.{takeAll, goingOf, Within, StaysWithin, located}
 use Rattle.checker.specs.declared.going.Going.{Going}
@@ -29,50 +28,50 @@ stays cert ms os t w (On u) e =
     record { counted = p; inside = q; fits = w .fits }
 stays cert ms os t w (Refused r place) e = tt
 
-module _ (cert : List ℕ) (ms : List Located) (state : ℕ) (f : ℕ → List Shape) where
-  -- the covers of choices from k to before `to`
-  abbrev pub rest : ℕ → ℕ → List Located
-  rest k to = map (located state) (concatMap f (range k (to - k)))
+-- what the choices from k to before `to` give
+abbrev rest : ℕ → (ℕ → List Shape) → ℕ → ℕ → List Located
+rest state f k to = map (located state) (concatMap f (range k (to - k)))
 
-  -- what is left at choice k, with t reached, is as much as all from the start
-  pub record Trying (from to : ℕ) (t₀ : Taken) (k : ℕ) (t : Taken) : Type 0 where
-    pub within : Within cert t
-    pub left : takeAll cert ms (rest k to) (t .covers) (t .at) ≡ takeAll cert ms (rest from to) (t₀ .covers) (t₀ .at)
+-- what is left at choice k, with t reached, is as much as all from the start
+pub record Trying (cert : List ℕ) (ms : List Located) (state : ℕ) (f : ℕ → List Shape) (from to : ℕ) (t₀ : Taken) (k : ℕ) (t : Taken) : Type 0 where
+  pub within : Within cert t
+  pub left : takeAll cert ms (rest state f k to) (t .covers) (t .at) ≡ takeAll cert ms (rest state f from to) (t₀ .covers) (t₀ .at)
 
-  pub trying-none : (from to : ℕ) (t : Taken) → Within cert t → Trying from to t from t
-  trying-none from to t w = record { within = w; left = refl }
+module _ {cert : List ℕ} {ms : List Located} {state : ℕ} {f : ℕ → List Shape} {from to : ℕ} where
+  pub trying-none : {t : Taken} → Within cert t → Trying cert ms state f from to t from t
+  trying-none w = record { within = w; left = refl }
 
-  module _ (from to : ℕ) (t₀ : Taken) (k : ℕ) (t : Taken) (now : Trying from to t₀ k t) where
-    next : k < to → rest k to ≡ map (located state) (f k) ++ rest (k + 1) to
+  module _ {t₀ : Taken} {k : ℕ} {t : Taken} (now : Trying cert ms state f from to t₀ k t) where
+    next : k < to → rest state f k to ≡ map (located state) (f k) ++ rest state f (k + 1) to
     next h =
         let one-less : to - k ≡ suc (to - suc k) = omega arith in
         rw (one-less, add-one k) (map-append (located state) (f k) (concatMap f (range (suc k) (to - suc k))))
 
-    onto : k < to → onward (takeAll cert ms (map (located state) (f k)) (t .covers) (t .at)) (takeAll cert ms (rest (k + 1) to))
-        ≡ takeAll cert ms (rest from to) (t₀ .covers) (t₀ .at)
+    onto : k < to → onward (takeAll cert ms (map (located state) (f k)) (t .covers) (t .at)) (takeAll cert ms (rest state f (k + 1) to))
+        ≡ takeAll cert ms (rest state f from to) (t₀ .covers) (t₀ .at)
     onto h =
-        sym (takeAll-append cert ms (map (located state) (f k)) (rest (k + 1) to) (t .covers) (t .at))
+        sym (takeAll-append cert ms (map (located state) (f k)) (rest state f (k + 1) to) (t .covers) (t .at))
         ∙ ap (λ os. takeAll cert ms os (t .covers) (t .at)) (sym (next h))
         ∙ now .left
 
-    module _ (inside : k < to) (g : Going) (taken : goingOf g ≡ takeAll cert ms (map (located state) (f k)) (t .covers) (t .at)) where
-      pub trying-more : (u : Taken) → g ≡ On u → Trying from to t₀ (k + 1) u
-      trying-more u g-is =
+    module _ (inside : k < to) {g : Going} (taken : goingOf g ≡ takeAll cert ms (map (located state) (f k)) (t .covers) (t .at)) where
+      pub trying-more : {u : Taken} → g ≡ On u → Trying cert ms state f from to t₀ (k + 1) u
+      trying-more {u} g-is =
           let e : goingOf (On u) ≡ takeAll cert ms (map (located state) (f k)) (t .covers) (t .at) = rw g-is at taken in
           record {
             within = stays cert ms (map (located state) (f k)) t (now .within) (On u) e;
-            left = ap (λ p. onward p (takeAll cert ms (rest (k + 1) to))) e ∙ onto inside;
+            left = ap (λ p. onward p (takeAll cert ms (rest state f (k + 1) to))) e ∙ onto inside;
           }
 
-      pub trying-stop : (r : Refusal) (place : ℕ) → g ≡ Refused r place → (all : List Shape) → concatMap f (range from (to - from)) ≡ all
+      pub trying-stop : {r : Refusal} {place : ℕ} → g ≡ Refused r place → {all : List Shape} → concatMap f (range from (to - from)) ≡ all
           → goingOf g ≡ takeAll cert ms (map (located state) all) (t₀ .covers) (t₀ .at)
-      trying-stop r place g-is all all-is =
+      trying-stop {r} {place} g-is {all} all-is =
           let e : goingOf (Refused r place) ≡ takeAll cert ms (map (located state) (f k)) (t .covers) (t .at) = rw g-is at taken in
-          rw (← all-is) (rw g-is (ap (λ p. onward p (takeAll cert ms (rest (k + 1) to))) e ∙ onto inside))
+          rw (← all-is) (rw g-is (ap (λ p. onward p (takeAll cert ms (rest state f (k + 1) to))) e ∙ onto inside))
 
-    pub trying-all : to ≤ k → (all : List Shape) → concatMap f (range from (to - from)) ≡ all
+    pub trying-all : to ≤ k → {all : List Shape} → concatMap f (range from (to - from)) ≡ all
         → goingOf (On t) ≡ takeAll cert ms (map (located state) all) (t₀ .covers) (t₀ .at)
-    trying-all h all all-is =
+    trying-all h {all} all-is =
         let none : to - k ≡ 0 = omega arith in
         rw (← all-is)
         (sym (takeAll-none cert ms (t .covers) (t .at))

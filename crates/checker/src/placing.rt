@@ -61,7 +61,14 @@ pub(crate) fn undo(variables: usize, op: Op, vars: &mut [u8; 10], links: &mut [u
 }
 
 // The predecessor of choice k of b, which is retained, in place. Its number of cells.
-pub(crate) fn make_second(variables: usize, op: Op, n: u8, vars: &mut [u8; 10], links: &mut [u8; 14], k: u8) -> u8
+pub(crate) fn make_second(
+    variables: usize,
+    op: Op,
+    n: u8,
+    vars: &mut [u8; 10],
+    links: &mut [u8; 14],
+    k: u8,
+) -> u8
     requires { ⌜ (Placed variables (op .kind) (op .a) (op .b) n (now vars) (now links)) × (k < n + (2 + n)) × (secondFits (op .kind) (getD (now vars) (op .a) 0) (getD (now vars) (op .b) 0) (take n (now links)) k ≡ true) ⌝ }
     ensures { λ r. ⌜ Held variables r (now (vars .exit)) (now (links .exit)) (changed variables (op .kind) (op .a) (op .b) (putBy (op .b) (shapeIn (working variables (op .b)) n (now (vars .entry)) (now (links .entry))) k)) ⌝ }
 {
@@ -97,7 +104,17 @@ pub(crate) fn take_second(
     let mut v = *vars;
     let mut l = *links;
     let m = make_second(variables, op, n, &mut v, &mut l, k);
-    take_one(cert, starts, variables, members, state, m as usize, &v, &l, t)
+    take_one(
+        cert,
+        starts,
+        variables,
+        members,
+        state,
+        m as usize,
+        &v,
+        &l,
+        t,
+    )
 }
 
 // Covers of the predecessors that share a first choice: a is placed.
@@ -124,7 +141,19 @@ pub(crate) fn take_seconds(
     let mut t = from;
     let mut k = c.from;
     while k < c.to {
-        let g = take_second(cert, starts, variables, members, state, op, n, vars, links, k, t);
+        let g = take_second(
+            cert,
+            starts,
+            variables,
+            members,
+            state,
+            op,
+            n,
+            vars,
+            links,
+            k,
+            t,
+        );
         let Going::On(u) = g else {
             return g;
         };
@@ -191,7 +220,19 @@ pub(crate) fn take_firsts(
     let mut t = from;
     let mut k = c.from;
     while k < c.to {
-        let g = take_first(cert, starts, variables, members, state, op, n, vars, links, k, t);
+        let g = take_first(
+            cert,
+            starts,
+            variables,
+            members,
+            state,
+            op,
+            n,
+            vars,
+            links,
+            k,
+            t,
+        );
         let Going::On(u) = g else {
             return g;
         };
@@ -237,5 +278,16 @@ pub(crate) fn take_placed(
     ensures { λ r. ⌜ (goingOf r ≡ takeAll (now (cert .entry)) (membersAt (now (cert .entry)) variables (now (starts .entry)) members) (map (located state) (predecessors (opOf (kindOf kind) a b) (shapeIn variables n (now (vars .entry)) (now (links .entry))))) (t .covers) (t .at)) × (StaysWithin (now (cert .entry)) r) ⌝ }
 {
     let op = placed_op(variables, kind, a, b);
-    take_firsts(cert, starts, variables, members, state, op, n, vars, links, t)
+    take_firsts(
+        cert,
+        starts,
+        variables,
+        members,
+        state,
+        op,
+        n,
+        vars,
+        links,
+        t,
+    )
 }

@@ -1,20 +1,15 @@
 -- Shapes in arrays: what is read from them, and what a store changes.
-use mathlib.Core.Bool.{Bool, true, false, not, _||_, cond}
 use mathlib.Core.List.{List, [], _∷_, _++_}
-use mathlib.Core.Logic.{_≢_}
-use mathlib.Core.Path.{_≡_, refl, sym, ap, ap₂, _∙_}
+use mathlib.Core.Path.{_≡_, sym, ap, _∙_}
 use Prim.Native.Nat.{ℕ, zero, suc, _+_, _-_, _≤_, _<_}
 use native.Mathlib.Decide.{ℕ-discrete, decLt}
 use native.Mathlib.Omega.{arith}
-use borrow.Author.Tests.{lt-ltb, le-ltb, le-leb, lt-leb, eq-eqb, ne-eqb}
-use lib.Dec.{eqb, ltb}
 use lib.ListN.{length, getD, set, take, drop, length-set, length-take, length-drop, List·getD-eq-default}
-use lib.Seq.{length-take-le, getD-take, getD-drop, getD-set-same, getD-set-other, getD-at, take-set-le, take-set-lt, set-out, drop-set-add, take-suc, take-suc-set, set-append-left}
-use Rattle.heap.specs.Codes.{linkIn}
+use lib.Seq.{length-take-le, getD-take, getD-drop, getD-set-same, getD-set-other, take-set-le, take-set-lt, set-out, drop-set-add, take-suc}
 use Rattle.heap.specs.Place.{nowhere, cell}
 use Rattle.shape.specs.Placing.{setVar}
-use Rattle.shape.specs.Shape.{Shape, varAt, size}
-use Rattle.backward.specs.Predecessors.{setLink, addHelper, dropHelper}
+use Rattle.shape.specs.Shape.{varAt, size}
+use Rattle.backward.specs.Predecessors.{setLink, addHelper}
 use Rattle.layout.specs.Arrays.{shapeIn, Hold}
 
 pub take-set : (n : ℕ) (l : List ℕ) (i p : ℕ) → take n (set l i p) ≡ set (take n l) i p
@@ -40,9 +35,6 @@ shape-link w n vars links (suc (suc (suc i))) p h =
     rw i-is (ap (λ (l : List ℕ). record { vars = take w (drop 1 vars); links = l }) (take-set n links i p))
 
 module _ (w n : ℕ) (vars links : List ℕ) (h : Hold w n vars links) where
-  abbrev shape : Shape
-  shape = shapeIn w n vars links
-
   pub size-in : size (shapeIn w n vars links) ≡ n
   size-in = length-take-le n links (omega (arith, h .room, h .cells-fit))
 

@@ -1,26 +1,26 @@
 -- What each choice gives, and the predecessors of kinds 1 to 5 by choices.
-use mathlib.Core.Bool.{Bool, true, false, not, _&&_, _||_, cond}
-use mathlib.Core.List.{List, [], _∷_, _++_, append-nil, List·Memᴰ·not-nil, List·Memᴰ·eq-of-singleton}
-use mathlib.Core.Logic.{_≢_, _⊎_, inl, inr}
-use mathlib.Core.Path.{_≡_, refl, sym, ap, ap₂, _∙_}
+use mathlib.Core.Bool.{Bool, true, false, _&&_, cond}
+use mathlib.Core.List.{List, [], _∷_, append-nil, List·Memᴰ·not-nil, List·Memᴰ·eq-of-singleton}
+use mathlib.Core.Logic.{_≢_}
+use mathlib.Core.Path.{_≡_, refl, sym, ap, _∙_}
 use Prim.Native.Nat.{ℕ, zero, suc, _+_, _-_, _≤_, _<_}
 use native.Mathlib.Decide.{ℕ-discrete, decLt}
 use native.Mathlib.Omega.{arith}
 use borrow.Author.Tests.{lt-ltb, le-ltb, le-leb, lt-leb, eq-eqb, ne-eqb}
-use lib.Dec.{eqb, ltb, leb}
+use lib.Dec.{eqb, ltb}
 use lib.ListN.{length}
 use Rattle.lists.specs.List.{_∈_, concatMap, keep}
 use Rattle.lists.specs.Range.{range}
 use Rattle.lists.proofs.List.{keep-mem, concatMap-mem}
 use Rattle.heap.specs.Place.{nowhere, null, dangling, cell}
-use Rattle.shape.specs.Placing.{setVarIn, place, placedFrom, placeBoth}
+use Rattle.shape.specs.Placing.{place, placedFrom, placeBoth}
 use Rattle.shape.specs.Shape.{Shape, varAt, size}
 use Rattle.shape.proofs.Laws.{var-set-same, var-set-other}
 use Rattle.shape.proofs.PlacingByNumber.{choice, choicesFrom, choiceFrom, place-by-number}
 use Rattle.backward.specs.Predecessors.{retain}
 use Rattle.choices.specs.Choice.{chosen, choiceOf, exists, opened, made, put}
 use Rattle.choices.specs.Retained.{retained, tested, changed, seconds, firsts, secondFits, secondOf, placedFits, firstFits, firstOf}
-use Rattle.choices.proofs.Lists.{concatMap-none, concatMap-one, concatMap-same, concatMap-concatMap, concatMap-stretch}
+use Rattle.choices.proofs.Lists.{concatMap-none, concatMap-same, concatMap-concatMap}
 
 pub choice-made : (v : ℕ) (s : Shape) (k : ℕ) → choice v s k ≡ keep (exists (s .links) k) (made v s k)
 unfolding exists made chosen opened

@@ -1,12 +1,11 @@
 -- Lists of which parts are empty.
-use mathlib.Core.Bool.{Bool, true, false}
-use mathlib.Core.List.{List, [], _∷_, _++_, append-assoc, append-nil, List·Memᴰ·head, List·Memᴰ·tail}
+use mathlib.Core.List.{List, [], _∷_, _++_, append-nil, List·Memᴰ·head, List·Memᴰ·tail}
 use mathlib.Core.Logic.{_⊎_, inl, inr}
 use mathlib.Core.Path.{_≡_, refl, sym, ap, ap₂, _∙_}
-use Prim.Native.Nat.{ℕ, zero, suc, _+_, _-_, _≤_, _<_}
+use Prim.Native.Nat.{ℕ, _+_, _-_, _≤_, _<_}
 use native.Mathlib.Nat.{zero-add}
 use native.Mathlib.Omega.{arith}
-use Rattle.lists.specs.List.{_∈_, concatMap, keep}
+use Rattle.lists.specs.List.{_∈_, concatMap}
 use Rattle.lists.specs.Range.{range}
 use Rattle.lists.proofs.List.{range-append, range-mem, concatMap-append}
 
@@ -14,9 +13,6 @@ module _ {A B : Type 0} (f : A → List B) where
   pub concatMap-none : (l : List A) → ((x : A) → x ∈ l → f x ≡ []) → concatMap f l ≡ []
   concatMap-none [] h = refl
   concatMap-none (x ∷ xs) h = ap₂ _++_ (h x (List·Memᴰ·head refl)) (concatMap-none xs (λ y m. h y (List·Memᴰ·tail m)))
-
-  pub concatMap-one : (x : A) → concatMap f (x ∷ []) ≡ f x
-  concatMap-one x = append-nil (f x)
 
   pub concatMap-same : (g : A → List B) (l : List A) → ((x : A) → x ∈ l → f x ≡ g x) → concatMap f l ≡ concatMap g l
   concatMap-same g [] h = refl

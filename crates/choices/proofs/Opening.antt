@@ -1,14 +1,14 @@
 -- A choice in an array of links: whether it is there, opening its cell, and the links after that.
-use mathlib.Core.Bool.{Bool, true, false, not, _||_, cond}
+use mathlib.Core.Bool.{true, not}
 use mathlib.Core.List.{List, [], _∷_, _++_}
 use mathlib.Core.Logic.{_≢_}
-use mathlib.Core.Path.{_≡_, refl, sym, ap, ap₂, _∙_}
+use mathlib.Core.Path.{_≡_, refl, sym, ap, _∙_}
 use Prim.Native.Nat.{ℕ, zero, suc, _+_, _-_, _≤_, _<_}
 use native.Mathlib.Decide.{ℕ-discrete, decLt}
 use native.Mathlib.Omega.{arith}
 use borrow.Author.Tests.{lt-ltb, le-ltb, le-leb, lt-leb, eq-eqb, ne-eqb}
 use lib.Dec.{eqb}
-use lib.ListN.{length, getD, set, take, length-set, length-append, List·getD-eq-default, List·getD-append}
+use lib.ListN.{length, getD, set, take, length-set, List·getD-eq-default, List·getD-append}
 use lib.Seq.{length-take-le, getD-take, getD-set-same, getD-set-other, getD-at, take-set-lt, take-suc-set, set-append-left}
 use Rattle.heap.specs.Codes.{linkIn}
 use Rattle.heap.specs.Place.{nowhere, null, cell}

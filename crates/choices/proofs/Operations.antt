@@ -1,14 +1,13 @@
 -- The predecessors under each of kinds 1 to 5 are what is retained of two placings.
-use mathlib.Core.Bool.{Bool, true, false, cond}
+use mathlib.Core.Bool.{Bool, true, false}
 use mathlib.Core.List.{List, [], _∷_, _++_, map}
 use mathlib.Core.Logic.{_≢_}
-use mathlib.Core.Path.{_≡_, refl, sym, ap, ap₂, _∙_}
-use Prim.Native.Nat.{ℕ, zero, suc, _≤_, _<_}
+use mathlib.Core.Path.{_≡_, refl, ap}
+use Prim.Native.Nat.{ℕ, suc, _≤_}
 use native.Mathlib.Omega.{arith}
 use borrow.Author.Tests.{lt-ltb, le-ltb, eq-eqb, ne-eqb}
-use lib.Dec.{eqb, ltb}
 use lib.ListN.{length}
-use Rattle.lists.specs.List.{concatMap, keep}
+use Rattle.lists.specs.List.{keep}
 use Rattle.heap.specs.Operation.{kindOf}
 use Rattle.heap.specs.Place.{nowhere}
 use Rattle.kinds.proofs.Rows.{by-kind}
@@ -42,6 +41,6 @@ map-retain f test change (s ∷ l) = go (test s) (map-retain f test change l)
 pub by-one : (variables a : ℕ) (s : Shape) → length (s .vars) ≡ variables
     → predecessors (opOf (kindOf 4) a a) s ≡ firsts variables 4 a (suc variables) (addHelper s)
 unfolding tested retained changed linkOpen
-by-one variables a s e = rw e (simp (eq-eqb a a refl, lt-ltb variables (suc variables) (omega arith)) 
+by-one variables a s e = rw e (simp (eq-eqb a a refl, lt-ltb variables (suc variables) (omega arith))
     (map-retain (dropHelper a variables) (λ t. linkFits (varAt t (suc variables)) (varAt t a) t)
     (λ t. setVar a nowhere (setLink (varAt t (suc variables)) (varAt t a) t)) (placeBoth a (suc variables) (addHelper s))))

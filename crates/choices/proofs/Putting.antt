@@ -1,14 +1,13 @@
 -- A variable is placed in arrays.
-use mathlib.Core.Bool.{Bool, true, false, cond}
-use mathlib.Core.List.{List, []}
+use mathlib.Core.List.{List}
 use mathlib.Core.Logic.{_≢_}
 use mathlib.Core.Path.{_≡_, refl, sym, ap, _∙_}
-use Prim.Native.Nat.{ℕ, zero, suc, _≤_, _<_}
+use Prim.Native.Nat.{ℕ, _≤_, _<_}
 use native.Mathlib.Decide.{ℕ-discrete}
 use native.Mathlib.Omega.{arith}
 use borrow.Author.Tests.{eq-eqb, ne-eqb}
 use lib.ListN.{length, getD, set, take, drop}
-use Rattle.heap.specs.Place.{nowhere, null, cell}
+use Rattle.heap.specs.Place.{nowhere, cell}
 use Rattle.shape.specs.Placing.{setVarIn, setVar}
 use Rattle.shape.specs.Shape.{Shape, varAt, size}
 use Rattle.layout.specs.Arrays.{shapeIn, Hold}

@@ -1,21 +1,21 @@
 -- One choice of b, and one of a, in arrays.
-use mathlib.Core.Bool.{Bool, true, false, _&&_, cond}
+use mathlib.Core.Bool.{true, false, _&&_}
 use mathlib.Core.List.{List, [], _∷_}
 use mathlib.Core.Logic.{_≢_}
 use mathlib.Core.Path.{_≡_, refl, sym, ap, _∙_}
-use Prim.Native.Nat.{ℕ, zero, suc, _+_, _-_, _≤_, _<_}
+use Prim.Native.Nat.{ℕ, suc, _-_, _≤_, _<_}
 use native.Mathlib.Decide.{ℕ-discrete}
 use native.Mathlib.Omega.{arith}
 use borrow.Author.Tests.{eq-eqb, ne-eqb}
 use lib.ListN.{length, getD, take}
-use Rattle.lists.specs.List.{concatMap, keep}
+use Rattle.lists.specs.List.{concatMap}
 use Rattle.lists.specs.Range.{range}
 use Rattle.lists.proofs.Test.{and-right}
 use Rattle.heap.specs.Place.{nowhere, dangling, cell}
 use Rattle.shape.specs.Shape.{Shape, varAt, size}
-use Rattle.layout.specs.Arrays.{shapeIn, Hold}
+use Rattle.layout.specs.Arrays.{shapeIn}
 use Rattle.choices.specs.Choice.{chosen, exists, opened, put, firstTried, pastTried}
-use Rattle.choices.specs.Held.{Held, Puts, working, Operands, At, Working, Placed, Undoable, Undoes}
+use Rattle.choices.specs.Held.{Held, Puts, working, At, Working, Placed, Undoable, Undoes}
 use Rattle.choices.specs.Retained.{retained, changed, seconds, firsts, hopeless, secondFits, secondOf, firstFits, firstOf}
 use Rattle.choices.proofs.Arrays.{size-in, vars-in, var-in}
 use Rattle.choices.proofs.ByNumber.{chosen-placed}
@@ -36,10 +36,7 @@ second-cell kind x y links k e = go (ℕ-discrete y nowhere)
         (λ _. l, λ n. absurd (n z), s)
     go (no z) = let (l, s) = retained-cell kind x y links (simp (ne-eqb y nowhere z) at e) in (λ q. absurd (z q), λ _. l, s)
 
-module _ (variables kind a b n : ℕ) (vars links : List ℕ) where
-  abbrev shape : Shape
-  shape = shapeIn (working variables b) n vars links
-
+module _ {variables kind a b n : ℕ} {vars links : List ℕ} where
   module _ (most : ℕ) (p : Working most variables kind a b n vars links) where
     room : (variables ≤ working variables b) × (b ≤ working variables b) × (working variables b ≤ suc variables)
     room = working-room variables b (p .operands .b-most)
@@ -47,10 +44,21 @@ module _ (variables kind a b n : ℕ) (vars links : List ℕ) where
     pub at-operand : (v : ℕ) → varAt (shapeIn (working variables b) n vars links) v ≡ getD vars v nowhere
     at-operand v = var-in (working variables b) n vars links (p .hold) v
 
-  module _ (p : Placed variables kind a b n vars links) (k : ℕ) where
-    w : ℕ
-    w = working variables b
+  module _ (p : Placed variables kind a b n vars links) where
+    -- the choices of b that are tried give all that is retained
+    pub second-range : {from to : ℕ} → from ≡ firstTried kind n (getD vars b nowhere) (getD vars a nowhere)
+        → to ≡ pastTried kind n (getD vars b nowhere) (getD vars a nowhere)
+        → concatMap (secondOf variables kind a b (shapeIn (working variables b) n vars links)) (range from (to - from))
+        ≡ seconds variables kind a b (shapeIn (working variables b) n vars links)
+    second-range from-is to-is =
+        let s = shapeIn (working variables b) n vars links in
+        let at-a = at-operand 13 (p .work) a in
+        let at-b = at-operand 13 (p .work) b in
+        rw (from-is, to-is, ← at-a, ← at-b)
+        (seconds-tried variables kind a b s n (size-in (working variables b) n vars links (p .work .hold)) (rw at-a (p .a-at)) (rw at-b (p .b-safe))
+        (rw (vars-in (working variables b) n vars links (p .work .hold)) (room 13 (p .work) .1)))
 
+  module _ (p : Placed variables kind a b n vars links) (k : ℕ) where
     placed : (m : ℕ) (vars′ links′ : List ℕ) → Puts n vars links b k m vars′ links′ → Held (working variables b) m vars′ links′ (put b (shapeIn (working variables b) n vars links) k)
     placed m vars′ links′ q = q .held (working variables b) (p .work .hold) (room 13 (p .work) .1)
 
@@ -110,30 +118,17 @@ module _ (variables kind a b n : ℕ) (vars links : List ℕ) where
     unfolding secondOf
     second-one e = rw (second-fits ∙ e) refl
 
-    -- the choices of b that are tried give all that is retained
-    pub second-range : (from to : ℕ) → from ≡ firstTried kind n (getD vars b nowhere) (getD vars a nowhere)
-        → to ≡ pastTried kind n (getD vars b nowhere) (getD vars a nowhere)
-        → concatMap (secondOf variables kind a b (shapeIn (working variables b) n vars links)) (range from (to - from))
-        ≡ seconds variables kind a b (shapeIn (working variables b) n vars links)
-    second-range from to from-is to-is =
-        let s = shapeIn (working variables b) n vars links in
-        let at-a = at-operand 13 (p .work) a in
-        let at-b = at-operand 13 (p .work) b in
-        rw (from-is, to-is, ← at-a, ← at-b)
-        (seconds-tried variables kind a b s n (size-in (working variables b) n vars links (p .work .hold)) (rw at-a (p .a-at)) (rw at-b (p .b-safe))
-        (rw (vars-in (working variables b) n vars links (p .work .hold)) (room 13 (p .work) .1)))
-
   pub no-choices : (most : ℕ) → Working most variables kind a b n vars links → hopeless kind a b (getD vars a nowhere) (getD vars b nowhere) ≡ true
       → firsts variables kind a b (shapeIn (working variables b) n vars links) ≡ []
   no-choices most p e =
       no-hope variables kind a b (shapeIn (working variables b) n vars links) (rw (at-operand most p a, at-operand most p b) e)
 
   module _ (p : Working 12 variables kind a b n vars links) (a-safe : getD vars a nowhere ≢ dangling) (b-safe : getD vars b nowhere ≢ dangling) where
-    pub first-range : (from to : ℕ) → from ≡ firstTried kind n (getD vars a nowhere) (getD vars b nowhere)
+    pub first-range : {from to : ℕ} → from ≡ firstTried kind n (getD vars a nowhere) (getD vars b nowhere)
         → to ≡ pastTried kind n (getD vars a nowhere) (getD vars b nowhere)
         → concatMap (firstOf variables kind a b (shapeIn (working variables b) n vars links)) (range from (to - from))
         ≡ firsts variables kind a b (shapeIn (working variables b) n vars links)
-    first-range from to from-is to-is =
+    first-range from-is to-is =
         let s = shapeIn (working variables b) n vars links in
         let at-a = at-operand 12 p a in
         let at-b = at-operand 12 p b in

@@ -1,13 +1,13 @@
 -- What the code leaves out is dropped: choices outside the range tried, and operations without hope.
-use mathlib.Core.Bool.{Bool, true, false, not, _&&_, _||_, cond}
-use mathlib.Core.List.{List, [], _∷_}
+use mathlib.Core.Bool.{Bool, true, false, _&&_, _||_, cond}
+use mathlib.Core.List.{List, []}
 use mathlib.Core.Logic.{_≢_, _⊎_, inl, inr}
 use mathlib.Core.Path.{_≡_, refl, sym, ap, _∙_}
 use Prim.Native.Nat.{ℕ, zero, suc, _+_, _-_, _≤_, _<_}
 use native.Mathlib.Decide.{ℕ-discrete}
 use native.Mathlib.Omega.{arith}
-use borrow.Author.Tests.{lt-ltb, le-ltb, eq-eqb, ne-eqb, eqb-true}
-use lib.Dec.{eqb, ltb}
+use borrow.Author.Tests.{eq-eqb, ne-eqb, eqb-true}
+use lib.Dec.{eqb}
 use lib.ListN.{length}
 use Rattle.lists.specs.List.{concatMap}
 use Rattle.lists.specs.Range.{range}
@@ -16,7 +16,7 @@ use Rattle.heap.specs.Place.{nowhere, null, dangling, cell}
 use Rattle.shape.specs.Placing.{place}
 use Rattle.shape.specs.Shape.{Shape, varAt, size}
 use Rattle.shape.proofs.PlacingByNumber.{choicesFrom}
-use Rattle.choices.specs.Choice.{chosen, choiceOf, exists, opened, put, wantsSame, firstTried, pastTried}
+use Rattle.choices.specs.Choice.{chosen, choiceOf, opened, wantsSame, firstTried, pastTried}
 use Rattle.choices.specs.Held.{At}
 use Rattle.choices.specs.Retained.{linkOpen, retained, tested, changed, seconds, firsts, hopeless, secondFits, secondOf, placedFits, firstFits, firstOf}
 use Rattle.choices.proofs.ByNumber.{chosen-other, choice-of-most, place-keeps, place-dangling, both-keeps, retain-none, seconds-by-number, firsts-by-number}
@@ -106,9 +106,6 @@ module _ (variables kind a b : ℕ) (s : Shape) (n : ℕ) (size-is : size s ≡ 
 or-cases : (x y : Bool) → x || y ≡ true → (x ≡ true) ⊎ (y ≡ true)
 or-cases true y e = inl refl
 or-cases false y e = inr e
-
-false-true : {A : Type 0} → _≡_ {A = Bool} false true → A
-false-true e = let z : _≡_ {A = ℕ} 0 1 = cc in absurd (omega arith)
 
 module _ (variables kind a b : ℕ) (s : Shape) where
   a-dangling : varAt s a ≡ dangling → firsts variables kind a b s ≡ []

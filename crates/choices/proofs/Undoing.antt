@@ -1,25 +1,25 @@
 -- What an operation changes is put back, in arrays.
-use mathlib.Core.Bool.{Bool, true, false, _&&_, _||_, cond}
-use mathlib.Core.List.{List, [], _∷_}
+use mathlib.Core.Bool.{true}
+use mathlib.Core.List.{List}
 use mathlib.Core.Logic.{_≢_}
-use mathlib.Core.Path.{_≡_, refl, sym, ap, ap₂, _∙_}
-use Prim.Native.Nat.{ℕ, zero, suc, _+_, _-_, _≤_, _<_}
+use mathlib.Core.Path.{_≡_, sym, ap, _∙_}
+use Prim.Native.Nat.{ℕ, zero, suc, _-_, _≤_, _<_}
 use native.Mathlib.Decide.{ℕ-discrete, decLt}
 use native.Mathlib.Omega.{arith}
 use borrow.Author.Tests.{lt-ltb, le-ltb, eq-eqb, ne-eqb, ltb-true}
-use lib.Dec.{eqb, ltb}
-use lib.ListN.{length, getD, set, take, drop, length-set, length-take}
-use lib.Seq.{getD-set-same, getD-set-other, take-set-le, take-take, set-set, set-out}
+use lib.Dec.{ltb}
+use lib.ListN.{getD, set, take, drop, length-set, length-take}
+use lib.Seq.{getD-set-same, getD-set-other, take-take, set-set, set-out}
 use Rattle.lists.proofs.Test.{and-left}
-use Rattle.heap.specs.Codes.{varIn, linkIn}
-use Rattle.heap.specs.Place.{nowhere, null, dangling, cell}
-use Rattle.shape.specs.Placing.{setVarIn, setVar}
-use Rattle.shape.specs.Shape.{Shape, varAt, size}
+use Rattle.heap.specs.Codes.{varIn}
+use Rattle.heap.specs.Place.{nowhere, cell}
+use Rattle.shape.specs.Placing.{setVar}
+use Rattle.shape.specs.Shape.{Shape, varAt}
 use Rattle.shape.proofs.Laws.{var-set-other}
-use Rattle.backward.specs.Predecessors.{setLink, setLinkIn, dropHelper}
+use Rattle.backward.specs.Predecessors.{setLink, dropHelper}
 use Rattle.layout.specs.Arrays.{shapeIn, Hold}
 use Rattle.choices.specs.Held.{Held, Undoes, working, Operands}
-use Rattle.choices.specs.Retained.{linkOpen, retained, changed, secondFits}
+use Rattle.choices.specs.Retained.{linkOpen, retained, changed}
 use Rattle.choices.proofs.Arrays.{var-in, shape-var, shape-link, take-set, hold-var, hold-link}
 
 -- ---- the working number of variables

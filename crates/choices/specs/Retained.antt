@@ -1,7 +1,7 @@
 -- Kinds 1 to 5: what is retained of two placings, how it is changed, and the same by the numbers of the choices.
 use mathlib.Core.Bool.{Bool, _||_, _&&_, not, cond}
 use mathlib.Core.List.{List, []}
-use Prim.Native.Nat.{ℕ, suc}
+use Prim.Native.Nat.{ℕ}
 use lib.Dec.{eqb, ltb}
 use lib.ListN.{length}
 use Rattle.lists.specs.List.{keep}

@@ -1,42 +1,31 @@
-use Prim.Native.Nat.{ℕ, _+_, _-_, _*_, _<_, _≤_}
-use mathlib.Core.Path.{_≡_, refl, ap, _∙_, sym}
 use native.Mathlib.Omega.{arith}
-use lib.ListN.{length, getD, take, drop, set}
-use mathlib.Core.Logic.{⊎-elim}
 use Rattle.choices.proofs.Opening.{exists-low, exists-high}
 use borrow.Author.Needs.{needs}
 use Rattle.checker.proofs.choice.choice_exists.Statement.{statement}
 use Rattle.checker.proofs.choice.choice_exists.Tie as tie
-use Rattle.checker.proofs.choice.choice_exists.Reads as reads
-use Rattle.checker.proofs.choice.choice_exists.Lts as lts
 
--- src/choice.rt:47:12
 add-if1 : tie.Need-add-if1
 add-if1 c = search needs
 
--- src/choice.rt:48:9
 returns : tie.Need-returns
 returns c = let a = c .before .args in exists-low (a .n) (a .links .now) (c .before .pre .0) (omega arith) (a .k) (omega arith)
 
--- src/choice.rt:50:14
 sub-i : tie.Need-sub-i
 sub-i c = search needs
 
--- src/choice.rt:50:14
 sub-i-2 : tie.Need-sub-i-2
 sub-i-2 c = search needs
 
--- src/choice.rt:50:13
 cast-i : tie.Need-cast-i
 cast-i c = search needs
 
--- src/choice.rt:51:5
 element-copy-out-result : tie.Need-element-copy-out-result
 element-copy-out-result c = search needs
 
--- src/choice.rt:43:1
 returns-2 : tie.Need-returns-2
-returns-2 c = let a = c .before .before .args in exists-high (a .n) (a .links .now) (c .before .before .pre .0) (omega arith) (a .k) (omega arith) (omega arith)
+returns-2 c =
+    let a = c .before .before .args in
+    exists-high (a .n) (a .links .now) (c .before .before .pre .0) (omega arith) (a .k) (omega arith) (omega arith)
 
 pub choice-exists-spec : {M : Type 1} → statement M
 choice-exists-spec =

@@ -1,34 +1,23 @@
-use Prim.Native.Nat.{ℕ, _+_, _-_, _*_, _<_, _≤_}
-use mathlib.Core.Path.{_≡_, refl, ap, _∙_, sym}
+use mathlib.Core.Path.{sym}
 use native.Mathlib.Omega.{arith}
-use lib.ListN.{length, getD, take, drop, set}
-use mathlib.Core.Logic.{⊎-elim}
 use Rattle.choices.proofs.Opening.{chosen-null}
 use Rattle.checker.proofs.Places.{placed-cell, placed-fresh}
 use borrow.Author.Needs.{needs}
 use Rattle.checker.proofs.choice.chosen_place.Statement.{statement}
 use Rattle.checker.proofs.choice.chosen_place.Tie as tie
-use Rattle.checker.proofs.choice.chosen_place.Reads as reads
-use Rattle.checker.proofs.choice.chosen_place.Lts as lts
-use Rattle.place.proofs.Place.cell.Reads as cell-reads
 
--- src/choice.rt:23:9
 cell-requires : tie.Need-cell-requires
 cell-requires c κs = search needs
 
--- src/choice.rt:23:9
 returns : tie.Need-returns
 returns c = let a = c .before .before .args in placed-cell (a .n) (a .k) (c .cell .result) (c .cell .ensures) (omega arith) (omega arith)
 
--- src/choice.rt:26:9
 returns-2 : tie.Need-returns-2
 returns-2 c = let a = c .before .before .args in sym (chosen-null (a .n) (a .k) (omega arith))
 
--- src/choice.rt:28:5
 cell-requires-2 : tie.Need-cell-requires-2
 cell-requires-2 c κs = search needs
 
--- src/choice.rt:18:1
 returns-3 : tie.Need-returns-3
 returns-3 c = let a = c .before .before .before .args in placed-fresh (a .n) (a .k) (c .cell2 .result) (c .cell2 .ensures) (omega arith) (omega arith)
 

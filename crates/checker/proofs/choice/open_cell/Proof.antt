@@ -1,70 +1,54 @@
-use Prim.Native.Nat.{ℕ, _+_, _-_, _*_, _<_, _≤_}
-use mathlib.Core.Path.{_≡_, refl, ap, _∙_, sym}
+use Prim.Native.Nat.{_-_}
+use mathlib.Core.Path.{refl}
 use native.Mathlib.Omega.{arith}
-use lib.ListN.{length, getD, take, drop, set}
-use mathlib.Core.Logic.{⊎-elim}
 use Rattle.choices.proofs.Opening.{opens-none, opens-fresh, opens-middle}
 use borrow.Author.Needs.{needs}
 use Rattle.checker.proofs.choice.open_cell.Statement.{statement}
 use Rattle.checker.proofs.choice.open_cell.Tie as tie
-use Rattle.checker.proofs.choice.open_cell.Reads as reads
-use Rattle.checker.proofs.choice.open_cell.Lts as lts
 
--- src/choice.rt:60:9
 returns : tie.Need-returns
 returns c = let a = c .before .args in opens-none (a .n) (a .links .now) (c .before .pre .0) (omega arith) (a .k) (omega arith)
 
--- src/choice.rt:63:13
 add-if2 : tie.Need-add-if2
 add-if2 c = search needs
 
--- src/choice.rt:64:9
 element-write-links : tie.Need-element-write-links
 element-write-links c = search needs
 
--- src/choice.rt:65:16
 add-result : tie.Need-add-result
 add-result c = search needs
 
--- src/choice.rt:65:9
 returns-2 : tie.Need-returns-2
 returns-2 c = let a = c .before .before .args in opens-fresh (a .n) (a .links .now) (c .before .before .pre .0) (omega arith) (a .k) (omega arith)
 
--- src/choice.rt:67:14
 sub-i : tie.Need-sub-i
 sub-i c = search needs
 
--- src/choice.rt:67:14
 sub-i-2 : tie.Need-sub-i-2
 sub-i-2 c = search needs
 
--- src/choice.rt:67:13
 cast-i : tie.Need-cast-i
 cast-i c = search needs
 
--- src/choice.rt:68:19
 element-copy-out-links : tie.Need-element-copy-out-links
 element-copy-out-links c = search needs
 
--- src/choice.rt:68:5
 element-write-links-2 : tie.Need-element-write-links-2
 element-write-links-2 c = search needs
 
--- src/choice.rt:69:16
 add-links : tie.Need-add-links
 add-links c = search needs
 
--- src/choice.rt:69:5
 element-write-links-3 : tie.Need-element-write-links-3
 element-write-links-3 c = search needs
 
--- src/choice.rt:70:5
 add-result-2 : tie.Need-add-result-2
 add-result-2 c = search needs
 
--- src/choice.rt:55:1
 returns-3 : tie.Need-returns-3
-returns-3 c = let a = c .before .before .before .args in opens-middle (a .n) (a .links .now) (c .before .before .before .pre .0) (omega arith) (a .k) (a .k - a .n - 2) refl (omega arith) (omega arith)
+returns-3 c =
+    let a = c .before .before .before .args in
+    opens-middle (a .n) (a .links .now) (c .before .before .before .pre .0) (omega arith) (a .k) (a .k - a .n - 2) refl (omega arith) (omega arith)
 
 pub open-cell-spec : {M : Type 1} → statement M
 open-cell-spec =

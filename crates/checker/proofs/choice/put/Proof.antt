@@ -1,40 +1,29 @@
-use Prim.Native.Nat.{ℕ, _+_, _-_, _*_, _<_, _≤_}
-use mathlib.Core.Path.{_≡_, refl, ap, _∙_, sym}
 use native.Mathlib.Omega.{arith}
-use lib.ListN.{length, getD, take, drop, set}
-use mathlib.Core.Logic.{⊎-elim}
 use Rattle.choices.proofs.Putting.{puts-nothing, puts-made}
 use borrow.Author.Needs.{needs}
 use Rattle.checker.proofs.choice.put.Statement.{statement}
 use Rattle.checker.proofs.choice.put.Tie as tie
-use Rattle.checker.proofs.choice.put.Reads as reads
-use Rattle.checker.proofs.choice.put.Lts as lts
-use Rattle.checker.proofs.choice.chosen_place.Reads as chosen-place-reads
-use Rattle.checker.proofs.choice.open_cell.Reads as open-cell-reads
 
--- src/choice.rt:79:8
 element-copy-out-if1 : tie.Need-element-copy-out-if1
 element-copy-out-if1 c = search needs
 
--- src/choice.rt:80:9
 returns : tie.Need-returns
 returns c = let a = c .before .before .args in puts-nothing (a .n) (a .vars .now) (a .links .now) (a .x) (a .k) (c .if1 .taken)
 
--- src/choice.rt:82:9
 open-cell-requires : tie.Need-open-cell-requires
 open-cell-requires c κs = search needs
 
--- src/choice.rt:83:9
 chosen-place-requires : tie.Need-chosen-place-requires
 chosen-place-requires c κs = search needs
 
--- src/choice.rt:84:5
 element-write-vars : tie.Need-element-write-vars
 element-write-vars c = search needs
 
--- src/choice.rt:74:1
 returns-2 : tie.Need-returns-2
-returns-2 c = let a = c .before .before .before .before .before .args in puts-made (a .n) (a .vars .now) (a .links .now) (a .x) (a .k) (c .before .open-cell .result) _ (c .chosen-place .result .code) (omega arith) (omega arith) (c .before .open-cell .ensures) (c .chosen-place .ensures)
+returns-2 c =
+    let a = c .before .before .before .before .before .args in
+    puts-made (a .n) (a .vars .now) (a .links .now) (a .x) (a .k) (c .before .open-cell .result) _ (c .chosen-place .result .code) (omega arith)
+    (omega arith) (c .before .open-cell .ensures) (c .chosen-place .ensures)
 
 pub put-spec : {M : Type 1} → statement M
 put-spec =

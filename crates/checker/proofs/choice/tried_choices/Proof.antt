@@ -1,61 +1,52 @@
-use Prim.Native.Nat.{ℕ, _+_, _-_, _*_, _<_, _≤_}
-use mathlib.Core.Path.{_≡_, refl, ap, _∙_, sym}
 use native.Mathlib.Omega.{arith}
-use lib.ListN.{length, getD, take, drop, set}
-use mathlib.Core.Logic.{⊎-elim}
 use Rattle.choices.proofs.Tests.{tries-placed, tries-free, tries-same, tries-all}
 use Rattle.choices.proofs.ByNumber.{choice-of-most}
 use borrow.Author.Needs.{needs}
 use Rattle.checker.proofs.choice.tried_choices.Statement.{statement}
 use Rattle.checker.proofs.choice.tried_choices.Tie as tie
-use Rattle.checker.proofs.choice.tried_choices.Reads as reads
-use Rattle.checker.proofs.choice.tried_choices.Lts as lts
-use Rattle.checker.proofs.choice.choice_of.Reads as choice-of-reads
-use Rattle.checker.proofs.choice.wants_same.Reads as wants-same-reads
 
--- src/choice.rt:104:9
 returns : tie.Need-returns
 returns c = let a = c .before .before .args in tries-placed (a .kind) (a .n) (a .p .code) (a .q .code) (c .if1 .taken)
 
--- src/choice.rt:109:22
 add-t7 : tie.Need-add-t7
 add-t7 c = search needs
 
--- src/choice.rt:109:17
 add-t8 : tie.Need-add-t8
 add-t8 c = search needs
 
--- src/choice.rt:107:9
 returns-2 : tie.Need-returns-2
 returns-2 c = let a = c .before .before .before .before .args in tries-free (a .kind) (a .n) (a .p .code) (a .q .code) (omega arith) (omega arith)
 
--- src/choice.rt:112:8
 wants-same-requires : tie.Need-wants-same-requires
 wants-same-requires c κs = search needs
 
--- src/choice.rt:113:13
 choice-of-requires : tie.Need-choice-of-requires
-choice-of-requires c κs = λ n. let z = c .before .before .if2 .left in let d = c .before .before .before .before .before .before .pre .1 in omega arith
+choice-of-requires c κs =
+    λ n. let z = c .before .before .if2 .left in
+    let d = c .before .before .before .before .before .before .pre .1 in
+    omega arith
 
--- src/choice.rt:114:39
 add-t10 : tie.Need-add-t10
-add-t10 c = let a = c .before .before .before .before .before .before .before .args in omega (arith, c .choice-of .ensures, choice-of-most (a .n) (a .q .code) (omega arith))
+add-t10 c =
+    let a = c .before .before .before .before .before .before .before .args in
+    omega (arith, c .choice-of .ensures, choice-of-most (a .n) (a .q .code) (omega arith))
 
--- src/choice.rt:114:9
 returns-3 : tie.Need-returns-3
-returns-3 c = let a = c .before .before .before .before .before .before .before .args in tries-same (a .kind) (a .n) (a .p .code) (a .q .code) (omega arith) (c .before .before .before .if2 .left) (omega arith) (cc) (c .choice-of .result) (c .choice-of .ensures)
+returns-3 c =
+    let a = c .before .before .before .before .before .before .before .args in
+    tries-same (a .kind) (a .n) (a .p .code) (a .q .code) (omega arith) (c .before .before .before .if2 .left) (omega arith) (cc)
+    (c .choice-of .result) (c .choice-of .ensures)
 
--- src/choice.rt:118:18
 add-t11 : tie.Need-add-t11
 add-t11 c = search needs
 
--- src/choice.rt:118:13
 add-t12 : tie.Need-add-t12
 add-t12 c = search needs
 
--- src/choice.rt:99:1
 returns-4 : tie.Need-returns-4
-returns-4 c = let a = c .before .before .before .before .before .before .args in tries-all (a .kind) (a .n) (a .p .code) (a .q .code) (omega arith) (cc)
+returns-4 c =
+    let a = c .before .before .before .before .before .before .args in
+    tries-all (a .kind) (a .n) (a .p .code) (a .q .code) (omega arith) (cc)
 
 pub tried-choices-spec : {M : Type 1} → statement M
 tried-choices-spec =

@@ -1,9 +1,6 @@
-use Prim.Native.Nat.{ℕ, _+_, _-_, _*_, _<_, _≤_}
-use mathlib.Core.Path.{_≡_, refl, ap, _∙_, sym}
+use Prim.Native.Nat.{_-_}
+use mathlib.Core.Path.{_∙_, sym}
 use native.Mathlib.Omega.{arith}
-use lib.ListN.{length, getD, take, drop, set}
-use mathlib.Core.Logic.{⊎-elim}
-use borrow.Author.Tests.{not-true, not-false}
 use Rattle.layout.specs.Arrays.{shapeIn}
 use Rattle.layout.specs.Entries.{membersAt}
 use Rattle.choices.specs.Held.{working}
@@ -15,11 +12,6 @@ use Rattle.checker.proofs.Trying.{Trying, trying-none, trying-more, try
 use borrow.Author.Needs.{needs}
 use Rattle.checker.proofs.placing.take_firsts.Statement.{statement}
 use Rattle.checker.proofs.placing.take_firsts.Tie as tie
-use Rattle.checker.proofs.placing.take_firsts.Reads as reads
-use Rattle.checker.proofs.placing.take_firsts.Lts as lts
-use Rattle.checker.proofs.choice.tried_choices.Reads as tried-choices-reads
-use Rattle.checker.proofs.placing.take_first.Reads as take-first-reads
-use Rattle.checker.proofs.retaining.is_hopeless.Reads as is-hopeless-reads
 
 abbrev Inv-loop : tie.InvT-loop
 Inv-loop cert starts variables members state op n vars links a b c t₀ k₀ t k = Trying cert (membersAt cert variables starts members) state (firstOf variables (op .kind) (op .a) (op .b) (shapeIn (working variables (op .b)) n vars links)) k₀ (c .to) t₀ k t
@@ -27,69 +19,75 @@ Inv-loop cert starts variables members state op n vars links a b c t₀ k₀ t k
 abbrev μ-loop : tie.MeasureT-loop
 μ-loop cert starts variables members state op n vars links a b c t₀ k₀ t k = c .to - k
 
--- src/placing.rt:183:13
 cast-a : tie.Need-cast-a Inv-loop μ-loop
 cast-a c = search needs
 
--- src/placing.rt:184:13
 cast-b : tie.Need-cast-b Inv-loop μ-loop
 cast-b c = search needs
 
--- src/placing.rt:185:27
 element-copy-out-t22 : tie.Need-element-copy-out-t22 Inv-loop μ-loop
 element-copy-out-t22 c = search needs
 
--- src/placing.rt:186:27
 element-copy-out-t22-2 : tie.Need-element-copy-out-t22-2 Inv-loop μ-loop
 element-copy-out-t22-2 c = search needs
 
--- src/placing.rt:187:8
 is-hopeless-requires : tie.Need-is-hopeless-requires Inv-loop μ-loop
 is-hopeless-requires c κs = tt
 
--- src/placing.rt:188:9
 returns : tie.Need-returns Inv-loop μ-loop
-returns c = let a = c .before .before .before .before .before .before .before .args in rw (no-choices (a .variables) (a .op .kind) (a .op .a) (a .op .b) (a .n) (a .vars .now) (a .links .now) 12 (c .before .before .before .before .before .before .before .pre .1) (sym (c .before .is-hopeless .ensures) ∙ c .if1 .taken)) (sym (takeAll-none (a .cert .now) (membersAt (a .cert .now) (a .variables) (a .starts .now) (a .members)) (a .from .covers) (a .from .at)))
+returns c =
+    let a = c .before .before .before .before .before .before .before .args in
+    rw (no-choices 12 (c .before .before .before .before .before .before .before .pre .1) (sym (c .before .is-hopeless .ensures) ∙ c .if1 .taken))
+    (sym (takeAll-none (a .cert .now) (membersAt (a .cert .now) (a .variables) (a .starts .now) (a .members)) (a .from .covers) (a .from .at)))
 
--- src/placing.rt:190:9
 tried-choices-requires : tie.Need-tried-choices-requires Inv-loop μ-loop
-tried-choices-requires c κs = let a = c .before .before .before .before .before .before .before .args in let p = c .before .before .before .before .before .before .before .pre .1 in let e = hope-safe (a .op .kind) (a .op .a) (a .op .b) _ _ (sym (c .before .is-hopeless .ensures) ∙ c .if1 .left) in (omega arith, e .1, omega (arith, p .hold .vars-range (a .op .b)))
+tried-choices-requires c κs =
+    let a = c .before .before .before .before .before .before .before .args in
+    let p = c .before .before .before .before .before .before .before .pre .1 in
+    let e = hope-safe (a .op .kind) (a .op .a) (a .op .b) _ _ (sym (c .before .is-hopeless .ensures) ∙ c .if1 .left) in
+    (omega arith, e .1, omega (arith, p .hold .vars-range (a .op .b)))
 
--- src/placing.rt:193:5
 loop-holds : tie.Need-loop-holds Inv-loop μ-loop
-loop-holds c = trying-none _ _ _ _ _ _ _ (c .before .before .before .before .before .before .before .before .pre .2)
+loop-holds c =
+    trying-none (c .before .before .before .before .before .before .before .before .pre .2)
 
--- src/placing.rt:194:13
 take-first-requires : tie.Need-take-first-requires Inv-loop μ-loop
-take-first-requires c κs = let a = c .before .before .before .before .before .before .before .before .before .before .before .args in let e = hope-safe (a .op .kind) (a .op .a) (a .op .b) _ _ (sym (c .before .before .before .before .before .is-hopeless .ensures) ∙ c .before .before .before .before .if1 .left) in (c .before .before .before .before .before .before .before .before .before .before .before .pre .0, c .before .before .before .before .before .before .before .before .before .before .before .pre .1, e .0, e .1, omega arith, c .before .before .loop .inv .within)
+take-first-requires c κs =
+    let a = c .before .before .before .before .before .before .before .before .before .before .before .args in
+    let e = hope-safe (a .op .kind) (a .op .a) (a .op .b) _ _
+    (sym (c .before .before .before .before .before .is-hopeless .ensures) ∙ c .before .before .before .before .if1 .left) in
+    (c .before .before .before .before .before .before .before .before .before .before .before .pre .0, c .before .before .before .before .before .before .before .before .before .before .before .pre .1, e .0, e .1, omega arith, c .before .before .loop .inv .within)
 
--- src/placing.rt:195:23
 enum-known-g : tie.Need-enum-known-g Inv-loop μ-loop
 enum-known-g c = search needs
 
--- src/placing.rt:196:13
 enum-told : tie.Need-enum-told Inv-loop μ-loop
 enum-told c = search needs
 
--- src/placing.rt:196:13
 returns-2 : tie.Need-returns-2 Inv-loop μ-loop
-returns-2 c = let v = c .enum-told .given in let a = c .before .before .before .before .before .before .before .before .before .before .before .before .before .before .args in let r = c .before .before .before .before .before .before .tried-choices .ensures in let e = hope-safe (a .op .kind) (a .op .a) (a .op .b) _ _ (sym (c .before .before .before .before .before .before .before .before .is-hopeless .ensures) ∙ c .before .before .before .before .before .before .before .if1 .left) in trying-stop _ _ _ _ _ _ _ (c .before .before .before .before .before .loop .k) (c .before .before .before .before .before .loop .t) (c .before .before .before .before .before .loop .inv) (omega arith) (c .before .before .take-first .result) (c .before .before .take-first .ensures) (v .0 .0) (v .0 .1 .0) (v .1) _ (first-range (a .variables) (a .op .kind) (a .op .a) (a .op .b) (a .n) (a .vars .now) (a .links .now) (c .before .before .before .before .before .before .before .before .before .before .before .before .before .before .pre .1) (e .0) (e .1) (c .before .before .before .before .before .before .tried-choices .result .from) (c .before .before .before .before .before .before .tried-choices .result .to) (r .0) (r .1))
+returns-2 c =
+    let a = c .before .before .before .before .before .before .before .before .before .before .before .before .before .before .args in
+    let r = c .before .before .before .before .before .before .tried-choices .ensures in
+    let e = hope-safe (a .op .kind) (a .op .a) (a .op .b) _ _ (sym (c .before .before .before .before .before .before .before .before .is-hopeless .ensures) ∙ c .before .before .before .before .before .before .before .if1 .left) in
+    trying-stop (c .before .before .before .before .before .loop .inv) (omega arith) (c .before .before .take-first .ensures) (c .enum-told .given .1)
+    (first-range (c .before .before .before .before .before .before .before .before .before .before .before .before .before .before .pre .1) (e .0) (e .1) (r .0) (r .1))
 
--- src/placing.rt:199:9
 add-k : tie.Need-add-k Inv-loop μ-loop
 add-k c = search needs
 
--- src/placing.rt:193:5
 loop-less : tie.Need-loop-less Inv-loop μ-loop
 loop-less c = omega arith
 
--- src/placing.rt:193:5
 loop-again : tie.Need-loop-again Inv-loop μ-loop
-loop-again c = let v = c .before .g .given in trying-more _ _ _ _ _ _ _ (c .before .before .before .before .before .before .loop .k) (c .before .before .before .before .before .before .loop .t) (c .before .before .before .before .before .before .loop .inv) (omega arith) (c .before .before .before .take-first .result) (c .before .before .before .take-first .ensures) (v .0 .0) (v .1)
+loop-again c =
+    trying-more (c .before .before .before .before .before .before .loop .inv) (omega arith) (c .before .before .before .take-first .ensures) (c .before .g .given .1)
 
--- src/placing.rt:168:1
 returns-3 : tie.Need-returns-3 Inv-loop μ-loop
-returns-3 c = let a = c .before .before .before .before .before .before .before .before .before .before .before .args in let r = c .before .before .before .tried-choices .ensures in let e = hope-safe (a .op .kind) (a .op .a) (a .op .b) _ _ (sym (c .before .before .before .before .before .is-hopeless .ensures) ∙ c .before .before .before .before .if1 .left) in trying-all _ _ _ _ _ _ _ _ _ (c .before .before .loop .inv) (omega arith) _ (first-range (a .variables) (a .op .kind) (a .op .a) (a .op .b) (a .n) (a .vars .now) (a .links .now) (c .before .before .before .before .before .before .before .before .before .before .before .pre .1) (e .0) (e .1) (c .before .before .before .tried-choices .result .from) (c .before .before .before .tried-choices .result .to) (r .0) (r .1))
+returns-3 c =
+    let a = c .before .before .before .before .before .before .before .before .before .before .before .args in
+    let r = c .before .before .before .tried-choices .ensures in
+    let e = hope-safe (a .op .kind) (a .op .a) (a .op .b) _ _ (sym (c .before .before .before .before .before .is-hopeless .ensures) ∙ c .before .before .before .before .if1 .left) in
+    trying-all (c .before .before .loop .inv) (omega arith) (first-range (c .before .before .before .before .before .before .before .before .before .before .before .pre .1) (e .0) (e .1) (r .0) (r .1))
 
 pub take-firsts-spec : {M : Type 1} → statement M
 take-firsts-spec =

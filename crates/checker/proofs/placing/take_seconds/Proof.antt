@@ -1,8 +1,5 @@
-use Prim.Native.Nat.{ℕ, _+_, _-_, _*_, _<_, _≤_}
-use mathlib.Core.Path.{_≡_, refl, ap, _∙_, sym}
+use Prim.Native.Nat.{_-_}
 use native.Mathlib.Omega.{arith}
-use lib.ListN.{length, getD, take, drop, set}
-use mathlib.Core.Logic.{⊎-elim}
 use Rattle.layout.specs.Arrays.{shapeIn}
 use Rattle.layout.specs.Entries.{membersAt}
 use Rattle.choices.specs.Held.{working}
@@ -12,10 +9,6 @@ use Rattle.choices.proofs.Steps.{second-range}
 use borrow.Author.Needs.{needs}
 use Rattle.checker.proofs.placing.take_seconds.Statement.{statement}
 use Rattle.checker.proofs.placing.take_seconds.Tie as tie
-use Rattle.checker.proofs.placing.take_seconds.Reads as reads
-use Rattle.checker.proofs.placing.take_seconds.Lts as lts
-use Rattle.checker.proofs.choice.tried_choices.Reads as tried-choices-reads
-use Rattle.checker.proofs.placing.take_second.Reads as take-second-reads
 
 abbrev Inv-loop : tie.InvT-loop
 Inv-loop cert starts variables members state op n vars links a b c t₀ k₀ t k = Trying cert (membersAt cert variables starts members) state (secondOf variables (op .kind) (op .a) (op .b) (shapeIn (working variables (op .b)) n vars links)) k₀ (c .to) t₀ k t
@@ -23,61 +16,59 @@ Inv-loop cert starts variables members state op n vars links a b c t₀ k₀ t k
 abbrev μ-loop : tie.MeasureT-loop
 μ-loop cert starts variables members state op n vars links a b c t₀ k₀ t k = c .to - k
 
--- src/placing.rt:119:13
 cast-a : tie.Need-cast-a Inv-loop μ-loop
 cast-a c = search needs
 
--- src/placing.rt:120:13
 cast-b : tie.Need-cast-b Inv-loop μ-loop
 cast-b c = search needs
 
--- src/placing.rt:121:27
 element-copy-out-t22 : tie.Need-element-copy-out-t22 Inv-loop μ-loop
 element-copy-out-t22 c = search needs
 
--- src/placing.rt:122:27
 element-copy-out-t22-2 : tie.Need-element-copy-out-t22-2 Inv-loop μ-loop
 element-copy-out-t22-2 c = search needs
 
--- src/placing.rt:123:9
 tried-choices-requires : tie.Need-tried-choices-requires Inv-loop μ-loop
-tried-choices-requires c κs = let a = c .before .before .before .before .before .args in let p = c .before .before .before .before .before .pre .1 in let h = p .work .hold in (p .work .cells, p .a-at .safe, omega (arith, h .vars-range (a .op .a)))
+tried-choices-requires c κs =
+    let a = c .before .before .before .before .before .args in
+    let p = c .before .before .before .before .before .pre .1 in
+    let h = p .work .hold in
+    (p .work .cells, p .a-at .safe, omega (arith, h .vars-range (a .op .a)))
 
--- src/placing.rt:126:5
 loop-holds : tie.Need-loop-holds Inv-loop μ-loop
-loop-holds c = trying-none _ _ _ _ _ _ _ (c .before .before .before .before .before .before .pre .2)
+loop-holds c =
+    trying-none (c .before .before .before .before .before .before .pre .2)
 
--- src/placing.rt:127:13
 take-second-requires : tie.Need-take-second-requires Inv-loop μ-loop
-take-second-requires c κs = (c .before .before .before .before .before .before .before .before .before .pre .0, c .before .before .before .before .before .before .before .before .before .pre .1, omega arith, c .before .before .loop .inv .within)
+take-second-requires c κs =
+    (c .before .before .before .before .before .before .before .before .before .pre .0, c .before .before .before .before .before .before .before .before .before .pre .1, omega arith, c .before .before .loop .inv .within)
 
--- src/placing.rt:128:23
 enum-known-g : tie.Need-enum-known-g Inv-loop μ-loop
 enum-known-g c = search needs
 
--- src/placing.rt:129:13
 enum-told : tie.Need-enum-told Inv-loop μ-loop
 enum-told c = search needs
 
--- src/placing.rt:129:13
 returns : tie.Need-returns Inv-loop μ-loop
-returns c = let v = c .enum-told .given in let a = c .before .before .before .before .before .before .before .before .before .before .before .before .args in let r = c .before .before .before .before .before .before .tried-choices .ensures in trying-stop _ _ _ _ _ _ _ (c .before .before .before .before .before .loop .k) (c .before .before .before .before .before .loop .t) (c .before .before .before .before .before .loop .inv) (omega arith) (c .before .before .take-second .result) (c .before .before .take-second .ensures) (v .0 .0) (v .0 .1 .0) (v .1) _ (second-range (a .variables) (a .op .kind) (a .op .a) (a .op .b) (a .n) (a .vars .now) (a .links .now) (c .before .before .before .before .before .before .before .before .before .before .before .before .pre .1) 0 (c .before .before .before .before .before .before .tried-choices .result .from) (c .before .before .before .before .before .before .tried-choices .result .to) (r .0) (r .1))
+returns c =
+    let r = c .before .before .before .before .before .before .tried-choices .ensures in
+    trying-stop (c .before .before .before .before .before .loop .inv) (omega arith) (c .before .before .take-second .ensures) (c .enum-told .given .1)
+    (second-range (c .before .before .before .before .before .before .before .before .before .before .before .before .pre .1) (r .0) (r .1))
 
--- src/placing.rt:132:9
 add-k : tie.Need-add-k Inv-loop μ-loop
 add-k c = search needs
 
--- src/placing.rt:126:5
 loop-less : tie.Need-loop-less Inv-loop μ-loop
 loop-less c = omega arith
 
--- src/placing.rt:126:5
 loop-again : tie.Need-loop-again Inv-loop μ-loop
-loop-again c = let v = c .before .g .given in trying-more _ _ _ _ _ _ _ (c .before .before .before .before .before .before .loop .k) (c .before .before .before .before .before .before .loop .t) (c .before .before .before .before .before .before .loop .inv) (omega arith) (c .before .before .before .take-second .result) (c .before .before .before .take-second .ensures) (v .0 .0) (v .1)
+loop-again c =
+    trying-more (c .before .before .before .before .before .before .loop .inv) (omega arith) (c .before .before .before .take-second .ensures) (c .before .g .given .1)
 
--- src/placing.rt:104:1
 returns-2 : tie.Need-returns-2 Inv-loop μ-loop
-returns-2 c = let a = c .before .before .before .before .before .before .before .before .before .args in let r = c .before .before .before .tried-choices .ensures in trying-all _ _ _ _ _ _ _ _ _ (c .before .before .loop .inv) (omega arith) _ (second-range (a .variables) (a .op .kind) (a .op .a) (a .op .b) (a .n) (a .vars .now) (a .links .now) (c .before .before .before .before .before .before .before .before .before .pre .1) 0 (c .before .before .before .tried-choices .result .from) (c .before .before .before .tried-choices .result .to) (r .0) (r .1))
+returns-2 c =
+    let r = c .before .before .before .tried-choices .ensures in
+    trying-all (c .before .before .loop .inv) (omega arith) (second-range (c .before .before .before .before .before .before .before .before .before .pre .1) (r .0) (r .1))
 
 pub take-seconds-spec : {M : Type 1} → statement M
 take-seconds-spec =

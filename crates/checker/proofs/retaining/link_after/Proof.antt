@@ -1,80 +1,72 @@
-use Prim.Native.Nat.{ℕ, _+_, _-_, _*_, _<_, _≤_}
-use mathlib.Core.Path.{_≡_, refl, ap, _∙_, sym}
+use mathlib.Core.Path.{_∙_}
 use native.Mathlib.Omega.{arith}
-use lib.ListN.{length, getD, take, drop, set}
-use mathlib.Core.Logic.{⊎-elim}
 use Rattle.choices.proofs.Opening.{link-kept, link-fresh, link-middle, link-source, link-other}
 use Rattle.checker.proofs.Places.{cell-code}
 use borrow.Author.Needs.{needs}
 use Rattle.checker.proofs.retaining.link_after.Statement.{statement}
 use Rattle.checker.proofs.retaining.link_after.Tie as tie
-use Rattle.checker.proofs.retaining.link_after.Reads as reads
-use Rattle.checker.proofs.retaining.link_after.Lts as lts
-use Rattle.place.proofs.Place.cell.Reads as cell-reads
 
--- src/retaining.rt:24:13
 sub-c : tie.Need-sub-c
 sub-c c = search needs
 
--- src/retaining.rt:25:8
 add-if1 : tie.Need-add-if1
 add-if1 c = search needs
 
--- src/retaining.rt:26:17
 sub-i : tie.Need-sub-i
 sub-i c = search needs
 
--- src/retaining.rt:26:17
 sub-i-2 : tie.Need-sub-i-2
 sub-i-2 c = search needs
 
--- src/retaining.rt:29:29
 cast-t11 : tie.Need-cast-t11
 cast-t11 c = search needs
 
--- src/retaining.rt:29:23
 element-copy-out-t14 : tie.Need-element-copy-out-t14
 element-copy-out-t14 c = search needs
 
--- src/retaining.rt:28:13
 returns : tie.Need-returns
-returns c = let a = c .before .before .before .before .args in link-middle (a .n) (a .links .now) (c .before .before .before .before .pre .0) (omega arith) (a .k) (omega arith) (omega arith) (a .p .code) (omega arith)
+returns c =
+    let a = c .before .before .before .before .args in
+    link-middle (a .n) (a .links .now) (c .before .before .before .before .pre .0) (omega arith) (a .k) (omega arith) (omega arith) (a .p .code)
+    (omega arith)
 
--- src/retaining.rt:33:13
 cell-requires : tie.Need-cell-requires
 cell-requires c κs = search needs
 
--- src/retaining.rt:33:13
 returns-2 : tie.Need-returns-2
-returns-2 c = let a = c .before .before .before .before .before .args in cell-code (c .cell .result) (a .n) (c .cell .ensures) (omega arith) ∙ link-source (a .n) (a .links .now) (c .before .before .before .before .before .pre .0) (omega arith) (a .k) (omega arith) (omega arith) (a .p .code) (omega arith)
+returns-2 c =
+    let a = c .before .before .before .before .before .args in
+    cell-code (c .cell .result) (a .n) (c .cell .ensures) (omega arith) ∙ link-source (a .n) (a .links .now)
+    (c .before .before .before .before .before .pre .0) (omega arith) (a .k) (omega arith) (omega arith) (a .p .code) (omega arith)
 
--- src/retaining.rt:36:25
 cast-t15 : tie.Need-cast-t15
 cast-t15 c = search needs
 
--- src/retaining.rt:36:19
 element-copy-out-t9 : tie.Need-element-copy-out-t9
 element-copy-out-t9 c = search needs
 
--- src/retaining.rt:35:9
 returns-3 : tie.Need-returns-3
-returns-3 c = let a = c .before .before .before .before .before .args in link-other (a .n) (a .links .now) (c .before .before .before .before .before .pre .0) (omega arith) (a .k) (omega arith) (omega arith) (a .p .code) (omega arith) (omega arith) (omega arith)
+returns-3 c =
+    let a = c .before .before .before .before .before .args in
+    link-other (a .n) (a .links .now) (c .before .before .before .before .before .pre .0) (omega arith) (a .k) (omega arith) (omega arith)
+    (a .p .code) (omega arith) (omega arith) (omega arith)
 
--- src/retaining.rt:40:9
 returns-4 : tie.Need-returns-4
-returns-4 c = let a = c .before .before .before .args in link-fresh (a .n) (a .links .now) (c .before .before .before .pre .0) (omega arith) (a .k) (a .p .code) (omega arith) (omega arith)
+returns-4 c =
+    let a = c .before .before .before .args in
+    link-fresh (a .n) (a .links .now) (c .before .before .before .pre .0) (omega arith) (a .k) (a .p .code) (omega arith) (omega arith)
 
--- src/retaining.rt:43:21
 cast-t18 : tie.Need-cast-t18
 cast-t18 c = search needs
 
--- src/retaining.rt:43:15
 element-copy-out-t7 : tie.Need-element-copy-out-t7
 element-copy-out-t7 c = search needs
 
--- src/retaining.rt:20:1
 returns-5 : tie.Need-returns-5
-returns-5 c = let a = c .before .before .before .before .args in link-kept (a .n) (a .links .now) (c .before .before .before .before .pre .0) (omega arith) (a .k) (a .p .code) (omega arith) (omega arith) (omega arith)
+returns-5 c =
+    let a = c .before .before .before .before .args in
+    link-kept (a .n) (a .links .now) (c .before .before .before .before .pre .0) (omega arith) (a .k) (a .p .code) (omega arith) (omega arith)
+    (omega arith)
 
 pub link-after-spec : {M : Type 1} → statement M
 link-after-spec =
