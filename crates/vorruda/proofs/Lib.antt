@@ -1,2 +1,3 @@
-pub mod Lending
 pub mod Bytes
+pub mod Judging
+pub mod Lending

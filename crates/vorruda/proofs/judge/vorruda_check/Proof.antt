@@ -1,0 +1,43 @@
+use mathlib.Core.Path.{refl}
+use native.Mathlib.Omega.{arith}
+use Rattle.vorruda.proofs.Judging.{numbered}
+use borrow.Author.Needs.{needs}
+use Rattle.vorruda.proofs.judge.vorruda_check.Statement.{statement}
+use Rattle.vorruda.proofs.judge.vorruda_check.Tie as tie
+
+check-requires : tie.Need-check-requires
+check-requires c κs = search needs
+
+enum-told : tie.Need-enum-told
+enum-told c = search needs
+
+enum-known-refusal : tie.Need-enum-known-refusal
+enum-known-refusal c = search needs
+
+refusal-number-requires : tie.Need-refusal-number-requires
+refusal-number-requires c κs = search needs
+
+returns : tie.Need-returns
+returns c =
+    let k = c .before .before .check in
+    let r-is = c .enum-told .given .1 in
+    (rw (← k .ensures .0, r-is) refl, λ z. k .ensures .1 _ r-is)
+
+returns-2 : tie.Need-returns-2
+returns-2 c =
+    let k = c .before .before .before .before .check in
+    let r-is = c .before .before .refusal .given .1 in (
+      rw (← k .ensures .0, r-is) (c .refusal-number .ensures),
+      λ z. absurd (omega (arith, numbered (c .before .before .refusal .given .0 .0), c .refusal-number .ensures)),
+    )
+
+pub vorruda-check-spec : {M : Type 1} → statement M
+vorruda-check-spec =
+    tie.close
+    (tie.spec
+    check-requires
+    enum-told
+    enum-known-refusal
+    refusal-number-requires
+    returns
+    returns-2)

@@ -1,0 +1,83 @@
+use mathlib.Core.Path.{refl}
+use native.Mathlib.Omega.{arith}
+use Rattle.vorruda.proofs.Judging.{numbered}
+use borrow.Author.Needs.{needs}
+use Rattle.vorruda.proofs.judge.vorruda_verdict.Statement.{statement}
+use Rattle.vorruda.proofs.judge.vorruda_verdict.Tie as tie
+
+check-requires : tie.Need-check-requires
+check-requires c κs = search needs
+
+enum-known-counts : tie.Need-enum-known-counts
+enum-known-counts c = search needs
+
+cast-t11 : tie.Need-cast-t11
+cast-t11 c = search needs
+
+cast-t12 : tie.Need-cast-t12
+cast-t12 c = search needs
+
+cast-t13 : tie.Need-cast-t13
+cast-t13 c = search needs
+
+slice-aggregate-lend : tie.Need-slice-aggregate-lend
+slice-aggregate-lend c = search needs
+
+lend-requires : tie.Need-lend-requires
+lend-requires c κs = search needs
+
+enum-known-refusal : tie.Need-enum-known-refusal
+enum-known-refusal c = search needs
+
+slice-aggregate-lend-2 : tie.Need-slice-aggregate-lend-2
+slice-aggregate-lend-2 c = search needs
+
+lend-requires-2 : tie.Need-lend-requires-2
+lend-requires-2 c κs = search needs
+
+refusal-number-requires : tie.Need-refusal-number-requires
+refusal-number-requires c κs = search needs
+
+same-length : tie.Need-same-length
+same-length c = search needs
+
+returns : tie.Need-returns
+returns c =
+    let k = c .before .before .before .before .before .before .before .before .before .before .before .check in
+    let r-is = c .before .before .before .before .before .before .before .before .before .counts .given .1 in
+    (rw (← k .ensures .0, r-is) refl, (rw (← k .ensures .0, r-is) (c .before .before .lend .ensures), λ z. k .ensures .1 _ r-is))
+
+same-length-2 : tie.Need-same-length-2
+same-length-2 c = search needs
+
+returns-2 : tie.Need-returns-2
+returns-2 c =
+    let k = c .before .before .before .before .before .before .before .before .before .check in
+    let r-is = c .before .before .before .before .before .before .before .refusal .given .1 in (
+      rw (← k .ensures .0, r-is) (c .refusal-number .ensures),
+      (
+        rw (← k .ensures .0, r-is) (c .before .before .before .lend2 .ensures),
+        λ z. absurd
+            (omega (arith, numbered (c .before .before .before .before .before .before .before .refusal .given .0 .0), c .refusal-number .ensures)),
+      ),
+    )
+
+pub vorruda-verdict-spec : {M : Type 1} → statement M
+vorruda-verdict-spec =
+    tie.close
+    (tie.spec
+    check-requires
+    enum-known-counts
+    cast-t11
+    cast-t12
+    cast-t13
+    slice-aggregate-lend
+    lend-requires
+    enum-known-refusal
+    slice-aggregate-lend-2
+    lend-requires-2
+    refusal-number-requires
+    same-length
+    returns
+    same-length-2
+    returns-2)

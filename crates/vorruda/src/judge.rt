@@ -1,0 +1,44 @@
+use crate::lend::lend;
+use verdict::Verdict;
+ghost use mathlib.Core.Path.{_≡_};
+ghost use Rattle.format.specs.Conditions.{SafeBytes};
+ghost use Rattle.format.specs.Verdict.{verdict};
+ghost use Rattle.number.specs.Outcome.{lent};
+ghost use Rattle.verdict.specs.Verdict.{verdictOutcome};
+
+// The verdict on a job and a certificate: 0 for accepted, or the refusal's number. 0 carries the run guarantee.
+#[no_mangle]
+pub extern "C" fn vorruda_check(job: &[u8], cert: &[u8]) -> u32
+    ensures number { λ r. ⌜ r ≡ verdictOutcome (verdict (now (job .entry)) (now (cert .entry))) .code ⌝ }
+    ensures safe { λ r. ⌜ (r ≡ 0 → SafeBytes (now (job .entry))) ⌝ }
+{
+    match checker::check(job, cert) {
+        Verdict::Accepted(_) => 0,
+        Verdict::Refused(refusal, _) => verdict::refusal_number(refusal),
+    }
+}
+
+// The same, with the three counts, or the place and two zeros, in an array that the host lends.
+#[no_mangle]
+pub extern "C" fn vorruda_verdict(job: &[u8], cert: &[u8], out: &mut [u64]) -> u32
+    ensures number { λ r. ⌜ r ≡ verdictOutcome (verdict (now (job .entry)) (now (cert .entry))) .code ⌝ }
+    ensures values { λ r. ⌜ now (out .exit) ≡ lent (verdictOutcome (verdict (now (job .entry)) (now (cert .entry))) .values) (now (out .entry)) ⌝ }
+    ensures safe { λ r. ⌜ (r ≡ 0 → SafeBytes (now (job .entry))) ⌝ }
+{
+    match checker::check(job, cert) {
+        Verdict::Accepted(counts) => {
+            let values = [
+                counts.bads as u64,
+                counts.members as u64,
+                counts.covers as u64,
+            ];
+            lend(&values, out);
+            0
+        }
+        Verdict::Refused(refusal, place) => {
+            let values = [place as u64, 0, 0];
+            lend(&values, out);
+            verdict::refusal_number(refusal)
+        }
+    }
+}
