@@ -6,6 +6,7 @@ use crate::extremes::extremes;
 use crate::library;
 use crate::pairs::{damaged_copies, Pair, Pairs};
 use crate::reference::checker;
+use crate::sweep;
 use crate::verdict::{Check, Verdict};
 
 const OUTCOMES: [&str; 14] = [
@@ -80,15 +81,18 @@ fn expected_answers(verdict: &Verdict, out_len: usize) -> Answers {
 /// How many damaged copies of each real certificate are tried.
 const COPIES: usize = 60;
 
-/// Random pairs, then the corpus with damaged copies, then the extremes.
+/// Random pairs, then the corpus with damaged copies, then every kind on large members, then the
+/// extremes.
 pub fn pairs(seed: u64, random: usize) -> Result<impl Iterator<Item = Pair>, String> {
     let real = corpus::certified()?.into_iter().map(|(_, pair)| pair);
     let real = real.flat_map(move |pair| {
         let copies: Vec<Pair> = damaged_copies(&pair, seed).take(COPIES).collect();
         std::iter::once(pair).chain(copies)
     });
+    let kinds = sweep::pairs(2).into_iter().map(|(_, pair)| pair);
     let extremes = extremes().into_iter().map(|(_, pair)| pair);
-    Ok(Pairs::new(seed).take(random).chain(real).chain(extremes))
+    let random = Pairs::new(seed).take(random);
+    Ok(random.chain(real).chain(kinds).chain(extremes))
 }
 
 fn outcome(verdict: &Verdict) -> &'static str {
