@@ -8,6 +8,7 @@ use crate::baseline::shape::{Shape, CELL, DANGLING, NOWHERE, NULL};
 use crate::extremes::{pair, shape};
 use crate::pairs::Pair;
 use crate::reference::operation::{operation, Operation, KINDS};
+use crate::routine::words;
 
 const MOST_COVERS: usize = 60_000;
 const MEMBERS: usize = 64;
@@ -63,7 +64,7 @@ fn of_frame(frame: &Frame, visits: usize) -> Vec<(String, Pair)> {
                 let operations = KINDS
                     .filter_map(|kind| operation(kind, a_operand, b_operand, VARIABLES as u64));
                 pairs.extend(operations.map(|operation| {
-                    let name = format!("{}, {}", words(operation, a, b), frame.name);
+                    let name = format!("{}, {}", description(operation, a, b), frame.name);
                     (name, undone(operation, &member, visits))
                 }));
             }
@@ -90,16 +91,14 @@ fn predecessors(shape: &Shape, operation: Operation) -> usize {
     count
 }
 
-fn words(operation: Operation, a: u8, b: u8) -> String {
-    let Operation { kind, .. } = operation;
-    let operand = |operand| ["null", "a", "b"][operand];
+fn description(operation: Operation, a: u8, b: u8) -> String {
+    let name = |operand: usize| ["null", "a", "b"][operand];
     let named = [(1, a), (2, b)]
         .into_iter()
         .filter(|&(variable, _)| operation.a == variable || operation.b == variable)
-        .map(|(variable, place)| format!("{} {}", operand(variable), standing(place)));
+        .map(|(variable, place)| format!("{} {}", name(variable), standing(place)));
     let standing = named.collect::<Vec<_>>().join(", ");
-    let (a, b) = (operand(operation.a), operand(operation.b));
-    format!("kind {kind} on {a} and {b}: {standing}")
+    format!("`{}`, {standing}", words(operation, name))
 }
 
 fn standing(place: u8) -> String {
@@ -108,5 +107,24 @@ fn standing(place: u8) -> String {
         NULL => "at #".to_string(),
         DANGLING => "at *".to_string(),
         cell => format!("at cell {}", cell - CELL),
+    }
+}
+
+#[cfg(test)]
+mod tests {
+    use super::*;
+    use crate::baseline::checker::check;
+    use crate::verdict::Verdict;
+
+    #[test]
+    fn all_are_accepted() {
+        for visits in [2, 200] {
+            let pairs = pairs(visits);
+            assert!(pairs.len() > 500, "only {}", pairs.len());
+            for (name, pair) in pairs {
+                let verdict = check(&pair.job, &pair.certificate);
+                assert!(matches!(verdict, Verdict::Accepted(_)), "{name}: {verdict}");
+            }
+        }
     }
 }

@@ -32,3 +32,21 @@ fn growing(members: usize, transitions: usize) -> Pair {
     let member = shape(&[3, 5, 1, 0], &[4, 5, 6, 1]);
     pair(4, &[skip], transitions, &vec![member; members])
 }
+
+#[cfg(test)]
+mod tests {
+    use super::*;
+    use crate::baseline::checker::check;
+
+    #[test]
+    fn sizes_double() {
+        let verdict = |pair: Option<&Pair>| {
+            let pair = pair.expect("there is a largest");
+            check(&pair.job, &pair.certificate).to_string()
+        };
+        let members = verdict(in_members().last());
+        assert_eq!(members, "accepted bads 1 members 512 covers 513");
+        let covers = verdict(in_covers().last());
+        assert_eq!(covers, "accepted bads 1 members 20 covers 5121");
+    }
+}

@@ -4,6 +4,7 @@
 use std::env;
 use std::fs;
 use std::hint::black_box;
+use std::io;
 use std::path::Path;
 use std::process::{Command, Stdio};
 
@@ -68,25 +69,27 @@ fn callgrind(folder: &Path) -> Result<Vec<f64>, String> {
     let itself = env::current_exe().map_err(|error| error.to_string())?;
     let status = Command::new("valgrind")
         .args(["--tool=callgrind", "--combine-dumps=yes", "--quiet"])
-        .args([
-            "--toggle-collect=vorruda_measured",
-            "--dump-after=vorruda_measured",
-        ])
+        .arg("--toggle-collect=vorruda_measured")
+        .arg("--dump-after=vorruda_measured")
         .arg(format!("--callgrind-out-file={}", file.display()))
         .arg(itself)
         .args([ARGUMENT.as_ref(), folder])
         .stdin(Stdio::null())
         .status()
         .map_err(|error| format!("valgrind: {error}"))?;
-    if !status.success() {
-        return Err(format!("callgrind ends with {status}"));
+    match status.success() {
+        true => read_counts(&file).map_err(|error| error.to_string()),
+        false => Err(format!("callgrind ends with {status}")),
     }
-    let text = fs::read_to_string(&file).map_err(|error| error.to_string())?;
-    let mut counts: Vec<f64> = text
+}
+
+/// The counts of all dumps but the last, which is that of the process's end.
+fn read_counts(file: &Path) -> io::Result<Vec<f64>> {
+    let text = fs::read_to_string(file)?;
+    let totals = text
         .lines()
-        .filter_map(|line| line.strip_prefix("totals: ")?.parse().ok())
-        .collect();
-    // The last dump is that of the process's end.
+        .filter_map(|line| line.strip_prefix("totals: "));
+    let mut counts: Vec<f64> = totals.filter_map(|count| count.parse().ok()).collect();
     counts.pop();
     Ok(counts)
 }
