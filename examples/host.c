@@ -1,4 +1,5 @@
-/* A host of the proved library: writes and reads numbers, then keeps a short list on the heap.
+/* A host of the proved library: writes and reads numbers, keeps a short list on the heap and checks
+ * certificates.
  *
  *   gcc -std=c11 -Wall -Wextra -Werror -Iinclude examples/host.c target/staticlib/libvorruda.a
  */
@@ -105,6 +106,46 @@ static void refused_steps(void)
     expect("the heap's bytes are as they were", memcmp(before, heap, sizeof heap) == 0, 1);
 }
 
+/* State 0, new(head), state 1; forbidden there: head at null. */
+static const uint8_t job[] = {1, 1, 2, 0, 1, 0, VORRUDA_NEW, 1, 0, 1, 1, 1, 0, VORRUDA_NULL};
+
+/* The certificate's member is the forbidden shape itself. */
+static void certificate_that_holds(void)
+{
+    const uint8_t cert[] = {1, 1, 1, 0, VORRUDA_NULL, 0};
+    uint64_t out[3] = {0, 0, 0};
+
+    expect("check: accepted", vorruda_check(job, sizeof job, cert, sizeof cert), 0);
+    expect("verdict: accepted", vorruda_verdict(job, sizeof job, cert, sizeof cert, out, 3), 0);
+    expect("forbidden shapes", out[0], 1);
+    expect("members", out[1], 1);
+    expect("covers", out[2], 1);
+}
+
+static void refused(const char *what, const uint8_t *job_bytes, const uint8_t *cert,
+                    size_t cert_len, uint32_t wanted, uint64_t place)
+{
+    uint64_t out[3] = {0, 0, 0};
+
+    expect(what, vorruda_verdict(job_bytes, sizeof job, cert, cert_len, out, 3), wanted);
+    expect("at place", out[0], place);
+}
+
+static void certificates_that_do_not(void)
+{
+    const uint8_t dangling[] = {1, 1, 1, 0, VORRUDA_DANGLING, 0};
+    const uint8_t anything[] = {1, 2, 1, 0, VORRUDA_NULL, 0, 0, 0, 0};
+    uint8_t assigned[sizeof job];
+
+    refused("head at *, which covers nothing: refused", job, dangling, sizeof dangling,
+            VORRUDA_COVER, 5);
+    memcpy(assigned, job, sizeof job);
+    assigned[6] = VORRUDA_ASSIGN;
+    refused("head := null, so from any heap: refused", assigned, anything, sizeof anything,
+            VORRUDA_START_MEMBER, 5);
+    refused("no certificate: refused", job, NULL, 0, VORRUDA_CERT_LENGTH, 0);
+}
+
 int main(void)
 {
     puts("Numbers as bytes");
@@ -113,6 +154,9 @@ int main(void)
     list_of_blocks();
     puts("Steps that are refused");
     refused_steps();
+    puts("Certificates");
+    certificate_that_holds();
+    certificates_that_do_not();
     puts(surprises == 0 ? "As expected." : "NOT as expected.");
     return surprises == 0 ? 0 : 1;
 }

@@ -94,6 +94,44 @@ uint32_t vorruda_write_numbers(const uint64_t *numbers, size_t count,
  * Where it isn't 0, the bytes stay as they are. */
 uint32_t vorruda_step(uint8_t *heap, size_t heap_len, uint32_t kind, uint32_t a, uint32_t b);
 
+/* ---- Checker ----------------------------------------------------------------------------------
+ *
+ * A job says what a routine does: its variables, states and transitions, and the shapes of heaps
+ * that are forbidden at its states. A certificate has shapes of its own, the members, and shows
+ * with covers that each forbidden shape, and each shape from which a transition leads to a member,
+ * is covered by a member, and that the empty heap at the start satisfies none.
+ *
+ * Where a pair is accepted, no heap on any run of the job, whatever its size, satisfies a shape
+ * that is forbidden at the state the run is then in. Whoever made the certificate need not be
+ * trusted.
+ *
+ * The refusals, in the order in which they are tried: */
+
+#define VORRUDA_JOB_LENGTH      1  /* the job is empty or longer than 65,536 bytes */
+#define VORRUDA_CERT_LENGTH     2  /* the certificate is empty or longer than 65,536 bytes */
+#define VORRUDA_JOB_UNREADABLE  3  /* a number of the job can't be read */
+#define VORRUDA_JOB_RANGE       4  /* a number of the job breaks its range */
+#define VORRUDA_JOB_LEFT        5  /* bytes are left after the job */
+#define VORRUDA_CERT_UNREADABLE 6  /* a number of the certificate can't be read */
+#define VORRUDA_CERT_RANGE      7  /* a number of the certificate breaks its range */
+#define VORRUDA_START_MEMBER    8  /* the empty heap satisfies a member at the start state */
+#define VORRUDA_COVER           9  /* a cover reads but doesn't hold */
+#define VORRUDA_CERT_LEFT       10 /* bytes are left after the last cover */
+
+/* Checks a certificate against a job; both are only read.
+ *   0: accepted.
+ *   VORRUDA_JOB_LENGTH to VORRUDA_CERT_LEFT: refused, by the first that applies.
+ * A call needs less than 64 KiB of stack. */
+uint32_t vorruda_check(const uint8_t *job, size_t job_len, const uint8_t *cert, size_t cert_len);
+
+/* The same, with what belongs to the number.
+ *   0: out[0], out[1] and out[2] are how many forbidden shapes, members and covers there are.
+ *   Refused: out[0] is the place, out[1] and out[2] are 0. The place is the first byte of the
+ *      number, the member (8) or the cover (9); the first byte left (5, 10); 0 for a length.
+ * out has three entries. */
+uint32_t vorruda_verdict(const uint8_t *job, size_t job_len, const uint8_t *cert, size_t cert_len,
+                         uint64_t *out, size_t out_len);
+
 #ifdef __cplusplus
 }
 #endif

@@ -1,3 +1,37 @@
-//! The checker that the tools for a person use.
+//! The proved checker, for the tools that a person uses.
 
-pub use crate::reference::checker::check;
+use crate::library;
+use crate::verdict::{Counts, Refusal, Verdict};
+
+/// The verdict on two buffers.
+pub fn check(job: &[u8], certificate: &[u8]) -> Verdict {
+    let mut out = [0; 3];
+    match library::verdict(job, certificate, &mut out) {
+        0 => Verdict::Accepted(Counts {
+            bads: out[0],
+            members: out[1],
+            covers: out[2],
+        }),
+        number => Verdict::Refused(Refusal {
+            number,
+            place: out[0] as usize,
+        }),
+    }
+}
+
+#[cfg(test)]
+mod tests {
+    use super::*;
+
+    /// State 0, new of variable 1, state 1; forbidden there: variable 1 at #.
+    const JOB: [u8; 14] = [1, 1, 2, 0, 1, 0, 6, 1, 0, 1, 1, 1, 0, 1];
+
+    #[test]
+    fn verdicts_of_the_library() {
+        let accepted = check(&JOB, &[1, 1, 1, 0, 1, 0]);
+        assert_eq!(accepted.to_string(), "accepted bads 1 members 1 covers 1");
+        let refused = check(&JOB, &[1, 1, 1, 0, 2, 0]);
+        assert_eq!(refused.to_string(), "refused 9 at 5");
+        assert_eq!(check(&[], &[]).to_string(), "refused 1 at 0");
+    }
+}

@@ -30,8 +30,12 @@ fn op(kind: u64, a: usize, b: usize) -> Operation {
 
 /// The pair of a job that goes round at one state, with operations in turn, and these members, the
 /// first of which is forbidden.
-fn pair(operations: &[Operation], transitions: usize, members: &[Shape]) -> Pair {
-    let variables = 8;
+pub fn pair(
+    variables: usize,
+    operations: &[Operation],
+    transitions: usize,
+    members: &[Shape],
+) -> Pair {
     let round = operations.iter().cycle().take(transitions);
     let job = Job {
         variables: variables as u64,
@@ -59,12 +63,12 @@ fn pair(operations: &[Operation], transitions: usize, members: &[Shape]) -> Pair
     }
 }
 
-fn shape(variables: &[u64], links: &[u64]) -> Shape {
+pub fn shape(variables: &[u64], links: &[u64]) -> Shape {
     Shape::of_reference(&reference::Shape::of_codes(variables, links))
 }
 
 /// Twelve cells in a chain to #, with some variables placed.
-fn chain(variables: &[u64]) -> Shape {
+pub fn chain(variables: &[u64]) -> Shape {
     shape(variables, &[4, 5, 6, 7, 8, 9, 10, 11, 12, 13, 14, 1])
 }
 
@@ -81,40 +85,40 @@ fn all_dropped() -> Pair {
         op(LINK, 3, 1),
     ];
     let members = vec![chain(&[0, 0, 1, 2]); MOST_MEMBERS as usize];
-    pair(&operations, MOST_TRANSITIONS as usize, &members)
+    pair(8, &operations, MOST_TRANSITIONS as usize, &members)
 }
 
 /// Two predecessors each: a where the link stands, or within it.
 fn linked_b() -> Pair {
     let covering = shape(&[0, 0, 1], &[]);
     let members = [vec![covering], vec![chain(&[0, 3, 1]); 116]].concat();
-    pair(&[op(FOLLOW, 1, 2)], MOST_TRANSITIONS as usize, &members)
+    pair(8, &[op(FOLLOW, 1, 2)], MOST_TRANSITIONS as usize, &members)
 }
 
 /// The most predecessors that one transition has.
 fn both_nowhere() -> Pair {
     let covering = shape(&[0, 0, 1], &[]);
     let members = [vec![covering], vec![chain(&[0, 0, 1]); 80]].concat();
-    pair(&[op(DIFFERENT, 1, 2)], 1, &members)
+    pair(8, &[op(DIFFERENT, 1, 2)], 1, &members)
 }
 
 /// The most covers that a certificate has room for.
 fn one_byte_covers() -> Pair {
-    let members = [Shape::EMPTY; 246];
-    pair(&[op(EQUAL, 0, 0)], MOST_TRANSITIONS as usize, &members)
+    let members = [Shape::EMPTY; 253];
+    pair(1, &[op(EQUAL, 0, 0)], MOST_TRANSITIONS as usize, &members)
 }
 
 /// One link to follow along twelve cells.
 fn long_paths() -> Pair {
     let covering = shape(&[3], &[1]);
     let members = [vec![covering], vec![chain(&[3]); 120]].concat();
-    pair(&[op(EQUAL, 0, 0)], MOST_TRANSITIONS as usize, &members)
+    pair(8, &[op(EQUAL, 0, 0)], MOST_TRANSITIONS as usize, &members)
 }
 
-/// Twelve images and twelve links for each cover.
+/// Twelve images, twelve links and eight variables for each cover.
 fn twelve_links() -> Pair {
-    let members = [chain(&[3]); 19];
-    pair(&[op(EQUAL, 0, 0)], MOST_TRANSITIONS as usize, &members)
+    let members = [chain(&[3, 4, 5, 6, 7, 8, 9, 14]); 19];
+    pair(8, &[op(EQUAL, 0, 0)], MOST_TRANSITIONS as usize, &members)
 }
 
 #[cfg(test)]
@@ -130,7 +134,7 @@ mod tests {
             (512, 1),
             (117, 1 + (3 + 116 * 2) * 256),
             (81, 1 + 3 + 80 * 675),
-            (246, 1 + 246 * 256),
+            (253, 1 + 253 * 256),
             (121, 1 + 121 * 256),
             (19, 1 + 19 * 256),
         ];

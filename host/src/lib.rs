@@ -2,6 +2,7 @@
 //! library that [`library`] links, and [`reference`] is written apart from it, to compare.
 
 pub mod baseline;
+pub mod bench;
 pub mod check;
 pub mod compare;
 pub mod corpus;
@@ -13,4 +14,5 @@ pub mod random;
 pub mod reference;
 pub mod routine;
 pub mod search;
+pub mod sweep;
 pub mod verdict;

@@ -21,6 +21,15 @@ extern "C" {
         out_len: usize,
     ) -> u32;
     fn vorruda_step(heap: *mut u8, heap_len: usize, kind: u32, a: u32, b: u32) -> u32;
+    fn vorruda_check(job: *const u8, job_len: usize, cert: *const u8, cert_len: usize) -> u32;
+    fn vorruda_verdict(
+        job: *const u8,
+        job_len: usize,
+        cert: *const u8,
+        cert_len: usize,
+        out: *mut u64,
+        out_len: usize,
+    ) -> u32;
 }
 
 fn lent<T>(slice: &[T]) -> *const T {
@@ -59,4 +68,23 @@ pub fn write_numbers(numbers: &[u64], bytes: &mut [u8], out: &mut [u64]) -> u32 
 pub fn step(heap: &mut [u8], kind: u32, a: u32, b: u32) -> u32 {
     // SAFETY: the pointer goes with the length of the slice that it came from.
     unsafe { vorruda_step(lent_mut(heap), heap.len(), kind, a, b) }
+}
+
+pub fn check(job: &[u8], certificate: &[u8]) -> u32 {
+    // SAFETY: each pointer goes with the length of the slice that it came from.
+    unsafe { vorruda_check(lent(job), job.len(), lent(certificate), certificate.len()) }
+}
+
+pub fn verdict(job: &[u8], certificate: &[u8], out: &mut [u64]) -> u32 {
+    // SAFETY: each pointer goes with the length of the slice that it came from.
+    unsafe {
+        vorruda_verdict(
+            lent(job),
+            job.len(),
+            lent(certificate),
+            certificate.len(),
+            lent_mut(out),
+            out.len(),
+        )
+    }
 }

@@ -2,8 +2,13 @@
 
 mod common;
 
+use std::fs;
+use std::path::Path;
+use std::process::Command;
+
 use common::assert_chain_holds;
 use vorruda_host::baseline;
+use vorruda_host::check as proved;
 use vorruda_host::corpus::{self, Entry, Expected};
 use vorruda_host::reference::checker::check;
 use vorruda_host::search::{search, Outcome};
@@ -27,6 +32,19 @@ fn the_corpus_is_large_enough() {
     assert!(of(Expected::Beyond) >= 1);
 }
 
+/// The command also fails where the proved checker refuses.
+#[test]
+fn the_docs_have_the_table_that_the_command_prints() {
+    let output = Command::new(env!("CARGO_BIN_EXE_corpus")).output().unwrap();
+    assert!(output.status.success());
+    let printed = String::from_utf8(output.stdout).unwrap();
+    let docs = Path::new(env!("CARGO_MANIFEST_DIR")).join("../docs/CORPUS.md");
+    let docs = fs::read_to_string(docs).unwrap();
+    for row in printed.lines().filter(|line| line.starts_with('|')) {
+        assert!(docs.contains(row), "not in docs/CORPUS.md: {row}");
+    }
+}
+
 #[test]
 fn routines_end_as_their_names_say() {
     for Entry {
@@ -41,11 +59,9 @@ fn routines_end_as_their_names_say() {
                 let (job, certificate) = (routine.job.bytes(), certificate.bytes());
                 let verdict = check(&job, &certificate);
                 assert!(matches!(verdict, Verdict::Accepted(_)), "{name}: {verdict}");
-                assert_eq!(
-                    baseline::checker::check(&job, &certificate),
-                    verdict,
-                    "{name}"
-                );
+                for other in [baseline::checker::check, proved::check] {
+                    assert_eq!(other(&job, &certificate), verdict, "{name}");
+                }
             }
             Outcome::Impossible(chain) => {
                 let ended = match chain.is_a_run {

@@ -1,8 +1,10 @@
-//! A plain fast checker without proofs: fixed arrays, nothing allocated for a cover, no predecessor
-//! made that would be dropped. The benchmark's baseline, and the search tool's engine.
+//! The calls in plain fast Rust without proofs, the benchmark's baseline: fixed arrays, nothing
+//! allocated for a cover, no predecessor made that would be dropped. Also the search tool's engine.
 
 pub mod checker;
 pub mod embedding;
+pub mod number;
 pub mod predecessor;
 mod reader;
 pub mod shape;
+pub mod stepper;

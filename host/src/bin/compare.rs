@@ -6,12 +6,15 @@
 use std::env;
 use std::process::ExitCode;
 
-use vorruda_host::baseline;
 use vorruda_host::compare::{lists, numbers, steps, verdicts, Tally};
 use vorruda_host::verdict::Check;
+use vorruda_host::{baseline, check};
 
 /// The checkers that are compared with the reference.
-const CHECKERS: [(&str, Check); 1] = [("baseline's verdicts", baseline::checker::check)];
+const CHECKERS: [(&str, Check); 2] = [
+    ("the proved checker's verdicts", check::check),
+    ("the baseline's verdicts", baseline::checker::check),
+];
 
 const PAIRS: u64 = 100_000;
 const SEED: u64 = 0x0009_5eed;

@@ -1,13 +1,15 @@
 //! From the text of a routine to a verdict: translates, searches for a certificate and checks it.
 //!
-//! `try FILE [FOLDER]`: with a folder, job.bin and cert.bin are written there. The exit status is 0
-//! where the certificate is accepted, 1 where there is none, 2 for a mistake in the file.
+//! `try ROUTINE [FOLDER]`: a file, or the name of a routine of the corpus. With a folder, job.bin and
+//! cert.bin are written there. The exit status is 0 where the certificate is accepted, 1 where there
+//! is none, 2 for a mistake in the file.
 
-use std::path::Path;
+use std::path::{Path, PathBuf};
 use std::process::ExitCode;
 use std::{env, fs};
 
 use vorruda_host::check::check;
+use vorruda_host::corpus;
 use vorruda_host::draw;
 use vorruda_host::reference::certificate::Certificate;
 use vorruda_host::routine::{parse, Routine};
@@ -16,21 +18,30 @@ use vorruda_host::verdict::Verdict;
 
 fn main() -> ExitCode {
     let arguments: Vec<String> = env::args().skip(1).collect();
-    let (file, folder) = match &arguments[..] {
-        [file] => (file, None),
-        [file, folder] => (file, Some(Path::new(folder))),
-        _ => return wrong("usage: try FILE [FOLDER]"),
+    let (name, folder) = match &arguments[..] {
+        [name] => (name, None),
+        [name, folder] => (name, Some(Path::new(folder))),
+        _ => return wrong("usage: try ROUTINE [FOLDER]"),
     };
-    let text = match fs::read_to_string(file) {
+    let text = match fs::read_to_string(file_of(name)) {
         Ok(text) => text,
-        Err(error) => return wrong(&format!("{file}: {error}")),
+        Err(error) => return wrong(&format!("{name}: {error}")),
     };
     match parse(&text) {
         Ok(routine) => {
-            println!("{file}: {}", routine.title);
+            println!("{name}: {}", routine.title);
             judge(&routine, folder)
         }
-        Err(mistake) => wrong(&format!("{file}: {mistake}")),
+        Err(mistake) => wrong(&format!("{name}: {mistake}")),
+    }
+}
+
+/// The routine of the corpus with this name where there is one, else the file.
+fn file_of(name: &str) -> PathBuf {
+    let known = corpus::folder().join(format!("{name}.routine"));
+    match known.is_file() {
+        true => known,
+        false => PathBuf::from(name),
     }
 }
 

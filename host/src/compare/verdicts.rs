@@ -1,10 +1,12 @@
 //! Verdicts on pairs of a job and a certificate.
 
-use super::Tally;
+use super::{Tally, UNTOUCHED};
 use crate::corpus;
 use crate::extremes::extremes;
+use crate::library;
 use crate::pairs::{damaged_copies, Pair, Pairs};
 use crate::reference::checker;
+use crate::sweep;
 use crate::verdict::{Check, Verdict};
 
 const OUTCOMES: [&str; 14] = [
@@ -24,37 +26,73 @@ const OUTCOMES: [&str; 14] = [
     "refused 10",
 ];
 
-/// Compares checkers, each with its title, with the reference on pairs.
+/// Lengths of `out` that are tried in turn: too short, exact and longer.
+const OUT_LENGTHS: [usize; 5] = [0, 1, 2, 3, 4];
+
+/// Compares checkers, each with its title, with the reference on pairs; and last the library's two
+/// calls, with all that they write.
 pub fn compare(
     checkers: &[(&'static str, Check)],
     pairs: impl Iterator<Item = Pair>,
 ) -> Vec<Tally> {
     let tally = |&(title, _): &(&'static str, Check)| Tally::new(title, &OUTCOMES);
     let mut tallies: Vec<Tally> = checkers.iter().map(tally).collect();
-    for Pair { job, certificate } in pairs {
+    let mut calls = Tally::new("vorruda_check and vorruda_verdict", &OUTCOMES);
+    for (Pair { job, certificate }, out_len) in pairs.zip(OUT_LENGTHS.into_iter().cycle()) {
         let expected = checker::check(&job, &certificate);
+        let words = || format!("job {job:?}\n  certificate {certificate:?}");
         for ((_, check), tally) in checkers.iter().zip(&mut tallies) {
             let got = check(&job, &certificate);
-            tally.add(outcome(&expected), &expected, &got, || {
-                format!("job {job:?}\n  certificate {certificate:?}")
-            });
+            tally.add(outcome(&expected), &expected, &got, words);
         }
+        calls.add(
+            outcome(&expected),
+            &expected_answers(&expected, out_len),
+            &answers(&job, &certificate, out_len),
+            || format!("out_len {out_len}, {}", words()),
+        );
     }
+    tallies.push(calls);
     tallies
+}
+
+/// What both calls return, and what the second leaves in an array of which so much is lent.
+type Answers = (u32, u32, [u64; 4]);
+
+fn answers(job: &[u8], certificate: &[u8], out_len: usize) -> Answers {
+    let mut out = [UNTOUCHED; 4];
+    let number = library::check(job, certificate);
+    let again = library::verdict(job, certificate, &mut out[..out_len]);
+    (number, again, out)
+}
+
+fn expected_answers(verdict: &Verdict, out_len: usize) -> Answers {
+    let mut out = [UNTOUCHED; 4];
+    if out_len >= 3 {
+        let results = match verdict {
+            Verdict::Accepted(counts) => [counts.bads, counts.members, counts.covers],
+            Verdict::Refused(refusal) => [refusal.place as u64, 0, 0],
+        };
+        out[..3].copy_from_slice(&results);
+    }
+    (verdict.number(), verdict.number(), out)
 }
 
 /// How many damaged copies of each real certificate are tried.
 const COPIES: usize = 60;
 
-/// Random pairs, then the corpus with damaged copies, then the extremes.
+/// Random pairs, then the corpus with damaged copies, then every kind on large members, then the
+/// extremes.
 pub fn pairs(seed: u64, random: usize) -> Result<impl Iterator<Item = Pair>, String> {
     let real = corpus::certified()?.into_iter().map(|(_, pair)| pair);
     let real = real.flat_map(move |pair| {
         let copies: Vec<Pair> = damaged_copies(&pair, seed).take(COPIES).collect();
         std::iter::once(pair).chain(copies)
     });
+    let kinds = sweep::pairs(2).into_iter().map(|(_, pair)| pair);
     let extremes = extremes().into_iter().map(|(_, pair)| pair);
-    Ok(Pairs::new(seed).take(random).chain(real).chain(extremes))
+    let random = Pairs::new(seed).take(random);
+    Ok(random.chain(real).chain(kinds).chain(extremes))
 }
 
 fn outcome(verdict: &Verdict) -> &'static str {

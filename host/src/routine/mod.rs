@@ -55,16 +55,21 @@ impl Routine {
 
     /// An operation as it stands in the text.
     pub fn operation(&self, operation: Operation) -> String {
-        let (a, b) = (self.operand(operation.a), self.operand(operation.b));
-        match operation.kind {
-            EQUAL => format!("{a} = {b}"),
-            DIFFERENT => format!("{a} != {b}"),
-            ASSIGN => format!("{a} := {b}"),
-            FOLLOW => format!("{a} := {b}.next"),
-            LINK => format!("{a}.next := {b}"),
-            NEW => format!("new({a})"),
-            DELETE => format!("delete({a})"),
-            _ => unreachable!("an operation has a kind of the table"),
-        }
+        words(operation, |operand| self.operand(operand))
+    }
+}
+
+/// An operation as it stands in the text, with names for its operands.
+pub fn words<'a>(operation: Operation, name: impl Fn(usize) -> &'a str) -> String {
+    let (a, b) = (name(operation.a), name(operation.b));
+    match operation.kind {
+        EQUAL => format!("{a} = {b}"),
+        DIFFERENT => format!("{a} != {b}"),
+        ASSIGN => format!("{a} := {b}"),
+        FOLLOW => format!("{a} := {b}.next"),
+        LINK => format!("{a}.next := {b}"),
+        NEW => format!("new({a})"),
+        DELETE => format!("delete({a})"),
+        _ => unreachable!("an operation has a kind of the table"),
     }
 }

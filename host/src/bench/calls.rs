@@ -1,0 +1,100 @@
+//! Work for the calls beside the checker.
+
+use std::cell::RefCell;
+use std::hint::black_box;
+
+use super::Work;
+use crate::random::Random;
+use crate::reference::heap::Heap;
+use crate::reference::number::bytes_of;
+use crate::reference::stepper;
+use crate::{baseline, library};
+
+const NUMBERS: usize = 10_000;
+const STEPS: usize = 5_000;
+
+/// The work with its names.
+pub fn works() -> Vec<(&'static str, Work<'static>)> {
+    vec![
+        ("10,000 numbers read", reading()),
+        ("10,000 numbers written", writing()),
+        ("5,000 steps", stepping()),
+    ]
+}
+
+/// Numbers as in a certificate: most take one byte.
+fn numbers() -> Vec<u64> {
+    let mut random = Random::new(0xf_5eed);
+    let bounds = [15, 15, 15, 15, 15, 15, 128, 512, 65_536];
+    (0..NUMBERS)
+        .map(|_| {
+            let bound = random.pick(&bounds);
+            random.below(bound) as u64
+        })
+        .collect()
+}
+
+fn reading() -> Work<'static> {
+    let bytes: Vec<u8> = numbers().into_iter().flat_map(bytes_of).collect();
+    let same = bytes.clone();
+    Work {
+        proved: Box::new(move || {
+            let mut out = [0; 2];
+            while library::read_number(&bytes, out[1] as usize, &mut out) == 0 {}
+            black_box(out);
+        }),
+        baseline: Box::new(move || {
+            let mut at = 0;
+            while let Some((number, next)) = baseline::number::read(&same, at) {
+                black_box(number);
+                at = next;
+            }
+        }),
+    }
+}
+
+fn writing() -> Work<'static> {
+    let numbers = numbers();
+    let same = numbers.clone();
+    let room = || RefCell::new(vec![0; 3 * NUMBERS]);
+    let (bytes, other) = (room(), room());
+    Work {
+        proved: Box::new(move || {
+            let mut out = [0];
+            library::write_numbers(&numbers, &mut bytes.borrow_mut(), &mut out);
+            black_box(out);
+        }),
+        baseline: Box::new(move || {
+            black_box(baseline::number::write_list(&same, &mut other.borrow_mut()));
+        }),
+    }
+}
+
+/// A walk from the empty heap.
+fn stepping() -> Work<'static> {
+    Work {
+        proved: Box::new(walk(library::step)),
+        baseline: Box::new(walk(baseline::stepper::step)),
+    }
+}
+
+fn walk(step: fn(&mut [u8], u32, u32, u32) -> u32) -> impl Fn() {
+    let mut random = Random::new(0x10_5eed);
+    let operations: Vec<(u32, u32, u32)> = (0..STEPS)
+        .map(|_| {
+            let kind = random.pick(&[1, 2, 3, 4, 5, 5, 6, 6, 6, 7]);
+            let mut operand = |lowest| (lowest + random.below(5 - lowest)) as u32;
+            match kind {
+                6 | 7 => (kind, operand(1), 0),
+                _ => (kind, operand(1), operand(usize::from(kind == 4))),
+            }
+        })
+        .collect();
+    let empty = stepper::bytes_of(&Heap::empty(4));
+    move || {
+        let mut heap = empty;
+        for &(kind, a, b) in &operations {
+            black_box(step(&mut heap, kind, a, b));
+        }
+    }
+}

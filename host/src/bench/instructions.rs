@@ -1,0 +1,95 @@
+//! Counting instructions: the process runs itself under callgrind, which counts within
+//! [`vorruda_measured`] and dumps a count each time it ends.
+
+use std::env;
+use std::fs;
+use std::hint::black_box;
+use std::io;
+use std::path::Path;
+use std::process::{Command, Stdio};
+
+use super::suite::{read_pairs, Suite};
+use super::{calls, Cost, Work};
+
+/// The argument with which the process does the measured work.
+pub const ARGUMENT: &str = "measured";
+
+/// The file with the suite's pairs.
+const PAIRS: &str = "pairs.bin";
+
+/// Callgrind finds it by this name.
+#[no_mangle]
+#[inline(never)]
+fn vorruda_measured(work: &dyn Fn()) {
+    work();
+    black_box(());
+}
+
+/// What is counted in a run: an empty work, then each pair in turn, then the other calls.
+pub fn run(folder: &Path) -> Result<(), String> {
+    let pairs = read_pairs(&folder.join(PAIRS)).map_err(|error| error.to_string())?;
+    vorruda_measured(&|| ());
+    for pair in &pairs {
+        measure(&Work::of_pair(pair));
+    }
+    for (_, work) in calls::works() {
+        measure(&work);
+    }
+    Ok(())
+}
+
+/// Each once before it counts, so that what a first call costs more is left out.
+fn measure(work: &Work) {
+    for call in [&work.proved, &work.baseline] {
+        call();
+        vorruda_measured(call);
+    }
+}
+
+/// Counts the instructions of each pair of the suite, and gives those of the other calls.
+pub fn count(suite: &mut Suite, folder: &Path) -> Result<Vec<Cost>, String> {
+    suite
+        .write(&folder.join(PAIRS))
+        .map_err(|error| error.to_string())?;
+    let counts = callgrind(folder)?;
+    let (empty, counts) = counts.split_first().ok_or("callgrind counted nothing")?;
+    let mut costs = counts.chunks_exact(2).map(|pair| Cost {
+        proved: pair[0] - empty,
+        baseline: pair[1] - empty,
+    });
+    for case in suite.cases() {
+        case.instructions = costs.next().ok_or("callgrind counted too little")?;
+    }
+    Ok(costs.collect())
+}
+
+/// Runs the process itself under callgrind, and gives the counts in their order.
+fn callgrind(folder: &Path) -> Result<Vec<f64>, String> {
+    let file = folder.join("callgrind.out");
+    let itself = env::current_exe().map_err(|error| error.to_string())?;
+    let status = Command::new("valgrind")
+        .args(["--tool=callgrind", "--combine-dumps=yes", "--quiet"])
+        .arg("--toggle-collect=vorruda_measured")
+        .arg("--dump-after=vorruda_measured")
+        .arg(format!("--callgrind-out-file={}", file.display()))
+        .arg(itself)
+        .args([ARGUMENT.as_ref(), folder])
+        .stdin(Stdio::null())
+        .status()
+        .map_err(|error| format!("valgrind: {error}"))?;
+    match status.success() {
+        true => read_counts(&file).map_err(|error| error.to_string()),
+        false => Err(format!("callgrind ends with {status}")),
+    }
+}
+
+/// The counts of all dumps but the last, which is that of the process's end.
+fn read_counts(file: &Path) -> io::Result<Vec<f64>> {
+    let text = fs::read_to_string(file)?;
+    let totals = text
+        .lines()
+        .filter_map(|line| line.strip_prefix("totals: "));
+    let mut counts: Vec<f64> = totals.filter_map(|count| count.parse().ok()).collect();
+    counts.pop();
+    Ok(counts)
+}

@@ -1,0 +1,164 @@
+//! The tables, in markdown.
+
+use super::suite::{Case, Suite};
+use super::{calls, time, Cost, Work};
+use crate::baseline::checker::check;
+use crate::verdict::Verdict;
+
+/// How many of the largest ratios are shown, among pairs of so many instructions.
+const SHOWN: usize = 8;
+const LONG: f64 = 1_000.0;
+
+/// Measures the time where it is shown, and prints all tables.
+pub fn print(suite: &Suite, calls: &[Cost]) {
+    println!("### The corpus\n");
+    with_time(&suite.corpus, true);
+    println!("\n### Worst cases\n");
+    with_time(&suite.extremes, false);
+    println!("\n### Growth with the members, one cover each\n");
+    growth(&suite.in_members);
+    println!("\n### Growth with the covers, twenty members\n");
+    growth(&suite.in_covers);
+    println!("\n### Small pairs, and refusals\n");
+    refusals(&suite.refused);
+    println!("\n### Every kind, with its operands standing in every way: the largest ratios\n");
+    largest(&suite.sweep);
+    println!("\n### Random pairs, accepted and damaged: the largest ratios\n");
+    largest(&suite.random);
+    println!("\n### The other calls\n");
+    other_calls(calls);
+}
+
+fn heading(columns: &str) {
+    let count = columns.matches('|').count() - 1;
+    println!("{columns}\n|---{}|", "|--:".repeat(count - 1));
+}
+
+fn with_time(cases: &[Case], in_all: bool) {
+    heading(
+        "| pair | members | covers | bytes | instructions | baseline | ratio | µs | baseline | ratio |",
+    );
+    let mut times = Vec::new();
+    for case in cases {
+        let time = time::measure(&Work::of_pair(&case.pair));
+        let columns = [
+            case.name.clone(),
+            sizes(case),
+            instructions(case.instructions),
+            microseconds(time),
+        ];
+        println!("| {} |", columns.join(" | "));
+        times.push(time);
+    }
+    if in_all {
+        println!(
+            "| **in all** | | | | {} | {} |",
+            instructions(cases.iter().map(|case| case.instructions).sum()),
+            microseconds(times.into_iter().sum()),
+        );
+    }
+}
+
+/// Members, covers and bytes of an accepted pair.
+fn sizes(case: &Case) -> String {
+    let bytes = thousands((case.pair.job.len() + case.pair.certificate.len()) as f64);
+    match check(&case.pair.job, &case.pair.certificate) {
+        Verdict::Accepted(counts) => {
+            let covers = thousands(counts.covers as f64);
+            format!("{} | {covers} | {bytes}", counts.members)
+        }
+        Verdict::Refused(_) => format!("- | - | {bytes}"),
+    }
+}
+
+fn instructions(cost: Cost) -> String {
+    let (proved, baseline) = (thousands(cost.proved), thousands(cost.baseline));
+    format!("{proved} | {baseline} | {:.2}", cost.ratio())
+}
+
+fn microseconds(cost: Cost) -> String {
+    let (proved, baseline) = (cost.proved / 1e3, cost.baseline / 1e3);
+    format!("{proved:.1} | {baseline:.1} | {:.2}", cost.ratio())
+}
+
+fn growth(cases: &[Case]) {
+    heading("| members | covers | bytes | instructions | baseline | ratio | for a cover |");
+    for case in cases {
+        let covers = match check(&case.pair.job, &case.pair.certificate) {
+            Verdict::Accepted(counts) => counts.covers,
+            Verdict::Refused(_) => 0,
+        };
+        println!(
+            "| {} | {} | {:.0} |",
+            sizes(case),
+            instructions(case.instructions),
+            case.instructions.proved / covers as f64,
+        );
+    }
+}
+
+fn refusals(cases: &[Case]) {
+    heading("| pair | verdict | instructions | baseline | ratio |");
+    for case in cases {
+        row_with_verdict(case);
+    }
+}
+
+fn row_with_verdict(case: &Case) {
+    println!(
+        "| {} | {} | {} |",
+        case.name,
+        check(&case.pair.job, &case.pair.certificate),
+        instructions(case.instructions),
+    );
+}
+
+/// The sum of all cases, and the largest ratios where the baseline takes long enough.
+fn largest(cases: &[Case]) {
+    heading("| pair | verdict | instructions | baseline | ratio |");
+    let all: Cost = cases.iter().map(|case| case.instructions).sum();
+    println!("| **in all {}** | | {} |", cases.len(), instructions(all));
+    let mut sorted: Vec<&Case> = cases
+        .iter()
+        .filter(|case| case.instructions.baseline >= LONG)
+        .collect();
+    sorted.sort_by(|x, y| y.instructions.ratio().total_cmp(&x.instructions.ratio()));
+    for case in sorted.into_iter().take(SHOWN) {
+        row_with_verdict(case);
+    }
+}
+
+fn other_calls(costs: &[Cost]) {
+    heading("| calls | ratio of instructions | ratio of time |");
+    for ((name, work), cost) in calls::works().iter().zip(costs) {
+        let time = time::measure(work);
+        println!("| {name} | {:.2} | {:.2} |", cost.ratio(), time.ratio());
+    }
+}
+
+/// A whole number with commas.
+fn thousands(number: f64) -> String {
+    let digits = format!("{number:.0}");
+    let mut text = String::new();
+    for (index, digit) in digits.chars().enumerate() {
+        if index > 0 && (digits.len() - index) % 3 == 0 {
+            text.push(',');
+        }
+        text.push(digit);
+    }
+    text
+}
+
+#[cfg(test)]
+mod tests {
+    use super::thousands;
+
+    #[test]
+    fn whole_numbers_have_commas() {
+        let rows = [(0.0, "0"), (999.0, "999"), (1000.0, "1,000")];
+        for (number, text) in rows {
+            assert_eq!(thousands(number), text);
+        }
+        assert_eq!(thousands(1_234_567.0), "1,234,567");
+    }
+}

@@ -1,0 +1,110 @@
+//! The pairs that are measured, in groups.
+
+use std::fs;
+use std::io;
+use std::path::Path;
+
+use super::{growth, refused, Cost};
+use crate::corpus;
+use crate::extremes::extremes;
+use crate::pairs::{Pair, Pairs};
+use crate::sweep;
+
+/// A pair with a name for the tables, and its instructions once they are counted.
+pub struct Case {
+    pub name: String,
+    pub pair: Pair,
+    pub instructions: Cost,
+}
+
+pub struct Suite {
+    pub corpus: Vec<Case>,
+    pub extremes: Vec<Case>,
+    pub refused: Vec<Case>,
+    pub in_members: Vec<Case>,
+    pub in_covers: Vec<Case>,
+    pub sweep: Vec<Case>,
+    pub random: Vec<Case>,
+}
+
+/// How often an operation is undone in each pair of the sweep.
+const VISITS: usize = 4_096;
+
+const RANDOM: usize = 1_000;
+const SEED: u64 = 0x0011_5eed;
+
+impl Suite {
+    /// All pairs; the search finds those of the corpus.
+    pub fn new() -> Result<Suite, String> {
+        Ok(Suite {
+            corpus: named(corpus::certified()?),
+            extremes: named(extremes()),
+            refused: named(refused::pairs()),
+            in_members: numbered(growth::in_members()),
+            in_covers: numbered(growth::in_covers()),
+            sweep: named(sweep::pairs(VISITS)),
+            random: numbered(Pairs::new(SEED).take(RANDOM)),
+        })
+    }
+
+    /// All cases, group by group.
+    pub fn cases(&mut self) -> impl Iterator<Item = &mut Case> {
+        let groups = [
+            &mut self.corpus,
+            &mut self.extremes,
+            &mut self.refused,
+            &mut self.in_members,
+            &mut self.in_covers,
+            &mut self.sweep,
+            &mut self.random,
+        ];
+        groups.into_iter().flatten()
+    }
+
+    /// Writes the pairs one after the other, each buffer behind its length.
+    pub fn write(&mut self, file: &Path) -> io::Result<()> {
+        let mut bytes = Vec::new();
+        for case in self.cases() {
+            for buffer in [&case.pair.job, &case.pair.certificate] {
+                bytes.extend(buffer.len().to_le_bytes());
+                bytes.extend(buffer);
+            }
+        }
+        fs::write(file, bytes)
+    }
+}
+
+fn named<N: Into<String>>(pairs: impl IntoIterator<Item = (N, Pair)>) -> Vec<Case> {
+    let case = |(name, pair): (N, Pair)| Case {
+        name: name.into(),
+        pair,
+        instructions: Cost::default(),
+    };
+    pairs.into_iter().map(case).collect()
+}
+
+fn numbered(pairs: impl IntoIterator<Item = Pair>) -> Vec<Case> {
+    let pairs = pairs.into_iter().enumerate();
+    named(pairs.map(|(number, pair)| (format!("number {number}"), pair)))
+}
+
+/// Reads pairs that were written.
+pub fn read_pairs(file: &Path) -> io::Result<Vec<Pair>> {
+    let bytes = fs::read(file)?;
+    let mut rest = &bytes[..];
+    let mut pairs = Vec::new();
+    while !rest.is_empty() {
+        pairs.push(Pair {
+            job: buffer(&mut rest),
+            certificate: buffer(&mut rest),
+        });
+    }
+    Ok(pairs)
+}
+
+fn buffer(rest: &mut &[u8]) -> Vec<u8> {
+    let (length, behind) = rest.split_first_chunk().expect("a length stands there");
+    let (buffer, behind) = behind.split_at(usize::from_le_bytes(*length));
+    *rest = behind;
+    buffer.to_vec()
+}

@@ -1,0 +1,88 @@
+//! Calls the proved library with buffers that end where their allocation ends, so that valgrind sees
+//! a byte read or written beside them, and compares its answers with the reference.
+//!
+//! `memcheck [PAIRS [SEED]]`: how many random pairs, and from which seed.
+
+use std::env;
+use std::process::ExitCode;
+
+use vorruda_host::library;
+use vorruda_host::pairs::{Pair, Pairs};
+use vorruda_host::random::Random;
+use vorruda_host::reference::heap::Heap;
+use vorruda_host::reference::{checker, number, stepper};
+use vorruda_host::sweep;
+
+const PAIRS: usize = 300;
+const SEED: u64 = 0x0012_5eed;
+const LISTS: usize = 300;
+const STEPS: usize = 1_000;
+
+fn main() -> ExitCode {
+    let argument = |index, usual| match env::args().nth(index) {
+        None => Some(usual),
+        Some(text) => text.parse().ok().filter(|&number| number > 0),
+    };
+    let (Some(pairs), Some(seed)) = (argument(1, PAIRS as u64), argument(2, SEED)) else {
+        eprintln!("usage: memcheck [PAIRS [SEED]]");
+        return ExitCode::from(2);
+    };
+    let kinds = sweep::pairs(2).into_iter().map(|(_, pair)| pair);
+    let checked = Pairs::new(seed).take(pairs as usize).chain(kinds);
+    let checked = checked.enumerate().map(check).count();
+    let mut random = Random::new(seed);
+    (0..LISTS).for_each(|_| numbers(&mut random));
+    steps(&mut random);
+    println!("{checked} pairs, {LISTS} lists, {STEPS} steps: as the reference");
+    ExitCode::SUCCESS
+}
+
+/// A copy in an allocation of just its length.
+fn exact<T: Copy>(slice: &[T]) -> Box<[T]> {
+    slice.into()
+}
+
+fn check((turn, Pair { job, certificate }): (usize, Pair)) {
+    let (job, certificate) = (exact(&job), exact(&certificate));
+    let expected = checker::check(&job, &certificate).number();
+    let mut out = exact(&[0; 4][..turn % 5]);
+    assert_eq!(library::check(&job, &certificate), expected);
+    assert_eq!(library::verdict(&job, &certificate, &mut out), expected);
+}
+
+/// A list written to room that is short, enough or none, and read from every place.
+fn numbers(random: &mut Random) {
+    let list: Vec<u64> = (0..random.below(8))
+        .map(|_| random.pick(&[0, 127, 128, 300, 65_535, 65_536]))
+        .collect();
+    let mut expected = vec![0; random.below(20)];
+    let mut bytes = exact(&expected);
+    let mut out = exact(&[0; 2][..random.below(3)]);
+    number::write_list(&list, &mut expected);
+    library::write_numbers(&exact(&list), &mut bytes, &mut out);
+    assert_eq!(expected[..], bytes[..]);
+    for at in 0..bytes.len() + 2 {
+        let expected = number::read(&bytes, at).map_or(3, |_| 0);
+        assert_eq!(library::read_number(&bytes, at, &mut out), expected);
+    }
+}
+
+/// A walk from the empty heap, with a damaged or shortened heap now and then.
+fn steps(random: &mut Random) {
+    let mut heap = exact(&stepper::bytes_of(&Heap::empty(4)));
+    for _ in 0..STEPS {
+        let kind = random.pick(&[1, 2, 3, 4, 5, 5, 6, 6, 6, 7, 8]);
+        let (a, b) = (random.below(6) as u32, random.pick(&[0, 0, 1, 2, 3, 4]));
+        if random.once_in(10) {
+            let mut damaged = exact(&heap[random.below(3)..]);
+            damaged[random.below(134)] = random.below(256) as u8;
+            library::step(&mut damaged, kind, a, b);
+        }
+        let expected = match stepper::step(&heap, kind.into(), a.into(), b.into()) {
+            stepper::Step::Moved(after) => exact(&after),
+            _ => heap.clone(),
+        };
+        library::step(&mut heap, kind, a, b);
+        assert_eq!(heap, expected);
+    }
+}

@@ -1,0 +1,6 @@
+#!/usr/bin/env bash
+# The proved calls against plain Rust: instructions and time, as tables in markdown.
+set -euo pipefail
+cd "$(dirname "$0")/.."
+mkdir -p build/bench
+cargo run --offline --release --quiet --manifest-path host/Cargo.toml --bin bench -- build/bench
