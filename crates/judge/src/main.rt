@@ -2,12 +2,12 @@
 use libc::STDOUT_FILENO;
 use verdict::Counts;
 use verdict::Verdict;
-ghost use Rattle.io.specs.Counts.{Counts};
+ghost use Rattle.io.specs.Counts.{Counts as Fills};
 
 // Reads a file and gives how many bytes it read. A file that can't be opened counts as empty; of a longer one than the room, more is
 // not read.
 fn load(path: &[u8], room: &mut [u8]) -> usize
-    ensures { λ r. ⌜ Counts r (now (room .exit)) ⌝ }
+    ensures { λ r. ⌜ Fills r (now (room .exit)) ⌝ }
 {
     let file = os::open_read(path);
     if file < 0 {
