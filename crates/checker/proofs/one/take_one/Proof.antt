@@ -3,7 +3,7 @@ use Rattle.layout.specs.Arrays.{shapeIn}
 use Rattle.layout.specs.Entries.{membersAt}
 use Rattle.verdict.specs.Verdict.{reachedOf}
 use Rattle.checker.specs.Taking.{located}
-use Rattle.checker.proofs.Turning.{one-taken, one-refused, within-next}
+use Rattle.checker.proofs.Takes.{one-taken, one-refused, within-next}
 use borrow.Author.Needs.{needs}
 use Rattle.checker.proofs.one.take_one.Statement.{statement}
 use Rattle.checker.proofs.one.take_one.Tie as tie

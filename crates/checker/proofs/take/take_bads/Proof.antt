@@ -17,7 +17,7 @@ abbrev μ-loop : tie.MeasureT-loop
 μ-loop job first bads cert starts variables members at₀ t₀ i₀ at t i = bads - i
 
 loop-holds : tie.Need-loop-holds Inv-loop μ-loop
-loop-holds c = let a = c .before .before .args in let all : a .bads - 0 ≡ a .bads = omega arith in (omega arith, rw all (c .before .before .pre .0), rw all (begin (a .cert .now) _ _ (a .from) (c .before .before .pre .2)))
+loop-holds c = let a = c .before .before .args in let all : a .bads - 0 ≡ a .bads = omega arith in (omega arith, rw all (c .before .before .pre .0), rw all (begin (c .before .before .pre .2)))
 
 take-bad-requires : tie.Need-take-bad-requires Inv-loop μ-loop
 take-bad-requires c κs = let a = c .before .before .before .before .args in let l = c .before .loop in (entry-next (a .bads) (l .i) (omega arith) (a .job .now) (a .variables) (l .at) (l .inv .1) .0, c .before .before .before .before .pre .1, l .inv .2 .within)
@@ -29,7 +29,7 @@ enum-told : tie.Need-enum-told Inv-loop μ-loop
 enum-told c = search needs
 
 returns : tie.Need-returns Inv-loop μ-loop
-returns c = let a = c .before .before .before .before .before .before .before .args in let l = c .before .before .before .before .loop in let v = c .enum-told .given in halt (a .cert .now) _ _ (a .from) (locatedAt (a .job .now) (a .variables) (l .at) ∷ []) _ (l .t) (rw (entries-next (a .bads) (l .i) (omega arith) (a .job .now) (a .variables) (l .at)) at (l .inv .2)) _ (v .0 .0) (v .0 .1 .0) (v .1) (c .before .before .take-bad .ensures)
+returns c = let a = c .before .before .before .before .before .before .before .args in let l = c .before .before .before .before .loop in halt (locatedAt (a .job .now) (a .variables) (l .at) ∷ []) _ (rw (entries-next (a .bads) (l .i) (omega arith) (a .job .now) (a .variables) (l .at)) at (l .inv .2)) (c .before .before .take-bad .ensures) (c .enum-told .given .1)
 
 add-at : tie.Need-add-at Inv-loop μ-loop
 add-at c = let a = c .before .before .before .before .before .before .before .before .args in let l = c .before .before .before .before .before .loop in let e = entry-next (a .bads) (l .i) (omega arith) (a .job .now) (a .variables) (l .at) (l .inv .1) .0 in omega arith
@@ -56,10 +56,10 @@ loop-less : tie.Need-loop-less Inv-loop μ-loop
 loop-less c = search needs
 
 loop-again : tie.Need-loop-again Inv-loop μ-loop
-loop-again c = let a = c .before .before .before .before .before .before .before .before .before .args in let l = c .before .before .before .before .before .before .loop in let v = c .before .before .g .given in (omega arith, entry-next (a .bads) (l .i) (omega arith) (a .job .now) (a .variables) (l .at) (l .inv .1) .1, advance (a .cert .now) _ _ (a .from) (locatedAt (a .job .now) (a .variables) (l .at) ∷ []) _ (l .t) (rw (entries-next (a .bads) (l .i) (omega arith) (a .job .now) (a .variables) (l .at)) at (l .inv .2)) _ (v .0 .0) (v .1) (c .before .before .before .before .take-bad .ensures))
+loop-again c = let a = c .before .before .before .before .before .before .before .before .before .args in let l = c .before .before .before .before .before .before .loop in (omega arith, entry-next (a .bads) (l .i) (omega arith) (a .job .now) (a .variables) (l .at) (l .inv .1) .1, advance (locatedAt (a .job .now) (a .variables) (l .at) ∷ []) _ (rw (entries-next (a .bads) (l .i) (omega arith) (a .job .now) (a .variables) (l .at)) at (l .inv .2)) (c .before .before .before .before .take-bad .ensures) (c .before .before .g .given .1))
 
 returns-2 : tie.Need-returns-2 Inv-loop μ-loop
-returns-2 c = let a = c .before .before .before .before .args in let l = c .before .loop in finish (a .cert .now) _ _ (a .from) (l .t) (rw (entries-end (a .bads) (l .i) (omega arith) (a .job .now) (a .variables) (l .at)) at (l .inv .2))
+returns-2 c = let a = c .before .before .before .before .args in let l = c .before .loop in finish (rw (entries-end (a .bads) (l .i) (omega arith) (a .job .now) (a .variables) (l .at)) at (l .inv .2))
 
 pub take-bads-spec : {M : Type 1} → statement M
 take-bads-spec =
