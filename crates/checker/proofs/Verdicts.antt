@@ -18,7 +18,7 @@ use Rattle.format.specs.Certificate.{Member, withoutPlaces, readMembers, testSt
 use Rattle.format.specs.Conditions.{SafeBytes, countsOf}
 use Rattle.format.specs.Job.{JobFile, readWholeJob}
 use Rattle.format.specs.Parser.{Parsed, parsed, fault, Parser, onward, each, certificateBuffer, jobBuffer, end}
-use Rattle.format.specs.Verdict.{Counts, accepted, refused, answer, readCertificate, fits, verdict}
+use Rattle.format.specs.Verdict.{Counts, accepted, refused, answer, readCertificate, fits, verdict, readBoth}
 use Rattle.format.proofs.Guarantee.{safe-bytes}
 use Rattle.layout.specs.Entries.{locatedAt, entryEnd, entriesAt, membersAt}
 use Rattle.reader.specs.Job.{JobRead}
@@ -205,11 +205,11 @@ module _ (job cert : List ℕ) where
 
     module _ (cert-fits : fits cert ≡ true) where
       pub job-refused : (number place : ℕ) → readWholeJob (jobBuffer job) 0 ≡ fault number place → refused number place ≡ verdict job cert
-      unfolding verdict
+      unfolding verdict readBoth
       job-refused number place e = rw (job-fits, cert-fits, e) refl
 
       pub job-read : (h : Header) → JobRead job h → answer (readCertificate (certificateBuffer cert) (fileIn job h) 0) ≡ verdict job cert
-      unfolding verdict
+      unfolding verdict readBoth
       job-read h d = rw (job-fits, cert-fits, d .read, file-is job h d) refl
 
   -- an accepted job is safe

@@ -1,11 +1,9 @@
 -- What the parsers of members and covers read.
-use mathlib.Core.Bool.{Bool, true, false, _&&_, not}
-use mathlib.Core.List.{List, [], _∷_, _++_, List·Memᴰ·head, List·Memᴰ·tail, List·Memᴰ·not-nil}
-use mathlib.Core.Option.{Option, none, some}
-use mathlib.Core.Path.{_≡_, refl, sym, ap, subst, _∙_}
-use Prim.Native.Nat.{ℕ, zero, suc, _≤_, _<_}
+use mathlib.Core.Bool.{not}
+use mathlib.Core.List.{List, [], _∷_, List·Memᴰ·head, List·Memᴰ·tail, List·Memᴰ·not-nil}
+use mathlib.Core.Path.{_≡_, refl, ap, subst, _∙_}
+use Prim.Native.Nat.{ℕ, zero, suc}
 use native.Mathlib.Omega.{arith}
-use lib.Dec.{T, eqb}
 use lib.ListN.{length, getD, getElem?}
 use Rattle.lists.specs.List.{_∈_, concatMap}
 use Rattle.lists.proofs.List.{all-cons, getD-mem, mem-getD}
@@ -13,18 +11,18 @@ use Rattle.lists.proofs.Reflect.{Reflect, r-eq, r-and, r-not, r-iff}
 use Rattle.heap.specs.Heap.{empty}
 use Rattle.heap.specs.Place.{cell}
 use Rattle.graph.specs.Graph.{Embeds}
-use Rattle.shape.specs.Shape.{Shape, size, shapeGraph, Satisfies, AllBelow, InRange}
+use Rattle.shape.specs.Shape.{size, shapeGraph, Satisfies, AllBelow, InRange}
 use Rattle.shape.proofs.InRange.{in-range-closed}
 use Rattle.run.specs.Run.{Located}
 use Rattle.run.proofs.Runs.{getElem-mem}
-use Rattle.cover.specs.Cover.{Cover, Holds, holds?, byEmpty, AllHold}
+use Rattle.cover.specs.Cover.{Cover, Holds, holds?, AllHold}
 use Rattle.cover.specs.Test.{imageMap}
 use Rattle.cover.proofs.Embeds.{embeds-reflects}
 use Rattle.cover.proofs.Start.{empty-reflects}
-use Rattle.format.specs.Parser.{parsed, Parser, many, each, Buffer, readAs, ranged}
+use Rattle.format.specs.Parser.{parsed, many, each, Buffer, readAs, ranged}
 use Rattle.format.specs.Job.{readLocated}
-use Rattle.format.specs.Certificate.{Member, withoutPlaces, readMember, readMembers, testStart, readCover}
-use Rattle.format.specs.Numbers.{locatedNumbers, memberNumbers, coverNumbers}
+use Rattle.format.specs.Certificate.{Member, withoutPlaces, readMember, readMembers, atStart, testStart, readCover}
+use Rattle.format.specs.Numbers.{memberNumbers, coverNumbers}
 use Rattle.format.specs.Conditions.{Between, LocatedInRange, ImageForEach}
 use Rattle.format.proofs.Sequence.{Reads, done, more, one, reads-none, reads-first, reads-append, reads-split}
 use Rattle.format.proofs.Parsing.{then, require-sound, require-complete, read-sound, read-complete, ranged-exact, many-exact, codes-exact}
@@ -34,7 +32,7 @@ use Rattle.format.proofs.Files.{located-exact, version}
 
 module _ (s : Buffer) (variables states : ℕ) where
   -- a member is a state with a shape, and its place
-  member-read : (at : ℕ) (m : Member) (next : ℕ) → readMember s variables states at ≡ parsed m next
+  pub member-read : (at : ℕ) (m : Member) (next : ℕ) → readMember s variables states at ≡ parsed m next
       → (readLocated s variables states at ≡ parsed (m .located) next) × (m .first ≡ at)
   unfolding readMember
   member-read at m next =
@@ -44,7 +42,7 @@ module _ (s : Buffer) (variables states : ℕ) where
       let next-is : a ≡ next = cc in
       rw (← m-is, ← next-is) (h, refl))
 
-  without-places : (k at : ℕ) (ms : List Member) (next : ℕ) → many k (readMember s variables states) at ≡ parsed ms next
+  pub without-places : (k at : ℕ) (ms : List Member) (next : ℕ) → many k (readMember s variables states) at ≡ parsed ms next
       → many k (readLocated s variables states) at ≡ parsed (withoutPlaces ms) next
   unfolding many
   without-places zero at ms next e =
@@ -81,10 +79,10 @@ module _ (s : Buffer) (variables states : ℕ) where
       × ((m : Located) → m ∈ withoutPlaces ms → LocatedInRange variables states m)
   unfolding readMembers
   members-sound at ms next =
-      then (ranged s 1 2 at) _
-      (λ one a h₁. then (ranged s 1 513 a) _
+      then (ranged s _ _ at) _
+      (λ one a h₁. then (ranged s _ _ a) _
       (λ count b h₂ h₃.
-      let (g₂, (low, high)) = ranged-exact s 1 513 .sound a count b h₂ in
+      let (g₂, (low, high)) = ranged-exact s _ _ .sound a count b h₂ in
       let (g₃, (long, oks)) = many-exact s (located-exact s variables states) count .sound b (withoutPlaces ms) next (without-places count b ms next h₃) in
       (rw long (reads-append (version s at one a h₁) (reads-append g₂ g₃)), (omega arith, omega arith), oks)))
 
@@ -103,44 +101,54 @@ module _ (s : Buffer) (variables states : ℕ) where
 
 -- ---- refusal 8
 
+-- not satisfied by the empty heap, if it is at the start state
+abbrev pub Avoids : ℕ → Located → Type 0
+Avoids start m = m .state ≡ start → ¬ Satisfies empty (m .shape)
+
+-- P holds of each member
+abbrev pub Every : List Member → (Located → Type 0) → Type 0
+Every ms P = (m : Located) → m ∈ withoutPlaces ms → P m
+
 module _ (variables states start : ℕ) where
-  -- not satisfied by the empty heap, if it is at the start state
-  abbrev pub Avoids : Located → Type 0
-  Avoids m = m .state ≡ start → ¬ Satisfies empty (m .shape)
+  pub r-start : (m : Located) → LocatedInRange variables states m → Reflect ((m .state ≡ start) × Satisfies empty (m .shape)) (atStart start m)
+  r-start m ok = r-and (r-eq (m .state) start) (empty-reflects variables 12 (m .shape) (ok .shape))
 
-  passed : Member → Bool
-  passed m = not (eqb (m .located .state) start && byEmpty (m .located .shape))
+  pub r-avoids : (m : Located) → LocatedInRange variables states m → Reflect (Avoids start m) (not (atStart start m))
+  r-avoids m ok = r-iff (λ n e t. n (e, t)) (λ n (e, t). n e t) (r-not (r-start m ok))
 
-  r-passed : (m : Member) → LocatedInRange variables states (m .located) → Reflect (Avoids (m .located)) (passed m)
-  unfolding passed
-  r-passed m ok =
-      r-iff (λ n e t. n (e, t)) (λ n (e, t). n e t)
-      (r-not (r-and (r-eq (m .located .state) start) (empty-reflects variables 12 (m .located .shape) (ok .shape))))
-
-  pub tests-sound : (ms : List Member) → ((m : Located) → m ∈ withoutPlaces ms → LocatedInRange variables states m) → (at : ℕ)
-      {us : List (Unit {0})} {next : ℕ} → each (testStart start) ms at ≡ parsed us next → ((m : Located) → m ∈ withoutPlaces ms → Avoids m) × (at ≡ next)
-  unfolding each passed
+  pub tests-sound : (ms : List Member) → Every ms (LocatedInRange variables states) → (at : ℕ) {us : List (Unit {0})} {next : ℕ}
+      → each (testStart start) ms at ≡ parsed us next → Every ms (Avoids start) × (at ≡ next)
+  unfolding each
   tests-sound [] oks at e = (λ m i. absurd (List·Memᴰ·not-nil i), cc)
   tests-sound (m ∷ ms) oks at e =
       then (testStart start m at) _
       (λ u a h₁. then (each (testStart start) ms a) _
       (λ us b h₂ r.
-      let (t, at-is) = require-sound (passed m) 8 (m .first) at h₁ in
+      let (t, at-is) = require-sound (not (atStart start (m .located))) 8 (m .first) at h₁ in
       let (rest, a-is) = tests-sound ms (λ l i. oks l (List·Memᴰ·tail i)) a h₂ in
-      (all-cons Avoids (r-passed m (oks (m .located) (List·Memᴰ·head refl)) .holds t) rest, cc))) e
+      (all-cons (Avoids start) (r-avoids (m .located) (oks (m .located) (List·Memᴰ·head refl)) .holds t) rest, cc))) e
 
-  pub tests-complete : (ms : List Member) → ((m : Located) → m ∈ withoutPlaces ms → LocatedInRange variables states m) → (at : ℕ)
-      → ((m : Located) → m ∈ withoutPlaces ms → Avoids m) → (us : List (Unit {0})) × (each (testStart start) ms at ≡ parsed us at)
-  unfolding each passed
+  pub tests-complete : (ms : List Member) → Every ms (LocatedInRange variables states) → (at : ℕ) → Every ms (Avoids start)
+      → (us : List (Unit {0})) × (each (testStart start) ms at ≡ parsed us at)
+  unfolding each
   tests-complete [] oks at h = ([], refl)
   tests-complete (m ∷ ms) oks at h =
       let (us, r) = tests-complete ms (λ l i. oks l (List·Memᴰ·tail i)) at (λ l i. h l (List·Memᴰ·tail i)) in
-      (tt ∷ us, rw (require-complete (passed m) 8 (m .first) at (r-passed m (oks (m .located) (List·Memᴰ·head refl)) .tests (h (m .located) (List·Memᴰ·head refl))), r))
+      let t = r-avoids (m .located) (oks (m .located) (List·Memᴰ·head refl)) .tests (h (m .located) (List·Memᴰ·head refl)) in
+      (tt ∷ us, rw (require-complete (not (atStart start (m .located))) 8 (m .first) at t, r))
 
 -- ---- covers
 
+-- the images of a cover that holds are below the number of cells of the covered shape
+pub images-below : (ms : List Located) (o : Located) (c : Cover) → Holds ms c o → ImageForEach ms c → AllBelow (size (o .shape)) (c .images)
+images-below ms o c h each-cell x k =
+    let long = each-cell (h .member) (h .numbered) in
+    let (j, b, e) = mem-getD (c .images) x k in
+    let (_, q) = h .embeds .images .cells (cell j) (omega arith, omega arith) in
+    omega arith
+
 module _ (s : Buffer) (variables : ℕ) (ms : List Located) (oks : (m : Located) → m ∈ ms → InRange variables 12 (m .shape)) where
-  holds-reflects : (m o : Located) (images : List ℕ) → m ∈ ms → length images ≡ size (m .shape) → AllBelow (size (o .shape)) images
+  pub holds-reflects : (m o : Located) (images : List ℕ) → m ∈ ms → length images ≡ size (m .shape) → AllBelow (size (o .shape)) images
       → Reflect ((m .state ≡ o .state) × Embeds (shapeGraph (m .shape)) (shapeGraph (o .shape)) (imageMap images)) (holds? m images o)
   holds-reflects m o images i long below =
       r-and (r-eq (m .state) (o .state))
@@ -150,16 +158,16 @@ module _ (s : Buffer) (variables : ℕ) (ms : List Located) (oks : (m : Located)
   abbrev pub Fit : Cover → Located → Type 0
   Fit c o = Holds ms c o × ImageForEach ms c
 
-  cover-sound : (o : Located) (at : ℕ) {u : Unit {0}} {next : ℕ} → readCover s ms o at ≡ parsed u next
+  pub cover-sound : (o : Located) (at : ℕ) {u : Unit {0}} {next : ℕ} → readCover s ms o at ≡ parsed u next
       → (c : Cover) × Reads (s .bytes) at (coverNumbers c) next × Fit c o
   unfolding readCover
   cover-sound o at {u} {next} =
       then (readAs s (getElem? ms) at) _
-      (λ m a h₁. then (many (size (m .shape)) (ranged s 0 (size (o .shape))) a) _
+      (λ m a h₁. then (many _ (ranged s _ _) a) _
       (λ images b h₂ h₃.
       let (n, g₁, numbered) = read-sound s (getElem? ms) at m a h₁ in
       let i = getElem-mem ms n m numbered in
-      let (g₂, (long, below)) = codes-exact s (size (m .shape)) (size (o .shape)) .sound a images b h₂ in
+      let (g₂, (long, below)) = codes-exact s _ _ .sound a images b h₂ in
       let (t, next-is) = require-sound (holds? m images o) 9 at b h₃ in
       let (state, embeds) = holds-reflects m o images i long below .holds t in (
         record { member = n; images = images },
@@ -173,10 +181,7 @@ module _ (s : Buffer) (variables : ℕ) (ms : List Located) (oks : (m : Located)
       let m = h .member in
       let i = getElem-mem ms (c .member) m (h .numbered) in
       let long = each-cell m (h .numbered) in
-      let below : AllBelow (size (o .shape)) (c .images) = λ x k.
-      let (j, b, e) = mem-getD (c .images) x k in
-      let (_, q) = h .embeds .images .cells (cell j) (omega arith, omega arith) in
-      omega arith in
+      let below = images-below ms o c h each-cell in
       let (a, g₁, g₂) = reads-first r in
       rw (
         read-complete s (getElem? ms) at (c .member) a m g₁ (h .numbered),
@@ -194,7 +199,9 @@ module _ (s : Buffer) (variables : ℕ) (ms : List Located) (oks : (m : Located)
       (λ us b h₂ r.
       let (c, g₁, (h, images)) = cover-sound o at h₁ in
       let (cs, g₂, hs, all-images) = covers-sound os a h₂ in
-      (c ∷ cs, let next-is : b ≡ next = cc in subst (Reads (s .bytes) at (concatMap coverNumbers (c ∷ cs))) next-is (reads-append g₁ g₂), (h, hs), all-cons (ImageForEach ms) images all-images))) e
+      let next-is : b ≡ next = cc in
+      let g = subst (Reads (s .bytes) at (concatMap coverNumbers (c ∷ cs))) next-is (reads-append g₁ g₂) in
+      (c ∷ cs, g, (h, hs), all-cons (ImageForEach ms) images all-images))) e
 
   pub covers-complete : (os : List Located) (cs : List Cover) (at next : ℕ) → Reads (s .bytes) at (concatMap coverNumbers cs) next → AllHold ms cs os
       → ((c : Cover) → c ∈ cs → ImageForEach ms c) → (us : List (Unit {0})) × (each (readCover s ms) os at ≡ parsed us next)

@@ -2,8 +2,8 @@
 use mathlib.Core.Bool.{Bool, true, false, cond}
 use mathlib.Core.List.{List}
 use mathlib.Core.Logic.{_↔_}
-use mathlib.Core.Path.{_≡_, refl, sym, ap, subst, _∙_}
-use Prim.Native.Nat.{ℕ, _≤_, _<_}
+use mathlib.Core.Path.{_≡_, sym, ap, _∙_}
+use Prim.Native.Nat.{ℕ, _≤_}
 use native.Mathlib.Omega.{arith}
 use lib.Dec.{T}
 use lib.ListN.{length}
@@ -13,10 +13,10 @@ use Rattle.heap.specs.Heap.{empty}
 use Rattle.shape.specs.Shape.{Satisfies}
 use Rattle.run.specs.Run.{Located}
 use Rattle.cover.specs.Cover.{Cover, owed, AllHold}
-use Rattle.format.specs.Parser.{Parsed, parsed, fault, each, Buffer, jobBuffer, certificateBuffer, within, onward, end}
+use Rattle.format.specs.Parser.{Parsed, parsed, fault, each, jobBuffer, certificateBuffer, end}
 use Rattle.format.specs.Job.{JobFile, readWholeJob}
 use Rattle.format.specs.Certificate.{Member, withoutPlaces, readMembers, testStart, readCover}
-use Rattle.format.specs.Verdict.{Counts, Verdict, accepted, refused, readCertificate, answer, fits, verdict}
+use Rattle.format.specs.Verdict.{Counts, accepted, refused, readCertificate, readBoth, answer, fits, verdict}
 use Rattle.format.specs.Numbers.{jobNumbers, memberNumbers, coverNumbers, certificateNumbers}
 use Rattle.format.specs.Conditions.{Between, LocatedInRange, IsJob, ImageForEach, countsOf, Conditions}
 use Rattle.format.proofs.Sequence.{Reads, reads-append, reads-split, reads-decode, decode-reads}
@@ -24,7 +24,7 @@ use Rattle.format.proofs.Parsing.{then}
 use Rattle.format.proofs.Files.{end-sound, end-complete, job-exact, whole-sound, whole-complete}
 use Rattle.format.proofs.Covers.{members-sound, members-complete, tests-sound, tests-complete, covers-sound, covers-complete}
 
-r-fits : (s : List ℕ) → Reflect (Between 1 65536 (length s)) (fits s)
+pub r-fits : (s : List ℕ) → Reflect (Between 1 65536 (length s)) (fits s)
 r-fits s = r-iff (λ (a, b). (a, omega arith)) (λ (a, b). (a, omega arith)) (r-and (r-le 1 (length s)) (r-lt (length s) 65537))
 
 -- the job's parser reads what the bytes are
@@ -34,44 +34,41 @@ job-read job f i =
     (next, whole-complete (jobBuffer job) 0 f next (job-exact (jobBuffer job) .complete 0 f next g (i .in-range)) whole)
 
 module _ (job certificate : List ℕ) (counts : Counts) where
-  -- what both parsers answer
-  both : Parsed Counts
-  both = onward (readWholeJob (jobBuffer job) 0) (λ f next. readCertificate (certificateBuffer certificate) f 0)
-
   read-both : (r : Parsed Counts) → answer r ≡ accepted counts → (next : ℕ) × (r ≡ parsed counts next)
   read-both (parsed c next) e = let c-is : c ≡ counts = cc in (next, ap (λ x. parsed x next) c-is)
   read-both (fault k p) e = let z : _≡_ {A = ℕ} 0 1 = cc in absurd (omega arith)
 
-  sizes : verdict job certificate ≡ accepted counts → T (fits job) × T (fits certificate) × (answer both ≡ accepted counts)
-  unfolding verdict both
-  sizes = by-fits (fits job) (fits certificate)
+  pub accepted-both : verdict job certificate ≡ accepted counts
+      → T (fits job) × T (fits certificate) × ((next : ℕ) × (readBoth job certificate ≡ parsed counts next))
+  unfolding verdict
+  accepted-both = by-fits (fits job) (fits certificate)
     where
-      by-fits : (a b : Bool) → cond a (cond b (answer both) (refused 2 0)) (refused 1 0) ≡ accepted counts → T a × T b × (answer both ≡ accepted counts)
-      by-fits true true e = (tt, tt, e)
+      by-fits : (a b : Bool) → cond a (cond b (answer (readBoth job certificate)) (refused 2 0)) (refused 1 0) ≡ accepted counts
+          → T a × T b × ((next : ℕ) × (readBoth job certificate ≡ parsed counts next))
+      by-fits true true e = (tt, tt, read-both (readBoth job certificate) e)
       by-fits true false e = let z : _≡_ {A = ℕ} 0 1 = cc in absurd (omega arith)
       by-fits false b e = let z : _≡_ {A = ℕ} 0 1 = cc in absurd (omega arith)
 
-  sound : verdict job certificate ≡ accepted counts → Conditions job certificate counts
-  unfolding both readCertificate
-  sound v =
-      let (t, t′, a) = sizes v in
-      let (last, h) = read-both both a in
+  both-sound : Between 1 65536 (length job) → Between 1 65536 (length certificate) → (last : ℕ) → readBoth job certificate ≡ parsed counts last
+      → Conditions job certificate counts
+  unfolding readBoth readCertificate
+  both-sound a b last =
       then (readWholeJob (jobBuffer job) 0) _
       (λ f next h₁. then (readMembers (certificateBuffer certificate) (f .job .variables) (f .states) 0) _
-      (λ members p₂ h₂. then (each (testStart (f .job .start)) members p₂) _
-      (λ us p₃ h₃. then (each (readCover (certificateBuffer certificate) (withoutPlaces members)) (owed (f .job) (withoutPlaces members)) p₃) _
+      (λ members p₂ h₂. then (each (testStart _) members p₂) _
+      (λ us p₃ h₃. then (each (readCover (certificateBuffer certificate) (withoutPlaces members)) _ p₃) _
       (λ vs p₄ h₄. then (end (certificateBuffer certificate) p₄) _
       (λ u p₅ h₅ r.
       let ms : List Located = withoutPlaces members in
       let (h₀, whole) = whole-sound (jobBuffer job) 0 f next h₁ in
       let (g₁, ok) = job-exact (jobBuffer job) .sound 0 f next h₀ in
       let (g₂, number, oks) = members-sound (certificateBuffer certificate) (f .job .variables) (f .states) 0 members p₂ h₂ in
-      let (avoid, p₃-is) = tests-sound (f .job .variables) (f .states) (f .job .start) members oks p₂ h₃ in
-      let (cs, g₄, hold, images) = covers-sound (certificateBuffer certificate) (f .job .variables) ms (λ m i. oks m i .shape) (owed (f .job) ms) p₃ h₄ in
+      let (avoid, p₃-is) = tests-sound (f .job .variables) (f .states) _ members oks p₂ h₃ in
+      let (cs, g₄, hold, images) = covers-sound (certificateBuffer certificate) (f .job .variables) ms (λ m i. oks m i .shape) _ p₃ h₄ in
       let (whole′, p₄-is) = end-sound (certificateBuffer certificate) p₄ h₅ in
       record {
-        job-length = r-fits job .holds t;
-        certificate-length = r-fits certificate .holds t′;
+        job-length = a;
+        certificate-length = b;
         file = f;
         job-is = record { in-range = ok; reads = reads-decode job (jobNumbers f) next g₁ whole };
         members = ms;
@@ -82,14 +79,19 @@ module _ (job certificate : List ℕ) (counts : Counts) where
         start = avoid;
         hold = hold;
         counts-due = cc;
-      }))))) h
+      })))))
+
+  sound : verdict job certificate ≡ accepted counts → Conditions job certificate counts
+  sound v =
+      let (t, t′, (last, h)) = accepted-both v in
+      both-sound (r-fits job .holds t) (r-fits certificate .holds t′) last h
 
   module _ (c : Conditions job certificate counts) where
     -- the parsers go through, whatever the places of the members
     answers : (members : List Member) → withoutPlaces members ≡ c .members → (p₁ p₂ p₄ : ℕ) → readWholeJob (jobBuffer job) 0 ≡ parsed (c .file) p₁
         → readMembers (certificateBuffer certificate) (c .file .job .variables) (c .file .states) 0 ≡ parsed members p₂
-        → Reads certificate p₂ (concatMap coverNumbers (c .covers)) p₄ → length certificate ≤ p₄ → both ≡ parsed counts p₄
-    unfolding both readCertificate
+        → Reads certificate p₂ (concatMap coverNumbers (c .covers)) p₄ → length certificate ≤ p₄ → readBoth job certificate ≡ parsed counts p₄
+    unfolding readBoth readCertificate
     answers members same p₁ p₂ p₄ h₁ h₂ g whole =
         let s = certificateBuffer certificate in
         let f = c .file in
@@ -104,16 +106,17 @@ module _ (job certificate : List ℕ) (counts : Counts) where
         rw (h₁, h₂, h₃, h₄, end-complete s p₄ whole) (ap (λ x. parsed x p₄) due)
 
     complete : verdict job certificate ≡ accepted counts
-    unfolding verdict both
+    unfolding verdict
     complete =
         let (p₁, h₁) = job-read job (c .file) (c .job-is) in
         let (p₄, g, whole′) = decode-reads certificate (certificateNumbers (c .members) (c .covers)) (c .certificate-reads) in
         let (p₂, g₂, g₄) = reads-split (memberNumbers (c .members)) g in
         let (members, same, h₂) =
-        members-complete (certificateBuffer certificate) (c .file .job .variables) (c .file .states) 0 (c .members) p₂ g₂ (c .members-range .number) (c .members-range .members) in
+        members-complete (certificateBuffer certificate) (c .file .job .variables) (c .file .states) 0 (c .members) p₂ g₂ (c .members-range .number)
+        (c .members-range .members) in
         let h = answers members same p₁ p₂ p₄ h₁ h₂ g₄ whole′ in
-        cond-true (fits job) (cond (fits certificate) (answer both) (refused 2 0)) (refused 1 0) (r-fits job .tests (c .job-length))
-        ∙ cond-true (fits certificate) (answer both) (refused 2 0) (r-fits certificate .tests (c .certificate-length))
+        cond-true (fits job) (cond (fits certificate) (answer (readBoth job certificate)) (refused 2 0)) (refused 1 0) (r-fits job .tests (c .job-length))
+        ∙ cond-true (fits certificate) (answer (readBoth job certificate)) (refused 2 0) (r-fits certificate .tests (c .certificate-length))
         ∙ ap answer h
 
 -- EXACT: the verdict is accepted with these counts if and only if every condition holds

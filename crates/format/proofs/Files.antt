@@ -2,24 +2,25 @@
 use mathlib.Core.Bool.{Bool, true, false, _&&_, cond}
 use mathlib.Core.List.{List, [], _∷_, _++_}
 use mathlib.Core.Option.{Option, none, some}
-use mathlib.Core.Path.{_≡_, refl, sym, ap, subst, _∙_}
+use mathlib.Core.Path.{_≡_, refl, ap, subst, _∙_}
 use Prim.Native.Nat.{ℕ, zero, suc, _≤_, _<_}
+use native.Mathlib.Decide.{decLt}
 use native.Mathlib.Omega.{arith}
 use lib.Dec.{T, leb}
 use lib.ListN.{length}
-use Rattle.lists.specs.List.{_∈_, concatMap}
-use Rattle.lists.proofs.Reflect.{Reflect, r-le, r-and, cond-true}
+use Rattle.lists.specs.List.{concatMap}
+use Rattle.lists.proofs.Reflect.{r-le, r-and, cond-true}
 use Rattle.heap.specs.Operation.{Op, equal, Kind, kindOf, allowsA, allowsB, fromRow, operation}
 use Rattle.heap.specs.Place.{cell}
 use Rattle.shape.specs.Shape.{Shape, size, InRange}
-use Rattle.run.specs.Run.{Transition, Located, Job}
-use Rattle.cover.specs.Cover.{Named}
-use Rattle.format.specs.Parser.{parsed, many, Buffer, such, readAs, ranged, end}
+use Rattle.run.specs.Run.{Transition, Located}
+use Rattle.format.specs.Parser.{parsed, fault, many, Buffer, such, readAs, ranged, end}
 use Rattle.format.specs.Job.{JobFile, readShape, readLocated, readTransition, readJob, readWholeJob}
 use Rattle.format.specs.Numbers.{opNumbers, transitionNumbers, shapeNumbers, locatedNumbers, jobNumbers}
 use Rattle.format.specs.Conditions.{LocatedInRange, TransitionInRange, JobInRange}
 use Rattle.format.proofs.Sequence.{Reads, more, one, reads-first, reads-append, reads-split}
-use Rattle.format.proofs.Parsing.{then, require-sound, require-complete, read-sound, read-complete, Exact, such-exact, ranged-exact, many-exact, codes-exact}
+use Rattle.format.proofs.Parsing.{then, require-sound, require-fault, require-complete, read-sound, read-complete}
+use Rattle.format.proofs.Parsing.{Exact, such-exact, ranged-exact, many-exact, codes-exact}
 
 -- ---- the table of kinds
 
@@ -84,13 +85,13 @@ module _ (s : Buffer) (variables : ℕ) where
   shape-sound : (at : ℕ) (x : Shape) (next : ℕ) → readShape s variables at ≡ parsed x next → Reads (s .bytes) at (shapeNumbers x) next × InRange variables 12 x
   unfolding readShape
   shape-sound at x next =
-      then (ranged s 0 13 at) _
-      (λ n a h₁. then (many variables (ranged s 0 (cell n)) a) _
-      (λ vars b h₂. then (many n (ranged s 0 (cell n)) b) _
+      then (ranged s _ _ at) _
+      (λ n a h₁. then (many _ (ranged s _ _) a) _
+      (λ vars b h₂. then (many _ (ranged s _ _) b) _
       (λ links c h₃ r.
-      let (g₁, (_, small)) = ranged-exact s 0 13 .sound at n a h₁ in
-      let (g₂, (long, codes)) = codes-exact s variables (cell n) .sound a vars b h₂ in
-      let (g₃, (size-is, codes′)) = codes-exact s n (cell n) .sound b links c h₃ in
+      let (g₁, (_, small)) = ranged-exact s _ _ .sound at n a h₁ in
+      let (g₂, (long, codes)) = codes-exact s _ _ .sound a vars b h₂ in
+      let (g₃, (size-is, codes′)) = codes-exact s _ _ .sound b links c h₃ in
       let x-is : record { vars = vars; links = links } ≡ x = cc in
       let next-is : c ≡ next = cc in
       rw (← x-is, ← next-is) (
@@ -109,9 +110,6 @@ module _ (s : Buffer) (variables : ℕ) where
         codes-exact s (size x) (cell (size x)) .complete b (x .links) next g₃ (refl, ok .links),
       )
 
-  pub shape-exact : Exact s (readShape s variables) shapeNumbers (InRange variables 12)
-  shape-exact = record { sound = shape-sound; complete = shape-complete }
-
   module _ (states : ℕ) where
     -- ---- a state with a shape
 
@@ -119,10 +117,10 @@ module _ (s : Buffer) (variables : ℕ) where
         → Reads (s .bytes) at (locatedNumbers m) next × LocatedInRange variables states m
     unfolding readLocated
     located-sound at m next =
-        then (ranged s 0 states at) _
+        then (ranged s _ _ at) _
         (λ state a h₁. then (readShape s variables a) _
         (λ shape b h₂ r.
-        let (g₁, (_, below)) = ranged-exact s 0 states .sound at state a h₁ in
+        let (g₁, (_, below)) = ranged-exact s _ _ .sound at state a h₁ in
         let (g₂, ok) = shape-sound a shape b h₂ in
         let m-is : record { state = state; shape = shape } ≡ m = cc in
         let next-is : b ≡ next = cc in
@@ -148,17 +146,17 @@ module _ (s : Buffer) (variables : ℕ) where
         → Reads (s .bytes) at (transitionNumbers t) next × TransitionInRange variables states t
     unfolding readTransition
     transition-sound at t next =
-        then (ranged s 0 states at) _
+        then (ranged s _ _ at) _
         (λ from p₁ h₁. then (readAs s kindOf p₁) _
         (λ row p₂ h₂. then (readAs s (such (allowsA variables row)) p₂) _
         (λ a p₃ h₃. then (readAs s (such (allowsB variables row)) p₃) _
-        (λ b p₄ h₄. then (ranged s 0 states p₄) _
+        (λ b p₄ h₄. then (ranged s _ _ p₄) _
         (λ to p₅ h₅ r.
-        let (g₁, (_, below)) = ranged-exact s 0 states .sound at from p₁ h₁ in
+        let (g₁, (_, below)) = ranged-exact s _ _ .sound at from p₁ h₁ in
         let (kind, g₂, found) = read-sound s kindOf p₁ row p₂ h₂ in
         let (g₃, ta) = operand-exact (allowsA variables row) .sound p₂ a p₃ h₃ in
         let (g₄, tb) = operand-exact (allowsB variables row) .sound p₃ b p₄ h₄ in
-        let (g₅, (_, below′)) = ranged-exact s 0 states .sound p₄ to p₅ h₅ in
+        let (g₅, (_, below′)) = ranged-exact s _ _ .sound p₄ to p₅ h₅ in
         let t-is : record { from = from; op = row .op a b; to = to } ≡ t = cc in
         let next-is : p₅ ≡ next = cc in
         let named = table-named variables kind a b row found ta tb in
@@ -201,38 +199,48 @@ module _ (s : Buffer) where
   unfolding end
   end-sound at e =
       let (t, at-is) = require-sound (leb (length (s .bytes)) at) (s .left) at at e in
-      (r-le (length (s .bytes)) at .holds t, at-is)
+      (r-le _ _ .holds t, at-is)
 
   pub end-complete : (at : ℕ) → length (s .bytes) ≤ at → end s at ≡ parsed tt at
   unfolding end
   end-complete at h = require-complete (leb (length (s .bytes)) at) (s .left) at at (r-le (length (s .bytes)) at .tests h)
 
+  pub end-fault : (at : ℕ) {number place : ℕ} → end s at ≡ fault number place → (s .left ≡ number) × (at ≡ place) × (at < length (s .bytes))
+  unfolding end
+  end-fault at e =
+      let (k, q, n) = require-fault (leb (length (s .bytes)) at) (s .left) at at e in
+      (k, q, go (decLt at (length (s .bytes))) n)
+    where
+      go : Dec (at < length (s .bytes)) → ¬ T (leb (length (s .bytes)) at) → at < length (s .bytes)
+      go (yes h) n = h
+      go (no h) n = absurd (n (r-le (length (s .bytes)) at .tests (omega arith)))
+
   -- ---- jobs
 
   pub version : (at n next : ℕ) → ranged s 1 2 at ≡ parsed n next → Reads (s .bytes) at (1 ∷ []) next
   version at n next h =
-      let (g, (low, high)) = ranged-exact s 1 2 .sound at n next h in
+      let (g, (low, high)) = ranged-exact s _ _ .sound at n next h in
       let n-is : n ≡ 1 = omega arith in
       subst (λ (k : ℕ). Reads (s .bytes) at (k ∷ []) next) n-is g
 
   job-sound : (at : ℕ) (f : JobFile) (next : ℕ) → readJob s at ≡ parsed f next → Reads (s .bytes) at (jobNumbers f) next × JobInRange f
   unfolding readJob
   job-sound at f next =
-      then (ranged s 1 2 at) _
-      (λ one p₁ h₁. then (ranged s 1 9 p₁) _
-      (λ variables p₂ h₂. then (ranged s 1 65 p₂) _
-      (λ states p₃ h₃. then (ranged s 0 states p₃) _
-      (λ start p₄ h₄. then (ranged s 0 257 p₄) _
+      then (ranged s _ _ at) _
+      (λ one p₁ h₁. then (ranged s _ _ p₁) _
+      (λ variables p₂ h₂. then (ranged s _ _ p₂) _
+      (λ states p₃ h₃. then (ranged s _ _ p₃) _
+      (λ start p₄ h₄. then (ranged s _ _ p₄) _
       (λ count p₅ h₅. then (many count (readTransition s variables states) p₅) _
-      (λ transitions p₆ h₆. then (ranged s 1 65 p₆) _
+      (λ transitions p₆ h₆. then (ranged s _ _ p₆) _
       (λ bads p₇ h₇. then (many bads (readLocated s variables states) p₇) _
       (λ forbidden p₈ h₈ r.
-      let (g₂, (low₂, high₂)) = ranged-exact s 1 9 .sound p₁ variables p₂ h₂ in
-      let (g₃, (low₃, high₃)) = ranged-exact s 1 65 .sound p₂ states p₃ h₃ in
-      let (g₄, (_, high₄)) = ranged-exact s 0 states .sound p₃ start p₄ h₄ in
-      let (g₅, (_, high₅)) = ranged-exact s 0 257 .sound p₄ count p₅ h₅ in
+      let (g₂, (low₂, high₂)) = ranged-exact s _ _ .sound p₁ variables p₂ h₂ in
+      let (g₃, (low₃, high₃)) = ranged-exact s _ _ .sound p₂ states p₃ h₃ in
+      let (g₄, (_, high₄)) = ranged-exact s _ _ .sound p₃ start p₄ h₄ in
+      let (g₅, (_, high₅)) = ranged-exact s _ _ .sound p₄ count p₅ h₅ in
       let (g₆, (long, oks)) = many-exact s (transition-exact s variables states) count .sound p₅ transitions p₆ h₆ in
-      let (g₇, (low₇, high₇)) = ranged-exact s 1 65 .sound p₆ bads p₇ h₇ in
+      let (g₇, (low₇, high₇)) = ranged-exact s _ _ .sound p₆ bads p₇ h₇ in
       let (g₈, (long′, oks′)) = many-exact s (located-exact s variables states) bads .sound p₇ forbidden p₈ h₈ in
       let f-is : record { states = states; job = record { variables = variables; start = start; transitions = transitions; forbidden = forbidden } } ≡ f = cc in
       let next-is : p₈ ≡ next = cc in

@@ -4,4 +4,7 @@ pub mod Files
 pub mod Covers
 pub mod Exact
 pub mod Guarantee
+pub mod Written
 pub mod Local
+pub mod Refusals
+pub mod Meaning

@@ -1,6 +1,6 @@
 -- What a parser reads, and that it reads it.
 use mathlib.Core.Bool.{Bool, true, false, cond}
-use mathlib.Core.List.{List, [], _∷_, _++_, List·Memᴰ·head, List·Memᴰ·tail, List·Memᴰ·not-nil}
+use mathlib.Core.List.{List, [], _∷_, List·Memᴰ·head, List·Memᴰ·tail, List·Memᴰ·not-nil}
 use mathlib.Core.Option.{Option, none, some}
 use mathlib.Core.Logic.{_⊎_, inl, inr}
 use mathlib.Core.Path.{_≡_, refl, sym, ap, ap₂, subst, _∙_}
@@ -60,7 +60,7 @@ module _ (s : Buffer) where
     where
       by-meaning : (n k : ℕ) → numberAt (s .bytes) at ≡ Number n k → (o : Option A) → meaning n ≡ o → judged s at k o ≡ parsed x next
           → (n : ℕ) × (numberAt (s .bytes) at ≡ Number n next) × (meaning n ≡ some x)
-      by-meaning n k g none h e = absurd (not-fault x next (s .outside) at e)
+      by-meaning n k g none h e = absurd (not-fault _ _ _ _ e)
       by-meaning n k g (some y) h e =
           let y-is : y ≡ x = cc in
           let k-is : k ≡ next = cc in
@@ -69,7 +69,7 @@ module _ (s : Buffer) where
       by-read : (r : Read) → numberAt (s .bytes) at ≡ r → meant s meaning at r ≡ parsed x next
           → (n : ℕ) × (numberAt (s .bytes) at ≡ Number n next) × (meaning n ≡ some x)
       by-read (Number n k) g e = by-meaning n k g (meaning n) refl e
-      by-read (Unreadable p) g e = absurd (not-fault x next (s .unreadable) at e)
+      by-read (Unreadable p) g e = absurd (not-fault _ _ _ _ e)
 
   -- the number at a place can't be read, or reads as one for which P holds
   abbrev pub Faulty : (ℕ → Type 0) → ℕ → ℕ → Type 0

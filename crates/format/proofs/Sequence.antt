@@ -1,12 +1,10 @@
 -- Numbers that stand one after the other in a buffer.
 use mathlib.Core.Bool.{cond}
 use mathlib.Core.List.{List, [], _∷_, _++_}
-use mathlib.Core.Path.{_≡_, refl, sym, ap, _∙_}
+use mathlib.Core.Path.{_≡_, refl, ap, _∙_}
 use Prim.Native.Nat.{ℕ, zero, suc, _+_, _-_, _≤_, _<_}
-use native.Mathlib.Decide.{decLt}
 use native.Mathlib.Omega.{arith}
 use borrow.Author.Tests.{lt-ltb, le-ltb}
-use lib.Dec.{ltb}
 use lib.ListN.{length, getD}
 use Rattle.lists.proofs.Reflect.{r-le, r-lt, r-eq, cond-cases}
 use Rattle.number.specs.Number.{numberIn, numberAt}
@@ -61,6 +59,10 @@ number-in at left a b c n next =
 
     unread : Q (Unreadable at)
     unread e = let z : _≡_ {A = ℕ} 0 1 = cc in absurd (omega arith)
+
+pub reads-on : {s : List ℕ} {at next : ℕ} {ns : List ℕ} → Reads s at ns next → at ≤ next
+reads-on done = omega arith
+reads-on (more {at = a} {n = n} {mid = k} g r) = let (_, b) = number-in a _ _ _ _ n k g in let c = reads-on r in omega arith
 
 -- what can't be read is refused at the place asked for
 pub unreadable-at : (s : List ℕ) (at p : ℕ) → numberAt s at ≡ Unreadable p → at ≡ p
@@ -126,8 +128,8 @@ module _ (s : List ℕ) where
   decode-from (suc turns) at ns e =
       cond-cases (λ x. x ≡ numbers ns → Done at ns) (r-lt at (length s)) (λ _. by-number (numberAt s at) refl (decode-from turns)) (at-end at ns) e
     where
-      by-rest : (n mid : ℕ) → numberAt s at ≡ Number n mid → (r : Listed) → decodeFrom turns s mid ≡ r → ((ms : List ℕ) → decodeFrom turns s mid ≡ numbers ms → Done mid ms)
-          → before n r ≡ numbers ns → Done at ns
+      by-rest : (n mid : ℕ) → numberAt s at ≡ Number n mid → (r : Listed) → decodeFrom turns s mid ≡ r
+          → ((ms : List ℕ) → decodeFrom turns s mid ≡ numbers ms → Done mid ms) → before n r ≡ numbers ns → Done at ns
       by-rest n mid g (refused p) h rest z = let q : _≡_ {A = ℕ} 0 1 = cc in absurd (omega arith)
       by-rest n mid g (numbers ms) h rest z =
           let (next, r, l) = rest ms h in

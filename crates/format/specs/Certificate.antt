@@ -1,5 +1,5 @@
 -- Certificates: members, then covers.
-use mathlib.Core.Bool.{_&&_, not}
+use mathlib.Core.Bool.{Bool, _&&_, not}
 use mathlib.Core.List.{List, map}
 use Prim.Native.Nat.{ℕ}
 use lib.Dec.{eqb}
@@ -18,9 +18,13 @@ pub record Member : Type 0 where
 abbrev pub withoutPlaces : List Member → List Located
 withoutPlaces = map (λ m. m .located)
 
+-- "A member at the start state is satisfied by the empty heap"
+abbrev pub atStart : ℕ → Located → Bool
+atStart start m = eqb (m .state) start && byEmpty (m .shape)
+
 -- "8. A member at the start state is satisfied by the empty heap [..] (the member's first byte)."
 abbrev pub testStart : ℕ → Member → Parser (Unit {0})
-testStart start m = require (not (eqb (m .located .state) start && byEmpty (m .located .shape))) 8 (m .first)
+testStart start m = require (not (atStart start (m .located))) 8 (m .first)
 
 module _ (s : Buffer) where
   unfoldable pub readMember : ℕ → ℕ → Parser Member

@@ -4,3 +4,4 @@ pub mod Certificate
 pub mod Verdict
 pub mod Numbers
 pub mod Conditions
+pub mod Meaning

@@ -7,7 +7,7 @@ use lib.ListN.{length}
 use Rattle.lists.specs.List.{concatMap}
 use Rattle.heap.specs.Operation.{Op, equal, different, assign, load, store, new, delete}
 use Rattle.shape.specs.Shape.{Shape, size}
-use Rattle.run.specs.Run.{Transition, Located, Job}
+use Rattle.run.specs.Run.{Transition, Located}
 use Rattle.cover.specs.Cover.{Cover}
 use Rattle.format.specs.Job.{JobFile}
 

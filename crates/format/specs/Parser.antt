@@ -1,4 +1,4 @@
--- Reading a buffer from a place on: a value with the next place, or a refusal with its place.
+-- Reading a buffer from a place on.
 use mathlib.Core.Bool.{Bool, _&&_, cond}
 use mathlib.Core.List.{List, [], _∷_}
 use mathlib.Core.Option.{Option, none, some}
@@ -9,6 +9,7 @@ use Rattle.number.specs.Number.{numberAt}
 use Rattle.number.specs.declared.Read.{Read}
 use Rattle.number.specs.declared.Read.the-variants.{Number, Unreadable}
 
+-- a value with the next place, or the number of a refusal with its place
 pub data Parsed (A : Type 0) : Type 0 where
   parsed : A → ℕ → Parsed A
   fault : ℕ → ℕ → Parsed A
@@ -74,6 +75,7 @@ jobBuffer s = record { bytes = s; unreadable = 3; outside = 4; left = 5 }
 abbrev pub certificateBuffer : List ℕ → Buffer
 certificateBuffer s = record { bytes = s; unreadable = 6; outside = 7; left = 10 }
 
+-- n is at least `low` and below `limit`
 abbrev pub within : ℕ → ℕ → ℕ → Bool
 within low limit n = leb low n && ltb n limit
 
@@ -82,15 +84,17 @@ abbrev pub such : (ℕ → Bool) → ℕ → Option ℕ
 such test n = cond (test n) (some n) none
 
 module _ (s : Buffer) where
+  -- the number that stands from `at` up to `next`, as what it means; refused if that is nothing
   abbrev pub judged : {A : Type 0} → ℕ → ℕ → Option A → Parsed A
   judged at next none = fault (s .outside) at
   judged at next (some x) = parsed x next
 
+  -- the same, once it is read
   abbrev pub meant : {A : Type 0} → (ℕ → Option A) → ℕ → Read → Parsed A
   meant meaning at (Number n next) = judged at next (meaning n)
   meant meaning at (Unreadable place) = fault (s .unreadable) at
 
-  -- a number, as what it means, none if it breaks its range; "(place: its first byte)"
+  -- a number, as what it means: nothing if it breaks its range. "(place: its first byte)"
   unfoldable pub readAs : {A : Type 0} → (ℕ → Option A) → Parser A
   readAs meaning at = meant meaning at (numberAt (s .bytes) at)
 

@@ -32,6 +32,10 @@ readCertificate s f = do
   end s
   return (record { bads = length (f .job .forbidden); members = length ms; covers = length covered })
 
+-- the job, then the certificate, each from its first byte
+unfoldable pub readBoth : List ℕ → List ℕ → Parsed Counts
+readBoth job certificate = onward (readWholeJob (jobBuffer job) 0) (λ f next. readCertificate (certificateBuffer certificate) f 0)
+
 abbrev pub answer : Parsed Counts → Verdict
 answer (parsed counts next) = accepted counts
 answer (fault number place) = refused number place
@@ -42,6 +46,6 @@ fits s = within 1 65537 (length s)
 -- "1. The job's length is 0 or above 65,536 (place 0). 2. The certificate's length is 0 or above 65,536 (place 0)."
 unfoldable pub verdict : List ℕ → List ℕ → Verdict
 verdict job certificate =
-    let read = onward (readWholeJob (jobBuffer job) 0) (λ f next. readCertificate (certificateBuffer certificate) f 0) in
-    let sized = cond (fits certificate) (answer read) (refused 2 0) in
+    let read = answer (readBoth job certificate) in
+    let sized = cond (fits certificate) read (refused 2 0) in
     cond (fits job) sized (refused 1 0)

@@ -16,7 +16,7 @@ use Rattle.heap.specs.Operation.{Op, equal, different, store, new, delete, Enab
 use Rattle.heap.specs.Place.{nowhere, dangling, cell}
 use Rattle.place.specs.Place.{placeOf, cellPlace, codes}
 use Rattle.place.specs.declared.Place.{Place}
-use Rattle.stepper.specs.Step.{stays, lowestUnused, isNew, comparison, perform}
+use Rattle.stepper.specs.Step.{stays, lowestUnused, isNew, comparison, tableAfter, perform}
 use Rattle.stepper.specs.Table.{heapOf, tableOf, Sized, standing, dangleVars, dangleLinks}
 use Rattle.stepper.specs.declared.Heap64.{Heap64}
 use Rattle.stepper.specs.declared.Outcome.the-variants.{Moved, Blocked, Refused}
@@ -46,7 +46,7 @@ withoutPlace t y = cut (dangleLinks (dangleVars t y) y) y
 module _ (t : Heap64) (o : Op) where
   pub blocked : isNew o && leb 64 (lowestUnused (t .used)) ≡ false → (Enabled o (lowestUnused (t .used)) (heapOf t) → ⊥) → stays t Blocked ≡ perform t o
   unfolding perform
-  blocked n d = rw (n, if-neg (enabled? o (lowestUnused (t .used)) (heapOf t)) d (stays (tableOf (t .variables) (after o (lowestUnused (t .used)) (heapOf t))) Moved) (stays t Blocked)) refl
+  blocked n d = rw (n, if-neg (enabled? o (lowestUnused (t .used)) (heapOf t)) d (stays (tableAfter t o) Moved) (stays t Blocked)) refl
 
   -- t′ is the table after the operation, well formed again
   pub record Changes (t′ : Heap64) : Type 0 where
@@ -60,7 +60,7 @@ module _ (t : Heap64) (o : Op) where
   pub moved : (t′ : Heap64) → Changes t′ → stays t′ Moved ≡ perform t o
   unfolding perform
   moved t′ c =
-      rw (c .room, if-pos (enabled? o (lowestUnused (t .used)) (heapOf t)) (c .enabled) (stays (tableOf (t .variables) (after o (lowestUnused (t .used)) (heapOf t))) Moved) (stays t Blocked))
+      rw (c .room, if-pos (enabled? o (lowestUnused (t .used)) (heapOf t)) (c .enabled) (stays (tableAfter t o) Moved) (stays t Blocked))
       (ap (λ u. stays u Moved) (table-of t′ (c .sized) (c .formed) ∙ ap₂ tableOf (c .variables) (c .heap)))
 
   pub full : isNew o && leb 64 (lowestUnused (t .used)) ≡ true → stays t (Refused Full) ≡ perform t o

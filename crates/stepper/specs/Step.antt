@@ -45,12 +45,15 @@ abbrev pub comparison : Bool → ℕ → ℕ → Op
 comparison true = equal
 comparison false = different
 
+-- the table of the heap after an operation, new at the lowest unused cell
+abbrev pub tableAfter : Heap64 → Op → Heap64
+tableAfter t o = tableOf (t .variables) (after o (lowestUnused (t .used)) (heapOf t))
+
 -- an operation on a well formed table: refusal 15, or the operation on the heap that the table stands for, or blocked
 unfoldable pub perform : Heap64 → Op → Stepped
 perform t o =
-    let x = lowestUnused (t .used) in
-    cond (isNew o && leb 64 x) (stays t (Refused Full))
-    (ite (enabled? o x (heapOf t)) (stays (tableOf (t .variables) (after o x (heapOf t))) Moved) (stays t Blocked))
+    cond (isNew o && leb 64 (lowestUnused (t .used))) (stays t (Refused Full))
+    (ite (enabled? o (lowestUnused (t .used)) (heapOf t)) (stays (tableAfter t o) Moved) (stays t Blocked))
 
 abbrev pub performNamed : Heap64 → Option Op → Stepped
 performNamed t none = stays t (Refused BadOperation)

@@ -1,14 +1,14 @@
 -- Document 01, "Threads to pull on": the twelve cases that are theorems of the definitions, as rows of one list.
-use mathlib.Core.Bool.{true, false}
 use mathlib.Core.List.{List, [], _∷_}
 use mathlib.Core.Option.{Option, none, some}
 use mathlib.Core.Path.{_≡_}
 use Prim.Native.Nat.{ℕ}
 use lib.ListN.{length}
 use Rattle.heap.specs.Operation.{Op, operation}
+use Rattle.graph.specs.Graph.{Embeds}
+use Rattle.shape.specs.Shape.{Shape, shapeGraph}
 use Rattle.backward.specs.Predecessors.{predecessors}
-use Rattle.shape.specs.Shape.{Shape}
-use Rattle.cover.specs.Test.{embeds?}
+use Rattle.cover.specs.Test.{imageMap}
 use Rattle.number.specs.Number.{numberAt, readOutcome}
 use Rattle.format.specs.Verdict.{verdict, accepted, refused}
 
@@ -30,9 +30,17 @@ before (some o) s = predecessors o s
 abbrev pub predecessorsOf : ℕ → ℕ → ℕ → Shape → List Shape
 predecessorsOf kind a b s = before (operation (length (s .vars)) kind a b) s
 
+-- "three cells, links from cell 0 to cell 2 and from 1 to 2"
+abbrev pub meeting : Shape
+meeting = shape (0 ∷ []) (5 ∷ 5 ∷ 0 ∷ [])
+
+-- "two cells with a link from 0 to 1"
+abbrev pub pair : Shape
+pair = shape (0 ∷ []) (4 ∷ 0 ∷ [])
+
 -- "four cells with links from 0 to 2, 1 to 2, 2 to 3"
-abbrev pub fork : Shape
-fork = shape (0 ∷ []) (5 ∷ 5 ∷ 6 ∷ 0 ∷ [])
+abbrev pub four : Shape
+four = shape (0 ∷ []) (5 ∷ 5 ∷ 6 ∷ 0 ∷ [])
 
 abbrev pub Holds : Row → Type 0
 Holds P1 = verdict (J 6) (1 ∷ 1 ∷ 1 ∷ 0 ∷ 1 ∷ 0 ∷ []) ≡ accepted (record { bads = 1; members = 1; covers = 1 })
@@ -46,8 +54,8 @@ Holds P6 = predecessorsOf 1 1 2 (shape (0 ∷ 0 ∷ []) []) ≡ shape (1 ∷ 1 �
 Holds P7 = predecessorsOf 4 1 1 (shape (1 ∷ []) []) ≡ shape (3 ∷ []) (1 ∷ []) ∷ []
 Holds P8 = predecessorsOf 6 1 0 (shape (3 ∷ []) (3 ∷ [])) ≡ []
 Holds P9 = predecessorsOf 6 1 0 (shape (3 ∷ []) (2 ∷ [])) ≡ shape (0 ∷ []) [] ∷ []
-Holds P10 = embeds? (shape (0 ∷ []) (5 ∷ 5 ∷ 0 ∷ [])) fork (0 ∷ 1 ∷ 3 ∷ []) ≡ false
-Holds P11 = embeds? (shape (0 ∷ []) (4 ∷ 0 ∷ [])) fork (0 ∷ 3 ∷ []) ≡ true
+Holds P10 = ¬ Embeds (shapeGraph meeting) (shapeGraph four) (imageMap (0 ∷ 1 ∷ 3 ∷ []))
+Holds P11 = Embeds (shapeGraph pair) (shapeGraph four) (imageMap (0 ∷ 3 ∷ []))
 Holds P12 = readOutcome (numberAt (128 ∷ 0 ∷ []) 0) ≡ record { code = 3; values = 0 ∷ 0 ∷ [] }
 
 abbrev pub All : Type 0

@@ -112,9 +112,10 @@ pub extern "C" fn vorruda_step(heap: &mut [u8], kind: u32, a: u32, b: u32) -> u3
     };
     let stepped = before.step(kind, a, b);
     let outcome = stepped.outcome;
-    if let Outcome::Moved = outcome {
-        let after = stepped.heap;
-        put_heap(after, heap);
-    }
-    stepper::outcome_code(outcome)
+    let Outcome::Moved = outcome else {
+        return stepper::outcome_code(outcome);
+    };
+    let after = stepped.heap;
+    put_heap(after, heap);
+    0
 }

@@ -2,7 +2,7 @@ ghost use mathlib.Core.Path.{_≡_};
 ghost use Rattle.number.specs.Outcome.{lent};
 
 // Hands values to the host in an array that it lends; leaves an array that is too short as it is.
-pub fn lend(values: &[u64], out: &mut [u64])
+pub(crate) fn lend(values: &[u64], out: &mut [u64])
     ensures { λ r. ⌜ now (out .exit) ≡ lent (now (values .entry)) (now (out .entry)) ⌝ }
 {
     if out.len() < values.len() {

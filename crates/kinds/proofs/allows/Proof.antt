@@ -16,22 +16,34 @@ least-a-requires : tie.Need-least-a-requires
 least-a-requires c κs = search needs
 
 returns-3 : tie.Need-returns-3
-returns-3 c = let a = c .before .before .before .before .args in rw (← allowed-row (a .kind) (a .variables) (a .a) (a .b) (omega arith) (omega arith)) (simp (lt-leb (leastA (a .kind)) (a .a) (omega arith)))
+returns-3 c =
+    let a = c .before .before .before .before .args in
+    rw (← allowed-row (a .kind) (a .variables) (a .a) (a .b) (omega arith) (omega arith))
+    (simp (lt-leb (leastA (a .kind)) (a .a) (omega arith)))
 
 returns-4 : tie.Need-returns-4
-returns-4 c = let a = c .before .before .before .before .before .args in rw (← allowed-row (a .kind) (a .variables) (a .a) (a .b) (omega arith) (omega arith)) (simp (le-leb (leastA (a .kind)) (a .a) (omega arith), lt-leb (a .a) (a .variables) (omega arith)))
+returns-4 c =
+    let a = c .before .before .before .before .before .args in
+    rw (← allowed-row (a .kind) (a .variables) (a .a) (a .b) (omega arith) (omega arith))
+    (simp (le-leb (leastA (a .kind)) (a .a) (omega arith), lt-leb (a .a) (a .variables) (omega arith)))
 
 least-b-requires : tie.Need-least-b-requires
 least-b-requires c κs = search needs
 
 returns-5 : tie.Need-returns-5
-returns-5 c = let a = c .before .before .before .before .before .before .before .args in rw (← allowed-row (a .kind) (a .variables) (a .a) (a .b) (omega arith) (omega arith)) (simp (le-leb (leastA (a .kind)) (a .a) (omega arith), le-leb (a .a) (a .variables) (omega arith), lt-leb (leastB (a .kind)) (a .b) (omega arith)))
+returns-5 c =
+    let a = c .before .before .before .before .before .before .before .args in
+    rw (← allowed-row (a .kind) (a .variables) (a .a) (a .b) (omega arith) (omega arith))
+    (simp (le-leb (leastA (a .kind)) (a .a) (omega arith), le-leb (a .a) (a .variables) (omega arith), lt-leb (leastB (a .kind)) (a .b) (omega arith)))
 
 most-b-requires : tie.Need-most-b-requires
 most-b-requires c κs = search needs
 
 returns-6 : tie.Need-returns-6
-returns-6 c = let a = c .before .before .before .before .before .before .before .before .args in rw (← allowed-row (a .kind) (a .variables) (a .a) (a .b) (omega arith) (omega arith), c .most-b .ensures) (simp (le-leb (leastA (a .kind)) (a .a) (omega arith), le-leb (a .a) (a .variables) (omega arith), le-leb (leastB (a .kind)) (a .b) (omega arith)))
+returns-6 c =
+    let a = c .before .before .before .before .before .before .before .before .args in
+    rw (← allowed-row (a .kind) (a .variables) (a .a) (a .b) (omega arith) (omega arith), c .most-b .ensures)
+    (simp (le-leb (leastA (a .kind)) (a .a) (omega arith), le-leb (a .a) (a .variables) (omega arith), le-leb (leastB (a .kind)) (a .b) (omega arith)))
 
 pub allows-spec : {M : Type 1} → statement M
 allows-spec =

@@ -22,7 +22,10 @@ shared-slice-read-put-number : tie.Need-shared-slice-read-put-number Inv-loop μ
 shared-slice-read-put-number c = search needs
 
 put-number-requires : tie.Need-put-number-requires Inv-loop μ-loop
-put-number-requires c κs = let ns = c .before .before .before .before .before .before .args .numbers .now in let i = c .before .before .before .loop .i in (omega (arith, length-left ns i (omega arith)), small ns i (c .before .before .before .before .before .before .pre .0) (omega arith))
+put-number-requires c κs =
+    let ns = c .before .before .before .before .before .before .args .numbers .now in
+    let i = c .before .before .before .loop .i in
+    (omega (arith, length-left ns i (omega arith)), small ns i (c .before .before .before .before .before .before .pre .0) (omega arith))
 
 add-i : tie.Need-add-i Inv-loop μ-loop
 add-i c = search needs
@@ -31,7 +34,9 @@ loop-less : tie.Need-loop-less Inv-loop μ-loop
 loop-less c = search needs
 
 loop-again : tie.Need-loop-again Inv-loop μ-loop
-loop-again c = rw (c .before .before .put-number .ensures .0) (fill-more _ _ _ _ _ (c .before .before .before .before .before .before .loop .inv) _ (omega arith) (c .before .before .before .before .before .before .before .before .before .pre .1) (c .before .before .put-number .ensures .1))
+loop-again c =
+    rw (c .before .before .put-number .ensures .0)
+    (fill-more _ _ _ _ _ (c .before .before .before .before .before .before .loop .inv) _ (omega arith) (c .before .before .before .before .before .before .before .before .before .pre .1) (c .before .before .put-number .ensures .1))
 
 same-length : tie.Need-same-length Inv-loop μ-loop
 same-length c = c .before .loop .inv .same

@@ -24,7 +24,10 @@ shared-slice-read-if1 : tie.Need-shared-slice-read-if1 Inv-loop μ-loop
 shared-slice-read-if1 c = search needs
 
 returns : tie.Need-returns Inv-loop μ-loop
-returns c = let ns = c .before .before .before .before .args .numbers .now in let i = c .before .before .before .loop .i in omega (arith, above-here ns i (omega arith) (c .if1 .taken))
+returns c =
+    let ns = c .before .before .before .before .args .numbers .now in
+    let i = c .before .before .before .loop .i in
+    omega (arith, above-here ns i (omega arith) (c .if1 .taken))
 
 add-i : tie.Need-add-i Inv-loop μ-loop
 add-i c = search needs
@@ -33,7 +36,10 @@ loop-less : tie.Need-loop-less Inv-loop μ-loop
 loop-less c = search needs
 
 loop-again : tie.Need-loop-again Inv-loop μ-loop
-loop-again c = let ns = c .before .before .before .before .args .numbers .now in let i = c .before .before .before .loop .i in (omega arith, omega (arith, above-later ns i (omega arith) (c .if1 .left)))
+loop-again c =
+    let ns = c .before .before .before .before .args .numbers .now in
+    let i = c .before .before .before .loop .i in
+    (omega arith, omega (arith, above-later ns i (omega arith) (c .if1 .left)))
 
 returns-2 : tie.Need-returns-2 Inv-loop μ-loop
 returns-2 c = let ns = c .before .before .args .numbers .now in let i = c .before .loop .i in omega (arith, above-end ns i (omega arith))

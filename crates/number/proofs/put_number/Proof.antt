@@ -24,7 +24,10 @@ same-length : tie.Need-same-length
 same-length c = search needs
 
 returns : tie.Need-returns
-returns c = let a = c .before .args in let e = one (a .n) (c .if1 .taken) in (omega (arith, ap length e), stored (a .bytes .now) (a .at) (a .n) (a .n ∷ []) e (omega arith))
+returns c =
+    let a = c .before .args in
+    let e = one (a .n) (c .if1 .taken) in
+    (omega (arith, ap length e), stored (a .bytes .now) (a .at) (a .n) (a .n ∷ []) e (omega arith))
 
 add-bytes : tie.Need-add-bytes
 add-bytes c = search needs
@@ -51,7 +54,12 @@ same-length-2 : tie.Need-same-length-2
 same-length-2 c = search needs
 
 returns-2 : tie.Need-returns-2
-returns-2 c = let a = c .before .before .args in let e = two (a .n) (omega arith) (c .if2 .taken) in (omega (arith, ap length e), rw (add-one (a .at)) (stored (a .bytes .now) (a .at) (a .n) ((a .n % 128 + 128) ∷ (a .n / 128) ∷ []) e (omega arith)))
+returns-2 c =
+    let a = c .before .before .args in
+    let e = two (a .n) (omega arith) (c .if2 .taken) in (
+      omega (arith, ap length e),
+      rw (add-one (a .at)) (stored (a .bytes .now) (a .at) (a .n) ((a .n % 128 + 128) ∷ (a .n / 128) ∷ []) e (omega arith)),
+    )
 
 add-bytes-3 : tie.Need-add-bytes-3
 add-bytes-3 c = search needs
@@ -81,7 +89,13 @@ same-length-3 : tie.Need-same-length-3
 same-length-3 c = search needs
 
 returns-3 : tie.Need-returns-3
-returns-3 c = let a = c .before .before .args in let e = three (a .n) (c .if2 .left) in (omega (arith, ap length e), rw (add-one (a .at), add-two (a .at)) (stored (a .bytes .now) (a .at) (a .n) ((a .n % 128 + 128) ∷ (a .n / 128 % 128 + 128) ∷ (a .n / 16384) ∷ []) e (omega arith)))
+returns-3 c =
+    let a = c .before .before .args in
+    let e = three (a .n) (c .if2 .left) in (
+      omega (arith, ap length e),
+      rw (add-one (a .at), add-two (a .at))
+          (stored (a .bytes .now) (a .at) (a .n) ((a .n % 128 + 128) ∷ (a .n / 128 % 128 + 128) ∷ (a .n / 16384) ∷ []) e (omega arith)),
+    )
 
 pub put-number-spec : {M : Type 1} → statement M
 put-number-spec =

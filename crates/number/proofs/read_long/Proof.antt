@@ -8,7 +8,9 @@ sub-if1 : tie.Need-sub-if1
 sub-if1 c = search needs
 
 returns : tie.Need-returns
-returns c = let a = c .before .before .args in cut-at-one (a .bytes .now) (a .at) (a .a) (omega arith) (omega arith) (omega arith) (omega arith)
+returns c =
+    let a = c .before .before .args in
+    cut-at-one (a .bytes .now) (a .at) (a .a) (omega arith) (omega arith) (omega arith) (omega arith)
 
 add-wide : tie.Need-add-wide
 add-wide c = search needs
@@ -20,7 +22,10 @@ wide-requires : tie.Need-wide-requires
 wide-requires c κs = search needs
 
 returns-2 : tie.Need-returns-2
-returns-2 c = let a = c .before .before .before .before .before .args in zero-second (a .bytes .now) (a .at) (a .a) (omega arith) (omega arith) (c .before .wide .result) (omega arith) (omega arith) (omega arith)
+returns-2 c =
+    let a = c .before .before .before .before .before .args in
+    zero-second (a .bytes .now) (a .at) (a .a) (omega arith) (omega arith) (c .before .wide .result) (omega arith) (omega arith)
+    (omega arith)
 
 sub-t11 : tie.Need-sub-t11
 sub-t11 c = search needs
@@ -35,13 +40,19 @@ add-t14 : tie.Need-add-t14
 add-t14 c = search needs
 
 returns-3 : tie.Need-returns-3
-returns-3 c = let a = c .before .before .before .before .before .before .args in two-bytes (a .bytes .now) (a .at) (a .a) (omega arith) (omega arith) (c .before .before .wide .result) (omega arith) (omega arith) (omega arith) (omega arith)
+returns-3 c =
+    let a = c .before .before .before .before .before .before .args in
+    two-bytes (a .bytes .now) (a .at) (a .a) (omega arith) (omega arith) (c .before .before .wide .result) (omega arith) (omega arith)
+    (omega arith) (omega arith)
 
 sub-if4 : tie.Need-sub-if4
 sub-if4 c = search needs
 
 returns-4 : tie.Need-returns-4
-returns-4 c = let a = c .before .before .before .before .before .before .before .args in cut-at-two (a .bytes .now) (a .at) (a .a) (omega arith) (omega arith) (c .before .before .before .wide .result) (omega arith) (omega arith) (omega arith) (omega arith) (omega arith)
+returns-4 c =
+    let a = c .before .before .before .before .before .before .before .args in
+    cut-at-two (a .bytes .now) (a .at) (a .a) (omega arith) (omega arith) (c .before .before .before .wide .result) (omega arith)
+    (omega arith) (omega arith) (omega arith) (omega arith)
 
 add-wide-2 : tie.Need-add-wide-2
 add-wide-2 c = search needs
@@ -53,7 +64,10 @@ wide-requires-2 : tie.Need-wide-requires-2
 wide-requires-2 c κs = search needs
 
 returns-5 : tie.Need-returns-5
-returns-5 c = let a = c .before .before .before .before .before .before .before .before .before .before .args in zero-third (a .bytes .now) (a .at) (a .a) (omega arith) (omega arith) (c .before .before .before .before .before .before .wide .result) (omega arith) (omega arith) (omega arith) (omega arith) (c .before .wide2 .result) (omega arith) (omega arith) (omega arith)
+returns-5 c =
+    let a = c .before .before .before .before .before .before .before .before .before .before .args in
+    zero-third (a .bytes .now) (a .at) (a .a) (omega arith) (omega arith) (c .before .before .before .before .before .before .wide .result)
+    (omega arith) (omega arith) (omega arith) (omega arith) (c .before .wide2 .result) (omega arith) (omega arith) (omega arith)
 
 sub-t16 : tie.Need-sub-t16
 sub-t16 c = search needs
@@ -74,10 +88,18 @@ add-t22 : tie.Need-add-t22
 add-t22 c = search needs
 
 returns-6 : tie.Need-returns-6
-returns-6 c = let a = c .before .before .before .before .before .before .before .before .before .before .before .args in three-bytes (a .bytes .now) (a .at) (a .a) (omega arith) (omega arith) (c .before .before .before .before .before .before .before .wide .result) (omega arith) (omega arith) (omega arith) (omega arith) (c .before .before .wide2 .result) (omega arith) (omega arith) (omega arith) (omega arith)
+returns-6 c =
+    let a = c .before .before .before .before .before .before .before .before .before .before .before .args in
+    three-bytes (a .bytes .now) (a .at) (a .a) (omega arith) (omega arith)
+    (c .before .before .before .before .before .before .before .wide .result) (omega arith) (omega arith) (omega arith) (omega arith)
+    (c .before .before .wide2 .result) (omega arith) (omega arith) (omega arith) (omega arith)
 
 returns-7 : tie.Need-returns-7
-returns-7 c = let a = c .before .before .before .before .before .before .before .before .before .before .before .args in too-large (a .bytes .now) (a .at) (a .a) (omega arith) (omega arith) (c .before .before .before .before .before .before .before .wide .result) (omega arith) (omega arith) (omega arith) (omega arith) (c .before .before .wide2 .result) (omega arith) (omega arith) (omega arith) (omega arith)
+returns-7 c =
+    let a = c .before .before .before .before .before .before .before .before .before .before .before .args in
+    too-large (a .bytes .now) (a .at) (a .a) (omega arith) (omega arith)
+    (c .before .before .before .before .before .before .before .wide .result) (omega arith) (omega arith) (omega arith) (omega arith)
+    (c .before .before .wide2 .result) (omega arith) (omega arith) (omega arith) (omega arith)
 
 pub read-long-spec : {M : Type 1} → statement M
 read-long-spec =

@@ -17,7 +17,9 @@ add-t8 : tie.Need-add-t8
 add-t8 c = search needs
 
 returns-2 : tie.Need-returns-2
-returns-2 c = let a = c .before .before .before .before .before .args in one-byte (a .bytes .now) (a .at) (c .before .wide .result) (omega arith) (omega arith) (omega arith)
+returns-2 c =
+    let a = c .before .before .before .before .before .args in
+    one-byte (a .bytes .now) (a .at) (c .before .wide .result) (omega arith) (omega arith) (omega arith)
 
 read-long-requires : tie.Need-read-long-requires
 read-long-requires c κs = search needs

@@ -9,7 +9,8 @@ use Rattle.number.proofs.room_needed.Statement.{statement}
 use Rattle.number.proofs.room_needed.Tie as tie
 
 abbrev Inv-loop : tie.InvT-loop
-Inv-loop numbers total₀ i₀ total i = (i ≤ length numbers) × (total + length (encode (drop i numbers)) ≡ length (encode numbers)) × (total ≤ 3 * i)
+Inv-loop numbers total₀ i₀ total i =
+    (i ≤ length numbers) × (total + length (encode (drop i numbers)) ≡ length (encode numbers)) × (total ≤ 3 * i)
 
 abbrev μ-loop : tie.MeasureT-loop
 μ-loop numbers total₀ i₀ total i = length numbers - i
@@ -36,10 +37,16 @@ loop-less : tie.Need-loop-less Inv-loop μ-loop
 loop-less c = search needs
 
 loop-again : tie.Need-loop-again Inv-loop μ-loop
-loop-again c = let ns = c .before .before .before .before .before .args .numbers .now in let i = c .before .before .before .loop .i in (omega arith, omega (arith, length-left ns i (omega arith)), omega arith)
+loop-again c =
+    let ns = c .before .before .before .before .before .args .numbers .now in
+    let i = c .before .before .before .loop .i in
+    (omega arith, omega (arith, length-left ns i (omega arith)), omega arith)
 
 returns : tie.Need-returns Inv-loop μ-loop
-returns c = let ns = c .before .before .before .args .numbers .now in let i = c .before .loop .i in omega (arith, ap length (encode-end ns i (omega arith)))
+returns c =
+    let ns = c .before .before .before .args .numbers .now in
+    let i = c .before .loop .i in
+    omega (arith, ap length (encode-end ns i (omega arith)))
 
 pub room-needed-spec : {M : Type 1} → statement M
 room-needed-spec =

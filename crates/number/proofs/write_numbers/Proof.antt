@@ -12,14 +12,18 @@ first-above-requires c κs = search needs
 
 returns : tie.Need-returns
 unfolding output
-returns c = let a = c .before .before .before .before .args in rw (c .before .first-above .ensures) (answer-large (a .numbers .now) (length (a .bytes .now)) (omega arith), refl)
+returns c =
+    let a = c .before .before .before .before .args in
+    rw (c .before .first-above .ensures) (answer-large (a .numbers .now) (length (a .bytes .now)) (omega arith), refl)
 
 room-needed-requires : tie.Need-room-needed-requires
 room-needed-requires c κs = search needs
 
 returns-2 : tie.Need-returns-2
 unfolding output
-returns-2 c = let a = c .before .before .before .before .before .before .args in rw (c .before .room-needed .ensures) (answer-short (a .numbers .now) (length (a .bytes .now)) (omega arith) (omega arith), refl)
+returns-2 c =
+    let a = c .before .before .before .before .before .before .args in
+    rw (c .before .room-needed .ensures) (answer-short (a .numbers .now) (length (a .bytes .now)) (omega arith) (omega arith), refl)
 
 fill-requires : tie.Need-fill-requires
 fill-requires c κs = let ns = c .before .before .before .before .before .before .before .args .numbers .now in omega (arith, above-most ns)
@@ -29,7 +33,10 @@ same-length c = search needs
 
 returns-3 : tie.Need-returns-3
 unfolding output
-returns-3 c = let a = c .before .before .before .before .before .before .before .before .before .before .args in rw (c .before .before .before .before .before .room-needed .ensures) (answer-filled (a .numbers .now) (length (a .bytes .now)) (omega arith) (omega arith), c .before .before .fill .ensures)
+returns-3 c =
+    let a = c .before .before .before .before .before .before .before .before .before .before .args in
+    rw (c .before .before .before .before .before .room-needed .ensures)
+    (answer-filled (a .numbers .now) (length (a .bytes .now)) (omega arith) (omega arith), c .before .before .fill .ensures)
 
 pub write-numbers-spec : {M : Type 1} → statement M
 write-numbers-spec =

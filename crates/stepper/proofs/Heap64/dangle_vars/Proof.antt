@@ -39,10 +39,22 @@ loop-less : tie.Need-loop-less Inv-loop μ-loop
 loop-less c = search needs
 
 loop-again : tie.Need-loop-again Inv-loop μ-loop
-loop-again c = let inv = c .before .before .loop .inv .1 in let y = c .before .before .before .args .code in let xs = c .before .before .before .args .t1 .vars in let l = c .before .before .loop .self .vars in let i = c .before .before .loop .i in let e = ap (λ (t : Heap64). t .vars) inv in ⊎-elim (λ w. (omega arith, w .1 ∙ (λ k. with (inv k) (hit y xs l i e (w .0 .taken) k)))) (λ w. (omega arith, w .1 ∙ (λ k. with (inv k) (miss y xs l i e (w .0 .left) k)))) (c .if1 .came)
+loop-again c =
+    let inv = c .before .before .loop .inv .1 in
+    let y = c .before .before .before .args .code in
+    let xs = c .before .before .before .args .t1 .vars in
+    let l = c .before .before .loop .self .vars in
+    let i = c .before .before .loop .i in
+    let e = ap (λ (t : Heap64). t .vars) inv in
+    ⊎-elim (λ w. (omega arith, w .1 ∙ (λ k. with (inv k) (hit y xs l i e (w .0 .taken) k))))
+    (λ w. (omega arith, w .1 ∙ (λ k. with (inv k) (miss y xs l i e (w .0 .left) k)))) (c .if1 .came)
 
 returns : tie.Need-returns Inv-loop μ-loop
-returns c = let t = c .before .before .args .t1 in let i = c .before .loop .i in let size : length (t .vars) ≡ 8 = simp length-map at (c .before .before .good .0 .1 .1 .1 .0 .1 .0 .1) in c .before .loop .inv .1 ∙ ap (with t) (swept-all (danglePlace (c .before .before .args .code)) (t .vars) i (omega arith))
+returns c =
+    let t = c .before .before .args .t1 in
+    let i = c .before .loop .i in
+    let size : length (t .vars) ≡ 8 = simp length-map at (c .before .before .good .0 .1 .1 .1 .0 .1 .0 .1) in
+    c .before .loop .inv .1 ∙ ap (with t) (swept-all (danglePlace (c .before .before .args .code)) (t .vars) i (omega arith))
 
 pub dangle-vars-spec : {M : Type 1} → statement M
 dangle-vars-spec =

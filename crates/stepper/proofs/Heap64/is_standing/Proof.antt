@@ -11,7 +11,8 @@ returns-2 : tie.Need-returns-2
 returns-2 c = standing-low (c .before .before .args .t1 .used) (c .before .before .args .code) (omega arith) (omega arith)
 
 returns-3 : tie.Need-returns-3
-returns-3 c = standing-high (c .before .before .before .args .t1 .used) (c .before .before .before .args .code) 64 (search needs) (omega arith)
+returns-3 c =
+    standing-high (c .before .before .before .args .t1 .used) (c .before .before .before .args .code) 64 (search needs) (omega arith)
 
 cast-i : tie.Need-cast-i
 cast-i c = search needs
@@ -20,7 +21,8 @@ element-copy-out-result : tie.Need-element-copy-out-result
 element-copy-out-result c = search needs
 
 returns-4 : tie.Need-returns-4
-returns-4 c = standing-cell (c .before .before .before .before .args .t1 .used) (c .before .before .before .before .args .code) (omega arith)
+returns-4 c =
+    standing-cell (c .before .before .before .before .args .t1 .used) (c .before .before .before .before .args .code) (omega arith)
 
 pub is-standing-spec : {M : Type 1} → statement M
 is-standing-spec =

@@ -20,21 +20,32 @@ returns c = (let n = c .before .args .self .variables in simp (lt-leb 1 n (c .if
 
 returns-2 : tie.Need-returns-2
 unfolding wellFormed
-returns-2 c = (let n = c .before .before .args .self .variables in simp (le-leb 1 n (c .before .if1 .left), lt-leb n 8 (c .if2 .taken)), sizes (c .before .before))
+returns-2 c = (
+  let n = c .before .before .args .self .variables in simp (le-leb 1 n (c .before .if1 .left), lt-leb n 8 (c .if2 .taken)),
+  sizes (c .before .before),
+)
 
 slots-fit-requires : tie.Need-slots-fit-requires
 slots-fit-requires c κs = search needs
 
 returns-3 : tie.Need-returns-3
 unfolding wellFormed
-returns-3 c = (let n = c .before .before .before .before .args .self .variables in simp (le-leb 1 n (c .before .before .before .if1 .left), le-leb n 8 (c .before .before .if2 .left), ← c .before .slots-fit .ensures, not-true (c .before .slots-fit .result) (c .if3 .taken)), sizes (c .before .before .before .before))
+returns-3 c = (
+  let n = c .before .before .before .before .args .self .variables in simp
+      (le-leb 1 n (c .before .before .before .if1 .left), le-leb n 8 (c .before .before .if2 .left), ← c .before .slots-fit .ensures, not-true (c .before .slots-fit .result) (c .if3 .taken)),
+  sizes (c .before .before .before .before),
+)
 
 cells-fit-requires : tie.Need-cells-fit-requires
 cells-fit-requires c κs = search needs
 
 returns-4 : tie.Need-returns-4
 unfolding wellFormed
-returns-4 c = (let n = c .before .before .before .before .before .args .self .variables in simp (le-leb 1 n (c .before .before .before .before .if1 .left), le-leb n 8 (c .before .before .before .if2 .left), ← c .before .before .slots-fit .ensures, not-false (c .before .before .slots-fit .result) (c .before .if3 .left), c .cells-fit .ensures), sizes (c .before .before .before .before .before))
+returns-4 c = (
+  let n = c .before .before .before .before .before .args .self .variables in simp
+      (le-leb 1 n (c .before .before .before .before .if1 .left), le-leb n 8 (c .before .before .before .if2 .left), ← c .before .before .slots-fit .ensures, not-false (c .before .before .slots-fit .result) (c .before .if3 .left), c .cells-fit .ensures),
+  sizes (c .before .before .before .before .before),
+)
 
 pub is-well-formed-spec : {M : Type 1} → statement M
 is-well-formed-spec =

@@ -13,7 +13,10 @@ returns : tie.Need-returns
 returns c = link-low _ (c .before .args .p .code) (omega arith)
 
 returns-2 : tie.Need-returns-2
-returns-2 c = let t = c .before .before .args .t1 in let s : length (t .links) ≡ 64 = simp length-map at (c .before .before .good .0 .1 .1 .1 .1 .1 .0 .1 .0 .1) in link-high (codes (t .links)) (c .before .before .args .p .code) 64 (length-map (t .links) (λ p. p .code) ∙ s) (omega arith)
+returns-2 c =
+    let t = c .before .before .args .t1 in
+    let s : length (t .links) ≡ 64 = simp length-map at (c .before .before .good .0 .1 .1 .1 .1 .1 .0 .1 .0 .1) in
+    link-high (codes (t .links)) (c .before .before .args .p .code) 64 (length-map (t .links) (λ p. p .code) ∙ s) (omega arith)
 
 cast-i : tie.Need-cast-i
 cast-i c = search needs
@@ -22,7 +25,10 @@ element-copy-out-result : tie.Need-element-copy-out-result
 element-copy-out-result c = search needs
 
 returns-3 : tie.Need-returns-3
-returns-3 c = let t = c .before .before .before .args .t1 in let p = c .before .before .before .args .p .code in code-at (t .links) (p - 3) ∙ link-in _ p (omega arith)
+returns-3 c =
+    let t = c .before .before .before .args .t1 in
+    let p = c .before .before .before .args .p .code in
+    code-at (t .links) (p - 3) ∙ link-in _ p (omega arith)
 
 pub link-of-spec : {M : Type 1} → statement M
 link-of-spec = tie.close (tie.spec returns returns-2 cast-i element-copy-out-result returns-3)

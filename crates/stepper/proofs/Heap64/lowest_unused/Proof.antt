@@ -22,7 +22,11 @@ element-copy-out-if1 : tie.Need-element-copy-out-if1 Inv-loop μ-loop
 element-copy-out-if1 c = search needs
 
 returns : tie.Need-returns Inv-loop μ-loop
-returns c = let t = c .before .before .before .before .args .t1 in let i = c .before .before .before .loop .i in let s : length (t .used) ≡ 64 = search needs in omega (arith, lowest-here (t .used) i (omega arith) (not-true _ (c .if1 .taken)))
+returns c =
+    let t = c .before .before .before .before .args .t1 in
+    let i = c .before .before .before .loop .i in
+    let s : length (t .used) ≡ 64 = search needs in
+    omega (arith, lowest-here (t .used) i (omega arith) (not-true _ (c .if1 .taken)))
 
 add-i : tie.Need-add-i Inv-loop μ-loop
 add-i c = search needs
@@ -31,10 +35,18 @@ loop-less : tie.Need-loop-less Inv-loop μ-loop
 loop-less c = search needs
 
 loop-again : tie.Need-loop-again Inv-loop μ-loop
-loop-again c = let t = c .before .before .before .before .args .t1 in let i = c .before .before .before .loop .i in let s : length (t .used) ≡ 64 = search needs in (omega arith, omega (arith, lowest-later (t .used) i (omega arith) (not-false _ (c .if1 .left))))
+loop-again c =
+    let t = c .before .before .before .before .args .t1 in
+    let i = c .before .before .before .loop .i in
+    let s : length (t .used) ≡ 64 = search needs in
+    (omega arith, omega (arith, lowest-later (t .used) i (omega arith) (not-false _ (c .if1 .left))))
 
 returns-2 : tie.Need-returns-2 Inv-loop μ-loop
-returns-2 c = let t = c .before .before .args .t1 in let i = c .before .loop .i in let s : length (t .used) ≡ 64 = search needs in omega (arith, lowest-end (t .used) i (omega arith))
+returns-2 c =
+    let t = c .before .before .args .t1 in
+    let i = c .before .loop .i in
+    let s : length (t .used) ≡ 64 = search needs in
+    omega (arith, lowest-end (t .used) i (omega arith))
 
 pub lowest-unused-spec : {M : Type 1} → statement M
 lowest-unused-spec =

@@ -16,7 +16,10 @@ element-copy-out-result : tie.Need-element-copy-out-result
 element-copy-out-result c = search needs
 
 returns-2 : tie.Need-returns-2
-returns-2 c = let t = c .before .before .args .t1 in let a = c .before .before .args .a in code-at (t .vars) (a - 1) ∙ var-in _ a (omega arith)
+returns-2 c =
+    let t = c .before .before .args .t1 in
+    let a = c .before .before .args .a in
+    code-at (t .vars) (a - 1) ∙ var-in _ a (omega arith)
 
 pub place-of-spec : {M : Type 1} → statement M
 place-of-spec = tie.close (tie.spec returns sub-result element-copy-out-result returns-2)

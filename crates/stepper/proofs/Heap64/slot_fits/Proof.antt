@@ -15,10 +15,16 @@ is-standing-requires : tie.Need-is-standing-requires
 is-standing-requires c κs = search needs
 
 returns : tie.Need-returns
-returns c = let t = c .before .before .before .args .t1 in let i = c .before .before .before .args .i in c .is-standing .ensures ∙ simp (lt-ltb i (t .variables) (c .before .if1 .taken), code-at (t .vars) i)
+returns c =
+    let t = c .before .before .before .args .t1 in
+    let i = c .before .before .before .args .i in
+    c .is-standing .ensures ∙ simp (lt-ltb i (t .variables) (c .before .if1 .taken), code-at (t .vars) i)
 
 returns-2 : tie.Need-returns-2
-returns-2 c = let t = c .before .before .before .args .t1 in let i = c .before .before .before .args .i in simp (le-ltb i (t .variables) (c .before .if1 .left), code-at (t .vars) i)
+returns-2 c =
+    let t = c .before .before .before .args .t1 in
+    let i = c .before .before .before .args .i in
+    simp (le-ltb i (t .variables) (c .before .if1 .left), code-at (t .vars) i)
 
 pub slot-fits-spec : {M : Type 1} → statement M
 slot-fits-spec =

@@ -22,7 +22,11 @@ slot-fits-requires : tie.Need-slot-fits-requires Inv-loop μ-loop
 slot-fits-requires c κs = search needs
 
 returns : tie.Need-returns Inv-loop μ-loop
-returns c = let t = c .before .before .before .before .args .self in let i = c .before .before .before .loop .i in sym (all-failed (slotFits t) 8 i (omega arith) (sym (c .before .slot-fits .ensures) ∙ not-true _ (c .if1 .taken))) ∙ c .before .before .before .loop .inv .1
+returns c =
+    let t = c .before .before .before .before .args .self in
+    let i = c .before .before .before .loop .i in
+    sym (all-failed (slotFits t) 8 i (omega arith) (sym (c .before .slot-fits .ensures) ∙ not-true _ (c .if1 .taken)))
+    ∙ c .before .before .before .loop .inv .1
 
 add-i : tie.Need-add-i Inv-loop μ-loop
 add-i c = search needs
@@ -31,10 +35,19 @@ loop-less : tie.Need-loop-less Inv-loop μ-loop
 loop-less c = search needs
 
 loop-again : tie.Need-loop-again Inv-loop μ-loop
-loop-again c = let t = c .before .before .before .before .args .self in let i = c .before .before .before .loop .i in (omega arith, sym (all-passed (slotFits t) 8 i (omega arith) (sym (c .before .slot-fits .ensures) ∙ not-false _ (c .if1 .left))) ∙ c .before .before .before .loop .inv .1)
+loop-again c =
+    let t = c .before .before .before .before .args .self in
+    let i = c .before .before .before .loop .i in (
+      omega arith,
+      sym (all-passed (slotFits t) 8 i (omega arith) (sym (c .before .slot-fits .ensures) ∙ not-false _ (c .if1 .left)))
+          ∙ c .before .before .before .loop .inv .1,
+    )
 
 returns-2 : tie.Need-returns-2 Inv-loop μ-loop
-returns-2 c = let t = c .before .before .args .self in let i = c .before .loop .i in sym (all-done (slotFits t) 8 i (omega arith)) ∙ c .before .loop .inv .1
+returns-2 c =
+    let t = c .before .before .args .self in
+    let i = c .before .loop .i in
+    sym (all-done (slotFits t) 8 i (omega arith)) ∙ c .before .loop .inv .1
 
 pub slots-fit-spec : {M : Type 1} → statement M
 slots-fit-spec =

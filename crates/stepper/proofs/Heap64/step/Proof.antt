@@ -9,7 +9,11 @@ is-well-formed-requires : tie.Need-is-well-formed-requires
 is-well-formed-requires c κs = search needs
 
 returns : tie.Need-returns
-returns c = let a = c .before .before .args in let w = c .before .is-well-formed in steps (a .self) (w .ensures .1) (a .kind) (a .a) (a .b) _ (ill-formed (a .self) (a .kind) (a .a) (a .b) (sym (w .ensures .0) ∙ not-true (w .result) (c .if1 .taken)))
+returns c =
+    let a = c .before .before .args in
+    let w = c .before .is-well-formed in
+    steps (a .self) (w .ensures .1) (a .kind) (a .a) (a .b) _
+    (ill-formed (a .self) (a .kind) (a .a) (a .b) (sym (w .ensures .0) ∙ not-true (w .result) (c .if1 .taken)))
 
 cast-variables : tie.Need-cast-variables
 cast-variables c = search needs
@@ -18,13 +22,27 @@ allows-requires : tie.Need-allows-requires
 allows-requires c κs = search needs
 
 returns-2 : tie.Need-returns-2
-returns-2 c = let a = c .before .before .before .before .before .args in let w = c .before .before .before .before .is-well-formed in let k = c .before .allows in steps (a .self) (w .ensures .1) (a .kind) (a .a) (a .b) _ (not-allowed (a .self) (a .kind) (a .a) (a .b) (sym (w .ensures .0) ∙ not-false (w .result) (c .before .before .before .if1 .left)) (sym (k .ensures) ∙ not-true (k .result) (c .if2 .taken)))
+returns-2 c =
+    let a = c .before .before .before .before .before .args in
+    let w = c .before .before .before .before .is-well-formed in
+    let k = c .before .allows in
+    steps (a .self) (w .ensures .1) (a .kind) (a .a) (a .b) _
+    (not-allowed (a .self) (a .kind) (a .a) (a .b) (sym (w .ensures .0) ∙ not-false (w .result) (c .before .before .before .if1 .left)) (sym (k .ensures) ∙ not-true (k .result) (c .if2 .taken)))
 
 perform-requires : tie.Need-perform-requires
-perform-requires c κs = let w = c .before .before .before .before .is-well-formed in let k = c .before .allows in (record { sized = w .ensures .1; formed = sym (w .ensures .0) ∙ not-false (w .result) (c .before .before .before .if1 .left) }, sym (k .ensures) ∙ not-false (k .result) (c .if2 .left))
+perform-requires c κs =
+    let w = c .before .before .before .before .is-well-formed in
+    let k = c .before .allows in (
+      record { sized = w .ensures .1; formed = sym (w .ensures .0) ∙ not-false (w .result) (c .before .before .before .if1 .left) },
+      sym (k .ensures) ∙ not-false (k .result) (c .if2 .left),
+    )
 
 returns-3 : tie.Need-returns-3
-returns-3 c = let a = c .before .before .before .before .before .before .args in let w = c .before .before .before .before .before .is-well-formed in steps (a .self) (w .ensures .1) (a .kind) (a .a) (a .b) _ (c .perform .ensures ∙ by-table (a .self) (a .kind) (a .a) (a .b) (sym (w .ensures .0) ∙ not-false (w .result) (c .before .before .before .before .if1 .left)))
+returns-3 c =
+    let a = c .before .before .before .before .before .before .args in
+    let w = c .before .before .before .before .before .is-well-formed in
+    steps (a .self) (w .ensures .1) (a .kind) (a .a) (a .b) _
+    (c .perform .ensures ∙ by-table (a .self) (a .kind) (a .a) (a .b) (sym (w .ensures .0) ∙ not-false (w .result) (c .before .before .before .before .if1 .left)))
 
 pub step-spec : {M : Type 1} → statement M
 step-spec =

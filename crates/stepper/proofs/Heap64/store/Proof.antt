@@ -19,13 +19,22 @@ link-of-requires : tie.Need-link-of-requires
 link-of-requires c κs = search needs
 
 returns : tie.Need-returns
-returns c = let t = c .before .before .before .before .args .self in let le = c .before .before .link-of .ensures ∙ ap (linkIn (codes (t .links))) (c .before .before .before .place-of .ensures) in blocked t (store (c .before .before .before .before .args .a) (c .before .before .before .before .args .b)) refl (λ d. d .0 (sym le ∙ c .if1 .taken))
+returns c =
+    let t = c .before .before .before .before .args .self in
+    let le = c .before .before .link-of .ensures ∙ ap (linkIn (codes (t .links))) (c .before .before .before .place-of .ensures) in
+    blocked t (store (c .before .before .before .before .args .a) (c .before .before .before .before .args .b)) refl
+    (λ d. d .0 (sym le ∙ c .if1 .taken))
 
 place-of-requires-2 : tie.Need-place-of-requires-2
-place-of-requires-2 c κs = omega (arith, formed (c .before .before .before .before .args .self) (c .before .before .before .before .pre .0 .formed) .most)
+place-of-requires-2 c κs =
+    omega (arith, formed (c .before .before .before .before .args .self) (c .before .before .before .before .pre .0 .formed) .most)
 
 returns-2 : tie.Need-returns-2
-returns-2 c = let t = c .before .before .before .before .before .before .before .args .self in blocked t (store (c .before .before .before .before .before .before .before .args .a) (c .before .before .before .before .before .before .before .args .b)) refl (λ d. d .1 (sym (c .before .before .place-of2 .ensures) ∙ c .if2 .taken))
+returns-2 c =
+    let t = c .before .before .before .before .before .before .before .args .self in
+    blocked t
+    (store (c .before .before .before .before .before .before .before .args .a) (c .before .before .before .before .before .before .before .args .b))
+    refl (λ d. d .1 (sym (c .before .before .place-of2 .ensures) ∙ c .if2 .taken))
 
 -- a stands at a used cell
 at-cell : (c : tie.After-struct-known3) → Linked (c .before .before .before .before .before .before .before .before .args .self) (c .before .before .before .before .before .before .before .before .pre .0 .sized) (formed (c .before .before .before .before .before .before .before .before .args .self) (c .before .before .before .before .before .before .before .before .pre .0 .formed)) (c .before .before .before .before .before .before .before .place-of .result .code)
@@ -43,7 +52,11 @@ element-set-from-p : tie.Need-element-set-from-p
 element-set-from-p c = omega (arith, at-cell c .is-cell, at-cell c .inside)
 
 returns-3 : tie.Need-returns-3
-returns-3 c = let t = c .before .before .before .before .before .before .before .before .args .self in let le = c .before .before .before .before .before .before .link-of .ensures ∙ ap (linkIn (codes (t .links))) (c .before .before .before .before .before .before .before .place-of .ensures) in rw (c .before .before .before .before .before .before .before .place-of .ensures) (moved t (store (c .before .before .before .before .before .before .before .before .args .a) (c .before .before .before .before .before .before .before .before .args .b)) (withLink t (varIn (codes (t .vars)) (c .before .before .before .before .before .before .before .before .args .a) - 3) (c .before .before .before .place-of2 .result)) (stored t (c .before .before .before .before .before .before .before .before .pre .0 .sized) (formed t (c .before .before .before .before .before .before .before .before .pre .0 .formed)) (c .before .before .before .before .before .before .before .before .args .a) (c .before .before .before .before .before .before .before .before .args .b) (c .before .before .before .place-of2 .result) (λ z. c .before .before .before .before .if1 .left (le ∙ z)) (c .before .before .before .place-of2 .ensures) (c .before .if2 .left) (omega arith)))
+returns-3 c =
+    let t = c .before .before .before .before .before .before .before .before .args .self in
+    let le = c .before .before .before .before .before .before .link-of .ensures ∙ ap (linkIn (codes (t .links))) (c .before .before .before .before .before .before .before .place-of .ensures) in
+    rw (c .before .before .before .before .before .before .before .place-of .ensures)
+    (moved t (store (c .before .before .before .before .before .before .before .before .args .a) (c .before .before .before .before .before .before .before .before .args .b)) (withLink t (varIn (codes (t .vars)) (c .before .before .before .before .before .before .before .before .args .a) - 3) (c .before .before .before .place-of2 .result)) (stored t (c .before .before .before .before .before .before .before .before .pre .0 .sized) (formed t (c .before .before .before .before .before .before .before .before .pre .0 .formed)) (c .before .before .before .before .before .before .before .before .args .a) (c .before .before .before .before .before .before .before .before .args .b) (c .before .before .before .place-of2 .result) (λ z. c .before .before .before .before .if1 .left (le ∙ z)) (c .before .before .before .place-of2 .ensures) (c .before .if2 .left) (omega arith)))
 
 pub store-spec : {M : Type 1} → statement M
 store-spec =

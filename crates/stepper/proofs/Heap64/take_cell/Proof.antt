@@ -14,7 +14,9 @@ lowest-unused-requires : tie.Need-lowest-unused-requires
 lowest-unused-requires c κs = search needs
 
 returns : tie.Need-returns
-returns c = full (c .before .before .args .self) (new (c .before .before .args .a)) (rw (← c .before .lowest-unused .ensures) (le-leb 64 (c .before .lowest-unused .result) (c .if1 .taken)))
+returns c =
+    full (c .before .before .args .self) (new (c .before .before .args .a))
+    (rw (← c .before .lowest-unused .ensures) (le-leb 64 (c .before .lowest-unused .result) (c .if1 .taken)))
 
 cast-cell : tie.Need-cast-cell
 cast-cell c = search needs
@@ -35,7 +37,10 @@ element-set-from-p : tie.Need-element-set-from-p
 element-set-from-p c = omega (arith, formed (c .before .before .before .args .self) (c .before .before .before .pre .0 .formed) .most)
 
 returns-2 : tie.Need-returns-2
-returns-2 c = let t = c .before .before .before .args .self in rw (c .cell .ensures) (moved t (new (c .before .before .before .args .a)) (withVar (withCell t (c .before .before .lowest-unused .result)) (c .before .before .before .args .a - 1) (cellPlace (c .before .before .lowest-unused .result))) (taken t (c .before .before .before .pre .0 .sized) (formed t (c .before .before .before .pre .0 .formed)) (c .before .before .before .args .a) (c .before .before .lowest-unused .result) (c .before .before .lowest-unused .ensures) (omega arith) (omega arith) (omega arith)))
+returns-2 c =
+    let t = c .before .before .before .args .self in
+    rw (c .cell .ensures)
+    (moved t (new (c .before .before .before .args .a)) (withVar (withCell t (c .before .before .lowest-unused .result)) (c .before .before .before .args .a - 1) (cellPlace (c .before .before .lowest-unused .result))) (taken t (c .before .before .before .pre .0 .sized) (formed t (c .before .before .before .pre .0 .formed)) (c .before .before .before .args .a) (c .before .before .lowest-unused .result) (c .before .before .lowest-unused .ensures) (omega arith) (omega arith) (omega arith)))
 
 pub take-cell-spec : {M : Type 1} → statement M
 take-cell-spec =

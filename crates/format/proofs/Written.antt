@@ -1,0 +1,179 @@
+-- A job in range and a certificate whose covers hold, written as bytes, are accepted.
+use mathlib.Core.Bool.{Bool, true, false, cond}
+use mathlib.Core.List.{List, [], _∷_, _++_, map, List·Memᴰ·head, List·Memᴰ·tail, List·Memᴰ·not-nil, List·Memᴰ·append-cases, Memᴰ·of-map}
+use mathlib.Core.Logic.{_⊎_, inl, inr}
+use mathlib.Core.Option.{some}
+use mathlib.Core.Path.{_≡_, refl}
+use Prim.Native.Nat.{ℕ, zero, suc, _≤_, _<_}
+use native.Mathlib.Omega.{arith}
+use lib.Dec.{eqb}
+use lib.ListN.{length, getElem?}
+use Rattle.lists.specs.List.{_∈_, concatMap}
+use Rattle.lists.proofs.List.{concatMap-mem}
+use Rattle.number.specs.Number.{largest, bytesOf}
+use Rattle.number.specs.NumberList.{encode}
+use Rattle.number.specs.Range.{AtMost}
+use Rattle.number.proofs.RoundTrip.{decode-encode}
+use Rattle.heap.specs.Heap.{empty}
+use Rattle.heap.specs.Operation.{Op, equal, different, assign, load, store, new, delete}
+use Rattle.heap.specs.Place.{cell}
+use Rattle.shape.specs.Shape.{size, Satisfies, AllBelow, InRange}
+use Rattle.run.specs.Run.{Transition, Located}
+use Rattle.run.proofs.Operands.{Allowed, allowed}
+use Rattle.backward.specs.Predecessors.{predecessors}
+use Rattle.cover.specs.Cover.{predecessorsBy, owed, Cover, AllHold}
+use Rattle.cover.proofs.InRange.{predecessors-range}
+use Rattle.format.specs.Job.{JobFile}
+use Rattle.format.specs.Numbers.{opNumbers, transitionNumbers, locatedNumbers, jobNumbers, coverNumbers, certificateNumbers}
+use Rattle.format.specs.Verdict.{accepted, verdict}
+use Rattle.format.specs.Conditions.{LocatedInRange, TransitionInRange, JobInRange, IsJob, MembersInRange, ImageForEach, countsOf}
+use Rattle.format.proofs.Covers.{images-below}
+use Rattle.format.proofs.Exact.{exact}
+
+-- ---- what is owed a cover has at most 14 cells
+
+module _ (f : JobFile) (ms : List Located) (ok : JobInRange f) (oks : MembersInRange f ms) where
+  before-range : (m : Located) (t : Transition) (o : Located) → m ∈ ms → o ∈ predecessorsBy m t → InRange (f .job .variables) 14 (o .shape)
+  before-range m t o k = by-state (eqb (t .to) (m .state))
+    where
+      by-state : (b : Bool) → o ∈ cond b (map (λ s. record { state = t .from; shape = s }) (predecessors (t .op) (m .shape))) [] → InRange (f .job .variables) 14 (o .shape)
+      by-state true i =
+          let (p, j, e) = Memᴰ·of-map (λ s. record { state = t .from; shape = s }) (predecessors (t .op) (m .shape)) i in
+          rw (← e) (predecessors-range (f .job .variables) 12 (t .op) (m .shape) (oks .members m k .shape) p j)
+      by-state false i = absurd (List·Memᴰ·not-nil i)
+
+  pub owed-range : (o : Located) → o ∈ owed (f .job) ms → InRange (f .job .variables) 14 (o .shape)
+  owed-range o i = by-part (List·Memᴰ·append-cases (f .job .forbidden) i)
+    where
+      by-part : (o ∈ f .job .forbidden) ⊎ (o ∈ concatMap (λ m. concatMap (predecessorsBy m) (f .job .transitions)) ms) → InRange (f .job .variables) 14 (o .shape)
+      by-part (inl k) =
+          let r = ok .forbidden o k .shape in
+          record { variables-number = r .variables-number; cells = omega (arith, r .cells); vars = r .vars; links = r .links }
+      by-part (inr k) =
+          let (m, a, b) = concatMap-mem (λ m. concatMap (predecessorsBy m) (f .job .transitions)) ms o k in
+          let (t, _, c) = concatMap-mem (predecessorsBy m) (f .job .transitions) o b in
+          before-range m t o a c
+
+-- ---- every number is at most 65,535
+
+abbrev Small : List ℕ → Type 0
+Small = AtMost largest
+
+small-append : (a b : List ℕ) → Small a → Small b → Small (a ++ b)
+small-append [] b s t = t
+small-append (x ∷ a) b (h, s) t = (h, small-append a b s t)
+
+small-all : {A : Type 0} (g : A → List ℕ) (l : List A) → ((x : A) → x ∈ l → Small (g x)) → Small (concatMap g l)
+small-all g [] h = tt
+small-all g (x ∷ xs) h = small-append (g x) (concatMap g xs) (h x (List·Memᴰ·head refl)) (small-all g xs (λ y i. h y (List·Memᴰ·tail i)))
+
+small-below : (k : ℕ) (l : List ℕ) → k ≤ largest → AllBelow k l → Small l
+small-below k [] h b = tt
+small-below k (x ∷ xs) h b = (let q = b x (List·Memᴰ·head refl) in omega arith, small-below k xs h (λ y i. b y (List·Memᴰ·tail i)))
+
+small-located : (variables states : ℕ) (m : Located) → states ≤ 64 → LocatedInRange variables states m → Small (locatedNumbers m)
+small-located variables states m h ok =
+    let r = ok .shape in
+    let c = r .cells in (
+      let q = ok .state in omega arith,
+      (
+        omega arith,
+        small-append (m .shape .vars) (m .shape .links) (small-below (cell (size (m .shape))) (m .shape .vars) (omega arith) (r .vars))
+            (small-below (cell (size (m .shape))) (m .shape .links) (omega arith) (r .links)),
+      ),
+    )
+
+small-op : (n : ℕ) (o : Op) → n ≤ 8 → Allowed n o → Small (opNumbers o)
+small-op n (equal a b) h (p, q) = (omega arith, (omega arith, (omega arith, tt)))
+small-op n (different a b) h (p, q) = (omega arith, (omega arith, (omega arith, tt)))
+small-op n (assign a b) h (z, p, q) = (omega arith, (omega arith, (omega arith, tt)))
+small-op n (load a b) h (z, p, q) = (omega arith, (omega arith, (omega arith, tt)))
+small-op n (store a b) h (z, p, q) = (omega arith, (omega arith, (omega arith, tt)))
+small-op n (new a) h (z, p) = (omega arith, (omega arith, (omega arith, tt)))
+small-op n (delete a) h (z, p) = (omega arith, (omega arith, (omega arith, tt)))
+
+small-transition : (variables states : ℕ) (t : Transition) → variables ≤ 8 → states ≤ 64 → TransitionInRange variables states t → Small (transitionNumbers t)
+small-transition variables states t v h ok =
+    let (kind, a, b, e) = ok .op in
+    let s = small-op variables (t .op) v (allowed variables kind a b (t .op) e) in
+    (let q = ok .from in omega arith, small-append (opNumbers (t .op)) (t .to ∷ []) s (let q = ok .to in omega arith, tt))
+
+small-job : (f : JobFile) → JobInRange f → Small (jobNumbers f)
+small-job f ok =
+    let v = ok .variables .1 in
+    let s = ok .states .1 in (
+      omega arith,
+      (
+        omega arith,
+        (
+          omega arith,
+          (
+            let q = ok .start in omega arith,
+            (
+              let q = ok .transitions-number in omega arith,
+              small-append (concatMap transitionNumbers (f .job .transitions)) _
+                  (small-all transitionNumbers (f .job .transitions) (λ t i. small-transition (f .job .variables) (f .states) t v s (ok .transitions t i))) (
+                    let q = ok .forbidden-number .1 in omega arith,
+                    small-all locatedNumbers (f .job .forbidden) (λ m i. small-located (f .job .variables) (f .states) m s (ok .forbidden m i)),
+                  ),
+            ),
+          ),
+        ),
+      ),
+    )
+
+-- the bytes of a job in range are those of that job
+pub written-job : (f : JobFile) → JobInRange f → IsJob (encode (jobNumbers f)) f
+written-job f ok = record { in-range = ok; reads = decode-encode (jobNumbers f) (small-job f ok) }
+
+number-below : {A : Type 0} (l : List A) (i : ℕ) (x : A) → getElem? l i ≡ some x → i < length l
+number-below [] i x e = let z : _≡_ {A = ℕ} 0 1 = cc in absurd (omega arith)
+number-below (y ∷ ys) zero x e = omega arith
+number-below (y ∷ ys) (suc i) x e = let b = number-below ys i x e in omega arith
+
+small-covers : (ms : List Located) → length ms ≤ 512 → (cs : List Cover) (os : List Located) → AllHold ms cs os
+    → ((c : Cover) → c ∈ cs → ImageForEach ms c) → ((o : Located) → o ∈ os → size (o .shape) ≤ 14) → Small (concatMap coverNumbers cs)
+small-covers ms h [] [] hold images sizes = tt
+small-covers ms h [] (o ∷ os) hold images sizes = absurd hold
+small-covers ms h (c ∷ cs) [] hold images sizes = absurd hold
+small-covers ms h (c ∷ cs) (o ∷ os) (k, ks) images sizes = (
+  let q = number-below ms (c .member) (k .member) (k .numbered) in omega arith,
+  small-append (c .images) (concatMap coverNumbers cs)
+      (small-below (size (o .shape)) (c .images) (let q = sizes o (List·Memᴰ·head refl) in omega arith) (images-below ms o c k (images c (List·Memᴰ·head refl))))
+      (small-covers ms h cs os ks (λ d i. images d (List·Memᴰ·tail i)) (λ p i. sizes p (List·Memᴰ·tail i))),
+)
+
+module _ (f : JobFile) (ms : List Located) (cs : List Cover) (ok : JobInRange f) (oks : MembersInRange f ms)
+    (images : (c : Cover) → c ∈ cs → ImageForEach ms c) (hold : AllHold ms cs (owed (f .job) ms)) where
+  small-certificate : Small (certificateNumbers ms cs)
+  small-certificate =
+      let n = oks .number .1 in (
+        omega arith,
+        (
+          omega arith,
+          small-append (concatMap locatedNumbers ms) (concatMap coverNumbers cs)
+              (small-all locatedNumbers ms (λ m i. small-located (f .job .variables) (f .states) m (ok .states .1) (oks .members m i)))
+              (small-covers ms n cs (owed (f .job) ms) hold images (λ o i. owed-range f ms ok oks o i .cells)),
+        ),
+      )
+
+  -- WRITTEN: they are accepted, if they are not too long
+  pub written-accepted : ((m : Located) → m ∈ ms → m .state ≡ f .job .start → ¬ Satisfies empty (m .shape)) → length (encode (jobNumbers f)) ≤ 65536
+      → length (encode (certificateNumbers ms cs)) ≤ 65536 → verdict (encode (jobNumbers f)) (encode (certificateNumbers ms cs)) ≡ accepted (countsOf (f .job) ms)
+  unfolding encode bytesOf
+  written-accepted start j c =
+      exact (encode (jobNumbers f)) (encode (certificateNumbers ms cs)) (countsOf (f .job) ms) .1
+      (record {
+        job-length = (omega arith, j);
+        certificate-length = (omega arith, c);
+        file = f;
+        job-is = written-job f ok;
+        members = ms;
+        members-range = oks;
+        covers = cs;
+        images = images;
+        certificate-reads = decode-encode (certificateNumbers ms cs) small-certificate;
+        start = start;
+        hold = hold;
+        counts-due = refl;
+      })

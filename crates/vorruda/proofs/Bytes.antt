@@ -1,0 +1,78 @@
+-- The bytes of a heap, by their places.
+use mathlib.Core.Bool.{Bool, true, false}
+use mathlib.Core.List.{List, [], _∷_}
+use mathlib.Core.Logic.{⊎-elim}
+use mathlib.Core.Path.{_≡_, refl, subst}
+use Prim.Native.Nat.{ℕ, _+_, _-_, _≤_, _<_}
+use native.Mathlib.Omega.{arith}
+use borrow.Author.Tests.{lt-ltb, le-ltb, eq-eqb, ne-eqb, eqb-true}
+use lib.Dec.{eqb, ltb}
+use lib.ListN.{length, getD}
+use denote.Enum.Declared.{tagOf}
+use types.Run.{OneOf}
+use Rattle.stepper.proofs.Outcome.{the-type}
+use Rattle.lists.specs.Test.{allFrom}
+use Rattle.lists.proofs.Test.{and-left}
+use Rattle.place.specs.Place.{placeOf}
+use Rattle.stepper.specs.Step.{outcomeCode, Steps}
+use Rattle.stepper.specs.declared.Heap64.{Heap64}
+use Rattle.stepper.specs.declared.Outcome.{Outcome}
+use Rattle.stepper.specs.declared.Outcome.the-variants.{Moved, Blocked, Refused}
+use Rattle.stepper.specs.declared.Stepped.{Stepped}
+use Rattle.vorruda.specs.HeapBytes.{readable, heapFrom, byteOf, bytesAfter, StepsBytes}
+
+module _ (t : Heap64) (i : ℕ) where
+  pub count-byte : i < 1 → t .variables ≡ byteOf t i
+  unfolding byteOf
+  count-byte h = simp (lt-ltb i 1 h)
+
+  pub slot-byte : 1 ≤ i → i < 9 → getD (t .vars) (i - 1) (placeOf 0) .code ≡ byteOf t i
+  unfolding byteOf
+  slot-byte l h = simp (le-ltb i 1 l, lt-ltb i 9 h)
+
+  pub mark-byte : 9 ≤ i → i < 73 → (u : Bool) → getD (t .used) (i - 9) false ≡ u → (n : ℕ) → (u ≡ true → n ≡ 1) → (u ≡ false → n ≡ 0) → n ≡ byteOf t i
+  unfolding byteOf
+  mark-byte l h true e n p q = simp (le-ltb i 1 (omega arith), le-ltb i 9 l, lt-ltb i 73 h, e) (p refl)
+  mark-byte l h false e n p q = simp (le-ltb i 1 (omega arith), le-ltb i 9 l, lt-ltb i 73 h, e) (q refl)
+
+  pub link-byte : 73 ≤ i → getD (t .links) (i - 73) (placeOf 0) .code ≡ byteOf t i
+  unfolding byteOf
+  link-byte l = simp (le-ltb i 1 (omega arith), le-ltb i 9 (omega arith), le-ltb i 73 l)
+
+-- ---- the marks, tested so far
+
+abbrev pub markFits : List ℕ → ℕ → Bool
+markFits bytes i = ltb (getD bytes (9 + i) 0) 2
+
+module _ (bytes : List ℕ) where
+  pub other-length : (length bytes ≡ 137 → ⊥) → false ≡ readable bytes
+  unfolding readable
+  other-length n = simp (ne-eqb (length bytes) 137 n)
+
+  pub readable-marks : length bytes ≡ 137 → allFrom 64 0 (markFits bytes) ≡ readable bytes
+  unfolding readable
+  readable-marks e = simp (eq-eqb (length bytes) 137 e)
+
+  pub readable-length : readable bytes ≡ true → length bytes ≡ 137
+  unfolding readable
+  readable-length e = eqb-true (length bytes) 137 (and-left (eqb (length bytes) 137) (allFrom 64 0 (markFits bytes)) e)
+
+-- ---- the call's promise, by its outcome
+
+module _ (bytes : List ℕ) (kind a b : ℕ) where
+  pub unread : readable bytes ≡ false → StepsBytes bytes kind a b 13 bytes
+  unread e = record { unreadable = λ z. (refl, refl); stepped = λ z. let q : _≡_ {A = ℕ} 0 1 = cc in absurd (omega arith) }
+
+  module _ (e : readable bytes ≡ true) (t : Heap64) (t-is : t ≡ heapFrom bytes) (s : Stepped) (steps : Steps t kind a b s) where
+    pub done : (code : ℕ) (after : List ℕ) → code ≡ outcomeCode (s .outcome) → after ≡ bytesAfter (s .outcome) (s .heap) bytes → StepsBytes bytes kind a b code after
+    done code after c f =
+        record {
+          unreadable = λ z. let q : _≡_ {A = ℕ} 0 1 = cc in absurd (omega arith);
+          stepped = λ z. (s, subst (λ u. Steps u kind a b s) t-is steps, c, f);
+        }
+
+-- an outcome other than the first, moved, leaves the bytes
+pub left : (o : Outcome) → OneOf (1 ∷ 2 ∷ []) (tagOf the-type o) → (t : Heap64) (bytes : List ℕ) → bytes ≡ bytesAfter o t bytes
+left Moved k t bytes = ⊎-elim (λ w. absurd (omega arith)) (λ w. absurd (omega arith)) k
+left Blocked k t bytes = refl
+left (Refused r) k t bytes = refl

@@ -1,0 +1,118 @@
+/* A host of the proved library: writes and reads numbers, then keeps a short list on the heap.
+ *
+ *   gcc -std=c11 -Wall -Wextra -Werror -Iinclude examples/host.c target/staticlib/libvorruda.a
+ */
+#include <stdio.h>
+#include <string.h>
+
+#include "vorruda.h"
+
+static int surprises = 0;
+
+/* Prints one line, and notes where a result isn't the one a host may count on. */
+static void expect(const char *what, uint64_t got, uint64_t wanted)
+{
+    printf("  %-40s %llu", what, (unsigned long long)got);
+    if (got != wanted) {
+        printf("  UNEXPECTED, wanted %llu", (unsigned long long)wanted);
+        surprises++;
+    }
+    printf("\n");
+}
+
+static void numbers_as_bytes(void)
+{
+    const uint64_t list[] = {127, 128, 300, 65535};
+    const size_t count = sizeof list / sizeof list[0];
+    uint8_t bytes[16];
+    uint64_t out[2] = {0, 0};
+    uint32_t answer;
+
+    answer = vorruda_write_numbers(list, count, bytes, sizeof bytes, out, 2);
+    expect("write 127 128 300 65535", answer, 0);
+    expect("bytes filled", out[0], 8);
+
+    const size_t filled = (size_t)out[0];
+    size_t at = 0, read = 0;
+    while (at < filled && read < count && vorruda_read_number(bytes, filled, at, out, 2) == 0) {
+        expect("read back", out[0], list[read++]);
+        at = (size_t)out[1];
+    }
+    expect("numbers read", read, count);
+
+    answer = vorruda_read_number(bytes, filled, filled, out, 2);
+    expect("read past the end: refused", answer, VORRUDA_UNREADABLE);
+    expect("at place", out[0], filled);
+
+    answer = vorruda_write_numbers(list, count, bytes, 7, out, 2);
+    expect("write to 7 bytes: refused", answer, VORRUDA_NO_ROOM);
+    expect("bytes needed", out[0], 8);
+
+    answer = vorruda_write_numbers(NULL, 0, NULL, 0, out, 2);
+    expect("write an empty list to no room", answer, 0);
+    answer = vorruda_write_numbers(list, 0, bytes, 0, out, 2);
+    expect("write an empty list, no bytes allowed", answer, 0);
+}
+
+/* Operands of the steps below. */
+enum { NOTHING = 0, HEAD = 1, BLOCK = 2 };
+
+static uint8_t heap[VORRUDA_HEAP_BYTES] = {2, VORRUDA_DANGLING, VORRUDA_DANGLING};
+
+static void step(const char *what, uint32_t kind, uint32_t a, uint32_t b, uint32_t wanted)
+{
+    expect(what, vorruda_step(heap, sizeof heap, kind, a, b), wanted);
+}
+
+/* Follows the links from the head and counts the cells. */
+static size_t list_length(void)
+{
+    size_t cells = 0;
+    uint8_t place = heap[VORRUDA_HEAP_VARIABLES + HEAD - 1];
+    while (place >= VORRUDA_CELL(0) && cells < VORRUDA_HEAP_CELLS) {
+        cells++;
+        place = heap[VORRUDA_HEAP_LINKS + place - VORRUDA_CELL(0)];
+    }
+    return cells;
+}
+
+static void list_of_blocks(void)
+{
+    step("head = block, both dangling: blocked", VORRUDA_EQUAL, HEAD, BLOCK, VORRUDA_BLOCKED);
+    step("head := null", VORRUDA_ASSIGN, HEAD, NOTHING, 0);
+    for (int i = 0; i < 3; i++) {
+        step("new(block)", VORRUDA_NEW, BLOCK, NOTHING, 0);
+        step("block.next := head", VORRUDA_LINK, BLOCK, HEAD, 0);
+        step("head := block", VORRUDA_ASSIGN, HEAD, BLOCK, 0);
+    }
+    expect("cells from the head", list_length(), 3);
+
+    step("head := head.next", VORRUDA_FOLLOW, HEAD, HEAD, 0);
+    step("delete(block), the old front", VORRUDA_DELETE, BLOCK, NOTHING, 0);
+    expect("cells from the head", list_length(), 2);
+    step("delete(block) again: blocked", VORRUDA_DELETE, BLOCK, NOTHING, VORRUDA_BLOCKED);
+}
+
+static void refused_steps(void)
+{
+    uint8_t before[VORRUDA_HEAP_BYTES];
+
+    step("kind 8: refused", 8, HEAD, BLOCK, VORRUDA_BAD_STEP);
+    step("null := head: refused", VORRUDA_ASSIGN, NOTHING, HEAD, VORRUDA_BAD_STEP);
+    heap[VORRUDA_HEAP_VARIABLES + HEAD - 1] = VORRUDA_CELL(40);
+    memcpy(before, heap, sizeof heap);
+    step("head at an unused cell: refused", VORRUDA_NEW, BLOCK, NOTHING, VORRUDA_BAD_HEAP);
+    expect("the heap's bytes are as they were", memcmp(before, heap, sizeof heap) == 0, 1);
+}
+
+int main(void)
+{
+    puts("Numbers as bytes");
+    numbers_as_bytes();
+    puts("A list of pattern blocks");
+    list_of_blocks();
+    puts("Steps that are refused");
+    refused_steps();
+    puts(surprises == 0 ? "As expected." : "NOT as expected.");
+    return surprises == 0 ? 0 : 1;
+}

@@ -1,0 +1,188 @@
+//! The verdict on a job and a certificate, fast.
+
+use super::embedding::{passed, variables_agree, ENDS, NO_IMAGES};
+use super::predecessor::each_predecessor;
+use super::reader::{Reader, Stopped};
+use super::shape::{Located, Shape, CELL};
+use crate::reference::certificate::MOST_MEMBERS;
+use crate::reference::checker::MOST_BYTES;
+use crate::reference::job::{
+    MOST_FORBIDDEN, MOST_STATES, MOST_TRANSITIONS, MOST_VARIABLES, VERSION,
+};
+use crate::reference::operation::Operation;
+use crate::verdict::{Counts, Refusal, Verdict};
+
+/// The verdict on two buffers.
+pub fn check(job: &[u8], certificate: &[u8]) -> Verdict {
+    accept(job, certificate).into()
+}
+
+fn accept(job: &[u8], certificate: &[u8]) -> Result<Counts, Refusal> {
+    check_length(job, 1)?;
+    check_length(certificate, 2)?;
+    let mut reader = Reader::new(job, 3, 4);
+    let job = Job::read(&mut reader).map_err(|Stopped| reader.refusal)?;
+    let mut covers = Covers::new(certificate);
+    covers
+        .check_all(&job)
+        .map_err(|Stopped| covers.reader.refusal)?;
+    Ok(Counts {
+        bads: job.forbidden.len() as u64,
+        members: covers.members.len() as u64,
+        covers: covers.count,
+    })
+}
+
+fn check_length(bytes: &[u8], number: u32) -> Result<(), Refusal> {
+    match bytes.len() {
+        1..=MOST_BYTES => Ok(()),
+        _ => Err(Refusal { number, place: 0 }),
+    }
+}
+
+struct Transition {
+    from: u8,
+    operation: Operation,
+    /// The number of the next transition into the same state.
+    next: Option<u16>,
+}
+
+struct Job {
+    variables: u16,
+    states: u16,
+    start: u8,
+    transitions: Vec<Transition>,
+    /// The number of the first transition into each state.
+    first: [Option<u16>; MOST_STATES as usize],
+    forbidden: Vec<Located>,
+}
+
+impl Job {
+    fn read(reader: &mut Reader) -> Result<Job, Stopped> {
+        reader.number(VERSION as u16, VERSION as u16)?;
+        let variables = reader.number(1, MOST_VARIABLES as u16)?;
+        let states = reader.number(1, MOST_STATES as u16)?;
+        let start = reader.number(0, states - 1)? as u8;
+        let count = reader.number(0, MOST_TRANSITIONS as u16)?;
+        let mut targets = Vec::with_capacity(count.into());
+        let mut transitions = Vec::with_capacity(count.into());
+        for _ in 0..count {
+            transitions.push(Transition {
+                from: reader.number(0, states - 1)? as u8,
+                operation: reader.operation(variables)?,
+                next: None,
+            });
+            targets.push(reader.number(0, states - 1)?);
+        }
+        let mut first = [None; MOST_STATES as usize];
+        for number in (0..count).rev() {
+            let into = &mut first[usize::from(targets[usize::from(number)])];
+            transitions[usize::from(number)].next = into.replace(number);
+        }
+        let count = reader.number(1, MOST_FORBIDDEN as u16)?;
+        let mut forbidden = Vec::with_capacity(count.into());
+        for _ in 0..count {
+            forbidden.push(reader.located(variables, states)?);
+        }
+        reader.end(5)?;
+        Ok(Job {
+            variables,
+            states,
+            start,
+            transitions,
+            first,
+            forbidden,
+        })
+    }
+
+    /// The transitions that lead to a state, in the job's order.
+    fn leading_to(&self, state: u8) -> impl Iterator<Item = &Transition> {
+        let mut next = self.first[usize::from(state)];
+        std::iter::from_fn(move || {
+            let transition = &self.transitions[usize::from(next?)];
+            next = transition.next;
+            Some(transition)
+        })
+    }
+}
+
+/// The members, and how far the covers have been read.
+struct Covers<'a> {
+    reader: Reader<'a>,
+    members: Vec<Located>,
+    variables: usize,
+    count: u64,
+}
+
+impl<'a> Covers<'a> {
+    fn new(certificate: &'a [u8]) -> Covers<'a> {
+        Covers {
+            reader: Reader::new(certificate, 6, 7),
+            members: Vec::new(),
+            variables: 0,
+            count: 0,
+        }
+    }
+
+    fn check_all(&mut self, job: &Job) -> Result<(), Stopped> {
+        self.read_members(job)?;
+        for bad in &job.forbidden {
+            self.check(bad.state, &bad.shape)?;
+        }
+        for member in 0..self.members.len() {
+            let Located { state, shape } = self.members[member];
+            for transition in job.leading_to(state) {
+                each_predecessor(&shape, transition.operation, &mut |before| {
+                    self.check(transition.from, before)
+                })?;
+            }
+        }
+        self.reader.end(10)
+    }
+
+    /// Reads the members, and refuses one that the empty heap satisfies at the start.
+    fn read_members(&mut self, job: &Job) -> Result<(), Stopped> {
+        self.variables = job.variables.into();
+        self.reader.number(VERSION as u16, VERSION as u16)?;
+        let count = self.reader.number(1, MOST_MEMBERS as u16)?;
+        self.members.reserve_exact(count.into());
+        let mut satisfied = None;
+        for _ in 0..count {
+            let place = self.reader.place;
+            let member = self.reader.located(job.variables, job.states)?;
+            if member.state == job.start && member.shape.empty_heap_satisfies() {
+                satisfied = satisfied.or(Some(place));
+            }
+            self.members.push(member);
+        }
+        match satisfied {
+            Some(place) => self.reader.refuse(8, place),
+            None => Ok(()),
+        }
+    }
+
+    /// Reads the next cover and tests that it holds for a shape at a state.
+    fn check(&mut self, state: u8, covered: &Shape) -> Result<(), Stopped> {
+        let place = self.reader.place;
+        let number = self.reader.number(0, self.members.len() as u16 - 1)?;
+        let member = &self.members[usize::from(number)];
+        let mut images = NO_IMAGES;
+        let mut marks = ENDS;
+        let mut twice = 0;
+        for image in &mut images[usize::from(CELL)..][..usize::from(member.shape.cells)] {
+            *image = CELL + self.reader.cell(covered.cells)?;
+            twice |= marks & 1 << *image;
+            marks |= 1 << *image;
+        }
+        self.count += 1;
+        let holds = twice == 0
+            && member.state == state
+            && variables_agree(&member.shape, covered, &images, self.variables)
+            && passed(&member.shape, covered, &images, marks).is_some();
+        if holds {
+            Ok(())
+        } else {
+            self.reader.refuse(9, place)
+        }
+    }
+}

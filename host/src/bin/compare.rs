@@ -1,0 +1,59 @@
+//! Compares the proved library with the implementation written apart, prints how many cases of each
+//! sort were compared, and fails where one differs or a sort has none.
+//!
+//! `compare [PAIRS [SEED]]`: how many random pairs of a job and a certificate, and from which seed.
+
+use std::env;
+use std::process::ExitCode;
+
+use vorruda_host::baseline;
+use vorruda_host::compare::{lists, numbers, steps, verdicts, Tally};
+use vorruda_host::verdict::Check;
+
+/// The checkers that are compared with the reference.
+const CHECKERS: [(&str, Check); 1] = [("baseline's verdicts", baseline::checker::check)];
+
+const PAIRS: u64 = 100_000;
+const SEED: u64 = 0x0009_5eed;
+
+fn main() -> ExitCode {
+    match tallies() {
+        Ok(tallies) => report(&tallies),
+        Err(what) => {
+            eprintln!("{what}");
+            ExitCode::from(2)
+        }
+    }
+}
+
+fn tallies() -> Result<Vec<Tally>, String> {
+    let pairs = argument(1, PAIRS)? as usize;
+    let seed = argument(2, SEED)?;
+    let calls = vec![
+        numbers::compare(),
+        lists::compare_writing(),
+        lists::compare_round_trips(),
+        steps::compare(),
+    ];
+    let verdicts = verdicts::compare(&CHECKERS, verdicts::pairs(seed, pairs)?);
+    Ok(calls.into_iter().chain(verdicts).collect())
+}
+
+fn argument(index: usize, usual: u64) -> Result<u64, String> {
+    match env::args().nth(index) {
+        None => Ok(usual),
+        Some(text) => match text.parse() {
+            Ok(number) if number > 0 => Ok(number),
+            _ => Err(format!("usage: compare [PAIRS [SEED]], and not '{text}'")),
+        },
+    }
+}
+
+fn report(tallies: &[Tally]) -> ExitCode {
+    let right = tallies.iter().filter(|tally| tally.report()).count();
+    if right < tallies.len() {
+        return ExitCode::FAILURE;
+    }
+    println!("all agree with the reference");
+    ExitCode::SUCCESS
+}

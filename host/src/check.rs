@@ -1,0 +1,3 @@
+//! The checker that the tools for a person use.
+
+pub use crate::reference::checker::check;

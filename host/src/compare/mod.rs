@@ -1,0 +1,71 @@
+//! The proved library against the reference, on many inputs.
+
+pub mod lists;
+pub mod numbers;
+pub mod steps;
+pub mod verdicts;
+
+use std::collections::BTreeMap;
+use std::fmt::Debug;
+
+/// What an array holds before a call, so that a touched entry shows.
+pub const UNTOUCHED: u64 = 0xa5a5_a5a5_a5a5_a5a5;
+
+/// How many differences are shown before the rest is left out.
+const SHOWN: usize = 10;
+
+/// Counts the cases of one comparison by their outcome, and holds the differences.
+pub struct Tally {
+    title: &'static str,
+    outcomes: BTreeMap<String, u64>,
+    differences: u64,
+}
+
+impl Tally {
+    /// A tally of nothing yet; each of the expected outcomes has to come up, and no other may.
+    pub fn new(title: &'static str, expected: &[&str]) -> Tally {
+        let outcomes = expected.iter().map(|&name| (name.to_string(), 0));
+        Tally {
+            title,
+            outcomes: outcomes.collect(),
+            differences: 0,
+        }
+    }
+
+    /// Takes in one case: its outcome by the reference, both answers, and the input in words.
+    pub fn add<T: PartialEq + Debug>(
+        &mut self,
+        outcome: &str,
+        reference: &T,
+        library: &T,
+        input: impl FnOnce() -> String,
+    ) {
+        let count = self.outcomes.get_mut(outcome);
+        *count.unwrap_or_else(|| panic!("{}: not expected: {outcome}", self.title)) += 1;
+        if reference != library {
+            self.differences += 1;
+            if self.differences <= SHOWN as u64 {
+                println!("DIFFERENT: {}: {}", self.title, input());
+                println!("  reference: {reference:?}");
+                println!("  library:   {library:?}");
+            }
+        }
+    }
+
+    /// Prints the spread; false where something differs or an outcome never came up.
+    pub fn report(&self) -> bool {
+        let cases: u64 = self.outcomes.values().sum();
+        println!("{}: {cases} cases", self.title);
+        for (outcome, count) in &self.outcomes {
+            println!("  {count:>9}  {outcome}");
+        }
+        let missing = self.outcomes.values().filter(|&&count| count == 0).count();
+        if missing > 0 {
+            println!("  NOT TRIED: {missing} outcomes have no case");
+        }
+        if self.differences > 0 {
+            println!("  DIFFERENT: {} cases", self.differences);
+        }
+        missing == 0 && self.differences == 0
+    }
+}

@@ -1,0 +1,136 @@
+//! Shapes and chains as text for a person.
+
+use std::fmt::Write;
+
+use crate::reference::heap::Place;
+use crate::reference::shape::Shape;
+use crate::routine::Routine;
+use crate::search::chain::Chain;
+
+/// Draws a shape, a line for each run of cells: `[1 x] -> [2] -> #`. Cells are numbered from 1,
+/// with the variables that stand at them; an arrow is a link or a path of several.
+pub fn shape(shape: &Shape, variables: &[String]) -> Vec<String> {
+    let drawing = Drawing { shape, variables };
+    let mut drawn = Vec::new();
+    let mut lines = Vec::new();
+    for cell in drawing.starts() {
+        if !drawn.contains(&cell) {
+            lines.push(drawing.run(cell, &mut drawn));
+        }
+    }
+    lines.extend(drawing.without_cell());
+    if lines.is_empty() {
+        lines.push("anything".to_string());
+    }
+    lines
+}
+
+struct Drawing<'a> {
+    shape: &'a Shape,
+    variables: &'a [String],
+}
+
+impl Drawing<'_> {
+    /// Where lines may begin: first the cells that no link stands at.
+    fn starts(&self) -> Vec<usize> {
+        let linked = |&cell: &usize| self.shape.links.contains(&Some(Place::Cell(cell)));
+        let (inner, outer): (Vec<usize>, Vec<usize>) = (0..self.shape.cells()).partition(linked);
+        [outer, inner].concat()
+    }
+
+    /// The line from a cell on, until it ends or comes to a cell that is drawn.
+    fn run(&self, start: usize, drawn: &mut Vec<usize>) -> String {
+        let before = drawn.len();
+        let mut line = String::new();
+        let mut cell = start;
+        loop {
+            drawn.push(cell);
+            line += &self.cell(cell);
+            match self.shape.links[cell] {
+                None => return line,
+                Some(Place::Null) => return line + " -> #",
+                Some(Place::Dangling) => return line + " -> *",
+                Some(Place::Cell(next)) => {
+                    line += " -> ";
+                    if drawn[before..].contains(&next) {
+                        return line + "back to " + &self.cell(next);
+                    }
+                    if drawn.contains(&next) {
+                        return line + &self.cell(next);
+                    }
+                    cell = next;
+                }
+            }
+        }
+    }
+
+    /// A cell with its number and the variables at it.
+    fn cell(&self, cell: usize) -> String {
+        let names = self.at(Place::Cell(cell));
+        let words = std::iter::once((cell + 1).to_string()).chain(names);
+        format!("[{}]", words.collect::<Vec<_>>().join(" "))
+    }
+
+    fn at(&self, place: Place) -> Vec<String> {
+        let named = self.variables.iter().zip(&self.shape.variables);
+        named
+            .filter(|(_, &stands)| stands == Some(place))
+            .map(|(name, _)| name.clone())
+            .collect()
+    }
+
+    /// The variables at # and *.
+    fn without_cell(&self) -> Option<String> {
+        let null = self.at(Place::Null).into_iter().map(|x| x + " at #");
+        let dangling = self.at(Place::Dangling).into_iter().map(|x| x + " at *");
+        let all: Vec<String> = null.chain(dangling).collect();
+        (!all.is_empty()).then(|| all.join(", "))
+    }
+}
+
+/// Draws a chain from the forbidden shape back to the start.
+pub fn chain(chain: &Chain, routine: &Routine) -> String {
+    let mut text = String::new();
+    for link in &chain.links {
+        let state = &routine.states[usize::from(link.located.state)];
+        let reference = link.located.shape.to_reference(routine.variables.len());
+        for (index, line) in shape(&reference, &routine.variables).iter().enumerate() {
+            let at = if index == 0 { state } else { "" };
+            writeln!(text, "  {at:<12} {line}").expect("a string takes all");
+        }
+        if let Some(number) = link.transition {
+            let operation = routine.operation(routine.job.transitions[number].operation);
+            writeln!(text, "  {:<12}   after {operation}", "").expect("a string takes all");
+        }
+    }
+    text
+}
+
+#[cfg(test)]
+mod tests {
+    use super::*;
+
+    fn drawn(variables: &[u64], links: &[u64]) -> Vec<String> {
+        let names = ["x", "y", "z"].map(str::to_string);
+        shape(&Shape::of_codes(variables, links), &names)
+    }
+
+    #[test]
+    fn lists_rings_and_meetings() {
+        assert_eq!(
+            drawn(&[3, 4, 1], &[4, 1]),
+            ["[1 x] -> [2 y] -> #", "z at #"]
+        );
+        assert_eq!(
+            drawn(&[3, 3, 2], &[4, 4]),
+            ["[1 x y] -> [2] -> back to [2]", "z at *"]
+        );
+        assert_eq!(
+            drawn(&[3, 4, 0], &[5, 5, 0, 0]),
+            ["[1 x] -> [3]", "[2 y] -> [3]", "[4]"]
+        );
+        assert_eq!(drawn(&[0, 0, 4], &[4, 3]), ["[1] -> [2 z] -> back to [1]"]);
+        assert_eq!(drawn(&[0, 0, 0], &[2]), ["[1] -> *"]);
+        assert_eq!(drawn(&[0, 0, 0], &[]), ["anything"]);
+    }
+}

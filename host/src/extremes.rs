@@ -1,0 +1,148 @@
+//! Pairs within the limits of the format that cost a checker most.
+
+use crate::baseline::shape::{Located, Shape};
+use crate::pairs::Pair;
+use crate::reference::certificate::MOST_MEMBERS;
+use crate::reference::job::{self, Job, Transition, MOST_TRANSITIONS};
+use crate::reference::operation::{Operation, ASSIGN, DIFFERENT, EQUAL, FOLLOW, LINK};
+use crate::reference::shape as reference;
+use crate::search::covers::certificate_of;
+
+/// The state that all members are at; no transition touches the start.
+const BUSY: u64 = 0;
+const START: u64 = 1;
+
+/// The costly pairs with their names. All are accepted.
+pub fn extremes() -> Vec<(&'static str, Pair)> {
+    vec![
+        ("all dropped", all_dropped()),
+        ("a nowhere, b at a linked cell", linked_b()),
+        ("both nowhere", both_nowhere()),
+        ("one-byte covers", one_byte_covers()),
+        ("long paths", long_paths()),
+        ("twelve links", twelve_links()),
+    ]
+}
+
+fn op(kind: u64, a: usize, b: usize) -> Operation {
+    Operation { kind, a, b }
+}
+
+/// The pair of a job that goes round at one state, with operations in turn, and these members, the
+/// first of which is forbidden.
+fn pair(operations: &[Operation], transitions: usize, members: &[Shape]) -> Pair {
+    let variables = 8;
+    let round = operations.iter().cycle().take(transitions);
+    let job = Job {
+        variables: variables as u64,
+        states: 2,
+        start: START,
+        transitions: round
+            .map(|&operation| Transition {
+                from: BUSY,
+                operation,
+                to: BUSY,
+            })
+            .collect(),
+        forbidden: vec![job::Located {
+            state: BUSY,
+            shape: members[0].to_reference(variables),
+        }],
+    };
+    let located = members.iter().map(|&shape| Located {
+        state: BUSY as u8,
+        shape,
+    });
+    Pair {
+        job: job.bytes(),
+        certificate: certificate_of(&job, &located.collect::<Vec<_>>()).bytes(),
+    }
+}
+
+fn shape(variables: &[u64], links: &[u64]) -> Shape {
+    Shape::of_reference(&reference::Shape::of_codes(variables, links))
+}
+
+/// Twelve cells in a chain to #, with some variables placed.
+fn chain(variables: &[u64]) -> Shape {
+    shape(variables, &[4, 5, 6, 7, 8, 9, 10, 11, 12, 13, 14, 1])
+}
+
+/// Variables 1 and 2 nowhere, 3 at #, 4 at *: every placing is made in vain.
+fn all_dropped() -> Pair {
+    let operations = [
+        op(DIFFERENT, 1, 1),
+        op(EQUAL, 1, 4),
+        op(DIFFERENT, 1, 4),
+        op(ASSIGN, 1, 4),
+        op(FOLLOW, 1, 3),
+        op(FOLLOW, 1, 4),
+        op(LINK, 1, 4),
+        op(LINK, 3, 1),
+    ];
+    let members = vec![chain(&[0, 0, 1, 2]); MOST_MEMBERS as usize];
+    pair(&operations, MOST_TRANSITIONS as usize, &members)
+}
+
+/// Two predecessors each: a where the link stands, or within it.
+fn linked_b() -> Pair {
+    let covering = shape(&[0, 0, 1], &[]);
+    let members = [vec![covering], vec![chain(&[0, 3, 1]); 116]].concat();
+    pair(&[op(FOLLOW, 1, 2)], MOST_TRANSITIONS as usize, &members)
+}
+
+/// The most predecessors that one transition has.
+fn both_nowhere() -> Pair {
+    let covering = shape(&[0, 0, 1], &[]);
+    let members = [vec![covering], vec![chain(&[0, 0, 1]); 80]].concat();
+    pair(&[op(DIFFERENT, 1, 2)], 1, &members)
+}
+
+/// The most covers that a certificate has room for.
+fn one_byte_covers() -> Pair {
+    let members = [Shape::EMPTY; 246];
+    pair(&[op(EQUAL, 0, 0)], MOST_TRANSITIONS as usize, &members)
+}
+
+/// One link to follow along twelve cells.
+fn long_paths() -> Pair {
+    let covering = shape(&[3], &[1]);
+    let members = [vec![covering], vec![chain(&[3]); 120]].concat();
+    pair(&[op(EQUAL, 0, 0)], MOST_TRANSITIONS as usize, &members)
+}
+
+/// Twelve images and twelve links for each cover.
+fn twelve_links() -> Pair {
+    let members = [chain(&[3]); 19];
+    pair(&[op(EQUAL, 0, 0)], MOST_TRANSITIONS as usize, &members)
+}
+
+#[cfg(test)]
+mod tests {
+    use super::*;
+    use crate::baseline::checker::check;
+    use crate::reference::checker::MOST_BYTES;
+    use crate::verdict::{Counts, Verdict};
+
+    #[test]
+    fn all_are_accepted_and_large() {
+        let expected = [
+            (512, 1),
+            (117, 1 + (3 + 116 * 2) * 256),
+            (81, 1 + 3 + 80 * 675),
+            (246, 1 + 246 * 256),
+            (121, 1 + 121 * 256),
+            (19, 1 + 19 * 256),
+        ];
+        for ((name, pair), (members, covers)) in extremes().into_iter().zip(expected) {
+            assert!(pair.certificate.len() <= MOST_BYTES, "{name}");
+            let verdict = check(&pair.job, &pair.certificate);
+            let counts = Counts {
+                bads: 1,
+                members,
+                covers,
+            };
+            assert_eq!(verdict, Verdict::Accepted(counts), "{name}");
+        }
+    }
+}

@@ -1,0 +1,16 @@
+//! Tools around the proved checker. Nothing here has to be trusted: the proofs are about the
+//! library that [`library`] links, and [`reference`] is written apart from it, to compare.
+
+pub mod baseline;
+pub mod check;
+pub mod compare;
+pub mod corpus;
+pub mod draw;
+pub mod extremes;
+pub mod library;
+pub mod pairs;
+pub mod random;
+pub mod reference;
+pub mod routine;
+pub mod search;
+pub mod verdict;

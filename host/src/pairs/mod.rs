@@ -1,0 +1,62 @@
+//! Pairs of a job and a certificate to try checkers on: accepted ones, and the same with damage.
+
+mod accepted;
+mod damage;
+
+use crate::random::Random;
+use accepted::accepted;
+use damage::damaged;
+
+/// The bytes of a job and of a certificate.
+#[derive(Clone, Debug)]
+pub struct Pair {
+    pub job: Vec<u8>,
+    pub certificate: Vec<u8>,
+}
+
+/// How many damaged pairs are made of each accepted one.
+const DAMAGED: usize = 24;
+
+/// An endless, deterministic supply of pairs.
+pub struct Pairs {
+    random: Random,
+    accepted: Pair,
+    left: usize,
+}
+
+impl Pairs {
+    pub fn new(seed: u64) -> Pairs {
+        let mut random = Random::new(seed);
+        Pairs {
+            accepted: accepted(&mut random),
+            random,
+            left: DAMAGED,
+        }
+    }
+}
+
+impl Iterator for Pairs {
+    type Item = Pair;
+
+    fn next(&mut self) -> Option<Pair> {
+        if self.left > 0 {
+            self.left -= 1;
+            return Some(damaged(&mut self.random, &self.accepted));
+        }
+        self.left = DAMAGED;
+        let next = accepted(&mut self.random);
+        Some(std::mem::replace(&mut self.accepted, next))
+    }
+}
+
+/// Endless accepted pairs.
+pub fn accepted_pairs(seed: u64) -> impl Iterator<Item = Pair> {
+    let mut random = Random::new(seed);
+    std::iter::repeat_with(move || accepted(&mut random))
+}
+
+/// Endless damaged copies of a pair.
+pub fn damaged_copies(pair: &Pair, seed: u64) -> impl Iterator<Item = Pair> + '_ {
+    let mut random = Random::new(seed);
+    std::iter::repeat_with(move || damaged(&mut random, pair))
+}

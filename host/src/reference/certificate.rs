@@ -1,0 +1,81 @@
+//! Certificates: members, and covers in the order of what they cover.
+
+use super::job::{Job, Located, VERSION};
+use super::number;
+use super::predecessor::predecessors;
+use super::reader::Reader;
+use super::shape::Shape;
+use crate::verdict::Refusal;
+
+pub const MOST_MEMBERS: u64 = 512;
+
+/// A member that embeds in a covered shape, by one image for each of its cells.
+#[derive(Clone, Debug, PartialEq, Eq)]
+pub struct Cover {
+    pub member: usize,
+    pub images: Vec<usize>,
+}
+
+#[derive(Clone, Debug, PartialEq, Eq)]
+pub struct Certificate {
+    pub members: Vec<Located>,
+    pub covers: Vec<Cover>,
+}
+
+impl Certificate {
+    /// The bytes of the certificate.
+    pub fn bytes(&self) -> Vec<u8> {
+        let mut numbers = vec![VERSION, self.members.len() as u64];
+        numbers.extend(self.members.iter().flat_map(Located::numbers));
+        for cover in &self.covers {
+            numbers.push(cover.member as u64);
+            numbers.extend(cover.images.iter().map(|&image| image as u64));
+        }
+        numbers.into_iter().flat_map(number::bytes_of).collect()
+    }
+}
+
+/// A member and the place of its first byte.
+pub struct MemberRead {
+    pub located: Located,
+    pub place: usize,
+}
+
+/// Reads the version and the members.
+pub fn read_members(reader: &mut Reader, job: &Job) -> Result<Vec<MemberRead>, Refusal> {
+    reader.number(VERSION..=VERSION)?;
+    let count = reader.number(1..=MOST_MEMBERS)?;
+    let mut member = || {
+        Ok(MemberRead {
+            place: reader.place,
+            located: Located::read(reader, job.variables, job.states)?,
+        })
+    };
+    (0..count).map(|_| member()).collect()
+}
+
+/// Reads one cover of a shape.
+pub fn read_cover(
+    reader: &mut Reader,
+    members: &[MemberRead],
+    covered: &Shape,
+) -> Result<Cover, Refusal> {
+    let member = reader.number(0..members.len() as u64)? as usize;
+    let images = (0..members[member].located.shape.cells())
+        .map(|_| Ok(reader.number(0..covered.cells() as u64)? as usize))
+        .collect::<Result<_, _>>()?;
+    Ok(Cover { member, images })
+}
+
+/// What has to be covered for a member: for each transition into its state, in the job's order,
+/// each predecessor, at the transition's from state.
+pub fn covered_for<'a>(job: &'a Job, member: &'a Located) -> impl Iterator<Item = Located> + 'a {
+    let into_its_state = job.transitions.iter().filter(|t| t.to == member.state);
+    into_its_state.flat_map(|transition| {
+        let shapes = predecessors(&member.shape, transition.operation);
+        shapes.into_iter().map(|shape| Located {
+            state: transition.from,
+            shape,
+        })
+    })
+}

@@ -1,0 +1,13 @@
+//! The rules as plainly as they can be written down, apart from the proved code. Speed is no aim.
+
+pub mod certificate;
+pub mod checker;
+pub mod embedding;
+pub mod heap;
+pub mod job;
+pub mod number;
+pub mod operation;
+pub mod predecessor;
+pub mod reader;
+pub mod shape;
+pub mod stepper;

@@ -1,0 +1,272 @@
+//! The predecessors of a shape under an operation, in their order.
+
+use super::heap::Place;
+use super::operation::{Operation, ASSIGN, DELETE, DIFFERENT, EQUAL, FOLLOW, LINK, NEW};
+use super::shape::Shape;
+
+/// All predecessors: every placing is made, and the ones that don't fit are dropped.
+pub fn predecessors(shape: &Shape, operation: Operation) -> Vec<Shape> {
+    let Operation { kind, a, b } = operation;
+    match kind {
+        EQUAL => from_placings(shape, a, b, |placed| {
+            (placed.place(a) == placed.place(b)).then_some(placed)
+        }),
+        DIFFERENT => from_placings(shape, a, b, |placed| {
+            (placed.place(a) != placed.place(b)).then_some(placed)
+        }),
+        ASSIGN => from_placings(shape, a, b, |placed| before_assign(placed, a, b)),
+        FOLLOW if a == b => {
+            let helper = shape.variables.len() + 1;
+            from_placings(&with_helper(shape), a, helper, |placed| {
+                before_follow(placed, a, helper).map(|shape| helper_becomes(shape, a))
+            })
+        }
+        FOLLOW => from_placings(shape, a, b, |placed| before_follow(placed, a, b)),
+        LINK => from_placings(shape, a, b, |placed| before_link(placed, a, b)),
+        NEW => placings(shape, a)
+            .into_iter()
+            .filter_map(|placed| before_new(placed, a))
+            .collect(),
+        DELETE => before_delete(shape, a).into_iter().collect(),
+        _ => unreachable!("an operation has a kind of the table"),
+    }
+}
+
+/// Places a, then b, starting from each result in turn; what `before` gives nothing for is dropped.
+fn from_placings(
+    shape: &Shape,
+    a: usize,
+    b: usize,
+    before: impl Fn(Shape) -> Option<Shape>,
+) -> Vec<Shape> {
+    let after_a = placings(shape, a);
+    let placed = after_a.iter().flat_map(|shape| placings(shape, b));
+    placed.filter_map(before).collect()
+}
+
+/// The shapes in which an operand has a place other than *.
+pub fn placings(shape: &Shape, operand: usize) -> Vec<Shape> {
+    match shape.place(operand) {
+        Some(Place::Dangling) => vec![],
+        Some(_) => vec![shape.clone()],
+        None => {
+            let fresh = Place::Cell(shape.cells());
+            let grown = with_cell(shape, None);
+            let mut results: Vec<Shape> = (0..shape.cells())
+                .map(|cell| with_variable(shape, operand, Place::Cell(cell)))
+                .collect();
+            results.push(with_variable(shape, operand, Place::Null));
+            results.push(with_variable(&grown, operand, fresh));
+            for source in 0..shape.cells() {
+                if shape.links[source].is_some() {
+                    let mut between = with_cell(shape, shape.links[source]);
+                    between.links[source] = Some(fresh);
+                    results.push(with_variable(&between, operand, fresh));
+                }
+            }
+            results
+        }
+    }
+}
+
+fn with_variable(shape: &Shape, variable: usize, place: Place) -> Shape {
+    let mut shape = shape.clone();
+    shape.variables[variable - 1] = Some(place);
+    shape
+}
+
+/// The shape with a fresh cell, which takes the next number.
+fn with_cell(shape: &Shape, link: Option<Place>) -> Shape {
+    let mut shape = shape.clone();
+    shape.links.push(link);
+    shape
+}
+
+fn before_assign(mut shape: Shape, a: usize, b: usize) -> Option<Shape> {
+    if shape.place(a) != shape.place(b) {
+        return None;
+    }
+    if a != b {
+        shape.variables[a - 1] = None;
+    }
+    Some(shape)
+}
+
+/// The operand's cell, if its link is nowhere or at `place`.
+fn cell_that_may_link(shape: &Shape, operand: usize, place: Option<Place>) -> Option<usize> {
+    match shape.place(operand) {
+        Some(Place::Cell(cell)) if shape.links[cell].is_none() || shape.links[cell] == place => {
+            Some(cell)
+        }
+        _ => None,
+    }
+}
+
+fn before_follow(mut shape: Shape, a: usize, b: usize) -> Option<Shape> {
+    let place = shape.place(a);
+    let cell = cell_that_may_link(&shape, b, place)?;
+    shape.links[cell] = place;
+    shape.variables[a - 1] = None;
+    Some(shape)
+}
+
+/// One more variable, without a place, that plays b where a and b are one.
+fn with_helper(shape: &Shape) -> Shape {
+    let mut shape = shape.clone();
+    shape.variables.push(None);
+    shape
+}
+
+/// The helper goes, and a stands where it stood.
+fn helper_becomes(mut shape: Shape, a: usize) -> Shape {
+    shape.variables[a - 1] = shape.variables.pop().flatten();
+    shape
+}
+
+fn before_link(mut shape: Shape, a: usize, b: usize) -> Option<Shape> {
+    let cell = cell_that_may_link(&shape, a, shape.place(b))?;
+    shape.links[cell] = None;
+    Some(shape)
+}
+
+fn before_new(mut shape: Shape, a: usize) -> Option<Shape> {
+    let Some(Place::Cell(cell)) = shape.variables[a - 1].take() else {
+        return None;
+    };
+    let mut places = shape.variables.iter().chain(&shape.links);
+    let stood_at = places.any(|&place| place == Some(Place::Cell(cell)));
+    if stood_at || !matches!(shape.links[cell], None | Some(Place::Dangling)) {
+        return None;
+    }
+    shape.links.remove(cell);
+    for place in shape.variables.iter_mut().chain(&mut shape.links) {
+        match place {
+            Some(Place::Cell(number)) if *number > cell => *number -= 1,
+            _ => {}
+        }
+    }
+    Some(shape)
+}
+
+fn before_delete(shape: &Shape, a: usize) -> Option<Shape> {
+    if !matches!(shape.place(a), None | Some(Place::Dangling)) {
+        return None;
+    }
+    let mut shape = shape.clone();
+    for place in shape.variables.iter_mut().chain(&mut shape.links) {
+        if *place == Some(Place::Dangling) {
+            *place = None;
+        }
+    }
+    let fresh = Place::Cell(shape.cells());
+    Some(with_variable(&with_cell(&shape, None), a, fresh))
+}
+
+#[cfg(test)]
+mod tests {
+    use super::*;
+
+    fn before(variables: &[u64], links: &[u64], kind: u64, a: usize, b: usize) -> Vec<Shape> {
+        predecessors(&Shape::of_codes(variables, links), Operation { kind, a, b })
+    }
+
+    /// Shapes as pairs of codes of variables and codes of links.
+    fn shapes(rows: &[(&[u64], &[u64])]) -> Vec<Shape> {
+        rows.iter()
+            .map(|(variables, links)| Shape::of_codes(variables, links))
+            .collect()
+    }
+
+    #[test]
+    fn placings_stand_in_order() {
+        let shape = Shape::of_codes(&[0, 5], &[0, 5, 2]);
+        let expected = shapes(&[
+            (&[3, 5], &[0, 5, 2]),
+            (&[4, 5], &[0, 5, 2]),
+            (&[5, 5], &[0, 5, 2]),
+            (&[1, 5], &[0, 5, 2]),
+            (&[6, 5], &[0, 5, 2, 0]),
+            (&[6, 5], &[0, 6, 2, 5]),
+            (&[6, 5], &[0, 5, 6, 2]),
+        ]);
+        assert_eq!(placings(&shape, 1), expected);
+        assert_eq!(placings(&shape, 2), vec![shape.clone()]);
+        assert_eq!(placings(&shape, 0), vec![shape]);
+        assert_eq!(placings(&Shape::of_codes(&[2], &[]), 1), vec![]);
+    }
+
+    #[test]
+    fn tests_of_two_unplaced_variables() {
+        let different = shapes(&[(&[1, 3], &[0]), (&[3, 1], &[0]), (&[3, 4], &[0, 0])]);
+        assert_eq!(before(&[0, 0], &[], DIFFERENT, 1, 2), different);
+        let equal = shapes(&[(&[1, 1], &[]), (&[3, 3], &[0])]);
+        assert_eq!(before(&[0, 0], &[], EQUAL, 1, 2), equal);
+        assert_eq!(before(&[0, 2], &[], DIFFERENT, 1, 2), vec![]);
+    }
+
+    #[test]
+    fn assigning() {
+        assert_eq!(
+            before(&[1, 0], &[], ASSIGN, 1, 2),
+            shapes(&[(&[0, 1], &[])])
+        );
+        assert_eq!(
+            before(&[1, 0], &[], ASSIGN, 1, 0),
+            shapes(&[(&[0, 0], &[])])
+        );
+        assert_eq!(before(&[2, 0], &[], ASSIGN, 1, 2), vec![]);
+        assert_eq!(before(&[3], &[0], ASSIGN, 1, 1), shapes(&[(&[3], &[0])]));
+        assert_eq!(before(&[3], &[0], ASSIGN, 1, 0), vec![]);
+    }
+
+    #[test]
+    fn following_with_one_variable() {
+        assert_eq!(before(&[1], &[], FOLLOW, 1, 1), shapes(&[(&[3], &[1])]));
+        let own_or_fresh = shapes(&[(&[3], &[3]), (&[4], &[0, 3])]);
+        assert_eq!(before(&[3], &[0], FOLLOW, 1, 1), own_or_fresh);
+    }
+
+    #[test]
+    fn following_with_two_variables() {
+        let expected = shapes(&[(&[0, 3], &[1]), (&[0, 4], &[1, 1])]);
+        assert_eq!(
+            before(&[1, 0], &[1], FOLLOW, 1, 2),
+            [&expected[..], &shapes(&[(&[0, 4], &[4, 1])])].concat()
+        );
+        assert_eq!(before(&[1, 3], &[2], FOLLOW, 1, 2), vec![]);
+    }
+
+    #[test]
+    fn linking() {
+        assert_eq!(
+            before(&[3, 1], &[1], LINK, 1, 2),
+            shapes(&[(&[3, 1], &[0])])
+        );
+        assert_eq!(before(&[3, 1], &[2], LINK, 1, 2), vec![]);
+        assert_eq!(before(&[1, 1], &[], LINK, 1, 2), vec![]);
+        let b_in_the_link = shapes(&[(&[3, 1], &[0]), (&[3, 4], &[0, 1])]);
+        assert_eq!(before(&[3, 0], &[1], LINK, 1, 2), b_in_the_link);
+    }
+
+    #[test]
+    fn new_cells() {
+        assert_eq!(before(&[3], &[3], NEW, 1, 0), vec![]);
+        assert_eq!(before(&[3], &[2], NEW, 1, 0), shapes(&[(&[0], &[])]));
+        assert_eq!(before(&[3, 3], &[0], NEW, 1, 0), vec![]);
+        assert_eq!(before(&[3], &[1], NEW, 1, 0), vec![]);
+        assert_eq!(before(&[1], &[], NEW, 1, 0), vec![]);
+        let moved_down = shapes(&[(&[0, 3], &[4, 1])]);
+        assert_eq!(before(&[3, 4], &[2, 5, 1], NEW, 1, 0), moved_down);
+        let loose_or_other = shapes(&[(&[0], &[]), (&[0], &[0])]);
+        assert_eq!(before(&[0], &[0], NEW, 1, 0), loose_or_other);
+    }
+
+    #[test]
+    fn deleting_forgets_what_dangles() {
+        let expected = shapes(&[(&[5, 0, 3], &[0, 1, 0])]);
+        assert_eq!(before(&[2, 2, 3], &[2, 1], DELETE, 1, 0), expected);
+        assert_eq!(before(&[0, 2, 3], &[2, 1], DELETE, 1, 0), expected);
+        assert_eq!(before(&[1], &[], DELETE, 1, 0), vec![]);
+        assert_eq!(before(&[3], &[0], DELETE, 1, 0), vec![]);
+    }
+}

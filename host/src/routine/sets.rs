@@ -1,0 +1,123 @@
+//! Ready sets of forbidden shapes.
+
+use std::collections::BTreeSet;
+
+use crate::reference::heap::Place;
+use crate::reference::job::{Located, Transition};
+use crate::reference::operation::{FOLLOW, LINK};
+use crate::reference::shape::Shape;
+
+const NULL: u64 = 1;
+const DANGLING: u64 = 2;
+
+/// The code of a cell.
+fn cell(number: u64) -> u64 {
+    3 + number
+}
+
+/// Places of some variables, by number from 1, and the links of the cells.
+fn shape(variables: usize, placed: &[(usize, u64)], links: &[u64]) -> Shape {
+    let mut places = vec![0; variables];
+    for &(variable, place) in placed {
+        places[variable - 1] = place;
+    }
+    Shape::of_codes(&places, links)
+}
+
+/// `no list: x` - # isn't met by following links from x: x at *, x's cell linked to *, to itself,
+/// or to a cell linked to itself.
+pub fn no_list(variables: usize, x: usize) -> Vec<Shape> {
+    let dangling = [
+        shape(variables, &[(x, DANGLING)], &[]),
+        shape(variables, &[(x, cell(0))], &[DANGLING]),
+    ];
+    dangling.into_iter().chain(ring(variables, x)).collect()
+}
+
+/// `ring: x` - a ring is met by following links from x.
+pub fn ring(variables: usize, x: usize) -> Vec<Shape> {
+    vec![
+        shape(variables, &[(x, cell(0))], &[cell(0)]),
+        shape(variables, &[(x, cell(0))], &[cell(1), cell(1)]),
+    ]
+}
+
+/// `no ring: x` - x isn't on a ring.
+pub fn no_ring(variables: usize, x: usize) -> Vec<Shape> {
+    vec![
+        shape(variables, &[(x, DANGLING)], &[]),
+        shape(variables, &[(x, NULL)], &[]),
+        shape(variables, &[(x, cell(0))], &[DANGLING]),
+        shape(variables, &[(x, cell(0))], &[NULL]),
+        shape(variables, &[(x, cell(0))], &[cell(1), cell(1)]),
+    ]
+}
+
+/// `lost block: x` - some cell isn't met by following links from x. With more variables: some cell
+/// isn't met from any of them, while they are lists and share no cell.
+pub fn lost_block(variables: usize, from: &[usize]) -> Vec<Shape> {
+    let beside = match *from {
+        [x] => {
+            let mut all = no_list(variables, x);
+            all.extend(lists_apart(variables, from));
+            all
+        }
+        _ => lists_apart(variables, from),
+    };
+    beside.into_iter().map(with_loose_cell).collect()
+}
+
+/// Every combination of empty and other lists at the variables.
+fn lists_apart(variables: usize, from: &[usize]) -> Vec<Shape> {
+    let mut shapes = vec![shape(variables, &[], &[])];
+    for &x in from {
+        shapes = shapes
+            .iter()
+            .flat_map(|before| {
+                let mut empty = before.clone();
+                empty.variables[x - 1] = Some(Place::Null);
+                let mut list = before.clone();
+                list.variables[x - 1] = Some(Place::Cell(before.cells()));
+                list.links.push(Some(Place::Null));
+                [empty, list]
+            })
+            .collect();
+    }
+    shapes
+}
+
+fn with_loose_cell(mut shape: Shape) -> Shape {
+    shape.links.push(None);
+    shape
+}
+
+/// `shared: x y` - some cell is met from both variables.
+pub fn shared(variables: usize, x: usize, y: usize) -> Vec<Shape> {
+    let apart = [(x, cell(0)), (y, cell(1))];
+    vec![
+        shape(variables, &[(x, cell(0)), (y, cell(0))], &[0]),
+        shape(variables, &apart, &[cell(1), 0]),
+        shape(variables, &apart, &[0, cell(0)]),
+        shape(variables, &apart, &[cell(2), cell(2), 0]),
+    ]
+}
+
+/// `steps` - where a transition follows or sets a variable's link: that variable at # or at *.
+pub fn steps(variables: usize, transitions: &[Transition]) -> Vec<Located> {
+    let mut seen = BTreeSet::new();
+    let mut all = Vec::new();
+    for transition in transitions {
+        let stepping = match transition.operation.kind {
+            FOLLOW => transition.operation.b,
+            LINK => transition.operation.a,
+            _ => continue,
+        };
+        if seen.insert((transition.from, stepping)) {
+            all.extend([NULL, DANGLING].map(|place| Located {
+                state: transition.from,
+                shape: shape(variables, &[(stepping, place)], &[]),
+            }));
+        }
+    }
+    all
+}

@@ -1,0 +1,87 @@
+//! From a closed set to a certificate.
+
+use std::convert::Infallible;
+
+use super::before::{each_before, forbidden};
+use super::closure::Closure;
+use super::images::find_images;
+use crate::baseline::shape::{Located, CELL};
+use crate::reference::certificate::{Certificate, Cover};
+use crate::reference::job::{self, Job};
+
+/// The certificate whose members are the entries of a closed set that are needed.
+pub fn certificate(job: &Job, closure: &Closure) -> Certificate {
+    certificate_of(job, &needed_members(job, closure))
+}
+
+/// The certificate with these members, which cover all that has to be covered.
+pub fn certificate_of(job: &Job, members: &[Located]) -> Certificate {
+    let located = |member: &Located| job::Located {
+        state: member.state.into(),
+        shape: member.shape.to_reference(job.variables as usize),
+    };
+    Certificate {
+        members: members.iter().map(located).collect(),
+        covers: covers(job, members),
+    }
+}
+
+/// Calls `see` for each shape that has to be covered for a member.
+fn for_each_before(job: &Job, member: &Located, mut see: impl FnMut(&Located)) {
+    let Ok(()) = each_before(job, member, |_, covered| -> Result<(), Infallible> {
+        see(covered);
+        Ok(())
+    });
+}
+
+/// The members that covers need, beginning with those of the forbidden shapes.
+fn needed_members(job: &Job, closure: &Closure) -> Vec<Located> {
+    let mut chosen = Vec::new();
+    for bad in forbidden(job) {
+        choose(closure, &mut chosen, &bad);
+    }
+    let mut next = 0;
+    while next < chosen.len() {
+        let member = closure.entries[chosen[next]].member;
+        for_each_before(job, &member, |covered| {
+            choose(closure, &mut chosen, covered)
+        });
+        next += 1;
+    }
+    let members = chosen.iter().map(|&entry| closure.entries[entry].member);
+    members.collect()
+}
+
+/// Adds an entry that covers a shape, unless one that does is chosen already.
+fn choose(closure: &Closure, chosen: &mut Vec<usize>, covered: &Located) {
+    let covering: Vec<usize> = closure.covering(covered).collect();
+    if !covering.iter().any(|entry| chosen.contains(entry)) {
+        let first = covering.first();
+        chosen.push(*first.expect("a closed set covers its predecessors"));
+    }
+}
+
+fn covers(job: &Job, members: &[Located]) -> Vec<Cover> {
+    let bads = forbidden(job);
+    let mut covers: Vec<Cover> = bads.iter().map(|bad| cover(members, bad)).collect();
+    for member in members {
+        for_each_before(job, member, |covered| covers.push(cover(members, covered)));
+    }
+    covers
+}
+
+/// The first member that covers a shape, with images.
+fn cover(members: &[Located], covered: &Located) -> Cover {
+    let found = members.iter().enumerate().find_map(|(number, member)| {
+        let images = match member.state == covered.state {
+            true => find_images(&member.shape, &covered.shape)?,
+            false => return None,
+        };
+        let cells = &images[usize::from(CELL)..][..member.shape.cells.into()];
+        Some(Cover {
+            member: number,
+            images: cells.iter().map(|&code| (code - CELL).into()).collect(),
+        })
+    });
+    found.expect("the chosen members cover each other's predecessors")
+}

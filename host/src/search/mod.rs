@@ -1,0 +1,113 @@
+//! A search for certificates. Nobody has to trust it: what it finds is checked.
+
+pub mod before;
+pub mod chain;
+mod closure;
+pub mod covers;
+mod explore;
+pub mod generalise;
+pub mod images;
+mod smaller;
+
+use crate::reference::certificate::{Certificate, MOST_MEMBERS};
+use crate::reference::checker::MOST_BYTES;
+use crate::reference::job::Job;
+use chain::{chain, Chain};
+use closure::{Closure, Obstacle};
+use explore::Exploration;
+
+/// What a search ends with.
+pub enum Outcome {
+    Certified(Certificate),
+    /// There is no certificate, because of this chain.
+    Impossible(Chain),
+    /// None was found within the limits.
+    Undecided(String),
+}
+
+/// How many cells the explored heaps have in each attempt to generalise.
+const MOST_CELLS: [u8; 4] = [6, 7, 8, 9];
+
+/// How many heaps are explored at most.
+const MOST_HEAPS: usize = 30_000;
+
+/// How many shapes a short and a long attempt take in at most.
+const SHORT: usize = 1_000;
+const LONG: usize = 10_000;
+
+/// Looks for a certificate, with the needed shapes as members and with members as general as ever
+/// larger heaps allow, and takes the shorter one.
+pub fn search(job: &Job) -> Outcome {
+    let reached = Exploration::new(job, MOST_CELLS[0], MOST_HEAPS);
+    let plain = match attempt(job, &reached, false, SHORT) {
+        Attempt::Certified(certificate) => Some(certificate),
+        Attempt::Impossible(chain) => return Outcome::Impossible(chain),
+        Attempt::TooGeneral | Attempt::Limit(_) => None,
+    };
+    for most_cells in MOST_CELLS {
+        let reached = Exploration::new(job, most_cells, MOST_HEAPS);
+        match attempt(job, &reached, true, LONG) {
+            Attempt::Certified(general) => return Outcome::Certified(shorter(plain, general)),
+            Attempt::Impossible(chain) => return Outcome::Impossible(chain),
+            Attempt::TooGeneral | Attempt::Limit(_) => {}
+        }
+    }
+    if let Some(certificate) = plain {
+        return Outcome::Certified(certificate);
+    }
+    match attempt(job, &reached, false, LONG) {
+        Attempt::Certified(certificate) => Outcome::Certified(certificate),
+        Attempt::Impossible(chain) => Outcome::Impossible(chain),
+        Attempt::TooGeneral => unreachable!("nothing was made more general"),
+        Attempt::Limit(what) => Outcome::Undecided(what),
+    }
+}
+
+fn shorter(plain: Option<Certificate>, general: Certificate) -> Certificate {
+    match plain {
+        Some(plain) if plain.bytes().len() < general.bytes().len() => plain,
+        _ => general,
+    }
+}
+
+enum Attempt {
+    Certified(Certificate),
+    Impossible(Chain),
+    /// A member was made so general that it is reached.
+    TooGeneral,
+    /// A limit of the format or of the search is exceeded.
+    Limit(String),
+}
+
+fn attempt(job: &Job, reached: &Exploration, generalising: bool, most: usize) -> Attempt {
+    let mut closure = Closure::new(job, reached, generalising, most);
+    match closure.close() {
+        Ok(()) => match within_limits(covers::certificate(job, &closure)) {
+            Ok(certificate) => Attempt::Certified(certificate),
+            Err(what) => Attempt::Limit(what),
+        },
+        Err(Obstacle::Reached(obstruction)) => {
+            let chain = chain(job, reached, &closure, &obstruction);
+            chain.map_or(Attempt::TooGeneral, Attempt::Impossible)
+        }
+        Err(Obstacle::TooMany) => Attempt::Limit(format!("more than {most} shapes are needed")),
+        Err(Obstacle::TooManyCells) => {
+            Attempt::Limit("a shape of more than 12 cells is needed".to_string())
+        }
+    }
+}
+
+fn within_limits(certificate: Certificate) -> Result<Certificate, String> {
+    let (members, bytes) = (certificate.members.len(), certificate.bytes().len());
+    if members as u64 > MOST_MEMBERS {
+        return Err(format!(
+            "{members} members are needed, {MOST_MEMBERS} are allowed"
+        ));
+    }
+    if bytes > MOST_BYTES {
+        return Err(format!(
+            "{bytes} bytes are needed, {MOST_BYTES} are allowed"
+        ));
+    }
+    Ok(certificate)
+}

@@ -1,0 +1,101 @@
+/* vorruda.h - calls of the proved library libvorruda.a.
+ *
+ * A buffer is a pointer and a length. NULL with length 0 is an empty buffer. Buffers of one call
+ * must not overlap. Nothing is allocated and nothing is kept between calls; calls on different
+ * buffers may run at the same time.
+ *
+ * Every call returns a number: 0 is success, 1 to 99 is a refusal, 100 and above is told at the
+ * call. Results beside it go to the caller's array `out`. Where `out_len` is too short for them,
+ * nothing of `out` is written and the returned number is the same.
+ */
+#ifndef VORRUDA_H
+#define VORRUDA_H
+
+#include <stddef.h>
+#include <stdint.h>
+
+#ifdef __cplusplus
+extern "C" {
+#endif
+
+/* ---- Numbers ----------------------------------------------------------------------------------
+ *
+ * Files are lists of numbers from 0 to 65,535. A number is written low seven bits first, 128 added
+ * to a byte where another follows, in the fewest bytes:
+ *
+ *   127 is 127        128 is 128 1        65,535 is 255 255 3
+ */
+
+#define VORRUDA_UNREADABLE 3  /* no number can be read at that place */
+#define VORRUDA_TOO_LARGE  11 /* a number to write is above 65,535 */
+#define VORRUDA_NO_ROOM    12 /* the output is too short */
+
+/* Reads the number that begins at place `at`.
+ *   0: out[0] is the number, out[1] the place after it.
+ *   VORRUDA_UNREADABLE: past the end, above 65,535 or longer than needed;
+ *      out[0] is `at`, out[1] is 0.
+ * `at` may be any place, also past the end. out has two entries. */
+uint32_t vorruda_read_number(const uint8_t *bytes, size_t len, size_t at,
+                             uint64_t *out, size_t out_len);
+
+/* Writes `count` numbers to the first bytes of `bytes` and touches none beyond.
+ *   0: out[0] is how many bytes were filled.
+ *   VORRUDA_TOO_LARGE: out[0] is the index of the first number above 65,535.
+ *   VORRUDA_NO_ROOM: out[0] is the length needed.
+ * Where it isn't 0, no byte is touched. out has one entry. */
+uint32_t vorruda_write_numbers(const uint64_t *numbers, size_t count,
+                               uint8_t *bytes, size_t len,
+                               uint64_t *out, size_t out_len);
+
+/* ---- Stepper ----------------------------------------------------------------------------------
+ *
+ * A heap has 64 cells with one link each, and 1 to 8 variables. In bytes:
+ *
+ *   heap[0]            how many variables there are, V
+ *   heap[1 .. 8]       where variable 1 to 8 stands; 0 for variables above V
+ *   heap[9 .. 72]      1 where cell 0 to 63 is used, 0 where it isn't
+ *   heap[73 .. 136]    where the link of cell 0 to 63 stands; 0 where the cell is unused
+ *
+ * A variable, or the link of a used cell, stands at # (null), at * (dangling) or at a used cell.
+ * The empty heap of V variables has every variable at * and zeros behind them.
+ */
+
+#define VORRUDA_HEAP_BYTES     137
+#define VORRUDA_HEAP_CELLS     64
+#define VORRUDA_HEAP_VARIABLES 1  /* where the slot of variable 1 is */
+#define VORRUDA_HEAP_MARKS     9  /* where the mark of cell 0 is */
+#define VORRUDA_HEAP_LINKS     73 /* where the link of cell 0 is */
+
+/* Codes of places. 0, nowhere, is no place of a variable or of a used link. */
+#define VORRUDA_NULL     1
+#define VORRUDA_DANGLING 2
+#define VORRUDA_CELL(i)  (3 + (i))
+
+/* Kinds of operations on operands a and b: 0 is null, 1 to V are variables.
+ * Each moves where its condition holds and is blocked elsewhere. */
+#define VORRUDA_EQUAL     1 /* a = b        neither at *, same place;           a, b from 0 */
+#define VORRUDA_DIFFERENT 2 /* a != b       neither at *, different places;     a, b from 0 */
+#define VORRUDA_ASSIGN    3 /* a := b       b not at *;                         b from 0 */
+#define VORRUDA_FOLLOW    4 /* a := b.next  b at a cell whose link isn't *                  */
+#define VORRUDA_LINK      5 /* a.next := b  a at a cell, b not at *;            b from 0 */
+#define VORRUDA_NEW       6 /* new(a)       always; b is 0                                  */
+#define VORRUDA_DELETE    7 /* delete(a)    a at a cell; b is 0                             */
+
+#define VORRUDA_BLOCKED   100 /* the operation isn't enabled; no refusal */
+#define VORRUDA_BAD_HEAP  13  /* not 137 bytes, or not a heap as described above */
+#define VORRUDA_BAD_STEP  14  /* no such kind, or an operand that it doesn't take */
+#define VORRUDA_HEAP_FULL 15  /* new with all 64 cells used */
+
+/* One step. `new` takes the lowest unused cell and links it to *; `delete` frees the cell, and
+ * every variable and link that stood at it stands at * afterwards.
+ *   0: moved; the bytes are the heap after the step.
+ *   VORRUDA_BLOCKED: not enabled.
+ *   VORRUDA_BAD_HEAP, VORRUDA_BAD_STEP, VORRUDA_HEAP_FULL: refused, by the first that applies.
+ * Where it isn't 0, the bytes stay as they are. */
+uint32_t vorruda_step(uint8_t *heap, size_t heap_len, uint32_t kind, uint32_t a, uint32_t b);
+
+#ifdef __cplusplus
+}
+#endif
+
+#endif

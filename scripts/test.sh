@@ -1,0 +1,15 @@
+#!/usr/bin/env bash
+# Every test. `rt ci` removes target/ and proves everything, so it comes first and the others use what it left; its verdict is said last.
+set -euo pipefail
+cd "$(dirname "$0")/.."
+mkdir -p build
+
+rt ci | tee build/ci.log
+rt fmt --check
+
+scripts/lib.sh
+scripts/example.sh
+cargo test --offline --release --quiet --manifest-path host/Cargo.toml
+cargo run --offline --release --quiet --manifest-path host/Cargo.toml --bin compare
+
+tail -n 1 build/ci.log
