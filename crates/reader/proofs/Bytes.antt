@@ -78,8 +78,7 @@ module _ {s : List ℕ} where
       let t = single s at n mid g (small n (List·Memᴰ·head refl)) in
       let (same, after) = reads-bytes r (λ x i. small x (List·Memᴰ·tail i)) in
       let here : drop at s ≡ getD s at 0 ∷ drop (suc at) s = drop-cons s at 0 (t .inside) in
-      let mid-is : mid ≡ suc at = omega (arith, t .after) in
-      (
+      let mid-is : mid ≡ suc at = omega (arith, t .after) in (
         ap₂ _∷_ (t .value) (same ∙ ap (λ m. take (length ns) (drop m s)) mid-is) ∙ ap (take (suc (length ns))) (sym here),
         omega arith,
       )

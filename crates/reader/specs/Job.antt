@@ -19,25 +19,25 @@ use Rattle.reader.specs.declared.Header.{Header}
 use Rattle.reader.specs.declared.JobAnswer.{JobAnswer}
 use Rattle.reader.specs.declared.JobAnswer.the-variants.{Read, Refused}
 
--- the numbers of a job before its transitions, and the place after them
-unfoldable pub readFront : Buffer → Parser Front
-readFront s = do
-  ranged s 1 2
-  variables ← ranged s 1 9
+-- the numbers of states, start and transitions, and the place after them, where the number of variables is read
+unfoldable pub readCounts : Buffer → ℕ → Parser Front
+readCounts s variables = do
   states ← ranged s 1 65
   start ← ranged s 0 states
   transitions ← ranged s 0 257
   at ← here
   return (record { variables = variables; states = states; start = start; transitions = transitions; at = at })
 
+-- the numbers of a job before its transitions
+unfoldable pub readFront : Buffer → Parser Front
+readFront s = do
+  ranged s 1 2
+  variables ← ranged s 1 9
+  readCounts s variables
+
 abbrev pub frontOf : FrontAnswer → Parsed Front
 frontOf (FrontRead f) = parsed f (f .at)
 frontOf (FrontRefused r place) = fault (refusalNumber r) place
-
--- a refusal as it is; it is asked of no number that reads
-abbrev pub refusedFront : Parsed ℕ → Parsed Front
-refusedFront (parsed n next) = fault 4 next
-refusedFront (fault number place) = fault number place
 
 -- the transition at a place is whole and in range
 pub record TransitionIn (bytes : List ℕ) (variables states at : ℕ) : Type 0 where

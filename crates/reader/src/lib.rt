@@ -14,7 +14,7 @@ ghost use Rattle.format.specs.Certificate.{readMember};
 ghost use Rattle.format.specs.Job.{readLocated, readTransition};
 ghost use Rattle.format.specs.Parser.{jobBuffer, certificateBuffer, many, ranged};
 ghost use Rattle.verdict.specs.Verdict.{refusalNumber, reachedOf};
-ghost use Rattle.reader.specs.Job.{refusedFront, readFront, frontOf, RestAnswered, JobAnswered};
+ghost use Rattle.reader.specs.Job.{readCounts, readFront, frontOf, RestAnswered, JobAnswered};
 ghost use Rattle.reader.specs.Members.{NotedBy, MembersAnswered};
 ghost use Rattle.reader.specs.Number.{bufferOf, rangedOf, forget};
 
@@ -31,15 +31,15 @@ pub enum Ranged {
 }
 
 // The numbers of a job before its transitions, and the place after them.
-pub struct Front {
-    pub variables: usize,
-    pub states: usize,
-    pub start: usize,
-    pub transitions: usize,
-    pub at: usize,
+struct Front {
+    variables: usize,
+    states: usize,
+    start: usize,
+    transitions: usize,
+    at: usize,
 }
 
-pub enum FrontAnswer {
+enum FrontAnswer {
     Read(Front),
     Refused(Refusal, usize),
 }
@@ -174,7 +174,13 @@ fn read_transition(job: &[u8], first: usize, variables: usize, states: usize) ->
     reached(read_ranged(Side::Job, job, to_at, 0, states))
 }
 
-fn read_transitions(job: &[u8], first: usize, count: usize, variables: usize, states: usize) -> Reached
+fn read_transitions(
+    job: &[u8],
+    first: usize,
+    count: usize,
+    variables: usize,
+    states: usize,
+) -> Reached
     requires { ⌜ variables ≤ 8 ⌝ }
     ensures { λ r. ⌜ reachedOf r ≡ forget (many count (readTransition (jobBuffer (now (job .entry))) variables states) first) ⌝ }
 {
@@ -192,7 +198,13 @@ fn read_transitions(job: &[u8], first: usize, count: usize, variables: usize, st
 }
 
 // The forbidden shapes of a job.
-fn read_forbidden(job: &[u8], first: usize, count: usize, variables: usize, states: usize) -> Reached
+fn read_forbidden(
+    job: &[u8],
+    first: usize,
+    count: usize,
+    variables: usize,
+    states: usize,
+) -> Reached
     ensures { λ r. ⌜ reachedOf r ≡ forget (many count (readLocated (jobBuffer (now (job .entry))) variables states) first) ⌝ }
 {
     let mut at = first;
@@ -208,13 +220,32 @@ fn read_forbidden(job: &[u8], first: usize, count: usize, variables: usize, stat
     Reached::At(at)
 }
 
-// The refusal of one of a job's first numbers; it is asked of no other answer.
-fn front_refused(r: Ranged) -> FrontAnswer
-    ensures { λ q. ⌜ frontOf q ≡ refusedFront (rangedOf r) ⌝ }
+// The numbers of states, start and transitions, where the number of variables is read.
+fn read_counts(job: &[u8], variables: usize, first: usize) -> FrontAnswer
+    ensures { λ r. ⌜ frontOf r ≡ readCounts (jobBuffer (now (job .entry))) variables first ⌝ }
 {
+    let r = read_ranged(Side::Job, job, first, 1, 65);
     match r {
         Ranged::Refused(why, place) => FrontAnswer::Refused(why, place),
-        Ranged::Value(_, next) => FrontAnswer::Refused(Refusal::JobRange, next),
+        Ranged::Value(states, start_at) => {
+            let r = read_ranged(Side::Job, job, start_at, 0, states);
+            match r {
+                Ranged::Refused(why, place) => FrontAnswer::Refused(why, place),
+                Ranged::Value(start, count_at) => {
+                    let r = read_ranged(Side::Job, job, count_at, 0, 257);
+                    match r {
+                        Ranged::Refused(why, place) => FrontAnswer::Refused(why, place),
+                        Ranged::Value(transitions, at) => FrontAnswer::Read(Front {
+                            variables,
+                            states,
+                            start,
+                            transitions,
+                            at,
+                        }),
+                    }
+                }
+            }
+        }
     }
 }
 
@@ -223,32 +254,16 @@ fn read_front(job: &[u8]) -> FrontAnswer
     ensures { λ r. ⌜ frontOf r ≡ readFront (jobBuffer (now (job .entry))) 0 ⌝ }
 {
     let version = read_ranged(Side::Job, job, 0, 1, 2);
-    let Ranged::Value(_, variables_at) = version else {
-        return front_refused(version);
-    };
-    let second = read_ranged(Side::Job, job, variables_at, 1, 9);
-    let Ranged::Value(variables, states_at) = second else {
-        return front_refused(second);
-    };
-    let third = read_ranged(Side::Job, job, states_at, 1, 65);
-    let Ranged::Value(states, start_at) = third else {
-        return front_refused(third);
-    };
-    let fourth = read_ranged(Side::Job, job, start_at, 0, states);
-    let Ranged::Value(start, count_at) = fourth else {
-        return front_refused(fourth);
-    };
-    let fifth = read_ranged(Side::Job, job, count_at, 0, 257);
-    let Ranged::Value(transitions, at) = fifth else {
-        return front_refused(fifth);
-    };
-    FrontAnswer::Read(Front {
-        variables,
-        states,
-        start,
-        transitions,
-        at,
-    })
+    match version {
+        Ranged::Refused(why, place) => FrontAnswer::Refused(why, place),
+        Ranged::Value(_, variables_at) => {
+            let r = read_ranged(Side::Job, job, variables_at, 1, 9);
+            match r {
+                Ranged::Refused(why, place) => FrontAnswer::Refused(why, place),
+                Ranged::Value(variables, at) => read_counts(job, variables, at),
+            }
+        }
+    }
 }
 
 // What stands in a job after its transitions, and nothing behind it.
@@ -289,7 +304,13 @@ pub fn read_job(job: &[u8]) -> JobAnswer
     match first {
         FrontAnswer::Refused(why, place) => JobAnswer::Refused(why, place),
         FrontAnswer::Read(front) => {
-            let r = read_transitions(job, front.at, front.transitions, front.variables, front.states);
+            let r = read_transitions(
+                job,
+                front.at,
+                front.transitions,
+                front.variables,
+                front.states,
+            );
             match r {
                 Reached::Refused(why, place) => JobAnswer::Refused(why, place),
                 Reached::At(at) => read_rest(job, front, at),
@@ -299,7 +320,14 @@ pub fn read_job(job: &[u8]) -> JobAnswer
 }
 
 // The members of a certificate; the place where each starts goes to the table.
-fn note_members(cert: &[u8], first: usize, count: usize, variables: usize, states: usize, starts: &mut [u16]) -> Reached
+fn note_members(
+    cert: &[u8],
+    first: usize,
+    count: usize,
+    variables: usize,
+    states: usize,
+    starts: &mut [u16],
+) -> Reached
     requires { ⌜ count ≤ length (now starts) ⌝ }
     ensures { λ r. ⌜ (reachedOf r ≡ forget (many count (readMember (certificateBuffer (now (cert .entry))) variables states) first)) × NotedBy (now (cert .entry)) variables states first count (now (starts .entry)) (now (starts .exit)) r ⌝ }
 {
@@ -319,7 +347,12 @@ fn note_members(cert: &[u8], first: usize, count: usize, variables: usize, state
 }
 
 // Reads the members of a certificate.
-pub fn read_members(cert: &[u8], variables: usize, states: usize, starts: &mut [u16; 512]) -> MembersAnswer
+pub fn read_members(
+    cert: &[u8],
+    variables: usize,
+    states: usize,
+    starts: &mut [u16; 512],
+) -> MembersAnswer
     ensures { λ r. ⌜ MembersAnswered (now (cert .entry)) variables states (now (starts .entry)) (now (starts .exit)) r ⌝ }
 {
     let version = read_ranged(Side::Certificate, cert, 0, 1, 2);
