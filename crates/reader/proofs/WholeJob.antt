@@ -15,7 +15,7 @@ use Rattle.reader.specs.Number.{forget}
 use Rattle.reader.specs.declared.Front.{Front}
 use Rattle.reader.specs.declared.Header.{Header}
 use Rattle.reader.specs.declared.JobAnswer.{JobAnswer}
-use Rattle.reader.specs.declared.JobAnswer.the-variants.{Read, Refused}
+use Rattle.reader.specs.declared.JobAnswer.the-variants.{Job, Refused}
 use Rattle.reader.proofs.Bytes.{reads-inside, number-inside}
 use Rattle.reader.proofs.Many.{remembered, forget-fault, forget-onward, bind-assoc}
 use Rattle.reader.proofs.Standing.{entries-read, transitions-read}
@@ -124,5 +124,5 @@ module _ (job : List ℕ) where
           e
 
       pub answered : (r : JobAnswer) → RestAnswered job f at r → JobAnswered job r
-      answered (Read h) (next, e) = job-read h next e
+      answered (Job h) (next, e) = job-read h next e
       answered (Refused why place) e = rest-lost e

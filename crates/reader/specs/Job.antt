@@ -17,9 +17,9 @@ use Rattle.reader.specs.declared.FrontAnswer.{FrontAnswer}
 use Rattle.reader.specs.declared.FrontAnswer.the-variants.{Read as FrontRead, Refused as FrontRefused}
 use Rattle.reader.specs.declared.Header.{Header}
 use Rattle.reader.specs.declared.JobAnswer.{JobAnswer}
-use Rattle.reader.specs.declared.JobAnswer.the-variants.{Read, Refused}
+use Rattle.reader.specs.declared.JobAnswer.the-variants.{Job, Refused}
 
--- the numbers of states, start and transitions, and the place after them, where the number of variables is read
+-- the number of states, the start state and the number of transitions, after the number of variables; and the place after them
 unfoldable pub readCounts : Buffer → ℕ → Parser Front
 readCounts s variables = do
   states ← ranged s 1 65
@@ -83,9 +83,9 @@ readRest job f = do
       })
 
 abbrev pub RestAnswered : List ℕ → Front → ℕ → JobAnswer → Type 0
-RestAnswered job f at (Read h) = (next : ℕ) × (readRest job f at ≡ parsed h next)
+RestAnswered job f at (Job h) = (next : ℕ) × (readRest job f at ≡ parsed h next)
 RestAnswered job f at (Refused r place) = readRest job f at ≡ fault (refusalNumber r) place
 
 abbrev pub JobAnswered : List ℕ → JobAnswer → Type 0
-JobAnswered job (Read h) = JobRead job h
+JobAnswered job (Job h) = JobRead job h
 JobAnswered job (Refused r place) = readWholeJob (jobBuffer job) 0 ≡ fault (refusalNumber r) place

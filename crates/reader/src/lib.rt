@@ -56,7 +56,7 @@ pub struct Header {
 }
 
 pub enum JobAnswer {
-    Read(Header),
+    Job(Header),
     Refused(Refusal, usize),
 }
 
@@ -66,6 +66,7 @@ pub enum MembersAnswer {
     Refused(Refusal, usize),
 }
 
+// The refusal of a number that can't be read.
 fn unreadable(side: Side) -> Refusal
     ensures { λ r. ⌜ refusalNumber r ≡ bufferOf side [] .unreadable ⌝ }
 {
@@ -75,6 +76,7 @@ fn unreadable(side: Side) -> Refusal
     }
 }
 
+// The refusal of a number that breaks its range.
 fn outside(side: Side) -> Refusal
     ensures { λ r. ⌜ refusalNumber r ≡ bufferOf side [] .outside ⌝ }
 {
@@ -174,6 +176,7 @@ fn read_transition(job: &[u8], first: usize, variables: usize, states: usize) ->
     reached(read_ranged(Side::Job, job, to_at, 0, states))
 }
 
+// The transitions of a job.
 fn read_transitions(
     job: &[u8],
     first: usize,
@@ -220,7 +223,7 @@ fn read_forbidden(
     Reached::At(at)
 }
 
-// The numbers of states, start and transitions, where the number of variables is read.
+// The number of states, the start state and the number of transitions, after the number of variables.
 fn read_counts(job: &[u8], variables: usize, first: usize) -> FrontAnswer
     ensures { λ r. ⌜ frontOf r ≡ readCounts (jobBuffer (now (job .entry))) variables first ⌝ }
 {
@@ -281,7 +284,7 @@ fn read_rest(job: &[u8], front: Front, at: usize) -> JobAnswer
                     if end < job.len() {
                         return JobAnswer::Refused(Refusal::JobLeft, end);
                     }
-                    JobAnswer::Read(Header {
+                    JobAnswer::Job(Header {
                         variables: front.variables,
                         states: front.states,
                         start: front.start,
@@ -296,7 +299,7 @@ fn read_rest(job: &[u8], front: Front, at: usize) -> JobAnswer
     }
 }
 
-// Reads a job whole.
+// Reads a job, and nothing behind it.
 pub fn read_job(job: &[u8]) -> JobAnswer
     ensures { λ r. ⌜ JobAnswered (now (job .entry)) r ⌝ }
 {
