@@ -134,6 +134,7 @@ module _ (cert : List ℕ) (variables states : ℕ) where
             number = many-length (readMember s variables states) count first ms next g;
             number-range = (low, omega arith);
             inside = reads-inside (members-sound s variables states 0 ms next read .0) (omega arith);
+            size = n .size;
             places-are = λ b. members-read s variables states (b .states-most) count first ms next first-inside g .places ∙ sym (n .places b);
             members-are = λ b.
                 members-read s variables states (b .states-most) count first ms next first-inside g .located

@@ -1,6 +1,7 @@
 use Prim.Native.Nat.{_-_}
 use mathlib.Core.Path.{ap, _∙_, sym}
 use native.Mathlib.Omega.{arith}
+use lib.ListN.{length-set}
 use Rattle.format.specs.Certificate.{readMember}
 use Rattle.format.specs.Parser.{certificateBuffer}
 use Rattle.verdict.specs.Verdict.{reachedOf}
@@ -42,7 +43,7 @@ same-length : tie.Need-same-length Inv-loop μ-loop
 same-length c = search needs
 
 returns : tie.Need-returns Inv-loop μ-loop
-returns c = let a = c .before .before .before .before .before .before .before .args in let e = c .enum-told .given .1 in let n = c .before .before .before .before .loop .inv in (ap reachedOf e ∙ left-lost (readMember (certificateBuffer (a .cert .now)) (a .variables) (a .states)) (a .count) (a .first) (c .before .before .before .before .loop .at) (c .before .before .before .before .loop .i) (n .left) _ _ (omega arith) (sym (as-entry (a .cert .now) (a .variables) (a .states) (c .before .before .before .before .loop .at)) ∙ reached-lost (c .before .before .read-entry .ensures) e), rw e tt)
+returns c = let a = c .before .before .before .before .before .before .before .args in let e = c .enum-told .given .1 in let n = c .before .before .before .before .loop .inv in (ap reachedOf e ∙ left-lost (readMember (certificateBuffer (a .cert .now)) (a .variables) (a .states)) (a .count) (a .first) (c .before .before .before .before .loop .at) (c .before .before .before .before .loop .i) (n .left) _ _ (omega arith) (sym (as-entry (a .cert .now) (a .variables) (a .states) (c .before .before .before .before .loop .at)) ∙ reached-lost (c .before .before .read-entry .ensures) e), rw e (simp length-set (n .size)))
 
 add-i : tie.Need-add-i Inv-loop μ-loop
 add-i c = search needs

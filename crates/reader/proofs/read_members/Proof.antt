@@ -1,3 +1,4 @@
+use mathlib.Core.Path.{refl}
 use native.Mathlib.Omega.{arith}
 use Rattle.format.specs.Parser.{certificateBuffer}
 use Rattle.reader.proofs.Answers.{got, lost, reached-got, reached-lost, in-range}
@@ -13,7 +14,7 @@ enum-known-version : tie.Need-enum-known-version
 enum-known-version c = search needs
 
 returns : tie.Need-returns
-returns c = let a = c .before .before .before .before .before .args in lost-version (a .cert .now) (a .variables) (a .states) (lost (c .before .before .before .read-ranged .ensures) (c .before .version .given .1))
+returns c = let a = c .before .before .before .before .before .args in (lost-version (a .cert .now) (a .variables) (a .states) (lost (c .before .before .before .read-ranged .ensures) (c .before .version .given .1)), refl)
 
 enum-known-version-2 : tie.Need-enum-known-version-2
 enum-known-version-2 c = search needs
@@ -37,10 +38,10 @@ enum-known-r-2 : tie.Need-enum-known-r-2
 enum-known-r-2 c = search needs
 
 returns-2 : tie.Need-returns-2
-returns-2 c = let a = c .before .before .before .before .before .before .before .before .before .args in lost-number (a .cert .now) (a .variables) (a .states) (got (c .before .before .before .before .before .before .before .read-ranged .ensures) (c .before .before .before .before .before .version2 .given .1)) (lost (c .before .before .before .read-ranged2 .ensures) (c .before .number .given .1))
+returns-2 c = let a = c .before .before .before .before .before .before .before .before .before .args in (lost-number (a .cert .now) (a .variables) (a .states) (got (c .before .before .before .before .before .before .before .read-ranged .ensures) (c .before .before .before .before .before .version2 .given .1)) (lost (c .before .before .before .read-ranged2 .ensures) (c .before .number .given .1)), refl)
 
 returns-3 : tie.Need-returns-3
-returns-3 c = let a = c .before .before .before .before .before .before .before .before .before .before .before .before .before .before .args in lost-member (a .cert .now) (a .variables) (a .states) (got (c .before .before .before .before .before .before .before .before .before .before .before .before .read-ranged .ensures) (c .before .before .before .before .before .before .before .before .before .before .version2 .given .1)) (got (c .before .before .before .before .before .before .before .before .read-ranged2 .ensures) (c .before .before .before .before .before .before .number2 .given .1)) (reached-lost (c .before .before .before .note-members .ensures .0) (c .before .r .given .1))
+returns-3 c = let a = c .before .before .before .before .before .before .before .before .before .before .before .before .before .before .args in (lost-member (a .cert .now) (a .variables) (a .states) (got (c .before .before .before .before .before .before .before .before .before .before .before .before .read-ranged .ensures) (c .before .before .before .before .before .before .before .before .before .before .version2 .given .1)) (got (c .before .before .before .before .before .before .before .before .read-ranged2 .ensures) (c .before .before .before .before .before .before .number2 .given .1)) (reached-lost (c .before .before .before .note-members .ensures .0) (c .before .r .given .1)), rw (c .before .r .given .1) at (c .before .before .before .note-members .ensures .1))
 
 returns-4 : tie.Need-returns-4
 returns-4 c = let a = c .before .before .before .before .before .before .before .before .before .before .before .before .before .before .args in members-made (a .cert .now) (a .variables) (a .states) (got (c .before .before .before .before .before .before .before .before .before .before .before .before .read-ranged .ensures) (c .before .before .before .before .before .before .before .before .before .before .version2 .given .1)) (got (c .before .before .before .before .before .before .before .before .read-ranged2 .ensures) (c .before .before .before .before .before .before .number2 .given .1)) (a .starts .now) _ _ (reached-got (c .before .before .before .note-members .ensures .0) (c .before .r2 .given .1)) (rw (c .before .r2 .given .1) at (c .before .before .before .note-members .ensures .1)) (c .before .before .before .before .note-members-arg .given .0 .1)
