@@ -21,16 +21,26 @@ sub-i : tie.Need-sub-i Inv-loop μ-loop
 sub-i c = search needs
 
 cast-i : tie.Need-cast-i Inv-loop μ-loop
-cast-i c = let b = chain-below (c .before .loop .inv) (omega arith) in omega (arith, c .before .before .before .before .pre .0 .transitions-number)
+cast-i c =
+    let b = chain-below (c .before .loop .inv) (omega arith) in
+    omega (arith, c .before .before .before .before .pre .0 .transitions-number)
 
 mul-at : tie.Need-mul-at Inv-loop μ-loop
-mul-at c = let b = chain-below (c .before .loop .inv) (omega arith) in omega (arith, c .before .before .before .before .pre .0 .transitions-number)
+mul-at c =
+    let b = chain-below (c .before .loop .inv) (omega arith) in
+    omega (arith, c .before .before .before .before .pre .0 .transitions-number)
 
 add-at : tie.Need-add-at Inv-loop μ-loop
-add-at c = let b = c .before .before .before .before .before .pre .0 .transitions (c .before .before .loop .k - 1) (chain-below (c .before .before .loop .inv) (omega arith)) in omega arith
+add-at c =
+    let b = c .before .before .before .before .before .pre .0 .transitions (c .before .before .loop .k - 1) (chain-below (c .before .before .loop .inv) (omega arith)) in
+    omega arith
 
 take-transition-requires : tie.Need-take-transition-requires Inv-loop μ-loop
-take-transition-requires c κs = let l = c .before .before .loop in let p = c .before .before .before .before .before .pre in let b = p .0 .transitions (l .k - 1) (chain-below (l .inv) (omega arith)) in (b .inside, b .operands, p .3, p .4, p .5, l .inv .progress .within)
+take-transition-requires c κs =
+    let l = c .before .before .loop in
+    let p = c .before .before .before .before .before .pre in
+    let b = p .0 .transitions (l .k - 1) (chain-below (l .inv) (omega arith)) in
+    (b .inside, b .operands, p .3, p .4, p .5, l .inv .progress .within)
 
 enum-known-g : tie.Need-enum-known-g Inv-loop μ-loop
 enum-known-g c = search needs
@@ -42,10 +52,14 @@ returns : tie.Need-returns Inv-loop μ-loop
 returns c = chain-halt (c .before .before .before .before .before .loop .inv) (omega arith) (c .before .before .take-transition .ensures) (c .enum-told .given .1)
 
 mul-k : tie.Need-mul-k Inv-loop μ-loop
-mul-k c = let b = chain-below (c .before .before .before .before .before .before .loop .inv) (omega arith) in omega (arith, c .before .before .before .before .before .before .before .before .before .pre .0 .transitions-number)
+mul-k c =
+    let b = chain-below (c .before .before .before .before .before .before .loop .inv) (omega arith) in
+    omega (arith, c .before .before .before .before .before .before .before .before .before .pre .0 .transitions-number)
 
 element-copy-out-k : tie.Need-element-copy-out-k Inv-loop μ-loop
-element-copy-out-k c = let b = chain-below (c .before .before .before .before .before .before .loop .inv) (omega arith) in omega (arith, c .before .before .before .before .before .before .before .before .before .pre .0 .transitions-number)
+element-copy-out-k c =
+    let b = chain-below (c .before .before .before .before .before .before .loop .inv) (omega arith) in
+    omega (arith, c .before .before .before .before .before .before .before .before .before .pre .0 .transitions-number)
 
 loop-less : tie.Need-loop-less Inv-loop μ-loop
 loop-less c = chain-less (c .before .before .before .before .before .before .before .loop .inv) (omega arith) (c .before .before .before .before .before .before .before .before .before .before .args .nexts .now) (c .before .before .before .before .before .before .before .before .before .before .pre .1)
