@@ -25,54 +25,54 @@ left-from : (count k : ℕ) → 0 < k → leftFrom count k ≡ count - (k - 1)
 left-from count zero h = absurd (omega arith)
 left-from count (suc i) h = omega arith
 
-module _ (job : List ℕ) (h : Header) (cert : List ℕ) (ms : List Located) (m : Located) (from : Taken) where
-  -- covers are taken for the transitions below `passed`; k names the first into the member's state among the others
-  pub record Chain (k : ℕ) (t : Taken) : Type 0 where
-    pub passed : ℕ
-    pub inside : passed ≤ h .transitions
-    pub named : k ≡ nextInto (toState job h) (m .state) (h .transitions - passed) passed
-    pub progress : Progress cert ms (owedBy job h m) from (owedFrom (transitionIn job h) m (h .transitions - passed) passed) t
+-- covers are taken for the transitions below `passed`; k names the first into the member's state among the others
+pub record Chain (job : List ℕ) (h : Header) (cert : List ℕ) (ms : List Located) (m : Located) (from : Taken) (k : ℕ) (t : Taken) : Type 0 where
+  pub passed : ℕ
+  pub inside : passed ≤ h .transitions
+  pub named : k ≡ nextInto (toState job h) (m .state) (h .transitions - passed) passed
+  pub progress : Progress cert ms (owedBy job h m) from (owedFrom (transitionIn job h) m (h .transitions - passed) passed) t
 
-  pub chain-begin : (k : ℕ) → k ≡ nextInto (toState job h) (m .state) (h .transitions) 0 → Within cert from → Chain k from
-  chain-begin k e w =
+module _ {job : List ℕ} {h : Header} {cert : List ℕ} {ms : List Located} {m : Located} {from : Taken} where
+  pub chain-begin : {k : ℕ} → k ≡ nextInto (toState job h) (m .state) (h .transitions) 0 → Within cert from → Chain job h cert ms m from k from
+  chain-begin e w =
       let all : h .transitions - 0 ≡ h .transitions = omega arith in
-      record { passed = 0; inside = omega arith; named = rw all e; progress = rw all (begin cert ms (owedBy job h m) from w) }
+      record { passed = 0; inside = omega arith; named = rw all e; progress = rw all (begin w) }
 
-  pub chain-end : (k : ℕ) (t : Taken) → Chain k t → k ≤ 0
-      → TakesAll cert ms (owedBy job h m) from (On t)
-  chain-end k t c e =
+  pub chain-end : {k : ℕ} {t : Taken} → Chain job h cert ms m from k t → k ≤ 0 → TakesAll cert ms (owedBy job h m) from (On t)
+  chain-end c e =
       let none = none-into (transitionIn job h) m (h .transitions - c .passed) (c .passed) (sym (c .named) ∙ omega arith) in
-      finish cert ms (owedBy job h m) from t (rw none at (c .progress))
+      finish (rw none at (c .progress))
 
-  module _ (k : ℕ) (t : Taken) (c : Chain k t) (some : 0 < k) where
+  module _ {k : ℕ} {t : Taken} (c : Chain job h cert ms m from k t) (some : 0 < k) where
+    abbrev here : List Located
+    here = before m (transitionIn job h (k - 1))
+
+    abbrev rest : List Located
+    rest = owedFrom (transitionIn job h) m (h .transitions - suc (k - 1)) (suc (k - 1))
+
     first : FirstInto (transitionIn job h) m (h .transitions - c .passed) (c .passed) (k - 1)
     first = some-into (transitionIn job h) m (h .transitions - c .passed) (c .passed) (k - 1) (sym (c .named) ∙ omega arith)
 
     pub chain-below : k - 1 < h .transitions
     chain-below = omega (arith, first .below, c .inside)
 
-    rest : List Located
-    rest = owedFrom (transitionIn job h) m (h .transitions - suc (k - 1)) (suc (k - 1))
-
-    here : Progress cert ms (owedBy job h m) from (before m (transitionIn job h (k - 1)) ++ rest) t
-    unfolding rest
-    here =
+    left : Progress cert ms (owedBy job h m) from (here ++ rest) t
+    left =
         let same : c .passed + (h .transitions - c .passed) - suc (k - 1) ≡ h .transitions - suc (k - 1) = omega (arith, c .inside) in
         rw same at (rw (first .owes) at (c .progress))
 
-    module _ (g : Going) (taken : TakesAll cert ms (before m (transitionIn job h (k - 1))) t g) where
-      pub chain-halt : (r : Refusal) (place : ℕ) → g ≡ Refused r place
-          → TakesAll cert ms (owedBy job h m) from g
-      chain-halt r place e = halt cert ms (owedBy job h m) from (before m (transitionIn job h (k - 1))) rest t here g r place e taken
+    module _ {g : Going} (taken : TakesAll cert ms here t g) where
+      pub chain-halt : {r : Refusal} {place : ℕ} → g ≡ Refused r place → TakesAll cert ms (owedBy job h m) from g
+      chain-halt e = halt here rest left taken e
 
-      pub chain-more : (nexts : List ℕ) (u : Taken) → Follows (toState job h) (h .transitions) 0 nexts → g ≡ On u → Chain (getD nexts (k - 1) 0) u
-      unfolding rest
-      chain-more nexts u follows e =
+      pub chain-more : (nexts : List ℕ) → Follows (toState job h) (h .transitions) 0 nexts → {u : Taken} → g ≡ On u
+          → Chain job h cert ms m from (getD nexts (k - 1) 0) u
+      chain-more nexts follows e =
           record {
             passed = suc (k - 1);
             inside = chain-below;
             named = rw (← first .into) (follows (k - 1) (omega arith) chain-below);
-            progress = advance cert ms (owedBy job h m) from (before m (transitionIn job h (k - 1))) rest t here g u e taken;
+            progress = advance here rest left taken e;
           }
 
     pub chain-less : (nexts : List ℕ) → Follows (toState job h) (h .transitions) 0 nexts → leftFrom (h .transitions) (getD nexts (k - 1) 0) < leftFrom (h .transitions) k

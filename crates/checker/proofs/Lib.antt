@@ -1,9 +1,9 @@
 pub mod CoverReading
 pub mod CoverTaking
 pub mod CoverPlace
-pub mod Taking
 pub mod Lists
-pub mod Turning
+pub mod Taking
+pub mod Takes
 pub mod Trying
 pub mod Places
 pub mod Operands

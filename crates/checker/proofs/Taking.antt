@@ -10,7 +10,7 @@ use Rattle.format.specs.Parser.{Parsed, parsed, fault, onward, many, each, with
 use Rattle.verdict.specs.declared.Refusal.{Refusal}
 use Rattle.format.proofs.Parsing.{then}
 use Rattle.checker.proofs.CoverPlace.{cover-place}
-use Rattle.checker.specs.Taking.{takeAll, goingOf, Within, TakesAll}
+use Rattle.checker.specs.Taking.{takeAll, goingOf, Within, StaysWithin, TakesAll}
 use Rattle.checker.specs.declared.going.Going.{Going}
 use Rattle.checker.specs.declared.going.Going.the-variants.{On, Refused}
 use Rattle.checker.specs.declared.going.Taken.{Taken}
@@ -66,29 +66,35 @@ module _ (cert : List ℕ) (ms : List Located) where
       then (readCover (certificateBuffer cert) ms o at) _
       (λ u a h₁ h₂. let (p, q) = cover-place (certificateBuffer cert) ms o at h₁ in takeAll-inside os (suc covers) a c next h₂ (omega arith) q) e
 
-  -- ---- taking some, and then the rest
+  -- covers that were taken leave the next place within the certificate
+  pub stays : (os : List Located) (t : Taken) → Within cert t → (g : Going) → goingOf g ≡ takeAll cert ms os (t .covers) (t .at) → StaysWithin cert g
+  stays os t w (On u) e =
+      let (p, q) = takeAll-inside os (t .covers) (t .at) (u .covers) (u .at) (sym e) (w .counted) (w .inside) in
+      record { counted = p; inside = q; fits = w .fits }
+  stays os t w (Refused r place) e = tt
 
-  -- t is reached from `from`; `rest` is left of all
-  pub record Progress (all : List Located) (from : Taken) (rest : List Located) (t : Taken) : Type 0 where
-    pub within : Within cert t
-    pub left : takeAll cert ms rest (t .covers) (t .at) ≡ takeAll cert ms all (from .covers) (from .at)
+-- ---- taking some, and then the rest
 
-  pub begin : (all : List Located) (from : Taken) → Within cert from → Progress all from all from
-  begin all from w = record { within = w; left = refl }
+-- t is reached from `from`; `rest` is left of all
+pub record Progress (cert : List ℕ) (ms all : List Located) (from : Taken) (rest : List Located) (t : Taken) : Type 0 where
+  pub within : Within cert t
+  pub left : takeAll cert ms rest (t .covers) (t .at) ≡ takeAll cert ms all (from .covers) (from .at)
 
-  module _ (all : List Located) (from : Taken) (os rest : List Located) (t : Taken) (p : Progress all from (os ++ rest) t) where
-    -- what is left, after an answer for some of it
-    after : (r : Parsed ℕ) → r ≡ takeAll cert ms os (t .covers) (t .at) → onward r (takeAll cert ms rest) ≡ takeAll cert ms all (from .covers) (from .at)
-    after r e = ap (λ q. onward q (takeAll cert ms rest)) e ∙ sym (takeAll-append os rest (t .covers) (t .at)) ∙ p .left
+module _ {cert : List ℕ} {ms all : List Located} {from : Taken} where
+  pub begin : Within cert from → Progress cert ms all from all from
+  begin w = record { within = w; left = refl }
 
-    -- some of what was left is taken
-    pub advance : (g : Going) (u : Taken) → g ≡ On u → TakesAll cert ms os t g → Progress all from rest u
-    advance g u g-is (e, w) = record { within = rw g-is at w; left = after (goingOf (On u)) (rw g-is at e) }
-
-    -- or refused, which ends it all
-    pub halt : (g : Going) (r : Refusal) (place : ℕ) → g ≡ Refused r place → TakesAll cert ms os t g → TakesAll cert ms all from g
-    halt g r place g-is (e, w) = rw g-is (after (goingOf (Refused r place)) (rw g-is at e), tt)
-
-  pub finish : (all : List Located) (from t : Taken) → Progress all from [] t → TakesAll cert ms all from (On t)
+  pub finish : {t : Taken} → Progress cert ms all from [] t → TakesAll cert ms all from (On t)
   unfolding takeAll
-  finish all from t p = (p .left, p .within)
+  finish p = (p .left, p .within)
+
+  -- some of what is left is taken, or refused
+  module _ (os rest : List Located) {t : Taken} (p : Progress cert ms all from (os ++ rest) t) where
+    after : (r : Parsed ℕ) → r ≡ takeAll cert ms os (t .covers) (t .at) → onward r (takeAll cert ms rest) ≡ takeAll cert ms all (from .covers) (from .at)
+    after r e = ap (λ q. onward q (takeAll cert ms rest)) e ∙ sym (takeAll-append cert ms os rest (t .covers) (t .at)) ∙ p .left
+
+    pub advance : {g : Going} {u : Taken} → TakesAll cert ms os t g → g ≡ On u → Progress cert ms all from rest u
+    advance {u = u} (e, w) g-is = record { within = rw g-is at w; left = after (goingOf (On u)) (rw g-is at e) }
+
+    pub halt : {g : Going} {r : Refusal} {place : ℕ} → TakesAll cert ms os t g → g ≡ Refused r place → TakesAll cert ms all from g
+    halt {r = r} {place} (e, w) g-is = rw g-is (after (goingOf (Refused r place)) (rw g-is at e), tt)

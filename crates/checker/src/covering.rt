@@ -65,7 +65,9 @@ fn vars_fit(cert: &[u8], first: usize, count: usize, images: &[u8; 15], vars: &[
     let mut i = 0;
     while i < count {
         let p = wide(cert[first + i]);
-        if p != 0 && vars[i + 1] != images[p] {
+        let have = vars[i + 1];
+        let want = images[p];
+        if p != 0 && have != want {
             fit = false;
         }
         i += 1;

@@ -119,6 +119,6 @@ pub fn check(job: &[u8], cert: &[u8]) -> Verdict
     let r = read_job(job);
     match r {
         JobAnswer::Refused(why, place) => Verdict::Refused(why, place),
-        JobAnswer::Read(h) => check_certificate(job, h, cert),
+        JobAnswer::Job(h) => check_certificate(job, h, cert),
     }
 }

@@ -20,7 +20,7 @@ ghost use Rattle.checker.specs.Jobs.{toState, fileIn, owedBy};
 ghost use Rattle.checker.specs.Taking.{takeAll, goingOf, Within, located, TakesAll, Takes};
 ghost use Rattle.kinds.specs.Kinds.{allowed};
 ghost use Rattle.layout.specs.Arrays.{shapeIn, Hold};
-ghost use Rattle.layout.specs.Entries.{Entry, locatedAt, entriesAt, EntriesIn, membersAt, Table};
+ghost use Rattle.layout.specs.Entries.{Entry, entryEnd, locatedAt, entriesAt, EntriesIn, membersAt, Table};
 ghost use Rattle.layout.specs.Transitions.{opOf, transitionAt};
 ghost use Rattle.order.specs.Index.{nextInto, Follows, Linked};
 ghost use Rattle.reader.specs.Job.{JobRead};
@@ -54,6 +54,14 @@ fn take_bad(
     )
 }
 
+// The place after the entry at a place of the job.
+fn entry_end(job: &[u8], at: usize, variables: usize) -> usize
+    requires { ⌜ Entry (now job) variables at ⌝ }
+    ensures { λ r. ⌜ r ≡ entryEnd (now (job .entry)) variables at ⌝ }
+{
+    at + 2 + variables + job[at + 1] as usize
+}
+
 // Covers of so many forbidden shapes, from a place of the job on.
 pub(crate) fn take_bads(
     job: &[u8],
@@ -77,7 +85,7 @@ pub(crate) fn take_bads(
             return g;
         };
         t = u;
-        at = at + 2 + variables + job[at + 1] as usize;
+        at = entry_end(job, at, variables);
         i += 1;
     }
     Going::On(t)

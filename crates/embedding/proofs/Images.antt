@@ -40,9 +40,6 @@ module _ (count n : ℕ) (codes : List ℕ) (m : Images count n codes) where
   image-of (suc (suc zero)) b = m .dangling-fixed
   image-of (suc (suc (suc i))) b = let z : i + 3 ≡ cell i = omega arith in rw z at (sym (image-at i (omega arith)))
 
-  pub image-below : (i : ℕ) → i < count → getD (imagesIn count codes) i 0 < n
-  image-below i b = omega (arith, image-at i b, m .high i b)
-
 pub images-none : (n : ℕ) → Images 0 n (0 ∷ 1 ∷ 2 ∷ zeros 12)
 images-none n =
     record {

@@ -1,11 +1,11 @@
 -- The test of the variables.
-use mathlib.Core.Bool.{Bool, true, false, _&&_}
+use mathlib.Core.Bool.{Bool, true, false, _&&_, not}
 use mathlib.Core.List.{List}
 use mathlib.Core.Logic.{_≢_}
 use mathlib.Core.Path.{_≡_, refl, sym, ap, _∙_}
 use Prim.Native.Nat.{ℕ, _+_, _-_, _≤_, _<_}
 use native.Mathlib.Omega.{arith}
-use borrow.Author.Tests.{eq-eqb, ne-eqb}
+use borrow.Author.Tests.{eq-eqb, ne-eqb, not-true, not-false}
 use lib.Dec.{eqb}
 use lib.ListN.{getD}
 use Rattle.lists.specs.Test.{allFrom}
@@ -23,11 +23,11 @@ module _ (cert : List ℕ) (first : ℕ) (codes vars : List ℕ) (i p : ℕ) (e 
   pub unplaced : p ≡ nowhere → varFitsIn cert first codes vars i ≡ true
   unplaced z = rw (← e) (rw (eq-eqb p nowhere z) refl)
 
-  pub at-image : getD vars (i + 1) 0 ≡ getD codes p 0 → varFitsIn cert first codes vars i ≡ true
-  at-image z = rw (← e) (rw (eq-eqb (getD vars (i + 1) 0) (getD codes p 0) z) (or-true (eqb p nowhere)))
+  pub at-image : not (eqb (getD vars (i + 1) 0) (getD codes p 0)) ≡ false → varFitsIn cert first codes vars i ≡ true
+  at-image z = rw (← e) (rw (not-false (eqb (getD vars (i + 1) 0) (getD codes p 0)) z) (or-true (eqb p nowhere)))
 
-  pub elsewhere : p ≢ nowhere → getD vars (i + 1) 0 ≢ getD codes p 0 → varFitsIn cert first codes vars i ≡ false
-  elsewhere n m = rw (← e) (rw (ne-eqb p nowhere n, ne-eqb (getD vars (i + 1) 0) (getD codes p 0) m) refl)
+  pub elsewhere : p ≢ nowhere → not (eqb (getD vars (i + 1) 0) (getD codes p 0)) ≡ true → varFitsIn cert first codes vars i ≡ false
+  elsewhere n z = rw (← e) (rw (ne-eqb p nowhere n, not-true (eqb (getD vars (i + 1) 0) (getD codes p 0)) z) refl)
 
 -- ---- a loop that takes every test and keeps whether all held
 

@@ -3,7 +3,6 @@ use mathlib.Core.List.{List, []}
 use mathlib.Core.Option.{none, some}
 use mathlib.Core.Path.{_≡_, refl, sym, ap, _∙_}
 use Prim.Native.Nat.{ℕ, _≤_, _<_}
-use native.Mathlib.Omega.{arith}
 use Rattle.lists.proofs.Reflect.{r-le, r-lt, r-and, cond-true, cond-false}
 use Rattle.number.specs.Number.{numberAt}
 use Rattle.number.specs.declared.Read.the-variants.{Number, Unreadable}
@@ -13,9 +12,7 @@ use Rattle.verdict.specs.Verdict.{refusalNumber, reachedOf}
 use Rattle.verdict.specs.declared.Reached.{Reached}
 use Rattle.verdict.specs.declared.Reached.the-variants.{At, Refused as ReachedRefused}
 use Rattle.verdict.specs.declared.Refusal.{Refusal}
-use Rattle.reader.specs.Job.{refusedFront}
 use Rattle.reader.specs.Number.{bufferOf, rangedOf, forget}
-use Rattle.reader.specs.declared.Front.{Front}
 use Rattle.reader.specs.declared.Ranged.{Ranged}
 use Rattle.reader.specs.declared.Ranged.the-variants.{Value, Refused}
 use Rattle.reader.specs.declared.Side.{Side}
@@ -34,10 +31,6 @@ module _ {r : Ranged} {x : Parsed ℕ} (h : rangedOf r ≡ x) where
   pub passed : {y : Parsed (Unit {0})} {why : Refusal} {place : ℕ} → y ≡ forget (rangedOf r) → r ≡ Refused why place
       → y ≡ fault (refusalNumber why) place
   passed k e = k ∙ ap (λ y. forget (rangedOf y)) e
-
-  pub stopped : {y : Parsed Front} {why : Refusal} {place : ℕ} → y ≡ refusedFront (rangedOf r) → r ≡ Refused why place
-      → y ≡ fault (refusalNumber why) place
-  stopped k e = k ∙ ap (λ y. refusedFront (rangedOf y)) e
 
 -- ---- a place that was reached, or a refusal
 

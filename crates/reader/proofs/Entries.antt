@@ -7,7 +7,7 @@ use Rattle.heap.specs.Place.{cell}
 use Rattle.shape.specs.Shape.{Shape}
 use Rattle.run.specs.Run.{Located}
 use Rattle.format.specs.Job.{readShape, readLocated}
-use Rattle.format.specs.Parser.{Parsed, parsed, fault, onward, many, Buffer, ranged}
+use Rattle.format.specs.Parser.{parsed, fault, onward, many, Buffer, ranged}
 use Rattle.reader.specs.Number.{forget}
 use Rattle.reader.proofs.Many.{remembered, forget-fault, forget-made}
 

@@ -1,64 +1,67 @@
 -- Reading a job, part after part.
 use mathlib.Core.List.{List}
-use mathlib.Core.Path.{_≡_, refl, sym, ap, _∙_}
-use Prim.Native.Nat.{ℕ, _+_, _≤_, _<_}
+use mathlib.Core.Path.{_≡_, refl}
+use Prim.Native.Nat.{ℕ, _≤_, _<_}
 use native.Mathlib.Omega.{arith}
 use borrow.Author.Tests.{le-leb, lt-leb}
 use lib.ListN.{length}
-use Rattle.run.specs.Run.{Transition}
-use Rattle.format.specs.Job.{JobFile, readLocated, readTransition, readJob, readWholeJob}
-use Rattle.format.specs.Parser.{Parsed, parsed, fault, Parser, onward, _>>=_, _>>_, return, many, Buffer, jobBuffer, ranged, end}
+use Rattle.format.specs.Job.{readLocated}
+use Rattle.format.specs.Parser.{parsed, fault, many, Buffer, jobBuffer, ranged, end}
 use Rattle.format.proofs.Parsing.{then}
-use Rattle.reader.specs.Job.{readFront, readRest}
+use Rattle.reader.specs.Job.{readCounts, readFront, readRest}
 use Rattle.reader.specs.Number.{forget}
 use Rattle.reader.specs.declared.Front.{Front}
 use Rattle.reader.proofs.Answers.{in-range}
-use Rattle.reader.proofs.Many.{remembered, forget-fault, forget-onward, bind-assoc}
+use Rattle.reader.proofs.Many.{remembered, forget-fault}
 
 -- ---- the numbers before the transitions
+
+module _ (s : Buffer) (variables at : ℕ) where
+  pub lost-states : {number place : ℕ} → ranged s 1 65 at ≡ fault number place → fault number place ≡ readCounts s variables at
+  unfolding readCounts
+  lost-states e = rw e refl
+
+  module _ {states p₁ : ℕ} (e₁ : ranged s 1 65 at ≡ parsed states p₁) where
+    pub lost-start : {number place : ℕ} → ranged s 0 states p₁ ≡ fault number place → fault number place ≡ readCounts s variables at
+    unfolding readCounts
+    lost-start e = rw (e₁, e) refl
+
+    module _ {start p₂ : ℕ} (e₂ : ranged s 0 states p₁ ≡ parsed start p₂) where
+      pub lost-count : {number place : ℕ} → ranged s 0 257 p₂ ≡ fault number place → fault number place ≡ readCounts s variables at
+      unfolding readCounts
+      lost-count e = rw (e₁, e₂, e) refl
+
+      pub counts-made : {count p₃ : ℕ} → ranged s 0 257 p₂ ≡ parsed count p₃
+          → parsed (record { variables = variables; states = states; start = start; transitions = count; at = p₃ }) p₃ ≡ readCounts s variables at
+      unfolding readCounts
+      counts-made e = rw (e₁, e₂, e) refl
 
 module _ (s : Buffer) (at : ℕ) where
   pub lost-version : {number place : ℕ} → ranged s 1 2 at ≡ fault number place → fault number place ≡ readFront s at
   unfolding readFront
   lost-version e = rw e refl
 
-  module _ {version p₁ : ℕ} (e₁ : ranged s 1 2 at ≡ parsed version p₁) where
-    pub lost-variables : {number place : ℕ} → ranged s 1 9 p₁ ≡ fault number place → fault number place ≡ readFront s at
+  module _ {version p : ℕ} (e₁ : ranged s 1 2 at ≡ parsed version p) where
+    pub lost-variables : {number place : ℕ} → ranged s 1 9 p ≡ fault number place → fault number place ≡ readFront s at
     unfolding readFront
     lost-variables e = rw (e₁, e) refl
 
-    module _ {variables p₂ : ℕ} (e₂ : ranged s 1 9 p₁ ≡ parsed variables p₂) where
-      pub lost-states : {number place : ℕ} → ranged s 1 65 p₂ ≡ fault number place → fault number place ≡ readFront s at
-      unfolding readFront
-      lost-states e = rw (e₁, e₂, e) refl
+    pub counts-last : {variables q : ℕ} → ranged s 1 9 p ≡ parsed variables q → readCounts s variables q ≡ readFront s at
+    unfolding readFront
+    counts-last e = rw (e₁, e) refl
 
-      module _ {states p₃ : ℕ} (e₃ : ranged s 1 65 p₂ ≡ parsed states p₃) where
-        pub lost-start : {number place : ℕ} → ranged s 0 states p₃ ≡ fault number place → fault number place ≡ readFront s at
-        unfolding readFront
-        lost-start e = rw (e₁, e₂, e₃, e) refl
-
-        module _ {start p₄ : ℕ} (e₄ : ranged s 0 states p₃ ≡ parsed start p₄) where
-          pub lost-count : {number place : ℕ} → ranged s 0 257 p₄ ≡ fault number place → fault number place ≡ readFront s at
-          unfolding readFront
-          lost-count e = rw (e₁, e₂, e₃, e₄, e) refl
-
-          pub front-made : {count p₅ : ℕ} → ranged s 0 257 p₄ ≡ parsed count p₅
-              → parsed (record { variables = variables; states = states; start = start; transitions = count; at = p₅ }) p₅ ≡ readFront s at
-          unfolding readFront
-          front-made e = rw (e₁, e₂, e₃, e₄, e) refl
-
-pub front-variables : (s : Buffer) (at : ℕ) (f : Front) (next : ℕ) → readFront s at ≡ parsed f next → f .variables ≤ 8
-unfolding readFront
-front-variables s at f next =
-    then (ranged s 1 2 at) _
-    (λ version p₁ h₁. then (ranged s 1 9 p₁) _
-    (λ variables p₂ h₂. then (ranged s 1 65 p₂) _
-    (λ states p₃ h₃. then (ranged s 0 states p₃) _
-    (λ start p₄ h₄. then (ranged s 0 257 p₄) _
-    (λ transitions p₅ h₅ r.
-    let (_, most) = in-range s 1 9 p₁ variables p₂ h₂ in
-    let same : variables ≡ f .variables = cc in
-    omega arith)))))
+  pub front-variables : (f : Front) (next : ℕ) → readFront s at ≡ parsed f next → f .variables ≤ 8
+  unfolding readFront readCounts
+  front-variables f next =
+      then (ranged s 1 2 at) _
+      (λ version p₁ h₁. then (ranged s 1 9 p₁) _
+      (λ variables p₂ h₂. then (ranged s 1 65 p₂) _
+      (λ states p₃ h₃. then (ranged s 0 states p₃) _
+      (λ start p₄ h₄. then (ranged s 0 257 p₄) _
+      (λ transitions p₅ h₅ r.
+      let (_, most) = in-range s 1 9 p₁ variables p₂ h₂ in
+      let same : variables ≡ f .variables = cc in
+      omega arith)))))
 
 -- ---- what follows the transitions
 

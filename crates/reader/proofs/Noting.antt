@@ -10,18 +10,18 @@ use lib.Seq.{length-take-le, take-suc-set, drop-set-lt, drop-drop, getD-take}
 use Rattle.lists.specs.Range.{range}
 use Rattle.lists.proofs.Range.{tabled}
 use Rattle.run.specs.Run.{Located}
-use Rattle.format.specs.Certificate.{Member, withoutPlaces, readMember, readMembers}
+use Rattle.format.specs.Certificate.{Member, readMember, readMembers}
 use Rattle.format.specs.Job.{readLocated}
-use Rattle.format.specs.Parser.{Parsed, parsed, fault, Buffer, certificateBuffer, many, ranged}
+use Rattle.format.specs.Parser.{parsed, fault, Buffer, certificateBuffer, many, ranged}
 use Rattle.format.proofs.Covers.{members-sound}
 use Rattle.format.proofs.Parsing.{ranged-exact}
 use Rattle.format.proofs.Sequence.{reads-one}
-use Rattle.layout.specs.Entries.{locatedAt, Entry, entryEnd, placesAt, EntriesIn, membersAt}
+use Rattle.layout.specs.Entries.{locatedAt, Entry, entryEnd, placesAt, EntriesIn}
 use Rattle.reader.specs.Members.{Bounds, Noted, MembersRead}
 use Rattle.reader.specs.Number.{forget}
 use Rattle.reader.proofs.Bytes.{reads-inside, number-inside}
-use Rattle.reader.proofs.Many.{remembered, forget-fault, forget-made, many-length, Left, left-none, left-more, left-all}
-use Rattle.reader.proofs.Standing.{EntryRead, entry-read, members-read}
+use Rattle.reader.proofs.Many.{remembered, forget-fault, forget-made, many-length, Left, left-none, left-more}
+use Rattle.reader.proofs.Standing.{entry-read, members-read}
 
 -- the values of f at the first elements, by their index
 map-take : {B : Type 0} (f : ℕ → B) (n : ℕ) (l : List ℕ) → n ≤ length l → map f (take n l) ≡ map (λ i. f (getD l i 0)) (range 0 n)
@@ -134,6 +134,7 @@ module _ (cert : List ℕ) (variables states : ℕ) where
             number = many-length (readMember s variables states) count first ms next g;
             number-range = (low, omega arith);
             inside = reads-inside (members-sound s variables states 0 ms next read .0) (omega arith);
+            size = n .size;
             places-are = λ b. members-read s variables states (b .states-most) count first ms next first-inside g .places ∙ sym (n .places b);
             members-are = λ b.
                 members-read s variables states (b .states-most) count first ms next first-inside g .located

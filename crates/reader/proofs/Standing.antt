@@ -1,7 +1,6 @@
 -- Where what was read stands in the buffer.
 use mathlib.Core.Bool.{true}
 use mathlib.Core.List.{List, [], _∷_, _++_, map}
-use mathlib.Core.Option.{some}
 use mathlib.Core.Path.{_≡_, refl, sym, ap, ap₂, subst, _∙_}
 use Prim.Native.Nat.{ℕ, zero, suc, _+_, _*_, _≤_, _<_}
 use native.Mathlib.Decide.{ℕ-discrete}
@@ -9,15 +8,15 @@ use native.Mathlib.Omega.{arith}
 use lib.ListN.{length, getD, take, drop}
 use Rattle.lists.specs.Range.{range}
 use Rattle.lists.proofs.Reflect.{r-le, r-and}
-use Rattle.heap.specs.Operation.{Op, Kind, kindOf}
-use Rattle.shape.specs.Shape.{Shape, size, InRange}
+use Rattle.heap.specs.Operation.{kindOf}
+use Rattle.shape.specs.Shape.{InRange}
 use Rattle.run.specs.Run.{Transition, Located}
 use Rattle.kinds.specs.Kinds.{mostB, isSome, allowed}
 use Rattle.kinds.proofs.Rows.{known}
 use Rattle.format.specs.Certificate.{Member, readMember}
 use Rattle.format.specs.Job.{readLocated, readTransition}
 use Rattle.format.specs.Parser.{parsed, many, Buffer}
-use Rattle.format.proofs.Files.{InTable, in-table, op-numbers, located-exact, transition-exact}
+use Rattle.format.proofs.Files.{in-table, op-numbers, located-exact, transition-exact}
 use Rattle.format.proofs.Parsing.{then}
 use Rattle.format.proofs.Sequence.{Reads, reads-first, reads-one, reads-split}
 use Rattle.layout.specs.Entries.{locatedAt, Entry, entryEnd, entriesAt, placesAt, EntriesIn}

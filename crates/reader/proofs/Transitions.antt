@@ -1,7 +1,7 @@
 -- Reading a transition, number after number, by the columns of the table of kinds.
 use mathlib.Core.Bool.{Bool, _&&_}
-use mathlib.Core.Logic.{_⊎_, inl, inr}
-use mathlib.Core.Option.{Option, none, some}
+use mathlib.Core.Logic.{inl, inr}
+use mathlib.Core.Option.{none, some}
 use mathlib.Core.Path.{_≡_, refl, sym, ap, _∙_}
 use Prim.Native.Nat.{ℕ, _+_, _≤_, _<_}
 use native.Mathlib.Decide.{decLe}
@@ -9,14 +9,12 @@ use native.Mathlib.Omega.{arith}
 use borrow.Author.Tests.{le-leb, lt-leb, lt-ltb, le-ltb}
 use lib.Dec.{leb, ltb}
 use Rattle.lists.proofs.Reflect.{r-le, r-lt, r-and, cond-true}
-use Rattle.number.specs.Number.{numberAt}
-use Rattle.number.specs.declared.Read.the-variants.{Number, Unreadable}
 use Rattle.heap.specs.Operation.{Kind, kindOf, allowsA, allowsB}
 use Rattle.run.specs.Run.{Transition}
 use Rattle.kinds.specs.Kinds.{leastA, leastB, mostB}
 use Rattle.kinds.proofs.Rows.{by-kind, no-kind, most-b-all, most-b-none}
 use Rattle.format.specs.Job.{readTransition}
-use Rattle.format.specs.Parser.{Parsed, parsed, fault, onward, Buffer, within, such, meant, readAs, ranged}
+use Rattle.format.specs.Parser.{parsed, fault, Buffer, within, such, meant, readAs, ranged}
 use Rattle.format.proofs.Parsing.{read-complete, read-outside, read-fault, Faulty, ranged-exact}
 use Rattle.format.proofs.Sequence.{reads-one}
 use Rattle.reader.specs.Number.{forget}

@@ -1,7 +1,7 @@
 -- A job is read by its parts.
 use mathlib.Core.List.{List}
-use mathlib.Core.Path.{_≡_, refl, sym, ap, subst, _∙_}
-use Prim.Native.Nat.{ℕ, _+_, _*_, _≤_, _<_}
+use mathlib.Core.Path.{_≡_, refl, sym, ap, _∙_}
+use Prim.Native.Nat.{ℕ, _≤_}
 use native.Mathlib.Omega.{arith}
 use lib.ListN.{length}
 use Rattle.run.specs.Run.{Transition, Located}
@@ -10,12 +10,12 @@ use Rattle.format.specs.Parser.{Parsed, parsed, fault, Parser, onward, _>>=_, _
 use Rattle.format.proofs.Files.{located-exact, transition-exact, job-exact, whole-sound, end-sound, end-complete}
 use Rattle.format.proofs.Parsing.{then, many-exact, ranged-exact}
 use Rattle.format.proofs.Sequence.{reads-one}
-use Rattle.reader.specs.Job.{readFront, readRest, RestAnswered, JobRead, JobAnswered}
+use Rattle.reader.specs.Job.{readCounts, readFront, readRest, RestAnswered, JobRead, JobAnswered}
 use Rattle.reader.specs.Number.{forget}
 use Rattle.reader.specs.declared.Front.{Front}
 use Rattle.reader.specs.declared.Header.{Header}
 use Rattle.reader.specs.declared.JobAnswer.{JobAnswer}
-use Rattle.reader.specs.declared.JobAnswer.the-variants.{Read, Refused}
+use Rattle.reader.specs.declared.JobAnswer.the-variants.{Job, Refused}
 use Rattle.reader.proofs.Bytes.{reads-inside, number-inside}
 use Rattle.reader.proofs.Many.{remembered, forget-fault, forget-onward, bind-assoc}
 use Rattle.reader.proofs.Standing.{entries-read, transitions-read}
@@ -35,7 +35,7 @@ module _ (job : List ℕ) where
   parts : readWholeJob (jobBuffer job) 0
       ≡ onward (readFront (jobBuffer job) 0)
       (λ f p. onward (many (f .transitions) (readTransition (jobBuffer job) (f .variables) (f .states)) p) (fileRest f))
-  unfolding readWholeJob readJob readFront fileRest
+  unfolding readWholeJob readJob readFront readCounts fileRest
   parts = simp bind-assoc
 
   -- the rest is read alike, whatever is made of it
@@ -124,5 +124,5 @@ module _ (job : List ℕ) where
           e
 
       pub answered : (r : JobAnswer) → RestAnswered job f at r → JobAnswered job r
-      answered (Read h) (next, e) = job-read h next e
+      answered (Job h) (next, e) = job-read h next e
       answered (Refused why place) e = rest-lost e

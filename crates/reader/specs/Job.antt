@@ -17,27 +17,27 @@ use Rattle.reader.specs.declared.FrontAnswer.{FrontAnswer}
 use Rattle.reader.specs.declared.FrontAnswer.the-variants.{Read as FrontRead, Refused as FrontRefused}
 use Rattle.reader.specs.declared.Header.{Header}
 use Rattle.reader.specs.declared.JobAnswer.{JobAnswer}
-use Rattle.reader.specs.declared.JobAnswer.the-variants.{Read, Refused}
+use Rattle.reader.specs.declared.JobAnswer.the-variants.{Job, Refused}
 
--- the numbers of a job before its transitions, and the place after them
-unfoldable pub readFront : Buffer → Parser Front
-readFront s = do
-  ranged s 1 2
-  variables ← ranged s 1 9
+-- the number of states, the start state and the number of transitions, after the number of variables; and the place after them
+unfoldable pub readCounts : Buffer → ℕ → Parser Front
+readCounts s variables = do
   states ← ranged s 1 65
   start ← ranged s 0 states
   transitions ← ranged s 0 257
   at ← here
   return (record { variables = variables; states = states; start = start; transitions = transitions; at = at })
 
+-- the numbers of a job before its transitions
+unfoldable pub readFront : Buffer → Parser Front
+readFront s = do
+  ranged s 1 2
+  variables ← ranged s 1 9
+  readCounts s variables
+
 abbrev pub frontOf : FrontAnswer → Parsed Front
 frontOf (FrontRead f) = parsed f (f .at)
 frontOf (FrontRefused r place) = fault (refusalNumber r) place
-
--- a refusal as it is; it is asked of no number that reads
-abbrev pub refusedFront : Parsed ℕ → Parsed Front
-refusedFront (parsed n next) = fault 4 next
-refusedFront (fault number place) = fault number place
 
 -- the transition at a place is whole and in range
 pub record TransitionIn (bytes : List ℕ) (variables states at : ℕ) : Type 0 where
@@ -83,9 +83,9 @@ readRest job f = do
       })
 
 abbrev pub RestAnswered : List ℕ → Front → ℕ → JobAnswer → Type 0
-RestAnswered job f at (Read h) = (next : ℕ) × (readRest job f at ≡ parsed h next)
+RestAnswered job f at (Job h) = (next : ℕ) × (readRest job f at ≡ parsed h next)
 RestAnswered job f at (Refused r place) = readRest job f at ≡ fault (refusalNumber r) place
 
 abbrev pub JobAnswered : List ℕ → JobAnswer → Type 0
-JobAnswered job (Read h) = JobRead job h
+JobAnswered job (Job h) = JobRead job h
 JobAnswered job (Refused r place) = readWholeJob (jobBuffer job) 0 ≡ fault (refusalNumber r) place

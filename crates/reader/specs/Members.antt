@@ -27,7 +27,7 @@ pub record Noted (cert : List ℕ) (variables states first count : ℕ) (before 
 
 abbrev pub NotedBy : List ℕ → ℕ → ℕ → ℕ → ℕ → List ℕ → List ℕ → Reached → Type 0
 NotedBy cert variables states first count before after (At next) = Noted cert variables states first count before after
-NotedBy cert variables states first count before after (ReachedRefused r place) = Unit {0}
+NotedBy cert variables states first count before after (ReachedRefused r place) = length after ≡ length before
 
 -- The certificate's first bytes are read as members, and the table has their first places. What the table held behind them stays.
 pub record MembersRead (cert : List ℕ) (variables states : ℕ) (before after : List ℕ) (count next : ℕ) : Type 0 where
@@ -36,13 +36,14 @@ pub record MembersRead (cert : List ℕ) (variables states : ℕ) (before after 
   pub number : length members ≡ count
   pub number-range : Between 1 512 count
   pub inside : next ≤ length cert
+  pub size : length after ≡ length before
   pub places-are : Bounds cert variables states → map (λ m. m .first) members ≡ take count after
   pub members-are : Bounds cert variables states → withoutPlaces members ≡ membersAt cert variables after count
   pub table : Bounds cert variables states → Table cert variables after count
   pub rest : drop count after ≡ drop count before
 
--- After a refusal the table's places are the program's choice.
+-- After a refusal what the table holds is the program's choice; its length is the same.
 abbrev pub MembersAnswered : List ℕ → ℕ → ℕ → List ℕ → List ℕ → MembersAnswer → Type 0
 MembersAnswered cert variables states before after (Members count next) = MembersRead cert variables states before after count next
 MembersAnswered cert variables states before after (Refused r place) =
-    readMembers (certificateBuffer cert) variables states 0 ≡ fault (refusalNumber r) place
+    (readMembers (certificateBuffer cert) variables states 0 ≡ fault (refusalNumber r) place) × (length after ≡ length before)

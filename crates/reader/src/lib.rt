@@ -14,7 +14,7 @@ ghost use Rattle.format.specs.Certificate.{readMember};
 ghost use Rattle.format.specs.Job.{readLocated, readTransition};
 ghost use Rattle.format.specs.Parser.{jobBuffer, certificateBuffer, many, ranged};
 ghost use Rattle.verdict.specs.Verdict.{refusalNumber, reachedOf};
-ghost use Rattle.reader.specs.Job.{refusedFront, readFront, frontOf, RestAnswered, JobAnswered};
+ghost use Rattle.reader.specs.Job.{readCounts, readFront, frontOf, RestAnswered, JobAnswered};
 ghost use Rattle.reader.specs.Members.{NotedBy, MembersAnswered};
 ghost use Rattle.reader.specs.Number.{bufferOf, rangedOf, forget};
 
@@ -31,15 +31,15 @@ pub enum Ranged {
 }
 
 // The numbers of a job before its transitions, and the place after them.
-pub struct Front {
-    pub variables: usize,
-    pub states: usize,
-    pub start: usize,
-    pub transitions: usize,
-    pub at: usize,
+struct Front {
+    variables: usize,
+    states: usize,
+    start: usize,
+    transitions: usize,
+    at: usize,
 }
 
-pub enum FrontAnswer {
+enum FrontAnswer {
     Read(Front),
     Refused(Refusal, usize),
 }
@@ -56,7 +56,7 @@ pub struct Header {
 }
 
 pub enum JobAnswer {
-    Read(Header),
+    Job(Header),
     Refused(Refusal, usize),
 }
 
@@ -66,6 +66,7 @@ pub enum MembersAnswer {
     Refused(Refusal, usize),
 }
 
+// The refusal of a number that can't be read.
 fn unreadable(side: Side) -> Refusal
     ensures { λ r. ⌜ refusalNumber r ≡ bufferOf side [] .unreadable ⌝ }
 {
@@ -75,6 +76,7 @@ fn unreadable(side: Side) -> Refusal
     }
 }
 
+// The refusal of a number that breaks its range.
 fn outside(side: Side) -> Refusal
     ensures { λ r. ⌜ refusalNumber r ≡ bufferOf side [] .outside ⌝ }
 {
@@ -174,6 +176,7 @@ fn read_transition(job: &[u8], first: usize, variables: usize, states: usize) ->
     reached(read_ranged(Side::Job, job, to_at, 0, states))
 }
 
+// The transitions of a job.
 fn read_transitions(
     job: &[u8],
     first: usize,
@@ -220,13 +223,32 @@ fn read_forbidden(
     Reached::At(at)
 }
 
-// The refusal of one of a job's first numbers; it is asked of no other answer.
-fn front_refused(r: Ranged) -> FrontAnswer
-    ensures { λ q. ⌜ frontOf q ≡ refusedFront (rangedOf r) ⌝ }
+// The number of states, the start state and the number of transitions, after the number of variables.
+fn read_counts(job: &[u8], variables: usize, first: usize) -> FrontAnswer
+    ensures { λ r. ⌜ frontOf r ≡ readCounts (jobBuffer (now (job .entry))) variables first ⌝ }
 {
+    let r = read_ranged(Side::Job, job, first, 1, 65);
     match r {
         Ranged::Refused(why, place) => FrontAnswer::Refused(why, place),
-        Ranged::Value(_, next) => FrontAnswer::Refused(Refusal::JobRange, next),
+        Ranged::Value(states, start_at) => {
+            let r = read_ranged(Side::Job, job, start_at, 0, states);
+            match r {
+                Ranged::Refused(why, place) => FrontAnswer::Refused(why, place),
+                Ranged::Value(start, count_at) => {
+                    let r = read_ranged(Side::Job, job, count_at, 0, 257);
+                    match r {
+                        Ranged::Refused(why, place) => FrontAnswer::Refused(why, place),
+                        Ranged::Value(transitions, at) => FrontAnswer::Read(Front {
+                            variables,
+                            states,
+                            start,
+                            transitions,
+                            at,
+                        }),
+                    }
+                }
+            }
+        }
     }
 }
 
@@ -235,32 +257,16 @@ fn read_front(job: &[u8]) -> FrontAnswer
     ensures { λ r. ⌜ frontOf r ≡ readFront (jobBuffer (now (job .entry))) 0 ⌝ }
 {
     let version = read_ranged(Side::Job, job, 0, 1, 2);
-    let Ranged::Value(_, variables_at) = version else {
-        return front_refused(version);
-    };
-    let second = read_ranged(Side::Job, job, variables_at, 1, 9);
-    let Ranged::Value(variables, states_at) = second else {
-        return front_refused(second);
-    };
-    let third = read_ranged(Side::Job, job, states_at, 1, 65);
-    let Ranged::Value(states, start_at) = third else {
-        return front_refused(third);
-    };
-    let fourth = read_ranged(Side::Job, job, start_at, 0, states);
-    let Ranged::Value(start, count_at) = fourth else {
-        return front_refused(fourth);
-    };
-    let fifth = read_ranged(Side::Job, job, count_at, 0, 257);
-    let Ranged::Value(transitions, at) = fifth else {
-        return front_refused(fifth);
-    };
-    FrontAnswer::Read(Front {
-        variables,
-        states,
-        start,
-        transitions,
-        at,
-    })
+    match version {
+        Ranged::Refused(why, place) => FrontAnswer::Refused(why, place),
+        Ranged::Value(_, variables_at) => {
+            let r = read_ranged(Side::Job, job, variables_at, 1, 9);
+            match r {
+                Ranged::Refused(why, place) => FrontAnswer::Refused(why, place),
+                Ranged::Value(variables, at) => read_counts(job, variables, at),
+            }
+        }
+    }
 }
 
 // What stands in a job after its transitions, and nothing behind it.
@@ -278,7 +284,7 @@ fn read_rest(job: &[u8], front: Front, at: usize) -> JobAnswer
                     if end < job.len() {
                         return JobAnswer::Refused(Refusal::JobLeft, end);
                     }
-                    JobAnswer::Read(Header {
+                    JobAnswer::Job(Header {
                         variables: front.variables,
                         states: front.states,
                         start: front.start,
@@ -293,7 +299,7 @@ fn read_rest(job: &[u8], front: Front, at: usize) -> JobAnswer
     }
 }
 
-// Reads a job whole.
+// Reads a job, and nothing behind it.
 pub fn read_job(job: &[u8]) -> JobAnswer
     ensures { λ r. ⌜ JobAnswered (now (job .entry)) r ⌝ }
 {

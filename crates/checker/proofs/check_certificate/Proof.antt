@@ -19,13 +19,30 @@ enum-known-r-2 : tie.Need-enum-known-r-2
 enum-known-r-2 c = search needs
 
 check-members-requires : tie.Need-check-members-requires
-check-members-requires c κs = let a = c .before .before .before .before .before .before .before .before .args in let p = c .before .before .before .before .before .before .before .before .pre in let v = c .before .before .r2 .given in let m = rw (v .1) at (c .before .before .before .before .read-members .ensures) in let b = bounds (a .job .now) (a .cert .now) (a .h) (p .0) (p .1) in (p .0, m .table b, m .inside, p .1)
+check-members-requires c κs =
+    let a = c .before .before .before .before .before .before .before .before .args in
+    let p = c .before .before .before .before .before .before .before .before .pre in
+    let v = c .before .before .r2 .given in
+    let m = rw (v .1) at (c .before .before .before .before .read-members .ensures) in
+    let b = bounds (a .job .now) (a .cert .now) (a .h) (p .0) (p .1) in
+    (p .0, m .table b, m .inside, p .1)
 
 returns : tie.Need-returns
-returns c = let a = c .before .before .before .before .before .before .before .args in let v = c .before .r .given in certificate-refused (a .cert .now) (fileIn (a .job .now) (a .h)) _ _ (rw (v .1) at (c .before .before .before .read-members .ensures))
+returns c =
+    let a = c .before .before .before .before .before .before .before .args in
+    let v = c .before .r .given in
+    certificate-refused (a .cert .now) (fileIn (a .job .now) (a .h)) _ _ (rw (v .1) at (c .before .before .before .read-members .ensures) .0)
 
 returns-2 : tie.Need-returns-2
-returns-2 c = let a = c .before .before .before .before .before .before .before .before .before .args in let p = c .before .before .before .before .before .before .before .before .before .pre in let v = c .before .before .before .r2 .given in let m = rw (v .1) at (c .before .before .before .before .before .read-members .ensures) in let b = bounds (a .job .now) (a .cert .now) (a .h) (p .0) (p .1) in let t = m .table b in let same = members-placed (a .cert .now) (a .h .variables) _ (m .members) (v .0 .0) (omega (arith, t .size, t .count-most)) (m .places-are b) (m .members-are b) in c .check-members .ensures ∙ ap answer (ap (λ ms. testThenCover (a .cert .now) ((fileIn (a .job .now) (a .h)) .job) ms (v .0 .1 .0)) (sym same) ∙ certificate-members (a .cert .now) (fileIn (a .job .now) (a .h)) (m .members) (v .0 .1 .0) (m .read))
+returns-2 c =
+    let a = c .before .before .before .before .before .before .before .before .before .args in
+    let p = c .before .before .before .before .before .before .before .before .before .pre in
+    let v = c .before .before .before .r2 .given in
+    let m = rw (v .1) at (c .before .before .before .before .before .read-members .ensures) in
+    let b = bounds (a .job .now) (a .cert .now) (a .h) (p .0) (p .1) in
+    let t = m .table b in
+    let same = members-placed (a .cert .now) (a .h .variables) _ (m .members) (v .0 .0) (omega (arith, t .size, t .count-most)) (m .places-are b) (m .members-are b) in
+    c .check-members .ensures ∙ ap answer (ap (λ ms. testThenCover (a .cert .now) ((fileIn (a .job .now) (a .h)) .job) ms (v .0 .1 .0)) (sym same) ∙ certificate-members (a .cert .now) (fileIn (a .job .now) (a .h)) (m .members) (v .0 .1 .0) (m .read))
 
 pub check-certificate-spec : {M : Type 1} → statement M
 check-certificate-spec =

@@ -16,7 +16,10 @@ enum-known-g-2 : tie.Need-enum-known-g-2
 enum-known-g-2 c = search needs
 
 returns : tie.Need-returns
-returns c = let a = c .before .before .before .before .before .before .before .before .args in let v = c .before .before .before .g2 .given in covers-left (a .cert .now) (fileIn (a .job .now) (a .h) .job) (membersAt (a .cert .now) (a .h .variables) (a .starts .now) (a .members)) (a .at) _ (c .before .before .before .before .before .take-covers .ensures) (v .0 .0) (v .1) (omega arith)
+returns c =
+    let a = c .before .before .before .before .before .before .before .before .args in
+    let v = c .before .before .before .g2 .given in
+    covers-left (a .cert .now) (fileIn (a .job .now) (a .h) .job) (membersAt (a .cert .now) (a .h .variables) (a .starts .now) (a .members)) (a .at) _ (c .before .before .before .before .before .take-covers .ensures) (v .0 .0) (v .1) (omega arith)
 
 cast-t15 : tie.Need-cast-t15
 cast-t15 c = omega (arith, c .before .before .before .before .before .before .before .before .before .pre .0 .bads-number)
@@ -25,10 +28,16 @@ cast-t16 : tie.Need-cast-t16
 cast-t16 c = omega (arith, c .before .before .before .before .before .before .before .before .before .pre .1 .count-most)
 
 returns-2 : tie.Need-returns-2
-returns-2 c = let a = c .before .before .before .before .before .before .args in let v = c .before .g .given in covers-refused (a .cert .now) (fileIn (a .job .now) (a .h) .job) (membersAt (a .cert .now) (a .h .variables) (a .starts .now) (a .members)) (a .at) _ (c .before .before .before .take-covers .ensures) (v .0 .0) (v .0 .1 .0) (v .1)
+returns-2 c =
+    let a = c .before .before .before .before .before .before .args in
+    let v = c .before .g .given in
+    covers-refused (a .cert .now) (fileIn (a .job .now) (a .h) .job) (membersAt (a .cert .now) (a .h .variables) (a .starts .now) (a .members)) (a .at) _ (c .before .before .before .take-covers .ensures) (v .0 .0) (v .0 .1 .0) (v .1)
 
 returns-3 : tie.Need-returns-3
-returns-3 c = let a = c .before .before .before .before .before .before .before .before .before .args in let v = c .before .before .before .before .g2 .given in covers-taken (a .cert .now) (fileIn (a .job .now) (a .h) .job) (membersAt (a .cert .now) (a .h .variables) (a .starts .now) (a .members)) (a .at) _ (c .before .before .before .before .before .before .take-covers .ensures) (v .0 .0) (v .1) (a .h .bads) (a .members) (omega arith) (entries-number (a .job .now) (a .h .variables) (a .h .«bads_at») (a .h .bads)) (range-number _ 0 (a .members))
+returns-3 c =
+    let a = c .before .before .before .before .before .before .before .before .before .args in
+    let v = c .before .before .before .before .g2 .given in
+    covers-taken (a .cert .now) (fileIn (a .job .now) (a .h) .job) (membersAt (a .cert .now) (a .h .variables) (a .starts .now) (a .members)) (a .at) _ (c .before .before .before .before .before .before .take-covers .ensures) (v .0 .0) (v .1) (a .h .bads) (a .members) (omega arith) (entries-number (a .job .now) (a .h .variables) (a .h .«bads_at») (a .h .bads)) (range-number _ 0 (a .members))
 
 pub check-covers-spec : {M : Type 1} → statement M
 check-covers-spec =

@@ -1,8 +1,6 @@
-use Prim.Native.Nat.{ℕ, _+_, _-_, _*_, _<_, _≤_}
-use mathlib.Core.Path.{_≡_, refl, ap, _∙_, sym}
+use Prim.Native.Nat.{_-_}
+use mathlib.Core.Path.{ap, _∙_}
 use native.Mathlib.Omega.{arith}
-use lib.ListN.{length, getD, take, drop, set}
-use mathlib.Core.Logic.{⊎-elim}
 use Rattle.format.specs.Parser.{ranged}
 use Rattle.reader.specs.Number.{bufferOf, forget}
 use Rattle.reader.proofs.Answers.{got, lost, passed}
@@ -10,10 +8,6 @@ use Rattle.reader.proofs.Many.{Left, left-none, left-more, left-lost, l
 use borrow.Author.Needs.{needs}
 use Rattle.reader.proofs.read_codes.Statement.{statement}
 use Rattle.reader.proofs.read_codes.Tie as tie
-use Rattle.reader.proofs.read_codes.Reads as reads
-use Rattle.reader.proofs.read_codes.Lts as lts
-use Rattle.reader.proofs.reached.Reads as reached-reads
-use Rattle.reader.proofs.read_ranged.Reads as read-ranged-reads
 
 abbrev Inv-loop : tie.InvT-loop
 Inv-loop side bytes first count limit at₀ i₀ at i = Left (ranged (bufferOf side bytes) 0 limit) count first at i
@@ -21,43 +15,33 @@ Inv-loop side bytes first count limit at₀ i₀ at i = Left (ranged (bufferOf s
 abbrev μ-loop : tie.MeasureT-loop
 μ-loop side bytes first count limit at₀ i₀ at i = count - i
 
--- src/lib.rt:121:5
 loop-holds : tie.Need-loop-holds Inv-loop μ-loop
 loop-holds c = let a = c .before .args in left-none (ranged (bufferOf (a .side) (a .bytes .now)) 0 (a .limit)) (a .count) (a .first)
 
--- src/lib.rt:122:13
 read-ranged-requires : tie.Need-read-ranged-requires Inv-loop μ-loop
 read-ranged-requires c κs = search needs
 
--- src/lib.rt:123:30
 enum-known-r : tie.Need-enum-known-r Inv-loop μ-loop
 enum-known-r c = search needs
 
--- src/lib.rt:124:13
 enum-told : tie.Need-enum-told Inv-loop μ-loop
 enum-told c = search needs
 
--- src/lib.rt:124:13
 reached-requires : tie.Need-reached-requires Inv-loop μ-loop
 reached-requires c κs = search needs
 
--- src/lib.rt:124:13
 returns : tie.Need-returns Inv-loop μ-loop
 returns c = let a = c .before .before .before .before .before .before .before .args in let e = c .before .enum-told .given .1 in passed (c .before .before .before .read-ranged .ensures) (c .reached .ensures) e ∙ left-lost (ranged (bufferOf (a .side) (a .bytes .now)) 0 (a .limit)) (a .count) (a .first) (c .before .before .before .before .before .loop .at) (c .before .before .before .before .before .loop .i) (c .before .before .before .before .before .loop .inv) _ _ (omega arith) (ap forget (lost (c .before .before .before .read-ranged .ensures) e))
 
--- src/lib.rt:127:9
 add-i : tie.Need-add-i Inv-loop μ-loop
 add-i c = search needs
 
--- src/lib.rt:121:5
 loop-less : tie.Need-loop-less Inv-loop μ-loop
 loop-less c = search needs
 
--- src/lib.rt:121:5
 loop-again : tie.Need-loop-again Inv-loop μ-loop
 loop-again c = let a = c .before .before .before .before .before .before .before .args in left-more (ranged (bufferOf (a .side) (a .bytes .now)) 0 (a .limit)) (a .count) (a .first) (c .before .before .before .before .before .loop .at) (c .before .before .before .before .before .loop .i) (c .before .before .before .before .before .loop .inv) _ (omega arith) (ap forget (got (c .before .before .before .read-ranged .ensures) (c .before .r .given .1)))
 
--- src/lib.rt:116:1
 returns-2 : tie.Need-returns-2 Inv-loop μ-loop
 returns-2 c = let a = c .before .before .before .args in left-all (ranged (bufferOf (a .side) (a .bytes .now)) 0 (a .limit)) (a .count) (a .first) (c .before .loop .at) (c .before .loop .i) (c .before .loop .inv) (omega arith)
 

@@ -1,8 +1,5 @@
-use Prim.Native.Nat.{ℕ, _+_, _-_, _*_, _<_, _≤_}
-use mathlib.Core.Path.{_≡_, refl, ap, _∙_, sym}
+use mathlib.Core.Path.{ap, _∙_}
 use native.Mathlib.Omega.{arith}
-use lib.ListN.{length, getD, take, drop, set}
-use mathlib.Core.Logic.{⊎-elim}
 use Rattle.reader.specs.Number.{bufferOf}
 use Rattle.reader.proofs.Answers.{got, lost, passed, reached-got, reached-lost, in-range}
 use Rattle.reader.proofs.Entries.{lost-state, lost-size, lost-vars, links-last}
@@ -10,81 +7,58 @@ use Rattle.verdict.specs.Verdict.{reachedOf}
 use borrow.Author.Needs.{needs}
 use Rattle.reader.proofs.read_entry.Statement.{statement}
 use Rattle.reader.proofs.read_entry.Tie as tie
-use Rattle.reader.proofs.read_entry.Reads as reads
-use Rattle.reader.proofs.read_entry.Lts as lts
-use Rattle.reader.proofs.reached.Reads as reached-reads
-use Rattle.reader.proofs.read_codes.Reads as read-codes-reads
-use Rattle.reader.proofs.read_ranged.Reads as read-ranged-reads
 
--- src/lib.rt:136:9
 read-ranged-requires : tie.Need-read-ranged-requires
 read-ranged-requires c κs = search needs
 
--- src/lib.rt:137:26
 enum-known-state : tie.Need-enum-known-state
 enum-known-state c = search needs
 
--- src/lib.rt:138:9
 enum-told : tie.Need-enum-told
 enum-told c = search needs
 
--- src/lib.rt:138:9
 reached-requires : tie.Need-reached-requires
 reached-requires c κs = search needs
 
--- src/lib.rt:138:9
 returns : tie.Need-returns
 returns c = let a = c .before .before .before .before .before .args in let e = c .before .enum-told .given .1 in passed (c .before .before .before .read-ranged .ensures) (c .reached .ensures) e ∙ lost-state (bufferOf (a .side) (a .bytes .now)) (a .variables) (a .states) (a .first) (lost (c .before .before .before .read-ranged .ensures) e)
 
--- src/lib.rt:140:9
 read-ranged-requires-2 : tie.Need-read-ranged-requires-2
 read-ranged-requires-2 c κs = search needs
 
--- src/lib.rt:141:23
 enum-known-size : tie.Need-enum-known-size
 enum-known-size c = search needs
 
--- src/lib.rt:142:9
 enum-told-2 : tie.Need-enum-told-2
 enum-told-2 c = search needs
 
--- src/lib.rt:142:9
 reached-requires-2 : tie.Need-reached-requires-2
 reached-requires-2 c κs = search needs
 
--- src/lib.rt:142:9
 returns-2 : tie.Need-returns-2
 returns-2 c = let a = c .before .before .before .before .before .before .before .before .before .args in let e = c .before .enum-told2 .given .1 in passed (c .before .before .before .read-ranged2 .ensures) (c .reached2 .ensures) e ∙ lost-size (bufferOf (a .side) (a .bytes .now)) (a .variables) (a .states) (a .first) (got (c .before .before .before .before .before .before .before .read-ranged .ensures) (c .before .before .before .before .before .state .given .1)) (lost (c .before .before .before .read-ranged2 .ensures) e)
 
--- src/lib.rt:144:60
 add-read-codes : tie.Need-add-read-codes
 add-read-codes c = let a = c .before .before .before .before .before .before .before .before .before .args in let (l, h) = in-range (bufferOf (a .side) (a .bytes .now)) 0 13 _ _ _ (got (c .before .before .before .read-ranged2 .ensures) (c .before .size .given .1)) in omega arith
 
--- src/lib.rt:144:9
 read-codes-requires : tie.Need-read-codes-requires
 read-codes-requires c κs = search needs
 
--- src/lib.rt:145:21
 enum-known-vars : tie.Need-enum-known-vars
 enum-known-vars c = search needs
 
--- src/lib.rt:146:9
 enum-told-3 : tie.Need-enum-told-3
 enum-told-3 c = search needs
 
--- src/lib.rt:146:9
 returns-3 : tie.Need-returns-3
 returns-3 c = let a = c .before .before .before .before .before .before .before .before .before .before .before .before .args in ap reachedOf (c .enum-told3 .given .1) ∙ lost-vars (bufferOf (a .side) (a .bytes .now)) (a .variables) (a .states) (a .first) (got (c .before .before .before .before .before .before .before .before .before .before .read-ranged .ensures) (c .before .before .before .before .before .before .before .before .state .given .1)) (got (c .before .before .before .before .before .before .read-ranged2 .ensures) (c .before .before .before .before .size .given .1)) (reached-lost (c .before .before .read-codes .ensures) (c .enum-told3 .given .1))
 
--- src/lib.rt:148:42
 add-read-codes-2 : tie.Need-add-read-codes-2
 add-read-codes-2 c = let a = c .before .before .before .before .before .before .before .before .before .before .before .before .before .args in let (l, h) = in-range (bufferOf (a .side) (a .bytes .now)) 0 13 _ _ _ (got (c .before .before .before .before .before .before .before .read-ranged2 .ensures) (c .before .before .before .before .before .size .given .1)) in omega arith
 
--- src/lib.rt:148:5
 read-codes-requires-2 : tie.Need-read-codes-requires-2
 read-codes-requires-2 c κs = search needs
 
--- src/lib.rt:133:1
 returns-4 : tie.Need-returns-4
 returns-4 c = let a = c .before .before .before .before .before .before .before .before .before .before .before .before .before .before .args in c .read-codes2 .ensures ∙ links-last (bufferOf (a .side) (a .bytes .now)) (a .variables) (a .states) (a .first) (got (c .before .before .before .before .before .before .before .before .before .before .before .before .read-ranged .ensures) (c .before .before .before .before .before .before .before .before .before .before .state .given .1)) (got (c .before .before .before .before .before .before .before .before .read-ranged2 .ensures) (c .before .before .before .before .before .before .size .given .1)) (reached-got (c .before .before .before .before .read-codes .ensures) (c .before .before .vars .given .1))
 

@@ -1,69 +1,48 @@
-use Prim.Native.Nat.{ℕ, _+_, _-_, _*_, _<_, _≤_}
-use mathlib.Core.Path.{_≡_, refl, ap, _∙_, sym}
+use mathlib.Core.Path.{refl}
 use native.Mathlib.Omega.{arith}
-use lib.ListN.{length, getD, take, drop, set}
-use mathlib.Core.Logic.{⊎-elim}
 use Rattle.format.specs.Parser.{certificateBuffer}
-use Rattle.reader.specs.Members.{NotedBy}
 use Rattle.reader.proofs.Answers.{got, lost, reached-got, reached-lost, in-range}
 use Rattle.reader.proofs.Noting.{lost-version, lost-number, lost-member, members-made}
 use borrow.Author.Needs.{needs}
 use Rattle.reader.proofs.read_members.Statement.{statement}
 use Rattle.reader.proofs.read_members.Tie as tie
-use Rattle.reader.proofs.read_members.Reads as reads
-use Rattle.reader.proofs.read_members.Lts as lts
-use Rattle.reader.proofs.note_members.Reads as note-members-reads
-use Rattle.reader.proofs.read_ranged.Reads as read-ranged-reads
 
--- src/lib.rt:325:9
 read-ranged-requires : tie.Need-read-ranged-requires
 read-ranged-requires c κs = search needs
 
--- src/lib.rt:327:25
 enum-known-version : tie.Need-enum-known-version
 enum-known-version c = search needs
 
--- src/lib.rt:327:40
 returns : tie.Need-returns
-returns c = let a = c .before .before .before .before .before .args in lost-version (a .cert .now) (a .variables) (a .states) (lost (c .before .before .before .read-ranged .ensures) (c .before .version .given .1))
+returns c = let a = c .before .before .before .before .before .args in (lost-version (a .cert .now) (a .variables) (a .states) (lost (c .before .before .before .read-ranged .ensures) (c .before .version .given .1)), refl)
 
--- src/lib.rt:328:26
 enum-known-version-2 : tie.Need-enum-known-version-2
 enum-known-version-2 c = search needs
 
--- src/lib.rt:330:9
 read-ranged-requires-2 : tie.Need-read-ranged-requires-2
 read-ranged-requires-2 c κs = search needs
 
--- src/lib.rt:332:25
 enum-known-number : tie.Need-enum-known-number
 enum-known-number c = search needs
 
--- src/lib.rt:333:23
 enum-known-number-2 : tie.Need-enum-known-number-2
 enum-known-number-2 c = search needs
 
--- src/lib.rt:334:17
 note-members-requires : tie.Need-note-members-requires
 note-members-requires c κs = let (l, h) = in-range (certificateBuffer (c .before .before .before .before .before .before .before .before .before .before .args .cert .now)) 1 513 _ _ _ (got (c .before .before .before .before .read-ranged2 .ensures) (c .before .before .number2 .given .1)) in omega (arith, c .note-members-arg .given .0 .1)
 
--- src/lib.rt:336:34
 enum-known-r : tie.Need-enum-known-r
 enum-known-r c = search needs
 
--- src/lib.rt:337:29
 enum-known-r-2 : tie.Need-enum-known-r-2
 enum-known-r-2 c = search needs
 
--- src/lib.rt:322:1
 returns-2 : tie.Need-returns-2
-returns-2 c = let a = c .before .before .before .before .before .before .before .before .before .args in lost-number (a .cert .now) (a .variables) (a .states) (got (c .before .before .before .before .before .before .before .read-ranged .ensures) (c .before .before .before .before .before .version2 .given .1)) (lost (c .before .before .before .read-ranged2 .ensures) (c .before .number .given .1))
+returns-2 c = let a = c .before .before .before .before .before .before .before .before .before .args in (lost-number (a .cert .now) (a .variables) (a .states) (got (c .before .before .before .before .before .before .before .read-ranged .ensures) (c .before .before .before .before .before .version2 .given .1)) (lost (c .before .before .before .read-ranged2 .ensures) (c .before .number .given .1)), refl)
 
--- src/lib.rt:322:1
 returns-3 : tie.Need-returns-3
-returns-3 c = let a = c .before .before .before .before .before .before .before .before .before .before .before .before .before .before .args in lost-member (a .cert .now) (a .variables) (a .states) (got (c .before .before .before .before .before .before .before .before .before .before .before .before .read-ranged .ensures) (c .before .before .before .before .before .before .before .before .before .before .version2 .given .1)) (got (c .before .before .before .before .before .before .before .before .read-ranged2 .ensures) (c .before .before .before .before .before .before .number2 .given .1)) (reached-lost (c .before .before .before .note-members .ensures .0) (c .before .r .given .1))
+returns-3 c = let a = c .before .before .before .before .before .before .before .before .before .before .before .before .before .before .args in (lost-member (a .cert .now) (a .variables) (a .states) (got (c .before .before .before .before .before .before .before .before .before .before .before .before .read-ranged .ensures) (c .before .before .before .before .before .before .before .before .before .before .version2 .given .1)) (got (c .before .before .before .before .before .before .before .before .read-ranged2 .ensures) (c .before .before .before .before .before .before .number2 .given .1)) (reached-lost (c .before .before .before .note-members .ensures .0) (c .before .r .given .1)), rw (c .before .r .given .1) at (c .before .before .before .note-members .ensures .1))
 
--- src/lib.rt:322:1
 returns-4 : tie.Need-returns-4
 returns-4 c = let a = c .before .before .before .before .before .before .before .before .before .before .before .before .before .before .args in members-made (a .cert .now) (a .variables) (a .states) (got (c .before .before .before .before .before .before .before .before .before .before .before .before .read-ranged .ensures) (c .before .before .before .before .before .before .before .before .before .before .version2 .given .1)) (got (c .before .before .before .before .before .before .before .before .read-ranged2 .ensures) (c .before .before .before .before .before .before .number2 .given .1)) (a .starts .now) _ _ (reached-got (c .before .before .before .note-members .ensures .0) (c .before .r2 .given .1)) (rw (c .before .r2 .given .1) at (c .before .before .before .note-members .ensures .1)) (c .before .before .before .before .note-members-arg .given .0 .1)
 

@@ -1,132 +1,94 @@
-use Prim.Native.Nat.{ℕ, _+_, _-_, _*_, _<_, _≤_}
-use mathlib.Core.Path.{_≡_, refl, ap, _∙_, sym}
+use mathlib.Core.Path.{ap, _∙_}
 use native.Mathlib.Omega.{arith}
-use lib.ListN.{length, getD, take, drop, set}
-use mathlib.Core.Logic.{⊎-elim}
 use Rattle.format.specs.Parser.{jobBuffer}
 use Rattle.reader.proofs.Answers.{got, lost, passed}
-use Rattle.reader.specs.Number.{forget, rangedOf}
+use Rattle.reader.specs.Number.{forget}
 use Rattle.reader.proofs.Transitions.{most-bound, lost-from, lost-kind, lost-a, lost-b, to-last}
 use borrow.Author.Needs.{needs}
 use Rattle.reader.proofs.read_transition.Statement.{statement}
 use Rattle.reader.proofs.read_transition.Tie as tie
-use Rattle.reader.proofs.read_transition.Reads as reads
-use Rattle.reader.proofs.read_transition.Lts as lts
-use Rattle.kinds.proofs.least_a.Reads as least-a-reads
-use Rattle.kinds.proofs.least_b.Reads as least-b-reads
-use Rattle.kinds.proofs.most_b.Reads as most-b-reads
-use Rattle.reader.proofs.reached.Reads as reached-reads
-use Rattle.reader.proofs.read_ranged.Reads as read-ranged-reads
 
--- src/lib.rt:156:9
 read-ranged-requires : tie.Need-read-ranged-requires
 read-ranged-requires c κs = search needs
 
--- src/lib.rt:157:26
 enum-known-from : tie.Need-enum-known-from
 enum-known-from c = search needs
 
--- src/lib.rt:158:9
 enum-told : tie.Need-enum-told
 enum-told c = search needs
 
--- src/lib.rt:158:9
 reached-requires : tie.Need-reached-requires
 reached-requires c κs = search needs
 
--- src/lib.rt:158:9
 returns : tie.Need-returns
 returns c = let a = c .before .before .before .before .before .args in let e = c .before .enum-told .given .1 in passed (c .before .before .before .read-ranged .ensures) (c .reached .ensures) e ∙ lost-from (jobBuffer (a .job .now)) (a .variables) (a .states) (a .first) (lost (c .before .before .before .read-ranged .ensures) e)
 
--- src/lib.rt:160:9
 read-ranged-requires-2 : tie.Need-read-ranged-requires-2
 read-ranged-requires-2 c κs = search needs
 
--- src/lib.rt:161:23
 enum-known-number : tie.Need-enum-known-number
 enum-known-number c = search needs
 
--- src/lib.rt:162:9
 enum-told-2 : tie.Need-enum-told-2
 enum-told-2 c = search needs
 
--- src/lib.rt:162:9
 reached-requires-2 : tie.Need-reached-requires-2
 reached-requires-2 c κs = search needs
 
--- src/lib.rt:162:9
 returns-2 : tie.Need-returns-2
 returns-2 c = let a = c .before .before .before .before .before .before .before .before .before .args in let e = c .before .enum-told2 .given .1 in passed (c .before .before .before .read-ranged2 .ensures) (c .reached2 .ensures) e ∙ lost-kind (jobBuffer (a .job .now)) (a .variables) (a .states) (a .first) (got (c .before .before .before .before .before .before .before .read-ranged .ensures) (c .before .before .before .before .before .from .given .1)) (lost (c .before .before .before .read-ranged2 .ensures) e)
 
--- src/lib.rt:164:47
 least-a-requires : tie.Need-least-a-requires
 least-a-requires c κs = search needs
 
--- src/lib.rt:164:62
 add-read-ranged : tie.Need-add-read-ranged
 add-read-ranged c = search needs
 
--- src/lib.rt:164:9
 read-ranged-requires-3 : tie.Need-read-ranged-requires-3
 read-ranged-requires-3 c κs = search needs
 
--- src/lib.rt:165:26
 enum-known-a : tie.Need-enum-known-a
 enum-known-a c = search needs
 
--- src/lib.rt:166:9
 enum-told-3 : tie.Need-enum-told-3
 enum-told-3 c = search needs
 
--- src/lib.rt:166:9
 reached-requires-3 : tie.Need-reached-requires-3
 reached-requires-3 c κs = search needs
 
--- src/lib.rt:166:9
 returns-3 : tie.Need-returns-3
 returns-3 c = let a = c .before .before .before .before .before .before .before .before .before .before .before .before .before .before .args in let e = c .before .enum-told3 .given .1 in passed (c .before .before .before .read-ranged3 .ensures) (c .reached3 .ensures) e ∙ lost-a (jobBuffer (a .job .now)) (a .variables) (a .states) (a .first) (got (c .before .before .before .before .before .before .before .before .before .before .before .before .read-ranged .ensures) (c .before .before .before .before .before .before .before .before .before .before .from .given .1)) (got (c .before .before .before .before .before .before .before .before .read-ranged2 .ensures) (c .before .before .before .before .before .before .number .given .1)) (rw (← c .before .before .before .before .least-a .ensures) (lost (c .before .before .before .read-ranged3 .ensures) e))
 
--- src/lib.rt:168:9
 most-b-requires : tie.Need-most-b-requires
 most-b-requires c κs = search needs
 
--- src/lib.rt:169:47
 least-b-requires : tie.Need-least-b-requires
 least-b-requires c κs = search needs
 
--- src/lib.rt:169:62
 add-read-ranged-2 : tie.Need-add-read-ranged-2
 add-read-ranged-2 c = let a = c .before .before .before .before .before .before .before .before .before .before .before .before .before .before .before .before .args in omega (arith, c .before .most-b .ensures, most-bound (c .before .before .before .before .before .before .before .before .number .given .0 .0) (a .variables))
 
--- src/lib.rt:169:9
 read-ranged-requires-4 : tie.Need-read-ranged-requires-4
 read-ranged-requires-4 c κs = search needs
 
--- src/lib.rt:170:26
 enum-known-b : tie.Need-enum-known-b
 enum-known-b c = search needs
 
--- src/lib.rt:171:9
 enum-told-4 : tie.Need-enum-told-4
 enum-told-4 c = search needs
 
--- src/lib.rt:171:9
 reached-requires-4 : tie.Need-reached-requires-4
 reached-requires-4 c κs = search needs
 
--- src/lib.rt:171:9
 returns-4 : tie.Need-returns-4
 returns-4 c = let a = c .before .before .before .before .before .before .before .before .before .before .before .before .before .before .before .before .before .before .before .before .args in let e = c .before .enum-told4 .given .1 in passed (c .before .before .before .read-ranged4 .ensures) (c .reached4 .ensures) e ∙ lost-b (jobBuffer (a .job .now)) (a .variables) (a .states) (a .first) (got (c .before .before .before .before .before .before .before .before .before .before .before .before .before .before .before .before .before .before .read-ranged .ensures) (c .before .before .before .before .before .before .before .before .before .before .before .before .before .before .before .before .from .given .1)) (got (c .before .before .before .before .before .before .before .before .before .before .before .before .before .before .read-ranged2 .ensures) (c .before .before .before .before .before .before .before .before .before .before .before .before .number .given .1)) (rw (c .before .before .before .before .before .before .before .before .before .before .least-a .ensures) at (got (c .before .before .before .before .before .before .before .before .before .read-ranged3 .ensures) (c .before .before .before .before .before .before .before .a .given .1))) (rw (← c .before .before .before .before .least-b .ensures, ← c .before .before .before .before .before .most-b .ensures) (lost (c .before .before .before .read-ranged4 .ensures) e))
 
--- src/lib.rt:173:13
 read-ranged-requires-5 : tie.Need-read-ranged-requires-5
 read-ranged-requires-5 c κs = search needs
 
--- src/lib.rt:173:5
 reached-requires-5 : tie.Need-reached-requires-5
 reached-requires-5 c κs = search needs
 
--- src/lib.rt:152:1
 returns-5 : tie.Need-returns-5
 returns-5 c = let a = c .before .before .before .before .before .before .before .before .before .before .before .before .before .before .before .before .before .before .before .before .before .before .args in c .reached5 .ensures ∙ ap forget (c .before .read-ranged5 .ensures) ∙ to-last (jobBuffer (a .job .now)) (a .variables) (a .states) (a .first) (got (c .before .before .before .before .before .before .before .before .before .before .before .before .before .before .before .before .before .before .before .before .read-ranged .ensures) (c .before .before .before .before .before .before .before .before .before .before .before .before .before .before .before .before .before .before .from .given .1)) (got (c .before .before .before .before .before .before .before .before .before .before .before .before .before .before .before .before .read-ranged2 .ensures) (c .before .before .before .before .before .before .before .before .before .before .before .before .before .before .number .given .1)) (rw (c .before .before .before .before .before .before .before .before .before .before .before .before .least-a .ensures) at (got (c .before .before .before .before .before .before .before .before .before .before .before .read-ranged3 .ensures) (c .before .before .before .before .before .before .before .before .before .a .given .1))) (rw (c .before .before .before .before .before .before .least-b .ensures, c .before .before .before .before .before .before .before .most-b .ensures) at (got (c .before .before .before .before .before .read-ranged4 .ensures) (c .before .before .before .b .given .1)))
 

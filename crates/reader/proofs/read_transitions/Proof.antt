@@ -1,19 +1,14 @@
-use Prim.Native.Nat.{ℕ, _+_, _-_, _*_, _<_, _≤_}
-use mathlib.Core.Path.{_≡_, refl, ap, _∙_, sym}
+use Prim.Native.Nat.{_-_}
+use mathlib.Core.Path.{ap, _∙_}
 use native.Mathlib.Omega.{arith}
-use lib.ListN.{length, getD, take, drop, set}
-use mathlib.Core.Logic.{⊎-elim}
 use Rattle.format.specs.Parser.{jobBuffer}
-use Rattle.format.specs.Job.{readTransition, readLocated}
+use Rattle.format.specs.Job.{readTransition}
 use Rattle.verdict.specs.Verdict.{reachedOf}
 use Rattle.reader.proofs.Answers.{reached-got, reached-lost}
 use Rattle.reader.proofs.Many.{Left, left-none, left-more, left-lost, left-all}
 use borrow.Author.Needs.{needs}
 use Rattle.reader.proofs.read_transitions.Statement.{statement}
 use Rattle.reader.proofs.read_transitions.Tie as tie
-use Rattle.reader.proofs.read_transitions.Reads as reads
-use Rattle.reader.proofs.read_transitions.Lts as lts
-use Rattle.reader.proofs.read_transition.Reads as read-transition-reads
 
 abbrev Inv-loop : tie.InvT-loop
 Inv-loop job first count variables states at₀ i₀ at i = Left (readTransition (jobBuffer job) variables states) count first at i
@@ -21,39 +16,30 @@ Inv-loop job first count variables states at₀ i₀ at i = Left (readTransition
 abbrev μ-loop : tie.MeasureT-loop
 μ-loop job first count variables states at₀ i₀ at i = count - i
 
--- src/lib.rt:182:5
 loop-holds : tie.Need-loop-holds Inv-loop μ-loop
 loop-holds c = let a = c .before .args in left-none (readTransition (jobBuffer (a .job .now)) (a .variables) (a .states)) (a .count) (a .first)
 
--- src/lib.rt:183:13
 read-transition-requires : tie.Need-read-transition-requires Inv-loop μ-loop
 read-transition-requires c κs = search needs
 
--- src/lib.rt:184:25
 enum-known-r : tie.Need-enum-known-r Inv-loop μ-loop
 enum-known-r c = search needs
 
--- src/lib.rt:185:13
 enum-told : tie.Need-enum-told Inv-loop μ-loop
 enum-told c = search needs
 
--- src/lib.rt:185:13
 returns : tie.Need-returns Inv-loop μ-loop
 returns c = let a = c .before .before .before .before .before .before .args in let e = c .enum-told .given .1 in ap reachedOf e ∙ left-lost (readTransition (jobBuffer (a .job .now)) (a .variables) (a .states)) (a .count) (a .first) (c .before .before .before .before .loop .at) (c .before .before .before .before .loop .i) (c .before .before .before .before .loop .inv) _ _ (omega arith) (reached-lost (c .before .before .read-transition .ensures) e)
 
--- src/lib.rt:188:9
 add-i : tie.Need-add-i Inv-loop μ-loop
 add-i c = search needs
 
--- src/lib.rt:182:5
 loop-less : tie.Need-loop-less Inv-loop μ-loop
 loop-less c = search needs
 
--- src/lib.rt:182:5
 loop-again : tie.Need-loop-again Inv-loop μ-loop
 loop-again c = let a = c .before .before .before .before .before .before .before .args in left-more (readTransition (jobBuffer (a .job .now)) (a .variables) (a .states)) (a .count) (a .first) (c .before .before .before .before .before .loop .at) (c .before .before .before .before .before .loop .i) (c .before .before .before .before .before .loop .inv) _ (omega arith) (reached-got (c .before .before .before .read-transition .ensures) (c .before .r .given .1))
 
--- src/lib.rt:176:1
 returns-2 : tie.Need-returns-2 Inv-loop μ-loop
 returns-2 c = let a = c .before .before .before .args in left-all (readTransition (jobBuffer (a .job .now)) (a .variables) (a .states)) (a .count) (a .first) (c .before .loop .at) (c .before .loop .i) (c .before .loop .inv) (omega arith)
 

@@ -1,9 +1,6 @@
-use Prim.Native.Nat.{_+_, _-_}
+use Prim.Native.Nat.{_-_}
 use native.Mathlib.Omega.{arith}
-use lib.ListN.{getD}
 use mathlib.Core.Logic.{⊎-elim}
-use lib.Dec.{eqb}
-use borrow.Author.Tests.{eqb-true, eqb-false, not-true, not-false}
 use Rattle.embedding.specs.Images.{varFitsIn}
 use Rattle.embedding.proofs.Variables.{unplaced, at-image, elsewhere, Keeping, keep-none, keep-on, keep-off, keep-all}
 use borrow.Author.Needs.{needs}
@@ -28,14 +25,14 @@ shared-slice-read-wide c = search needs
 wide-requires : tie.Need-wide-requires Inv-loop μ-loop
 wide-requires c κs = search needs
 
-add-if2 : tie.Need-add-if2 Inv-loop μ-loop
-add-if2 c = search needs
+add-have : tie.Need-add-have Inv-loop μ-loop
+add-have c = search needs
 
-element-copy-out-if2 : tie.Need-element-copy-out-if2 Inv-loop μ-loop
-element-copy-out-if2 c = search needs
+element-copy-out-have : tie.Need-element-copy-out-have Inv-loop μ-loop
+element-copy-out-have c = search needs
 
-element-copy-out-if2-2 : tie.Need-element-copy-out-if2-2 Inv-loop μ-loop
-element-copy-out-if2-2 c = let k = c .before .before .before .before .before .before .before .pre .2 (c .before .before .before .before .before .loop .i) (omega arith) in omega arith
+element-copy-out-want : tie.Need-element-copy-out-want Inv-loop μ-loop
+element-copy-out-want c = let k = c .before .before .before .before .before .before .pre .2 (c .before .before .before .before .loop .i) (omega arith) in omega arith
 
 add-i : tie.Need-add-i Inv-loop μ-loop
 add-i c = search needs
@@ -44,7 +41,7 @@ loop-less : tie.Need-loop-less Inv-loop μ-loop
 loop-less c = search needs
 
 loop-again : tie.Need-loop-again Inv-loop μ-loop
-loop-again c = let i = c .before .before .before .before .loop .i in let p = c .before .wide .result in let a = c .before .before .before .before .before .before .args in let v = getD (a .vars .now) (i + 1) 0 in let w = getD (a .images .now) p 0 in let t = varFitsIn (a .cert .now) (a .first) (a .images .now) (a .vars .now) in let e = c .before .wide .ensures .0 in let k = c .before .before .before .before .loop .inv in ⊎-elim (λ (n, _, _, m, z). keep-off t (a .count) (c .before .before .before .before .loop .fit) i k (c .if1 .fit) (omega arith) z (elsewhere (a .cert .now) (a .first) (a .images .now) (a .vars .now) i p e (n .taken) (eqb-false v w (not-true (eqb v w) (m .taken))))) (λ (j, z). keep-on t (a .count) (c .before .before .before .before .loop .fit) i k (c .if1 .fit) (omega arith) z (⊎-elim (λ (_, _, _, m). at-image (a .cert .now) (a .first) (a .images .now) (a .vars .now) i p e (eqb-true v w (not-false (eqb v w) (m .left)))) (λ n. unplaced (a .cert .now) (a .first) (a .images .now) (a .vars .now) i p e (n .left)) (j .came))) (c .if1 .came)
+loop-again c = let a = c .before .before .before .before .before .before .before .before .args in let i = c .before .before .before .before .before .before .loop .i in let p = c .before .before .before .wide .result in let e = c .before .before .before .wide .ensures .0 in let k = c .before .before .before .before .before .before .loop .inv in let t = varFitsIn (a .cert .now) (a .first) (a .images .now) (a .vars .now) in ⊎-elim (λ (n, m, z). keep-off t (a .count) (c .before .before .before .before .before .before .loop .fit) i k (c .if1 .fit) (omega arith) z (elsewhere (a .cert .now) (a .first) (a .images .now) (a .vars .now) i p e (n .taken) (m .taken))) (λ (j, z). keep-on t (a .count) (c .before .before .before .before .before .before .loop .fit) i k (c .if1 .fit) (omega arith) z (⊎-elim (λ (_, m). at-image (a .cert .now) (a .first) (a .images .now) (a .vars .now) i p e (m .left)) (λ n. unplaced (a .cert .now) (a .first) (a .images .now) (a .vars .now) i p e (n .left)) (j .came))) (c .if1 .came)
 
 returns : tie.Need-returns Inv-loop μ-loop
 returns c = keep-all _ _ _ _ (c .before .loop .inv) (omega arith)
@@ -59,9 +56,9 @@ vars-fit-spec =
     add-wide
     shared-slice-read-wide
     wide-requires
-    add-if2
-    element-copy-out-if2
-    element-copy-out-if2-2
+    add-have
+    element-copy-out-have
+    element-copy-out-want
     add-i
     loop-less
     loop-again

@@ -15,7 +15,9 @@ abbrev μ-loop : tie.MeasureT-loop
 μ-loop bytes first count links₀ i₀ links i = count - i
 
 loop-holds : tie.Need-loop-holds Inv-loop μ-loop
-loop-holds c = let a = c .args in (omega arith, paste-zero (a .links .now) 0 (drop (a .first) (a .bytes .now)))
+loop-holds c =
+    let a = c .args in
+    (omega arith, paste-zero (a .links .now) 0 (drop (a .first) (a .bytes .now)))
 
 add-links : tie.Need-add-links Inv-loop μ-loop
 add-links c = search needs
@@ -33,10 +35,16 @@ loop-less : tie.Need-loop-less Inv-loop μ-loop
 loop-less c = search needs
 
 loop-again : tie.Need-loop-again Inv-loop μ-loop
-loop-again c = let a = c .before .before .before .args in let i = c .before .before .loop .i in (omega arith, copied-more (a .links .now) 0 (a .bytes .now) (a .first) i i (c .before .before .loop .links) (omega arith) (omega arith) (omega arith) (c .before .before .loop .inv .1))
+loop-again c =
+    let a = c .before .before .before .args in
+    let i = c .before .before .loop .i in
+    (omega arith, copied-more (a .links .now) 0 (a .bytes .now) (a .first) i i (c .before .before .loop .links) (omega arith) (omega arith) (omega arith) (c .before .before .loop .inv .1))
 
 returns : tie.Need-returns Inv-loop μ-loop
-returns c = let a = c .before .before .args in let e : c .before .loop .i ≡ a .count = omega arith in rw (← e) (c .before .loop .inv .1)
+returns c =
+    let a = c .before .before .args in
+    let e : c .before .loop .i ≡ a .count = omega arith in
+    rw (← e) (c .before .loop .inv .1)
 
 pub load-links-spec : {M : Type 1} → statement M
 load-links-spec =

@@ -28,7 +28,10 @@ load-links-requires : tie.Need-load-links-requires
 load-links-requires c κs = search needs
 
 returns : tie.Need-returns
-returns c = let a = c .before .before .before .before .before .before .args in let p = c .before .before .before .before .before .before .pre in loaded (a .bytes .now) (a .variables) (a .at) (a .vars .now) (a .links .now) _ _ (p .0) (p .1) (p .2) (p .3) (c .before .before .load-vars .ensures) (c .load-links .ensures)
+returns c =
+    let a = c .before .before .before .before .before .before .args in
+    let p = c .before .before .before .before .before .before .pre in
+    loaded (a .bytes .now) (a .variables) (a .at) (a .vars .now) (a .links .now) _ _ (p .0) (p .1) (p .2) (p .3) (c .before .before .load-vars .ensures) (c .load-links .ensures)
 
 pub load-shape-spec : {M : Type 1} → statement M
 load-shape-spec =

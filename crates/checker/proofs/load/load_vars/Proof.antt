@@ -20,7 +20,9 @@ element-write-vars : tie.Need-element-write-vars Inv-loop μ-loop
 element-write-vars c = search needs
 
 loop-holds : tie.Need-loop-holds Inv-loop μ-loop
-loop-holds c = let a = c .args in (omega arith, paste-zero (set (a .vars .now) 0 1) 1 (drop (a .first) (a .bytes .now)))
+loop-holds c =
+    let a = c .args in
+    (omega arith, paste-zero (set (a .vars .now) 0 1) 1 (drop (a .first) (a .bytes .now)))
 
 add-vars : tie.Need-add-vars Inv-loop μ-loop
 add-vars c = search needs
@@ -41,10 +43,16 @@ loop-less : tie.Need-loop-less Inv-loop μ-loop
 loop-less c = search needs
 
 loop-again : tie.Need-loop-again Inv-loop μ-loop
-loop-again c = let a = c .before .before .before .args in let i = c .before .before .loop .i in (omega arith, copied-more (set (a .vars .now) 0 1) 1 (a .bytes .now) (a .first) i (1 + i) (c .before .before .loop .vars) refl (omega (arith, length-set (a .vars .now) 0 1)) (omega arith) (c .before .before .loop .inv .1))
+loop-again c =
+    let a = c .before .before .before .args in
+    let i = c .before .before .loop .i in
+    (omega arith, copied-more (set (a .vars .now) 0 1) 1 (a .bytes .now) (a .first) i (1 + i) (c .before .before .loop .vars) refl (omega (arith, length-set (a .vars .now) 0 1)) (omega arith) (c .before .before .loop .inv .1))
 
 returns : tie.Need-returns Inv-loop μ-loop
-returns c = let a = c .before .before .args in let e : c .before .loop .i ≡ a .count = omega arith in rw (← e) (c .before .loop .inv .1)
+returns c =
+    let a = c .before .before .args in
+    let e : c .before .loop .i ≡ a .count = omega arith in
+    rw (← e) (c .before .loop .inv .1)
 
 pub load-vars-spec : {M : Type 1} → statement M
 load-vars-spec =

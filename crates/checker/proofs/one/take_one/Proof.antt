@@ -3,7 +3,7 @@ use Rattle.layout.specs.Arrays.{shapeIn}
 use Rattle.layout.specs.Entries.{membersAt}
 use Rattle.verdict.specs.Verdict.{reachedOf}
 use Rattle.checker.specs.Taking.{located}
-use Rattle.checker.proofs.Turning.{one-taken, one-refused, within-next}
+use Rattle.checker.proofs.Takes.{one-taken, one-refused, within-next}
 use borrow.Author.Needs.{needs}
 use Rattle.checker.proofs.one.take_one.Statement.{statement}
 use Rattle.checker.proofs.one.take_one.Tie as tie
@@ -21,10 +21,21 @@ enum-known-r-2 : tie.Need-enum-known-r-2
 enum-known-r-2 c = search needs
 
 returns : tie.Need-returns
-returns c = let a = c .before .before .before .before .before .before .args in let ms = membersAt (a .cert .now) (a .variables) (a .starts .now) (a .members) in let o = located (a .state) (shapeIn (a .variables) (a .n) (a .vars .now) (a .links .now)) in let next = c .before .before .r .given .0 .0 in let e = ap reachedOf (sym (c .before .before .r .given .1)) ∙ c .before .before .before .before .take-cover .ensures in (one-taken (a .cert .now) ms o (a .t) next e, within-next (a .cert .now) ms o (a .t) (c .before .before .before .before .before .before .pre .2) next e)
+returns c =
+    let a = c .before .before .before .before .before .before .args in
+    let ms = membersAt (a .cert .now) (a .variables) (a .starts .now) (a .members) in
+    let o = located (a .state) (shapeIn (a .variables) (a .n) (a .vars .now) (a .links .now)) in
+    let next = c .before .before .r .given .0 .0 in
+    let e = ap reachedOf (sym (c .before .before .r .given .1)) ∙ c .before .before .before .before .take-cover .ensures in
+    (one-taken (a .cert .now) ms o (a .t) next e, within-next (a .cert .now) ms o (a .t) (c .before .before .before .before .before .before .pre .2) next e)
 
 returns-2 : tie.Need-returns-2
-returns-2 c = let a = c .before .before .before .before .before .args in let ms = membersAt (a .cert .now) (a .variables) (a .starts .now) (a .members) in let o = located (a .state) (shapeIn (a .variables) (a .n) (a .vars .now) (a .links .now)) in let v = c .before .r2 .given .0 in (one-refused (a .cert .now) ms o (a .t) (v .0) (v .1 .0) (ap reachedOf (sym (c .before .r2 .given .1)) ∙ c .before .before .before .take-cover .ensures), tt)
+returns-2 c =
+    let a = c .before .before .before .before .before .args in
+    let ms = membersAt (a .cert .now) (a .variables) (a .starts .now) (a .members) in
+    let o = located (a .state) (shapeIn (a .variables) (a .n) (a .vars .now) (a .links .now)) in
+    let v = c .before .r2 .given .0 in
+    (one-refused (a .cert .now) ms o (a .t) (v .0) (v .1 .0) (ap reachedOf (sym (c .before .r2 .given .1)) ∙ c .before .before .before .take-cover .ensures), tt)
 
 pub take-one-spec : {M : Type 1} → statement M
 take-one-spec =

@@ -56,7 +56,7 @@ take-first-requires c κs =
     let a = c .before .before .before .before .before .before .before .before .before .before .before .args in
     let e = hope-safe (a .op .kind) (a .op .a) (a .op .b) _ _
     (sym (c .before .before .before .before .before .is-hopeless .ensures) ∙ c .before .before .before .before .if1 .left) in
-    (c .before .before .before .before .before .before .before .before .before .before .before .pre .0, c .before .before .before .before .before .before .before .before .before .before .before .pre .1, e .0, e .1, omega arith, c .before .before .loop .inv .within)
+    (c .before .before .before .before .before .before .before .before .before .before .before .pre .0, c .before .before .before .before .before .before .before .before .before .before .before .pre .1, e .0, e .1, omega arith, c .before .before .loop .inv .progress .within)
 
 enum-known-g : tie.Need-enum-known-g Inv-loop μ-loop
 enum-known-g c = search needs
@@ -70,7 +70,7 @@ returns-2 c =
     let r = c .before .before .before .before .before .before .tried-choices .ensures in
     let e = hope-safe (a .op .kind) (a .op .a) (a .op .b) _ _ (sym (c .before .before .before .before .before .before .before .before .is-hopeless .ensures) ∙ c .before .before .before .before .before .before .before .if1 .left) in
     trying-stop (c .before .before .before .before .before .loop .inv) (omega arith) (c .before .before .take-first .ensures) (c .enum-told .given .1)
-    (first-range (c .before .before .before .before .before .before .before .before .before .before .before .before .before .before .pre .1) (e .0) (e .1) (r .0) (r .1))
+    (first-range (c .before .before .before .before .before .before .before .before .before .before .before .before .before .before .pre .1) (e .0) (e .1) (r .0) (r .1)) .0
 
 add-k : tie.Need-add-k Inv-loop μ-loop
 add-k c = search needs
@@ -87,7 +87,7 @@ returns-3 c =
     let a = c .before .before .before .before .before .before .before .before .before .before .before .args in
     let r = c .before .before .before .tried-choices .ensures in
     let e = hope-safe (a .op .kind) (a .op .a) (a .op .b) _ _ (sym (c .before .before .before .before .before .is-hopeless .ensures) ∙ c .before .before .before .before .if1 .left) in
-    trying-all (c .before .before .loop .inv) (omega arith) (first-range (c .before .before .before .before .before .before .before .before .before .before .before .pre .1) (e .0) (e .1) (r .0) (r .1))
+    trying-all (c .before .before .loop .inv) (omega arith) (first-range (c .before .before .before .before .before .before .before .before .before .before .before .pre .1) (e .0) (e .1) (r .0) (r .1)) .0
 
 pub take-firsts-spec : {M : Type 1} → statement M
 take-firsts-spec =

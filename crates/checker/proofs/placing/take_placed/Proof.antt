@@ -1,6 +1,6 @@
 use Rattle.layout.specs.Entries.{membersAt}
 use Rattle.checker.proofs.Operands.{plays}
-use Rattle.checker.proofs.Trying.{stays}
+use Rattle.checker.proofs.Taking.{stays}
 use borrow.Author.Needs.{needs}
 use Rattle.checker.proofs.placing.take_placed.Statement.{statement}
 use Rattle.checker.proofs.placing.take_placed.Tie as tie

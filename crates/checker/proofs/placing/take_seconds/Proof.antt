@@ -41,7 +41,7 @@ loop-holds c =
 
 take-second-requires : tie.Need-take-second-requires Inv-loop μ-loop
 take-second-requires c κs =
-    (c .before .before .before .before .before .before .before .before .before .pre .0, c .before .before .before .before .before .before .before .before .before .pre .1, omega arith, c .before .before .loop .inv .within)
+    (c .before .before .before .before .before .before .before .before .before .pre .0, c .before .before .before .before .before .before .before .before .before .pre .1, omega arith, c .before .before .loop .inv .progress .within)
 
 enum-known-g : tie.Need-enum-known-g Inv-loop μ-loop
 enum-known-g c = search needs
@@ -53,7 +53,7 @@ returns : tie.Need-returns Inv-loop μ-loop
 returns c =
     let r = c .before .before .before .before .before .before .tried-choices .ensures in
     trying-stop (c .before .before .before .before .before .loop .inv) (omega arith) (c .before .before .take-second .ensures) (c .enum-told .given .1)
-    (second-range (c .before .before .before .before .before .before .before .before .before .before .before .before .pre .1) (r .0) (r .1))
+    (second-range (c .before .before .before .before .before .before .before .before .before .before .before .before .pre .1) (r .0) (r .1)) .0
 
 add-k : tie.Need-add-k Inv-loop μ-loop
 add-k c = search needs
@@ -68,7 +68,7 @@ loop-again c =
 returns-2 : tie.Need-returns-2 Inv-loop μ-loop
 returns-2 c =
     let r = c .before .before .before .tried-choices .ensures in
-    trying-all (c .before .before .loop .inv) (omega arith) (second-range (c .before .before .before .before .before .before .before .before .before .pre .1) (r .0) (r .1))
+    trying-all (c .before .before .loop .inv) (omega arith) (second-range (c .before .before .before .before .before .before .before .before .before .pre .1) (r .0) (r .1)) .0
 
 pub take-seconds-spec : {M : Type 1} → statement M
 take-seconds-spec =

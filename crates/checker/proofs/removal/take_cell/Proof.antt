@@ -7,7 +7,7 @@ use Rattle.layout.specs.Arrays.{shapeIn, Hold}
 use Rattle.layout.specs.Entries.{membersAt}
 use Rattle.removing.specs.Without.{without}
 use Rattle.removing.proofs.Free.{not-free}
-use Rattle.checker.proofs.Turning.{take-none, take-same}
+use Rattle.checker.proofs.Takes.{take-none, take-same}
 use Rattle.checker.proofs.Made.{made-without}
 use borrow.Author.Needs.{needs}
 use Rattle.checker.proofs.removal.take_cell.Statement.{statement}

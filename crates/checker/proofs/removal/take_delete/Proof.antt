@@ -9,7 +9,7 @@ use Rattle.backward.specs.Predecessors.{predecessors}
 use Rattle.layout.specs.Arrays.{shapeIn, Hold}
 use Rattle.layout.specs.Entries.{membersAt}
 use Rattle.removing.proofs.Arrays.{delete-none}
-use Rattle.checker.proofs.Turning.{take-none, take-same}
+use Rattle.checker.proofs.Takes.{take-none, take-same}
 use Rattle.checker.proofs.Made.{made-delete}
 use borrow.Author.Needs.{needs}
 use Rattle.checker.proofs.removal.take_delete.Statement.{statement}

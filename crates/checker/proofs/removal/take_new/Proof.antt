@@ -11,7 +11,7 @@ use Rattle.layout.specs.Arrays.{shapeIn}
 use Rattle.layout.specs.Entries.{membersAt}
 use Rattle.removing.specs.Without.{without}
 use Rattle.removing.proofs.Arrays.{hold-set, new-nowhere, new-none, new-cell}
-use Rattle.checker.proofs.Turning.{take-none, take-same}
+use Rattle.checker.proofs.Takes.{take-none, take-same}
 use borrow.Author.Needs.{needs}
 use Rattle.checker.proofs.removal.take_new.Statement.{statement}
 use Rattle.checker.proofs.removal.take_new.Tie as tie

@@ -9,7 +9,7 @@ use Rattle.layout.specs.Arrays.{shapeIn}
 use Rattle.layout.specs.Entries.{membersAt}
 use Rattle.removing.specs.Without.{without}
 use Rattle.checker.specs.Taking.{Takes}
-use Rattle.checker.proofs.Turning.{take-same, take-on, take-stop}
+use Rattle.checker.proofs.Takes.{take-same, take-on, take-stop}
 use borrow.Author.Needs.{needs}
 use Rattle.checker.proofs.removal.take_unplaced.Statement.{statement}
 use Rattle.checker.proofs.removal.take_unplaced.Tie as tie

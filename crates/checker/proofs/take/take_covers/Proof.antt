@@ -3,7 +3,6 @@ use native.Mathlib.Omega.{arith}
 use Rattle.lists.specs.List.{concatMap}
 use Rattle.layout.specs.Entries.{entriesAt, membersAt}
 use Rattle.checker.specs.Jobs.{owedBy}
-use Rattle.checker.specs.declared.going.Taken.{Taken}
 use Rattle.checker.proofs.Taking.{begin, advance, halt}
 use borrow.Author.Needs.{needs}
 use Rattle.checker.proofs.take.take_covers.Statement.{statement}
@@ -13,7 +12,9 @@ index-transitions-requires : tie.Need-index-transitions-requires
 index-transitions-requires c κs = (c .before .before .before .before .pre .0, refl, refl)
 
 take-bads-requires : tie.Need-take-bads-requires
-take-bads-requires c κs = let p = c .before .before .before .before .before .pre in (p .0 .bads, p .1, record { counted = omega arith; inside = p .2; fits = p .3 })
+take-bads-requires c κs =
+    let p = c .before .before .before .before .before .pre in
+    (p .0 .bads, p .1, record { counted = omega arith; inside = p .2; fits = p .3 })
 
 enum-known-g : tie.Need-enum-known-g
 enum-known-g c = search needs
@@ -22,13 +23,22 @@ enum-told : tie.Need-enum-told
 enum-told c = search needs
 
 returns : tie.Need-returns
-returns c = let a = c .before .before .before .before .before .before .before .before .args in let p = c .before .before .before .before .before .before .before .before .pre in let v = c .enum-told .given in let from : Taken = record { at = a .at; covers = 0 } in halt (a .cert .now) (membersAt (a .cert .now) (a .h .variables) (a .starts .now) (a .members)) _ from (entriesAt (a .job .now) (a .h .variables) (a .h .«bads_at») (a .h .bads)) (concatMap (owedBy (a .job .now) (a .h)) (membersAt (a .cert .now) (a .h .variables) (a .starts .now) (a .members))) from (begin (a .cert .now) (membersAt (a .cert .now) (a .h .variables) (a .starts .now) (a .members)) _ from (record { counted = omega arith; inside = p .2; fits = p .3 })) _ (v .0 .0) (v .0 .1 .0) (v .1) (c .before .before .take-bads .ensures) .0
+returns c =
+    let a = c .before .before .before .before .before .before .before .before .args in
+    let p = c .before .before .before .before .before .before .before .before .pre in
+    halt (entriesAt (a .job .now) (a .h .variables) (a .h .«bads_at») (a .h .bads)) (concatMap (owedBy (a .job .now) (a .h)) (membersAt (a .cert .now) (a .h .variables) (a .starts .now) (a .members))) (begin (record { counted = omega arith; inside = p .2; fits = p .3 })) (c .before .before .take-bads .ensures) (c .enum-told .given .1) .0
 
 take-members-requires : tie.Need-take-members-requires
-take-members-requires c κs = let p = c .before .before .before .before .before .before .before .before .before .before .before .pre in let v = c .before .before .before .g .given in (p .0, c .before .before .before .before .before .before .index-transitions .ensures, p .1, rw (v .1) at (c .before .before .before .before .before .take-bads .ensures .1))
+take-members-requires c κs =
+    let p = c .before .before .before .before .before .before .before .before .before .before .before .pre in
+    let v = c .before .before .before .g .given in
+    (p .0, c .before .before .before .before .before .before .index-transitions .ensures, p .1, rw (v .1) at (c .before .before .before .before .before .take-bads .ensures .1))
 
 returns-2 : tie.Need-returns-2
-returns-2 c = let a = c .before .before .before .before .before .before .before .before .before .before .before .before .args in let p = c .before .before .before .before .before .before .before .before .before .before .before .before .pre in let v = c .before .before .before .before .g .given in let from : Taken = record { at = a .at; covers = 0 } in c .take-members .ensures .0 ∙ advance (a .cert .now) (membersAt (a .cert .now) (a .h .variables) (a .starts .now) (a .members)) _ from (entriesAt (a .job .now) (a .h .variables) (a .h .«bads_at») (a .h .bads)) (concatMap (owedBy (a .job .now) (a .h)) (membersAt (a .cert .now) (a .h .variables) (a .starts .now) (a .members))) from (begin (a .cert .now) (membersAt (a .cert .now) (a .h .variables) (a .starts .now) (a .members)) _ from (record { counted = omega arith; inside = p .2; fits = p .3 })) _ (v .0 .0) (v .1) (c .before .before .before .before .before .before .take-bads .ensures) .left
+returns-2 c =
+    let a = c .before .before .before .before .before .before .before .before .before .before .before .before .args in
+    let p = c .before .before .before .before .before .before .before .before .before .before .before .before .pre in
+    c .take-members .ensures .0 ∙ advance (entriesAt (a .job .now) (a .h .variables) (a .h .«bads_at») (a .h .bads)) (concatMap (owedBy (a .job .now) (a .h)) (membersAt (a .cert .now) (a .h .variables) (a .starts .now) (a .members))) (begin (record { counted = omega arith; inside = p .2; fits = p .3 })) (c .before .before .before .before .before .before .take-bads .ensures) (c .before .before .before .before .g .given .1) .left
 
 pub take-covers-spec : {M : Type 1} → statement M
 take-covers-spec =

@@ -1,9 +1,9 @@
+use Rattle.layout.specs.Entries.{locatedAt}
 use mathlib.Core.Path.{refl}
 use native.Mathlib.Omega.{arith}
 use lib.ListN.{getD}
 use Rattle.order.proofs.Index.{linked-head}
 use Rattle.checker.specs.Jobs.{toState}
-use Rattle.layout.specs.Entries.{locatedAt}
 use Rattle.checker.proofs.Chain.{chain-begin, chain-end}
 use Rattle.checker.proofs.take.take_member.Statement.{statement}
 use Rattle.checker.proofs.take.take_member.Tie as tie
@@ -15,28 +15,51 @@ element-copy-out-at : tie.Need-element-copy-out-at
 element-copy-out-at c = omega (arith, c .before .before .pre .2 .count-most)
 
 cast-at : tie.Need-cast-at
-cast-at c = let e = c .before .before .before .pre .2 .entry (c .before .before .before .args .m) (c .before .before .before .pre .3) in omega (arith, e .inside)
+cast-at c =
+    let e = c .before .before .before .pre .2 .entry (c .before .before .before .args .m) (c .before .before .before .pre .3) in
+    omega (arith, e .inside)
 
 shared-slice-read-state : tie.Need-shared-slice-read-state
-shared-slice-read-state c = let e = c .before .before .before .before .pre .2 .entry (c .before .before .before .before .args .m) (c .before .before .before .before .pre .3) in omega (arith, e .inside)
+shared-slice-read-state c =
+    let e = c .before .before .before .before .pre .2 .entry (c .before .before .before .before .args .m) (c .before .before .before .before .pre .3) in
+    omega (arith, e .inside)
 
 cast-head : tie.Need-cast-head
-cast-head c = let e = c .before .before .before .before .pre .2 .entry (c .before .before .before .before .args .m) (c .before .before .before .before .pre .3) in omega (arith, e .state)
+cast-head c =
+    let e = c .before .before .before .before .pre .2 .entry (c .before .before .before .before .args .m) (c .before .before .before .before .pre .3) in
+    omega (arith, e .state)
 
 mul-head : tie.Need-mul-head
-mul-head c = let e = c .before .before .before .before .pre .2 .entry (c .before .before .before .before .args .m) (c .before .before .before .before .pre .3) in omega (arith, e .state)
+mul-head c =
+    let e = c .before .before .before .before .pre .2 .entry (c .before .before .before .before .args .m) (c .before .before .before .before .pre .3) in
+    omega (arith, e .state)
 
 element-copy-out-head : tie.Need-element-copy-out-head
-element-copy-out-head c = let e = c .before .before .before .before .pre .2 .entry (c .before .before .before .before .args .m) (c .before .before .before .before .pre .3) in omega (arith, e .state)
+element-copy-out-head c =
+    let e = c .before .before .before .before .pre .2 .entry (c .before .before .before .before .args .m) (c .before .before .before .before .pre .3) in
+    omega (arith, e .state)
 
 returns : tie.Need-returns
-returns c = let a = c .before .before .before .before .before .before .args in let p = c .before .before .before .before .before .before .pre in let e = c .before .before .before .before .before .before .pre .2 .entry (c .before .before .before .before .before .before .args .m) (c .before .before .before .before .before .before .pre .3) in let m = locatedAt (a .cert .now) (a .h .variables) (getD (a .starts .now) (a .m) 0) in let k = getD (a .heads .now) (m .state) 0 in chain-end (a .job .now) (a .h) (a .cert .now) _ m (a .t) k (a .t) (chain-begin (a .job .now) (a .h) (a .cert .now) _ m (a .t) k (linked-head (toState (a .job .now) (a .h)) (a .h .transitions) (a .heads .now) (a .nexts .now) (p .1) (getD (a .cert .now) (getD (a .starts .now) (a .m) 0) 0) (e .state)) (p .4)) (omega arith)
+returns c =
+    let a = c .before .before .before .before .before .before .args in
+    let p = c .before .before .before .before .before .before .pre in
+    let e = p .2 .entry (a .m) (p .3) in
+    let m = locatedAt (a .cert .now) (a .h .variables) (getD (a .starts .now) (a .m) 0) in
+    chain-end {job = a .job .now} {h = a .h} {m = m} (chain-begin (linked-head (toState (a .job .now) (a .h)) (a .h .transitions) (a .heads .now) (a .nexts .now) (p .1) (m .state) (e .state)) (p .4)) (omega arith)
 
 load-shape-requires : tie.Need-load-shape-requires
-load-shape-requires c κs = let p = c .before .before .before .before .before .before .before .before .pre in let e = c .before .before .before .before .before .before .before .before .pre .2 .entry (c .before .before .before .before .before .before .before .before .args .m) (c .before .before .before .before .before .before .before .before .pre .3) in (e, p .2 .variables-most, refl, refl)
+load-shape-requires c κs =
+    let p = c .before .before .before .before .before .before .before .before .pre in
+    let e = c .before .before .before .before .before .before .before .before .pre .2 .entry (c .before .before .before .before .before .before .before .before .args .m) (c .before .before .before .before .before .before .before .before .pre .3) in
+    (e, p .2 .variables-most, refl, refl)
 
 take-transitions-requires : tie.Need-take-transitions-requires
-take-transitions-requires c κs = let a = c .before .before .before .before .before .before .before .before .before .before .before .args in let p = c .before .before .before .before .before .before .before .before .before .before .before .pre in let e = c .before .before .before .before .before .before .before .before .before .before .before .pre .2 .entry (c .before .before .before .before .before .before .before .before .before .before .before .args .m) (c .before .before .before .before .before .before .before .before .before .before .before .pre .3) in let l = c .before .before .load-shape .ensures in (p .0, p .1 .next, linked-head (toState (a .job .now) (a .h)) (a .h .transitions) (a .heads .now) (a .nexts .now) (p .1) (getD (a .cert .now) (getD (a .starts .now) (a .m) 0) 0) (e .state), p .2, l .hold, l .cells, p .4)
+take-transitions-requires c κs =
+    let a = c .before .before .before .before .before .before .before .before .before .before .before .args in
+    let p = c .before .before .before .before .before .before .before .before .before .before .before .pre in
+    let e = c .before .before .before .before .before .before .before .before .before .before .before .pre .2 .entry (c .before .before .before .before .before .before .before .before .before .before .before .args .m) (c .before .before .before .before .before .before .before .before .before .before .before .pre .3) in
+    let l = c .before .before .load-shape .ensures in
+    (p .0, p .1 .next, linked-head (toState (a .job .now) (a .h)) (a .h .transitions) (a .heads .now) (a .nexts .now) (p .1) (getD (a .cert .now) (getD (a .starts .now) (a .m) 0) 0) (e .state), p .2, l .hold, l .cells, p .4)
 
 returns-2 : tie.Need-returns-2
 returns-2 c = (rw (c .before .before .before .load-shape .ensures .shape) at (c .take-transitions .ensures .0), c .take-transitions .ensures .1)

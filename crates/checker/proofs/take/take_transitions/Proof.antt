@@ -15,22 +15,32 @@ abbrev μ-loop : tie.MeasureT-loop
 μ-loop job h head nexts cert starts members state n vars links t₀ k₀ t k = leftFrom (h .transitions) k
 
 loop-holds : tie.Need-loop-holds Inv-loop μ-loop
-loop-holds c = let a = c .before .before .args in let p = c .before .before .pre in chain-begin (a .job .now) (a .h) (a .cert .now) _ _ (a .from) (a .head) (p .2) (p .6)
+loop-holds c = let p = c .before .before .pre in chain-begin (p .2) (p .6)
 
 sub-i : tie.Need-sub-i Inv-loop μ-loop
 sub-i c = search needs
 
 cast-i : tie.Need-cast-i Inv-loop μ-loop
-cast-i c = let a = c .before .before .before .before .args in let l = c .before .loop in let b = chain-below (a .job .now) (a .h) (a .cert .now) _ (located (a .state) (shapeIn (a .h .variables) (a .n) (a .vars .now) (a .links .now))) (a .from) (l .k) (l .t) (l .inv) (omega arith) in omega (arith, c .before .before .before .before .pre .0 .transitions-number)
+cast-i c =
+    let b = chain-below (c .before .loop .inv) (omega arith) in
+    omega (arith, c .before .before .before .before .pre .0 .transitions-number)
 
 mul-at : tie.Need-mul-at Inv-loop μ-loop
-mul-at c = let a = c .before .before .before .before .args in let l = c .before .loop in let b = chain-below (a .job .now) (a .h) (a .cert .now) _ (located (a .state) (shapeIn (a .h .variables) (a .n) (a .vars .now) (a .links .now))) (a .from) (l .k) (l .t) (l .inv) (omega arith) in omega (arith, c .before .before .before .before .pre .0 .transitions-number)
+mul-at c =
+    let b = chain-below (c .before .loop .inv) (omega arith) in
+    omega (arith, c .before .before .before .before .pre .0 .transitions-number)
 
 add-at : tie.Need-add-at Inv-loop μ-loop
-add-at c = let a = c .before .before .before .before .before .args in let l = c .before .before .loop in let b = c .before .before .before .before .before .pre .0 .transitions (l .k - 1) (chain-below (a .job .now) (a .h) (a .cert .now) _ (located (a .state) (shapeIn (a .h .variables) (a .n) (a .vars .now) (a .links .now))) (a .from) (l .k) (l .t) (l .inv) (omega arith)) in omega arith
+add-at c =
+    let b = c .before .before .before .before .before .pre .0 .transitions (c .before .before .loop .k - 1) (chain-below (c .before .before .loop .inv) (omega arith)) in
+    omega arith
 
 take-transition-requires : tie.Need-take-transition-requires Inv-loop μ-loop
-take-transition-requires c κs = let a = c .before .before .before .before .before .args in let l = c .before .before .loop in let p = c .before .before .before .before .before .pre in let b = p .0 .transitions (l .k - 1) (chain-below (a .job .now) (a .h) (a .cert .now) _ (located (a .state) (shapeIn (a .h .variables) (a .n) (a .vars .now) (a .links .now))) (a .from) (l .k) (l .t) (l .inv) (omega arith)) in (b .inside, b .operands, p .3, p .4, p .5, l .inv .progress .within)
+take-transition-requires c κs =
+    let l = c .before .before .loop in
+    let p = c .before .before .before .before .before .pre in
+    let b = p .0 .transitions (l .k - 1) (chain-below (l .inv) (omega arith)) in
+    (b .inside, b .operands, p .3, p .4, p .5, l .inv .progress .within)
 
 enum-known-g : tie.Need-enum-known-g Inv-loop μ-loop
 enum-known-g c = search needs
@@ -39,22 +49,26 @@ enum-told : tie.Need-enum-told Inv-loop μ-loop
 enum-told c = search needs
 
 returns : tie.Need-returns Inv-loop μ-loop
-returns c = let a = c .before .before .before .before .before .before .before .before .args in let l = c .before .before .before .before .before .loop in let v = c .enum-told .given in chain-halt (a .job .now) (a .h) (a .cert .now) _ (located (a .state) (shapeIn (a .h .variables) (a .n) (a .vars .now) (a .links .now))) (a .from) (l .k) (l .t) (l .inv) (omega arith) _ (c .before .before .take-transition .ensures) (v .0 .0) (v .0 .1 .0) (v .1)
+returns c = chain-halt (c .before .before .before .before .before .loop .inv) (omega arith) (c .before .before .take-transition .ensures) (c .enum-told .given .1)
 
 mul-k : tie.Need-mul-k Inv-loop μ-loop
-mul-k c = let a = c .before .before .before .before .before .before .before .before .before .args in let l = c .before .before .before .before .before .before .loop in let b = chain-below (a .job .now) (a .h) (a .cert .now) _ (located (a .state) (shapeIn (a .h .variables) (a .n) (a .vars .now) (a .links .now))) (a .from) (l .k) (l .t) (l .inv) (omega arith) in omega (arith, c .before .before .before .before .before .before .before .before .before .pre .0 .transitions-number)
+mul-k c =
+    let b = chain-below (c .before .before .before .before .before .before .loop .inv) (omega arith) in
+    omega (arith, c .before .before .before .before .before .before .before .before .before .pre .0 .transitions-number)
 
 element-copy-out-k : tie.Need-element-copy-out-k Inv-loop μ-loop
-element-copy-out-k c = let a = c .before .before .before .before .before .before .before .before .before .args in let l = c .before .before .before .before .before .before .loop in let b = chain-below (a .job .now) (a .h) (a .cert .now) _ (located (a .state) (shapeIn (a .h .variables) (a .n) (a .vars .now) (a .links .now))) (a .from) (l .k) (l .t) (l .inv) (omega arith) in omega (arith, c .before .before .before .before .before .before .before .before .before .pre .0 .transitions-number)
+element-copy-out-k c =
+    let b = chain-below (c .before .before .before .before .before .before .loop .inv) (omega arith) in
+    omega (arith, c .before .before .before .before .before .before .before .before .before .pre .0 .transitions-number)
 
 loop-less : tie.Need-loop-less Inv-loop μ-loop
-loop-less c = let a = c .before .before .before .before .before .before .before .before .before .before .args in let l = c .before .before .before .before .before .before .before .loop in chain-less (a .job .now) (a .h) (a .cert .now) _ (located (a .state) (shapeIn (a .h .variables) (a .n) (a .vars .now) (a .links .now))) (a .from) (l .k) (l .t) (l .inv) (omega arith) (a .nexts .now) (c .before .before .before .before .before .before .before .before .before .before .pre .1)
+loop-less c = chain-less (c .before .before .before .before .before .before .before .loop .inv) (omega arith) (c .before .before .before .before .before .before .before .before .before .before .args .nexts .now) (c .before .before .before .before .before .before .before .before .before .before .pre .1)
 
 loop-again : tie.Need-loop-again Inv-loop μ-loop
-loop-again c = let a = c .before .before .before .before .before .before .before .before .before .before .args in let l = c .before .before .before .before .before .before .before .loop in let v = c .before .before .g .given in chain-more (a .job .now) (a .h) (a .cert .now) _ (located (a .state) (shapeIn (a .h .variables) (a .n) (a .vars .now) (a .links .now))) (a .from) (l .k) (l .t) (l .inv) (omega arith) _ (c .before .before .before .before .take-transition .ensures) (a .nexts .now) (v .0 .0) (c .before .before .before .before .before .before .before .before .before .before .pre .1) (v .1)
+loop-again c = chain-more (c .before .before .before .before .before .before .before .loop .inv) (omega arith) (c .before .before .before .before .take-transition .ensures) (c .before .before .before .before .before .before .before .before .before .before .args .nexts .now) (c .before .before .before .before .before .before .before .before .before .before .pre .1) (c .before .before .g .given .1)
 
 returns-2 : tie.Need-returns-2 Inv-loop μ-loop
-returns-2 c = let a = c .before .before .before .before .args in let l = c .before .loop in chain-end (a .job .now) (a .h) (a .cert .now) _ _ (a .from) (l .k) (l .t) (l .inv) (omega arith)
+returns-2 c = chain-end (c .before .loop .inv) (omega arith)
 
 pub take-transitions-spec : {M : Type 1} → statement M
 take-transitions-spec =

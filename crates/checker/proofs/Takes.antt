@@ -1,11 +1,9 @@
--- Taking one cover, and loops that take the covers of shapes at one state.
+-- Taking one cover, and the covers of shapes at one state.
 use mathlib.Core.List.{List, [], _∷_, _++_, map, map-append}
 use mathlib.Core.Path.{_≡_, refl, sym, ap, _∙_}
-use Prim.Native.Nat.{ℕ, _+_, _-_, _≤_, _<_}
+use Prim.Native.Nat.{ℕ, _+_}
 use native.Mathlib.Numerals.{add-one}
 use native.Mathlib.Omega.{arith}
-use Rattle.lists.specs.List.{concatMap}
-use Rattle.lists.specs.Range.{range}
 use Rattle.shape.specs.Shape.{Shape}
 use Rattle.run.specs.Run.{Located}
 use Rattle.format.specs.Certificate.{readCover}
@@ -18,8 +16,7 @@ use Rattle.checker.specs.declared.going.Going.{Going}
 use Rattle.checker.specs.declared.going.Going.the-variants.{On, Refused}
 use Rattle.checker.specs.declared.going.Taken.{Taken}
 use Rattle.checker.proofs.CoverPlace.{cover-place}
-use Rattle.checker.proofs.Lists.{range-next, range-end}
-use Rattle.checker.proofs.Taking.{takeAll-none, takeAll-one, takeAll-append, Progress, begin, advance, halt, finish}
+use Rattle.checker.proofs.Taking.{takeAll-none, takeAll-one, takeAll-append}
 
 module _ (cert : List ℕ) (ms : List Located) where
   -- one cover
@@ -67,36 +64,3 @@ module _ (cert : List ℕ) (ms : List Located) where
     pub take-stop : (ss us : List Shape) (t : Taken) (r : Refusal) (place : ℕ) (g : Going) → g ≡ Refused r place → Takes cert ms state ss t g
         → Takes cert ms state (ss ++ us) t g
     take-stop ss us t r place g i (e, w) = (rw (shapes-append ss us t, ← e, i) refl, w)
-
-    -- ---- a loop over k, from `first` on and below `end`, that takes the covers of the shapes f k
-
-    abbrev shapesAt : (ℕ → List Shape) → ℕ → ℕ → List Located
-    shapesAt f k n = map (located state) (concatMap f (range k n))
-
-    pub record Turning (f : ℕ → List Shape) (first end : ℕ) (from t : Taken) (k : ℕ) : Type 0 where
-      pub high : k ≤ end
-      pub progress : Progress cert ms (shapesAt f first (end - first)) from (shapesAt f k (end - k)) t
-
-    pub turn-none : (f : ℕ → List Shape) (first end : ℕ) (t : Taken) → first ≤ end → Within cert t → Turning f first end t t first
-    turn-none f first end t b w = record { high = b; progress = begin cert ms (shapesAt f first (end - first)) t w }
-
-    module _ {f : ℕ → List Shape} {first end : ℕ} {from t : Taken} {k : ℕ} (w : Turning f first end from t k) where
-      abbrev all : List Located
-      all = shapesAt f first (end - first)
-
-      abbrev rest : List Located
-      rest = shapesAt f (k + 1) (end - (k + 1))
-
-      next : k < end → Progress cert ms all from (map (located state) (f k) ++ rest) t
-      next b =
-          rw (range-next end k b, map-append (located state) (f k) (concatMap f (range (k + 1) (end - (k + 1))))) at (w .progress)
-
-      pub turn-more : k < end → (u : Taken) (g : Going) → g ≡ On u → Takes cert ms state (f k) t g → Turning f first end from u (k + 1)
-      turn-more b u g i e = record { high = omega arith; progress = advance cert ms all from (map (located state) (f k)) rest t (next b) g u i e }
-
-      pub turn-stop : k < end → (r : Refusal) (place : ℕ) (g : Going) → g ≡ Refused r place → Takes cert ms state (f k) t g
-          → Takes cert ms state (concatMap f (range first (end - first))) from g
-      turn-stop b r place g i e = halt cert ms all from (map (located state) (f k)) rest t (next b) g r place i e
-
-      pub turn-all : end ≤ k → Takes cert ms state (concatMap f (range first (end - first))) from (On t)
-      turn-all b = finish cert ms all from t (rw (range-end end k b) at (w .progress))
