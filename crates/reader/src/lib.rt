@@ -3,7 +3,6 @@ use kinds::least_a;
 use kinds::least_b;
 use kinds::most_b;
 use number::Read;
-use number::read_number;
 use verdict::Reached;
 use verdict::Refusal;
 ghost use mathlib.Core.List.{[]};
@@ -13,6 +12,7 @@ ghost use lib.ListN.{length};
 ghost use Rattle.format.specs.Certificate.{readMember};
 ghost use Rattle.format.specs.Job.{readLocated, readTransition};
 ghost use Rattle.format.specs.Parser.{jobBuffer, certificateBuffer, many, ranged};
+ghost use Rattle.number.specs.Number.{numberAt};
 ghost use Rattle.verdict.specs.Verdict.{refusalNumber, reachedOf};
 ghost use Rattle.reader.specs.Job.{readCounts, readFront, frontOf, RestAnswered, JobAnswered};
 ghost use Rattle.reader.specs.Members.{NotedBy, MembersAnswered};
@@ -86,11 +86,21 @@ fn outside(side: Side) -> Refusal
     }
 }
 
+// The number at a place; of a job, by the reader that keeps the buffer with the place.
+fn read_number(side: Side, bytes: &[u8], at: usize) -> Read
+    ensures { λ r. ⌜ r ≡ numberAt (now (bytes .entry)) at ⌝ }
+{
+    match side {
+        Side::Job => jobreader::read_at(bytes, at),
+        Side::Certificate => number::read_number(bytes, at),
+    }
+}
+
 // The number at a place, from `low` on and below `limit`.
 pub fn read_ranged(side: Side, bytes: &[u8], at: usize, low: usize, limit: usize) -> Ranged
     ensures { λ r. ⌜ rangedOf r ≡ ranged (bufferOf side (now (bytes .entry))) low limit at ⌝ }
 {
-    let read = read_number(bytes, at);
+    let read = read_number(side, bytes, at);
     match read {
         Read::Unreadable(_) => Ranged::Refused(unreadable(side), at),
         Read::Number(n, next) => {

@@ -43,7 +43,16 @@ same-length : tie.Need-same-length Inv-loop μ-loop
 same-length c = search needs
 
 returns : tie.Need-returns Inv-loop μ-loop
-returns c = let a = c .before .before .before .before .before .before .before .args in let e = c .enum-told .given .1 in let n = c .before .before .before .before .loop .inv in (ap reachedOf e ∙ left-lost (readMember (certificateBuffer (a .cert .now)) (a .variables) (a .states)) (a .count) (a .first) (c .before .before .before .before .loop .at) (c .before .before .before .before .loop .i) (n .left) _ _ (omega arith) (sym (as-entry (a .cert .now) (a .variables) (a .states) (c .before .before .before .before .loop .at)) ∙ reached-lost (c .before .before .read-entry .ensures) e), rw e (simp length-set (n .size)))
+returns c =
+    let a = c .before .before .before .before .before .before .before .args in
+    let e = c .enum-told .given .1 in
+    let n = c .before .before .before .before .loop .inv in (
+      ap reachedOf e
+          ∙ left-lost (readMember (certificateBuffer (a .cert .now)) (a .variables) (a .states)) (a .count) (a .first)
+          (c .before .before .before .before .loop .at) (c .before .before .before .before .loop .i) (n .left) _ _ (omega arith)
+          (sym (as-entry (a .cert .now) (a .variables) (a .states) (c .before .before .before .before .loop .at)) ∙ reached-lost (c .before .before .read-entry .ensures) e),
+      rw e (simp length-set (n .size)),
+    )
 
 add-i : tie.Need-add-i Inv-loop μ-loop
 add-i c = search needs
@@ -52,13 +61,25 @@ loop-less : tie.Need-loop-less Inv-loop μ-loop
 loop-less c = search needs
 
 loop-again : tie.Need-loop-again Inv-loop μ-loop
-loop-again c = let a = c .before .before .before .before .before .before .before .before .args in note-more (a .cert .now) (a .variables) (a .states) (a .first) (a .count) (a .starts .now) (c .before .before .before .before .before .loop .starts) (c .before .before .before .before .before .loop .at) (c .before .before .before .before .before .loop .i) (c .before .before .before .before .before .loop .inv) _ (omega arith) (omega arith) (reached-got (c .before .before .before .read-entry .ensures) (c .before .r .given .1))
+loop-again c =
+    let a = c .before .before .before .before .before .before .before .before .args in
+    note-more (a .cert .now) (a .variables) (a .states) (a .first) (a .count) (a .starts .now)
+    (c .before .before .before .before .before .loop .starts) (c .before .before .before .before .before .loop .at)
+    (c .before .before .before .before .before .loop .i) (c .before .before .before .before .before .loop .inv) _ (omega arith)
+    (omega arith) (reached-got (c .before .before .before .read-entry .ensures) (c .before .r .given .1))
 
 same-length-2 : tie.Need-same-length-2 Inv-loop μ-loop
 same-length-2 c = search needs
 
 returns-2 : tie.Need-returns-2 Inv-loop μ-loop
-returns-2 c = let a = c .before .before .before .before .args in let n = c .before .loop .inv in (left-all (readMember (certificateBuffer (a .cert .now)) (a .variables) (a .states)) (a .count) (a .first) (c .before .loop .at) (c .before .loop .i) (n .left) (omega arith), note-all (a .cert .now) (a .variables) (a .states) (a .first) (a .count) (a .starts .now) (c .before .loop .starts) (c .before .loop .at) (c .before .loop .i) n (omega arith))
+returns-2 c =
+    let a = c .before .before .before .before .args in
+    let n = c .before .loop .inv in (
+      left-all (readMember (certificateBuffer (a .cert .now)) (a .variables) (a .states)) (a .count) (a .first) (c .before .loop .at)
+          (c .before .loop .i) (n .left) (omega arith),
+      note-all (a .cert .now) (a .variables) (a .states) (a .first) (a .count) (a .starts .now) (c .before .loop .starts)
+          (c .before .loop .at) (c .before .loop .i) n (omega arith),
+    )
 
 pub note-members-spec : {M : Type 1} → statement M
 note-members-spec =

@@ -31,7 +31,14 @@ reached-requires : tie.Need-reached-requires Inv-loop μ-loop
 reached-requires c κs = search needs
 
 returns : tie.Need-returns Inv-loop μ-loop
-returns c = let a = c .before .before .before .before .before .before .before .args in let e = c .before .enum-told .given .1 in passed (c .before .before .before .read-ranged .ensures) (c .reached .ensures) e ∙ left-lost (ranged (bufferOf (a .side) (a .bytes .now)) 0 (a .limit)) (a .count) (a .first) (c .before .before .before .before .before .loop .at) (c .before .before .before .before .before .loop .i) (c .before .before .before .before .before .loop .inv) _ _ (omega arith) (ap forget (lost (c .before .before .before .read-ranged .ensures) e))
+returns c =
+    let a = c .before .before .before .before .before .before .before .args in
+    let e = c .before .enum-told .given .1 in
+    passed (c .before .before .before .read-ranged .ensures) (c .reached .ensures) e
+    ∙ left-lost (ranged (bufferOf (a .side) (a .bytes .now)) 0 (a .limit)) (a .count) (a .first)
+    (c .before .before .before .before .before .loop .at) (c .before .before .before .before .before .loop .i)
+    (c .before .before .before .before .before .loop .inv) _ _ (omega arith)
+    (ap forget (lost (c .before .before .before .read-ranged .ensures) e))
 
 add-i : tie.Need-add-i Inv-loop μ-loop
 add-i c = search needs
@@ -40,10 +47,18 @@ loop-less : tie.Need-loop-less Inv-loop μ-loop
 loop-less c = search needs
 
 loop-again : tie.Need-loop-again Inv-loop μ-loop
-loop-again c = let a = c .before .before .before .before .before .before .before .args in left-more (ranged (bufferOf (a .side) (a .bytes .now)) 0 (a .limit)) (a .count) (a .first) (c .before .before .before .before .before .loop .at) (c .before .before .before .before .before .loop .i) (c .before .before .before .before .before .loop .inv) _ (omega arith) (ap forget (got (c .before .before .before .read-ranged .ensures) (c .before .r .given .1)))
+loop-again c =
+    let a = c .before .before .before .before .before .before .before .args in
+    left-more (ranged (bufferOf (a .side) (a .bytes .now)) 0 (a .limit)) (a .count) (a .first)
+    (c .before .before .before .before .before .loop .at) (c .before .before .before .before .before .loop .i)
+    (c .before .before .before .before .before .loop .inv) _ (omega arith)
+    (ap forget (got (c .before .before .before .read-ranged .ensures) (c .before .r .given .1)))
 
 returns-2 : tie.Need-returns-2 Inv-loop μ-loop
-returns-2 c = let a = c .before .before .before .args in left-all (ranged (bufferOf (a .side) (a .bytes .now)) 0 (a .limit)) (a .count) (a .first) (c .before .loop .at) (c .before .loop .i) (c .before .loop .inv) (omega arith)
+returns-2 c =
+    let a = c .before .before .before .args in
+    left-all (ranged (bufferOf (a .side) (a .bytes .now)) 0 (a .limit)) (a .count) (a .first) (c .before .loop .at) (c .before .loop .i)
+    (c .before .loop .inv) (omega arith)
 
 pub read-codes-spec : {M : Type 1} → statement M
 read-codes-spec =

@@ -33,16 +33,33 @@ enum-known-r-6 : tie.Need-enum-known-r-6
 enum-known-r-6 c = search needs
 
 returns : tie.Need-returns
-returns c = let a = c .before .before .before .before .before .args in lost-states (jobBuffer (a .job .now)) (a .variables) (a .first) (lost (c .before .before .before .read-ranged .ensures) (c .before .r .given .1))
+returns c =
+    let a = c .before .before .before .before .before .args in
+    lost-states (jobBuffer (a .job .now)) (a .variables) (a .first)
+    (lost (c .before .before .before .read-ranged .ensures) (c .before .r .given .1))
 
 returns-2 : tie.Need-returns-2
-returns-2 c = let a = c .before .before .before .before .before .before .before .before .before .args in lost-start (jobBuffer (a .job .now)) (a .variables) (a .first) (got (c .before .before .before .before .before .before .before .read-ranged .ensures) (c .before .before .before .before .before .r2 .given .1)) (lost (c .before .before .before .read-ranged2 .ensures) (c .before .r3 .given .1))
+returns-2 c =
+    let a = c .before .before .before .before .before .before .before .before .before .args in
+    lost-start (jobBuffer (a .job .now)) (a .variables) (a .first)
+    (got (c .before .before .before .before .before .before .before .read-ranged .ensures) (c .before .before .before .before .before .r2 .given .1))
+    (lost (c .before .before .before .read-ranged2 .ensures) (c .before .r3 .given .1))
 
 returns-3 : tie.Need-returns-3
-returns-3 c = let a = c .before .before .before .before .before .before .before .before .before .before .before .before .before .args in lost-count (jobBuffer (a .job .now)) (a .variables) (a .first) (got (c .before .before .before .before .before .before .before .before .before .before .before .read-ranged .ensures) (c .before .before .before .before .before .before .before .before .before .r2 .given .1)) (got (c .before .before .before .before .before .before .before .read-ranged2 .ensures) (c .before .before .before .before .before .r4 .given .1)) (lost (c .before .before .before .read-ranged3 .ensures) (c .before .r5 .given .1))
+returns-3 c =
+    let a = c .before .before .before .before .before .before .before .before .before .before .before .before .before .args in
+    lost-count (jobBuffer (a .job .now)) (a .variables) (a .first)
+    (got (c .before .before .before .before .before .before .before .before .before .before .before .read-ranged .ensures) (c .before .before .before .before .before .before .before .before .before .r2 .given .1))
+    (got (c .before .before .before .before .before .before .before .read-ranged2 .ensures) (c .before .before .before .before .before .r4 .given .1))
+    (lost (c .before .before .before .read-ranged3 .ensures) (c .before .r5 .given .1))
 
 returns-4 : tie.Need-returns-4
-returns-4 c = let a = c .before .before .before .before .before .before .before .before .before .before .before .before .before .args in counts-made (jobBuffer (a .job .now)) (a .variables) (a .first) (got (c .before .before .before .before .before .before .before .before .before .before .before .read-ranged .ensures) (c .before .before .before .before .before .before .before .before .before .r2 .given .1)) (got (c .before .before .before .before .before .before .before .read-ranged2 .ensures) (c .before .before .before .before .before .r4 .given .1)) (got (c .before .before .before .read-ranged3 .ensures) (c .before .r6 .given .1))
+returns-4 c =
+    let a = c .before .before .before .before .before .before .before .before .before .before .before .before .before .args in
+    counts-made (jobBuffer (a .job .now)) (a .variables) (a .first)
+    (got (c .before .before .before .before .before .before .before .before .before .before .before .read-ranged .ensures) (c .before .before .before .before .before .before .before .before .before .r2 .given .1))
+    (got (c .before .before .before .before .before .before .before .read-ranged2 .ensures) (c .before .before .before .before .before .r4 .given .1))
+    (got (c .before .before .before .read-ranged3 .ensures) (c .before .r6 .given .1))
 
 pub read-counts-spec : {M : Type 1} → statement M
 read-counts-spec =

@@ -21,7 +21,12 @@ reached-requires : tie.Need-reached-requires
 reached-requires c κs = search needs
 
 returns : tie.Need-returns
-returns c = let a = c .before .before .before .before .before .args in let e = c .before .enum-told .given .1 in passed (c .before .before .before .read-ranged .ensures) (c .reached .ensures) e ∙ lost-state (bufferOf (a .side) (a .bytes .now)) (a .variables) (a .states) (a .first) (lost (c .before .before .before .read-ranged .ensures) e)
+returns c =
+    let a = c .before .before .before .before .before .args in
+    let e = c .before .enum-told .given .1 in
+    passed (c .before .before .before .read-ranged .ensures) (c .reached .ensures) e
+    ∙ lost-state (bufferOf (a .side) (a .bytes .now)) (a .variables) (a .states) (a .first)
+    (lost (c .before .before .before .read-ranged .ensures) e)
 
 read-ranged-requires-2 : tie.Need-read-ranged-requires-2
 read-ranged-requires-2 c κs = search needs
@@ -36,10 +41,19 @@ reached-requires-2 : tie.Need-reached-requires-2
 reached-requires-2 c κs = search needs
 
 returns-2 : tie.Need-returns-2
-returns-2 c = let a = c .before .before .before .before .before .before .before .before .before .args in let e = c .before .enum-told2 .given .1 in passed (c .before .before .before .read-ranged2 .ensures) (c .reached2 .ensures) e ∙ lost-size (bufferOf (a .side) (a .bytes .now)) (a .variables) (a .states) (a .first) (got (c .before .before .before .before .before .before .before .read-ranged .ensures) (c .before .before .before .before .before .state .given .1)) (lost (c .before .before .before .read-ranged2 .ensures) e)
+returns-2 c =
+    let a = c .before .before .before .before .before .before .before .before .before .args in
+    let e = c .before .enum-told2 .given .1 in
+    passed (c .before .before .before .read-ranged2 .ensures) (c .reached2 .ensures) e
+    ∙ lost-size (bufferOf (a .side) (a .bytes .now)) (a .variables) (a .states) (a .first)
+    (got (c .before .before .before .before .before .before .before .read-ranged .ensures) (c .before .before .before .before .before .state .given .1))
+    (lost (c .before .before .before .read-ranged2 .ensures) e)
 
 add-read-codes : tie.Need-add-read-codes
-add-read-codes c = let a = c .before .before .before .before .before .before .before .before .before .args in let (l, h) = in-range (bufferOf (a .side) (a .bytes .now)) 0 13 _ _ _ (got (c .before .before .before .read-ranged2 .ensures) (c .before .size .given .1)) in omega arith
+add-read-codes c =
+    let a = c .before .before .before .before .before .before .before .before .before .args in
+    let (l, h) = in-range (bufferOf (a .side) (a .bytes .now)) 0 13 _ _ _ (got (c .before .before .before .read-ranged2 .ensures) (c .before .size .given .1)) in
+    omega arith
 
 read-codes-requires : tie.Need-read-codes-requires
 read-codes-requires c κs = search needs
@@ -51,16 +65,31 @@ enum-told-3 : tie.Need-enum-told-3
 enum-told-3 c = search needs
 
 returns-3 : tie.Need-returns-3
-returns-3 c = let a = c .before .before .before .before .before .before .before .before .before .before .before .before .args in ap reachedOf (c .enum-told3 .given .1) ∙ lost-vars (bufferOf (a .side) (a .bytes .now)) (a .variables) (a .states) (a .first) (got (c .before .before .before .before .before .before .before .before .before .before .read-ranged .ensures) (c .before .before .before .before .before .before .before .before .state .given .1)) (got (c .before .before .before .before .before .before .read-ranged2 .ensures) (c .before .before .before .before .size .given .1)) (reached-lost (c .before .before .read-codes .ensures) (c .enum-told3 .given .1))
+returns-3 c =
+    let a = c .before .before .before .before .before .before .before .before .before .before .before .before .args in
+    ap reachedOf (c .enum-told3 .given .1)
+    ∙ lost-vars (bufferOf (a .side) (a .bytes .now)) (a .variables) (a .states) (a .first)
+    (got (c .before .before .before .before .before .before .before .before .before .before .read-ranged .ensures) (c .before .before .before .before .before .before .before .before .state .given .1))
+    (got (c .before .before .before .before .before .before .read-ranged2 .ensures) (c .before .before .before .before .size .given .1))
+    (reached-lost (c .before .before .read-codes .ensures) (c .enum-told3 .given .1))
 
 add-read-codes-2 : tie.Need-add-read-codes-2
-add-read-codes-2 c = let a = c .before .before .before .before .before .before .before .before .before .before .before .before .before .args in let (l, h) = in-range (bufferOf (a .side) (a .bytes .now)) 0 13 _ _ _ (got (c .before .before .before .before .before .before .before .read-ranged2 .ensures) (c .before .before .before .before .before .size .given .1)) in omega arith
+add-read-codes-2 c =
+    let a = c .before .before .before .before .before .before .before .before .before .before .before .before .before .args in
+    let (l, h) = in-range (bufferOf (a .side) (a .bytes .now)) 0 13 _ _ _ (got (c .before .before .before .before .before .before .before .read-ranged2 .ensures) (c .before .before .before .before .before .size .given .1)) in
+    omega arith
 
 read-codes-requires-2 : tie.Need-read-codes-requires-2
 read-codes-requires-2 c κs = search needs
 
 returns-4 : tie.Need-returns-4
-returns-4 c = let a = c .before .before .before .before .before .before .before .before .before .before .before .before .before .before .args in c .read-codes2 .ensures ∙ links-last (bufferOf (a .side) (a .bytes .now)) (a .variables) (a .states) (a .first) (got (c .before .before .before .before .before .before .before .before .before .before .before .before .read-ranged .ensures) (c .before .before .before .before .before .before .before .before .before .before .state .given .1)) (got (c .before .before .before .before .before .before .before .before .read-ranged2 .ensures) (c .before .before .before .before .before .before .size .given .1)) (reached-got (c .before .before .before .before .read-codes .ensures) (c .before .before .vars .given .1))
+returns-4 c =
+    let a = c .before .before .before .before .before .before .before .before .before .before .before .before .before .before .args in
+    c .read-codes2 .ensures
+    ∙ links-last (bufferOf (a .side) (a .bytes .now)) (a .variables) (a .states) (a .first)
+    (got (c .before .before .before .before .before .before .before .before .before .before .before .before .read-ranged .ensures) (c .before .before .before .before .before .before .before .before .before .before .state .given .1))
+    (got (c .before .before .before .before .before .before .before .before .read-ranged2 .ensures) (c .before .before .before .before .before .before .size .given .1))
+    (reached-got (c .before .before .before .before .read-codes .ensures) (c .before .before .vars .given .1))
 
 pub read-entry-spec : {M : Type 1} → statement M
 read-entry-spec =

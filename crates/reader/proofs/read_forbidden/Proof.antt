@@ -29,7 +29,13 @@ enum-told : tie.Need-enum-told Inv-loop μ-loop
 enum-told c = search needs
 
 returns : tie.Need-returns Inv-loop μ-loop
-returns c = let a = c .before .before .before .before .before .before .args in let e = c .enum-told .given .1 in ap reachedOf e ∙ left-lost (readLocated (jobBuffer (a .job .now)) (a .variables) (a .states)) (a .count) (a .first) (c .before .before .before .before .loop .at) (c .before .before .before .before .loop .i) (c .before .before .before .before .loop .inv) _ _ (omega arith) (reached-lost (c .before .before .read-entry .ensures) e)
+returns c =
+    let a = c .before .before .before .before .before .before .args in
+    let e = c .enum-told .given .1 in
+    ap reachedOf e
+    ∙ left-lost (readLocated (jobBuffer (a .job .now)) (a .variables) (a .states)) (a .count) (a .first)
+    (c .before .before .before .before .loop .at) (c .before .before .before .before .loop .i)
+    (c .before .before .before .before .loop .inv) _ _ (omega arith) (reached-lost (c .before .before .read-entry .ensures) e)
 
 add-i : tie.Need-add-i Inv-loop μ-loop
 add-i c = search needs
@@ -38,10 +44,18 @@ loop-less : tie.Need-loop-less Inv-loop μ-loop
 loop-less c = search needs
 
 loop-again : tie.Need-loop-again Inv-loop μ-loop
-loop-again c = let a = c .before .before .before .before .before .before .before .args in left-more (readLocated (jobBuffer (a .job .now)) (a .variables) (a .states)) (a .count) (a .first) (c .before .before .before .before .before .loop .at) (c .before .before .before .before .before .loop .i) (c .before .before .before .before .before .loop .inv) _ (omega arith) (reached-got (c .before .before .before .read-entry .ensures) (c .before .r .given .1))
+loop-again c =
+    let a = c .before .before .before .before .before .before .before .args in
+    left-more (readLocated (jobBuffer (a .job .now)) (a .variables) (a .states)) (a .count) (a .first)
+    (c .before .before .before .before .before .loop .at) (c .before .before .before .before .before .loop .i)
+    (c .before .before .before .before .before .loop .inv) _ (omega arith)
+    (reached-got (c .before .before .before .read-entry .ensures) (c .before .r .given .1))
 
 returns-2 : tie.Need-returns-2 Inv-loop μ-loop
-returns-2 c = let a = c .before .before .before .args in left-all (readLocated (jobBuffer (a .job .now)) (a .variables) (a .states)) (a .count) (a .first) (c .before .loop .at) (c .before .loop .i) (c .before .loop .inv) (omega arith)
+returns-2 c =
+    let a = c .before .before .before .args in
+    left-all (readLocated (jobBuffer (a .job .now)) (a .variables) (a .states)) (a .count) (a .first) (c .before .loop .at)
+    (c .before .loop .i) (c .before .loop .inv) (omega arith)
 
 pub read-forbidden-spec : {M : Type 1} → statement M
 read-forbidden-spec =

@@ -28,13 +28,22 @@ read-counts-requires : tie.Need-read-counts-requires
 read-counts-requires c κs = search needs
 
 returns : tie.Need-returns
-returns c = lost-version (jobBuffer (c .before .before .before .before .before .args .job .now)) 0 (lost (c .before .before .before .read-ranged .ensures) (c .before .version .given .1))
+returns c =
+    lost-version (jobBuffer (c .before .before .before .before .before .args .job .now)) 0
+    (lost (c .before .before .before .read-ranged .ensures) (c .before .version .given .1))
 
 returns-2 : tie.Need-returns-2
-returns-2 c = lost-variables (jobBuffer (c .before .before .before .before .before .before .before .before .before .args .job .now)) 0 (got (c .before .before .before .before .before .before .before .read-ranged .ensures) (c .before .before .before .before .before .version2 .given .1)) (lost (c .before .before .before .read-ranged2 .ensures) (c .before .r .given .1))
+returns-2 c =
+    lost-variables (jobBuffer (c .before .before .before .before .before .before .before .before .before .args .job .now)) 0
+    (got (c .before .before .before .before .before .before .before .read-ranged .ensures) (c .before .before .before .before .before .version2 .given .1))
+    (lost (c .before .before .before .read-ranged2 .ensures) (c .before .r .given .1))
 
 returns-3 : tie.Need-returns-3
-returns-3 c = c .read-counts .ensures ∙ counts-last (jobBuffer (c .before .before .before .before .before .before .before .before .before .before .args .job .now)) 0 (got (c .before .before .before .before .before .before .before .before .read-ranged .ensures) (c .before .before .before .before .before .before .version2 .given .1)) (got (c .before .before .before .before .read-ranged2 .ensures) (c .before .before .r2 .given .1))
+returns-3 c =
+    c .read-counts .ensures
+    ∙ counts-last (jobBuffer (c .before .before .before .before .before .before .before .before .before .before .args .job .now)) 0
+    (got (c .before .before .before .before .before .before .before .before .read-ranged .ensures) (c .before .before .before .before .before .before .version2 .given .1))
+    (got (c .before .before .before .before .read-ranged2 .ensures) (c .before .before .r2 .given .1))
 
 pub read-front-spec : {M : Type 1} → statement M
 read-front-spec =

@@ -14,7 +14,12 @@ enum-known-version : tie.Need-enum-known-version
 enum-known-version c = search needs
 
 returns : tie.Need-returns
-returns c = let a = c .before .before .before .before .before .args in (lost-version (a .cert .now) (a .variables) (a .states) (lost (c .before .before .before .read-ranged .ensures) (c .before .version .given .1)), refl)
+returns c =
+    let a = c .before .before .before .before .before .args in (
+      lost-version (a .cert .now) (a .variables) (a .states)
+          (lost (c .before .before .before .read-ranged .ensures) (c .before .version .given .1)),
+      refl,
+    )
 
 enum-known-version-2 : tie.Need-enum-known-version-2
 enum-known-version-2 c = search needs
@@ -29,7 +34,9 @@ enum-known-number-2 : tie.Need-enum-known-number-2
 enum-known-number-2 c = search needs
 
 note-members-requires : tie.Need-note-members-requires
-note-members-requires c κs = let (l, h) = in-range (certificateBuffer (c .before .before .before .before .before .before .before .before .before .before .args .cert .now)) 1 513 _ _ _ (got (c .before .before .before .before .read-ranged2 .ensures) (c .before .before .number2 .given .1)) in omega (arith, c .note-members-arg .given .0 .1)
+note-members-requires c κs =
+    let (l, h) = in-range (certificateBuffer (c .before .before .before .before .before .before .before .before .before .before .args .cert .now)) 1 513 _ _ _ (got (c .before .before .before .before .read-ranged2 .ensures) (c .before .before .number2 .given .1)) in
+    omega (arith, c .note-members-arg .given .0 .1)
 
 enum-known-r : tie.Need-enum-known-r
 enum-known-r c = search needs
@@ -38,13 +45,33 @@ enum-known-r-2 : tie.Need-enum-known-r-2
 enum-known-r-2 c = search needs
 
 returns-2 : tie.Need-returns-2
-returns-2 c = let a = c .before .before .before .before .before .before .before .before .before .args in (lost-number (a .cert .now) (a .variables) (a .states) (got (c .before .before .before .before .before .before .before .read-ranged .ensures) (c .before .before .before .before .before .version2 .given .1)) (lost (c .before .before .before .read-ranged2 .ensures) (c .before .number .given .1)), refl)
+returns-2 c =
+    let a = c .before .before .before .before .before .before .before .before .before .args in (
+      lost-number (a .cert .now) (a .variables) (a .states)
+          (got (c .before .before .before .before .before .before .before .read-ranged .ensures) (c .before .before .before .before .before .version2 .given .1))
+          (lost (c .before .before .before .read-ranged2 .ensures) (c .before .number .given .1)),
+      refl,
+    )
 
 returns-3 : tie.Need-returns-3
-returns-3 c = let a = c .before .before .before .before .before .before .before .before .before .before .before .before .before .before .args in (lost-member (a .cert .now) (a .variables) (a .states) (got (c .before .before .before .before .before .before .before .before .before .before .before .before .read-ranged .ensures) (c .before .before .before .before .before .before .before .before .before .before .version2 .given .1)) (got (c .before .before .before .before .before .before .before .before .read-ranged2 .ensures) (c .before .before .before .before .before .before .number2 .given .1)) (reached-lost (c .before .before .before .note-members .ensures .0) (c .before .r .given .1)), rw (c .before .r .given .1) at (c .before .before .before .note-members .ensures .1))
+returns-3 c =
+    let a = c .before .before .before .before .before .before .before .before .before .before .before .before .before .before .args in (
+      lost-member (a .cert .now) (a .variables) (a .states)
+          (got (c .before .before .before .before .before .before .before .before .before .before .before .before .read-ranged .ensures) (c .before .before .before .before .before .before .before .before .before .before .version2 .given .1))
+          (got (c .before .before .before .before .before .before .before .before .read-ranged2 .ensures) (c .before .before .before .before .before .before .number2 .given .1))
+          (reached-lost (c .before .before .before .note-members .ensures .0) (c .before .r .given .1)),
+      rw (c .before .r .given .1) at (c .before .before .before .note-members .ensures .1),
+    )
 
 returns-4 : tie.Need-returns-4
-returns-4 c = let a = c .before .before .before .before .before .before .before .before .before .before .before .before .before .before .args in members-made (a .cert .now) (a .variables) (a .states) (got (c .before .before .before .before .before .before .before .before .before .before .before .before .read-ranged .ensures) (c .before .before .before .before .before .before .before .before .before .before .version2 .given .1)) (got (c .before .before .before .before .before .before .before .before .read-ranged2 .ensures) (c .before .before .before .before .before .before .number2 .given .1)) (a .starts .now) _ _ (reached-got (c .before .before .before .note-members .ensures .0) (c .before .r2 .given .1)) (rw (c .before .r2 .given .1) at (c .before .before .before .note-members .ensures .1)) (c .before .before .before .before .note-members-arg .given .0 .1)
+returns-4 c =
+    let a = c .before .before .before .before .before .before .before .before .before .before .before .before .before .before .args in
+    members-made (a .cert .now) (a .variables) (a .states)
+    (got (c .before .before .before .before .before .before .before .before .before .before .before .before .read-ranged .ensures) (c .before .before .before .before .before .before .before .before .before .before .version2 .given .1))
+    (got (c .before .before .before .before .before .before .before .before .read-ranged2 .ensures) (c .before .before .before .before .before .before .number2 .given .1))
+    (a .starts .now) _ _ (reached-got (c .before .before .before .note-members .ensures .0) (c .before .r2 .given .1))
+    (rw (c .before .r2 .given .1) at (c .before .before .before .note-members .ensures .1))
+    (c .before .before .before .before .note-members-arg .given .0 .1)
 
 pub read-members-spec : {M : Type 1} → statement M
 read-members-spec =

@@ -21,7 +21,11 @@ reached-requires : tie.Need-reached-requires
 reached-requires c κs = search needs
 
 returns : tie.Need-returns
-returns c = let a = c .before .before .before .before .before .args in let e = c .before .enum-told .given .1 in passed (c .before .before .before .read-ranged .ensures) (c .reached .ensures) e ∙ lost-from (jobBuffer (a .job .now)) (a .variables) (a .states) (a .first) (lost (c .before .before .before .read-ranged .ensures) e)
+returns c =
+    let a = c .before .before .before .before .before .args in
+    let e = c .before .enum-told .given .1 in
+    passed (c .before .before .before .read-ranged .ensures) (c .reached .ensures) e
+    ∙ lost-from (jobBuffer (a .job .now)) (a .variables) (a .states) (a .first) (lost (c .before .before .before .read-ranged .ensures) e)
 
 read-ranged-requires-2 : tie.Need-read-ranged-requires-2
 read-ranged-requires-2 c κs = search needs
@@ -36,7 +40,13 @@ reached-requires-2 : tie.Need-reached-requires-2
 reached-requires-2 c κs = search needs
 
 returns-2 : tie.Need-returns-2
-returns-2 c = let a = c .before .before .before .before .before .before .before .before .before .args in let e = c .before .enum-told2 .given .1 in passed (c .before .before .before .read-ranged2 .ensures) (c .reached2 .ensures) e ∙ lost-kind (jobBuffer (a .job .now)) (a .variables) (a .states) (a .first) (got (c .before .before .before .before .before .before .before .read-ranged .ensures) (c .before .before .before .before .before .from .given .1)) (lost (c .before .before .before .read-ranged2 .ensures) e)
+returns-2 c =
+    let a = c .before .before .before .before .before .before .before .before .before .args in
+    let e = c .before .enum-told2 .given .1 in
+    passed (c .before .before .before .read-ranged2 .ensures) (c .reached2 .ensures) e
+    ∙ lost-kind (jobBuffer (a .job .now)) (a .variables) (a .states) (a .first)
+    (got (c .before .before .before .before .before .before .before .read-ranged .ensures) (c .before .before .before .before .before .from .given .1))
+    (lost (c .before .before .before .read-ranged2 .ensures) e)
 
 least-a-requires : tie.Need-least-a-requires
 least-a-requires c κs = search needs
@@ -57,7 +67,14 @@ reached-requires-3 : tie.Need-reached-requires-3
 reached-requires-3 c κs = search needs
 
 returns-3 : tie.Need-returns-3
-returns-3 c = let a = c .before .before .before .before .before .before .before .before .before .before .before .before .before .before .args in let e = c .before .enum-told3 .given .1 in passed (c .before .before .before .read-ranged3 .ensures) (c .reached3 .ensures) e ∙ lost-a (jobBuffer (a .job .now)) (a .variables) (a .states) (a .first) (got (c .before .before .before .before .before .before .before .before .before .before .before .before .read-ranged .ensures) (c .before .before .before .before .before .before .before .before .before .before .from .given .1)) (got (c .before .before .before .before .before .before .before .before .read-ranged2 .ensures) (c .before .before .before .before .before .before .number .given .1)) (rw (← c .before .before .before .before .least-a .ensures) (lost (c .before .before .before .read-ranged3 .ensures) e))
+returns-3 c =
+    let a = c .before .before .before .before .before .before .before .before .before .before .before .before .before .before .args in
+    let e = c .before .enum-told3 .given .1 in
+    passed (c .before .before .before .read-ranged3 .ensures) (c .reached3 .ensures) e
+    ∙ lost-a (jobBuffer (a .job .now)) (a .variables) (a .states) (a .first)
+    (got (c .before .before .before .before .before .before .before .before .before .before .before .before .read-ranged .ensures) (c .before .before .before .before .before .before .before .before .before .before .from .given .1))
+    (got (c .before .before .before .before .before .before .before .before .read-ranged2 .ensures) (c .before .before .before .before .before .before .number .given .1))
+    (rw (← c .before .before .before .before .least-a .ensures) (lost (c .before .before .before .read-ranged3 .ensures) e))
 
 most-b-requires : tie.Need-most-b-requires
 most-b-requires c κs = search needs
@@ -66,7 +83,10 @@ least-b-requires : tie.Need-least-b-requires
 least-b-requires c κs = search needs
 
 add-read-ranged-2 : tie.Need-add-read-ranged-2
-add-read-ranged-2 c = let a = c .before .before .before .before .before .before .before .before .before .before .before .before .before .before .before .before .args in omega (arith, c .before .most-b .ensures, most-bound (c .before .before .before .before .before .before .before .before .number .given .0 .0) (a .variables))
+add-read-ranged-2 c =
+    let a = c .before .before .before .before .before .before .before .before .before .before .before .before .before .before .before .before .args in
+    omega
+    (arith, c .before .most-b .ensures, most-bound (c .before .before .before .before .before .before .before .before .number .given .0 .0) (a .variables))
 
 read-ranged-requires-4 : tie.Need-read-ranged-requires-4
 read-ranged-requires-4 c κs = search needs
@@ -81,7 +101,15 @@ reached-requires-4 : tie.Need-reached-requires-4
 reached-requires-4 c κs = search needs
 
 returns-4 : tie.Need-returns-4
-returns-4 c = let a = c .before .before .before .before .before .before .before .before .before .before .before .before .before .before .before .before .before .before .before .before .args in let e = c .before .enum-told4 .given .1 in passed (c .before .before .before .read-ranged4 .ensures) (c .reached4 .ensures) e ∙ lost-b (jobBuffer (a .job .now)) (a .variables) (a .states) (a .first) (got (c .before .before .before .before .before .before .before .before .before .before .before .before .before .before .before .before .before .before .read-ranged .ensures) (c .before .before .before .before .before .before .before .before .before .before .before .before .before .before .before .before .from .given .1)) (got (c .before .before .before .before .before .before .before .before .before .before .before .before .before .before .read-ranged2 .ensures) (c .before .before .before .before .before .before .before .before .before .before .before .before .number .given .1)) (rw (c .before .before .before .before .before .before .before .before .before .before .least-a .ensures) at (got (c .before .before .before .before .before .before .before .before .before .read-ranged3 .ensures) (c .before .before .before .before .before .before .before .a .given .1))) (rw (← c .before .before .before .before .least-b .ensures, ← c .before .before .before .before .before .most-b .ensures) (lost (c .before .before .before .read-ranged4 .ensures) e))
+returns-4 c =
+    let a = c .before .before .before .before .before .before .before .before .before .before .before .before .before .before .before .before .before .before .before .before .args in
+    let e = c .before .enum-told4 .given .1 in
+    passed (c .before .before .before .read-ranged4 .ensures) (c .reached4 .ensures) e
+    ∙ lost-b (jobBuffer (a .job .now)) (a .variables) (a .states) (a .first)
+    (got (c .before .before .before .before .before .before .before .before .before .before .before .before .before .before .before .before .before .before .read-ranged .ensures) (c .before .before .before .before .before .before .before .before .before .before .before .before .before .before .before .before .from .given .1))
+    (got (c .before .before .before .before .before .before .before .before .before .before .before .before .before .before .read-ranged2 .ensures) (c .before .before .before .before .before .before .before .before .before .before .before .before .number .given .1))
+    (rw (c .before .before .before .before .before .before .before .before .before .before .least-a .ensures) at (got (c .before .before .before .before .before .before .before .before .before .read-ranged3 .ensures) (c .before .before .before .before .before .before .before .a .given .1)))
+    (rw (← c .before .before .before .before .least-b .ensures, ← c .before .before .before .before .before .most-b .ensures) (lost (c .before .before .before .read-ranged4 .ensures) e))
 
 read-ranged-requires-5 : tie.Need-read-ranged-requires-5
 read-ranged-requires-5 c κs = search needs
@@ -90,7 +118,15 @@ reached-requires-5 : tie.Need-reached-requires-5
 reached-requires-5 c κs = search needs
 
 returns-5 : tie.Need-returns-5
-returns-5 c = let a = c .before .before .before .before .before .before .before .before .before .before .before .before .before .before .before .before .before .before .before .before .before .before .args in c .reached5 .ensures ∙ ap forget (c .before .read-ranged5 .ensures) ∙ to-last (jobBuffer (a .job .now)) (a .variables) (a .states) (a .first) (got (c .before .before .before .before .before .before .before .before .before .before .before .before .before .before .before .before .before .before .before .before .read-ranged .ensures) (c .before .before .before .before .before .before .before .before .before .before .before .before .before .before .before .before .before .before .from .given .1)) (got (c .before .before .before .before .before .before .before .before .before .before .before .before .before .before .before .before .read-ranged2 .ensures) (c .before .before .before .before .before .before .before .before .before .before .before .before .before .before .number .given .1)) (rw (c .before .before .before .before .before .before .before .before .before .before .before .before .least-a .ensures) at (got (c .before .before .before .before .before .before .before .before .before .before .before .read-ranged3 .ensures) (c .before .before .before .before .before .before .before .before .before .a .given .1))) (rw (c .before .before .before .before .before .before .least-b .ensures, c .before .before .before .before .before .before .before .most-b .ensures) at (got (c .before .before .before .before .before .read-ranged4 .ensures) (c .before .before .before .b .given .1)))
+returns-5 c =
+    let a = c .before .before .before .before .before .before .before .before .before .before .before .before .before .before .before .before .before .before .before .before .before .before .args in
+    c .reached5 .ensures
+    ∙ ap forget (c .before .read-ranged5 .ensures)
+    ∙ to-last (jobBuffer (a .job .now)) (a .variables) (a .states) (a .first)
+    (got (c .before .before .before .before .before .before .before .before .before .before .before .before .before .before .before .before .before .before .before .before .read-ranged .ensures) (c .before .before .before .before .before .before .before .before .before .before .before .before .before .before .before .before .before .before .from .given .1))
+    (got (c .before .before .before .before .before .before .before .before .before .before .before .before .before .before .before .before .read-ranged2 .ensures) (c .before .before .before .before .before .before .before .before .before .before .before .before .before .before .number .given .1))
+    (rw (c .before .before .before .before .before .before .before .before .before .before .before .before .least-a .ensures) at (got (c .before .before .before .before .before .before .before .before .before .before .before .read-ranged3 .ensures) (c .before .before .before .before .before .before .before .before .before .a .given .1)))
+    (rw (c .before .before .before .before .before .before .least-b .ensures, c .before .before .before .before .before .before .before .most-b .ensures) at (got (c .before .before .before .before .before .read-ranged4 .ensures) (c .before .before .before .b .given .1)))
 
 pub read-transition-spec : {M : Type 1} → statement M
 read-transition-spec =

@@ -17,7 +17,9 @@ abbrev μ-loop : tie.MeasureT-loop
 μ-loop job first count variables states at₀ i₀ at i = count - i
 
 loop-holds : tie.Need-loop-holds Inv-loop μ-loop
-loop-holds c = let a = c .before .args in left-none (readTransition (jobBuffer (a .job .now)) (a .variables) (a .states)) (a .count) (a .first)
+loop-holds c =
+    let a = c .before .args in
+    left-none (readTransition (jobBuffer (a .job .now)) (a .variables) (a .states)) (a .count) (a .first)
 
 read-transition-requires : tie.Need-read-transition-requires Inv-loop μ-loop
 read-transition-requires c κs = search needs
@@ -29,7 +31,13 @@ enum-told : tie.Need-enum-told Inv-loop μ-loop
 enum-told c = search needs
 
 returns : tie.Need-returns Inv-loop μ-loop
-returns c = let a = c .before .before .before .before .before .before .args in let e = c .enum-told .given .1 in ap reachedOf e ∙ left-lost (readTransition (jobBuffer (a .job .now)) (a .variables) (a .states)) (a .count) (a .first) (c .before .before .before .before .loop .at) (c .before .before .before .before .loop .i) (c .before .before .before .before .loop .inv) _ _ (omega arith) (reached-lost (c .before .before .read-transition .ensures) e)
+returns c =
+    let a = c .before .before .before .before .before .before .args in
+    let e = c .enum-told .given .1 in
+    ap reachedOf e
+    ∙ left-lost (readTransition (jobBuffer (a .job .now)) (a .variables) (a .states)) (a .count) (a .first)
+    (c .before .before .before .before .loop .at) (c .before .before .before .before .loop .i)
+    (c .before .before .before .before .loop .inv) _ _ (omega arith) (reached-lost (c .before .before .read-transition .ensures) e)
 
 add-i : tie.Need-add-i Inv-loop μ-loop
 add-i c = search needs
@@ -38,10 +46,18 @@ loop-less : tie.Need-loop-less Inv-loop μ-loop
 loop-less c = search needs
 
 loop-again : tie.Need-loop-again Inv-loop μ-loop
-loop-again c = let a = c .before .before .before .before .before .before .before .args in left-more (readTransition (jobBuffer (a .job .now)) (a .variables) (a .states)) (a .count) (a .first) (c .before .before .before .before .before .loop .at) (c .before .before .before .before .before .loop .i) (c .before .before .before .before .before .loop .inv) _ (omega arith) (reached-got (c .before .before .before .read-transition .ensures) (c .before .r .given .1))
+loop-again c =
+    let a = c .before .before .before .before .before .before .before .args in
+    left-more (readTransition (jobBuffer (a .job .now)) (a .variables) (a .states)) (a .count) (a .first)
+    (c .before .before .before .before .before .loop .at) (c .before .before .before .before .before .loop .i)
+    (c .before .before .before .before .before .loop .inv) _ (omega arith)
+    (reached-got (c .before .before .before .read-transition .ensures) (c .before .r .given .1))
 
 returns-2 : tie.Need-returns-2 Inv-loop μ-loop
-returns-2 c = let a = c .before .before .before .args in left-all (readTransition (jobBuffer (a .job .now)) (a .variables) (a .states)) (a .count) (a .first) (c .before .loop .at) (c .before .loop .i) (c .before .loop .inv) (omega arith)
+returns-2 c =
+    let a = c .before .before .before .args in
+    left-all (readTransition (jobBuffer (a .job .now)) (a .variables) (a .states)) (a .count) (a .first) (c .before .loop .at)
+    (c .before .loop .i) (c .before .loop .inv) (omega arith)
 
 pub read-transitions-spec : {M : Type 1} → statement M
 read-transitions-spec =
