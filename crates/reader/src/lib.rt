@@ -5,9 +5,9 @@ use kinds::most_b;
 use number::Read;
 use verdict::Reached;
 use verdict::Refusal;
-ghost use mathlib.Core.List.{[]};
+ghost use mathlib.Core.List.{List, []};
 ghost use mathlib.Core.Path.{_≡_};
-ghost use Prim.Native.Nat.{_≤_};
+ghost use Prim.Native.Nat.{ℕ, _≤_};
 ghost use lib.ListN.{length};
 ghost use Rattle.format.specs.Certificate.{readMember};
 ghost use Rattle.format.specs.Job.{readLocated, readTransition};
@@ -86,21 +86,10 @@ fn outside(side: Side) -> Refusal
     }
 }
 
-// The number at a place; of a job, by the reader that keeps the buffer with the place.
-fn read_number(side: Side, bytes: &[u8], at: usize) -> Read
-    ensures { λ r. ⌜ r ≡ numberAt (now (bytes .entry)) at ⌝ }
+// What was read at a place, held to a range: from `low` on and below `limit`.
+fn held(side: Side, read: Read, at: usize, low: usize, limit: usize) -> Ranged
+    ensures { λ r. ⌜ ((bytes : List ℕ) → read ≡ numberAt bytes at → rangedOf r ≡ ranged (bufferOf side bytes) low limit at) ⌝ }
 {
-    match side {
-        Side::Job => jobreader::read_at(bytes, at),
-        Side::Certificate => number::read_number(bytes, at),
-    }
-}
-
-// The number at a place, from `low` on and below `limit`.
-pub fn read_ranged(side: Side, bytes: &[u8], at: usize, low: usize, limit: usize) -> Ranged
-    ensures { λ r. ⌜ rangedOf r ≡ ranged (bufferOf side (now (bytes .entry))) low limit at ⌝ }
-{
-    let read = read_number(side, bytes, at);
     match read {
         Read::Unreadable(_) => Ranged::Refused(unreadable(side), at),
         Read::Number(n, next) => {
@@ -113,6 +102,20 @@ pub fn read_ranged(side: Side, bytes: &[u8], at: usize, low: usize, limit: usize
             Ranged::Value(n, next)
         }
     }
+}
+
+// The number at a place, from `low` on and below `limit`.
+pub fn read_ranged(side: Side, bytes: &[u8], at: usize, low: usize, limit: usize) -> Ranged
+    ensures { λ r. ⌜ rangedOf r ≡ ranged (bufferOf side (now (bytes .entry))) low limit at ⌝ }
+{
+    held(side, number::read_number(bytes, at), at, low, limit)
+}
+
+// The same of a job, by the reader that keeps the buffer together with the place.
+fn job_ranged(job: &[u8], at: usize, low: usize, limit: usize) -> Ranged
+    ensures { λ r. ⌜ rangedOf r ≡ ranged (jobBuffer (now (job .entry))) low limit at ⌝ }
+{
+    held(Side::Job, jobreader::read_at(job, at), at, low, limit)
 }
 
 // The place after a number, or the refusal that it ended in.
@@ -266,11 +269,11 @@ fn read_counts(job: &[u8], variables: usize, first: usize) -> FrontAnswer
 fn read_front(job: &[u8]) -> FrontAnswer
     ensures { λ r. ⌜ frontOf r ≡ readFront (jobBuffer (now (job .entry))) 0 ⌝ }
 {
-    let version = read_ranged(Side::Job, job, 0, 1, 2);
+    let version = job_ranged(job, 0, 1, 2);
     match version {
         Ranged::Refused(why, place) => FrontAnswer::Refused(why, place),
         Ranged::Value(_, variables_at) => {
-            let r = read_ranged(Side::Job, job, variables_at, 1, 9);
+            let r = job_ranged(job, variables_at, 1, 9);
             match r {
                 Ranged::Refused(why, place) => FrontAnswer::Refused(why, place),
                 Ranged::Value(variables, at) => read_counts(job, variables, at),
