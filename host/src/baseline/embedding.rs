@@ -17,7 +17,7 @@ pub const NO_IMAGES: Images = {
 pub const ENDS: u32 = 0b111;
 
 /// Whether each of so many variables that `member` places stands at the image in `covered`.
-#[inline]
+#[inline(always)]
 pub fn variables_agree(member: &Shape, covered: &Shape, images: &Images, variables: usize) -> bool {
     let here = &member.variables[1..=variables];
     let there = &covered.variables[1..=variables];
@@ -27,7 +27,7 @@ pub fn variables_agree(member: &Shape, covered: &Shape, images: &Images, variabl
 
 /// The cells strictly between on the paths of the links whose ends have images, a bit for each;
 /// nothing where a path misses or two meet. The marks are the images and [`ENDS`].
-#[inline]
+#[inline(always)]
 pub fn passed(member: &Shape, covered: &Shape, images: &Images, marks: u32) -> Option<u32> {
     let mut passed = 0;
     for (cell, &link) in member.links[..usize::from(member.cells)].iter().enumerate() {

@@ -10,8 +10,9 @@ const SHOWN: usize = 8;
 const LONG: f64 = 1_000.0;
 
 /// Measures the time where it is shown, and prints all tables.
-pub fn print(suite: &Suite, calls: &[Cost]) {
-    println!("### The corpus\n");
+pub fn print(suite: &mut Suite, calls: &[Cost]) {
+    summary(suite);
+    println!("\n### The corpus\n");
     with_time(&suite.corpus, true);
     println!("\n### Worst cases\n");
     with_time(&suite.extremes, false);
@@ -27,6 +28,31 @@ pub fn print(suite: &Suite, calls: &[Cost]) {
     largest(&suite.random);
     println!("\n### The other calls\n");
     other_calls(calls);
+}
+
+/// The ratios of instructions on the corpus, and the largest on any pair.
+fn summary(suite: &mut Suite) {
+    let corpus = sorted_by_ratio(&suite.corpus);
+    let all: Cost = corpus.iter().map(|case| case.instructions).sum();
+    println!(
+        "Instructions on the corpus in all: **{:.2}** times the baseline's; on its pairs {:.2} to {:.2}.",
+        all.ratio(),
+        corpus[corpus.len() - 1].instructions.ratio(),
+        corpus[0].instructions.ratio(),
+    );
+    let worst = sorted_by_ratio(suite.cases().map(|case| &*case))[0];
+    println!(
+        "On any pair measured: at most **{:.2}** times ({}).",
+        worst.instructions.ratio(),
+        worst.name,
+    );
+}
+
+/// The cases by their ratio of instructions, the largest first.
+fn sorted_by_ratio<'a>(cases: impl IntoIterator<Item = &'a Case>) -> Vec<&'a Case> {
+    let mut sorted: Vec<&Case> = cases.into_iter().collect();
+    sorted.sort_by(|x, y| y.instructions.ratio().total_cmp(&x.instructions.ratio()));
+    sorted
 }
 
 fn heading(columns: &str) {
@@ -118,12 +144,10 @@ fn largest(cases: &[Case]) {
     heading("| pair | verdict | instructions | baseline | ratio |");
     let all: Cost = cases.iter().map(|case| case.instructions).sum();
     println!("| **in all {}** | | {} |", cases.len(), instructions(all));
-    let mut sorted: Vec<&Case> = cases
+    let long = cases
         .iter()
-        .filter(|case| case.instructions.baseline >= LONG)
-        .collect();
-    sorted.sort_by(|x, y| y.instructions.ratio().total_cmp(&x.instructions.ratio()));
-    for case in sorted.into_iter().take(SHOWN) {
+        .filter(|case| case.instructions.baseline >= LONG);
+    for case in sorted_by_ratio(long).into_iter().take(SHOWN) {
         row_with_verdict(case);
     }
 }

@@ -31,6 +31,6 @@ fn main() -> ExitCode {
 fn bench(folder: &Path) -> Result<(), String> {
     let mut suite = Suite::new()?;
     let calls = instructions::count(&mut suite, folder)?;
-    report::print(&suite, &calls);
+    report::print(&mut suite, &calls);
     Ok(())
 }

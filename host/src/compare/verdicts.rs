@@ -4,7 +4,7 @@ use super::{Tally, UNTOUCHED};
 use crate::corpus;
 use crate::extremes::extremes;
 use crate::library;
-use crate::pairs::{damaged_copies, Pair, Pairs};
+use crate::pairs::{damaged_copies, near_pairs, Pair, Pairs};
 use crate::reference::checker;
 use crate::sweep;
 use crate::verdict::{Check, Verdict};
@@ -13,16 +13,16 @@ const OUTCOMES: [&str; 14] = [
     "accepted, up to 5 covers",
     "accepted, up to 50 covers",
     "accepted, up to 500 covers",
-    "accepted, more covers",
-    "refused 1",
-    "refused 2",
-    "refused 3",
-    "refused 4",
-    "refused 5",
-    "refused 6",
-    "refused 7",
-    "refused 8",
-    "refused 9",
+    "accepted, up to 65,000 covers",
+    "refused  1",
+    "refused  2",
+    "refused  3",
+    "refused  4",
+    "refused  5",
+    "refused  6",
+    "refused  7",
+    "refused  8",
+    "refused  9",
     "refused 10",
 ];
 
@@ -81,8 +81,8 @@ fn expected_answers(verdict: &Verdict, out_len: usize) -> Answers {
 /// How many damaged copies of each real certificate are tried.
 const COPIES: usize = 60;
 
-/// Random pairs, then the corpus with damaged copies, then every kind on large members, then the
-/// extremes.
+/// Random pairs, one in five of them with covers that hold or nearly do; then the corpus with
+/// damaged copies, every kind on large members, and the extremes.
 pub fn pairs(seed: u64, random: usize) -> Result<impl Iterator<Item = Pair>, String> {
     let real = corpus::certified()?.into_iter().map(|(_, pair)| pair);
     let real = real.flat_map(move |pair| {
@@ -91,7 +91,8 @@ pub fn pairs(seed: u64, random: usize) -> Result<impl Iterator<Item = Pair>, Str
     });
     let kinds = sweep::pairs(2).into_iter().map(|(_, pair)| pair);
     let extremes = extremes().into_iter().map(|(_, pair)| pair);
-    let random = Pairs::new(seed).take(random);
+    let near = near_pairs(seed).take(random / 5);
+    let random = Pairs::new(seed).take(random - random / 5).chain(near);
     Ok(random.chain(real).chain(kinds).chain(extremes))
 }
 

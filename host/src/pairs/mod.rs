@@ -2,10 +2,12 @@
 
 mod accepted;
 mod damage;
+mod near;
 
 use crate::random::Random;
 use accepted::accepted;
 use damage::damaged;
+use near::near;
 
 /// The bytes of a job and of a certificate.
 #[derive(Clone, Debug)]
@@ -59,4 +61,10 @@ pub fn accepted_pairs(seed: u64) -> impl Iterator<Item = Pair> {
 pub fn damaged_copies(pair: &Pair, seed: u64) -> impl Iterator<Item = Pair> + '_ {
     let mut random = Random::new(seed);
     std::iter::repeat_with(move || damaged(&mut random, pair))
+}
+
+/// Endless pairs whose covers hold or nearly do.
+pub fn near_pairs(seed: u64) -> impl Iterator<Item = Pair> {
+    let mut random = Random::new(seed);
+    std::iter::repeat_with(move || near(&mut random))
 }
