@@ -11,5 +11,6 @@ scripts/lib.sh
 scripts/example.sh
 cargo test --offline --release --quiet --manifest-path host/Cargo.toml
 cargo run --offline --release --quiet --manifest-path host/Cargo.toml --bin compare
+scripts/valgrind.sh
 
 tail -n 1 build/ci.log

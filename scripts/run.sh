@@ -1,0 +1,7 @@
+#!/usr/bin/env bash
+# Proves and builds the bench program, if that is not done yet, and runs it on its sample: a routine that reverses a list.
+set -euo pipefail
+cd "$(dirname "$0")/.."
+rt check judge > /dev/null
+cd crates/judge/data
+../../../target/bin/judge
