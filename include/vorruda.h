@@ -121,7 +121,7 @@ uint32_t vorruda_step(uint8_t *heap, size_t heap_len, uint32_t kind, uint32_t a,
 /* Checks a certificate against a job; both are only read.
  *   0: accepted.
  *   VORRUDA_JOB_LENGTH to VORRUDA_CERT_LEFT: refused, by the first that applies.
- * A call needs less than 4 KiB of stack (2,672 bytes measured). */
+ * A call needs less than 4 KiB of stack. */
 uint32_t vorruda_check(const uint8_t *job, size_t job_len, const uint8_t *cert, size_t cert_len);
 
 /* The same, with what belongs to the number.
