@@ -31,9 +31,9 @@ mod load;
 mod one;
 mod placing;
 mod removal;
-mod retaining;
 mod start;
 mod take;
+mod wanting;
 
 // Whether a buffer of this length is judged at all.
 fn fits(len: usize) -> bool

@@ -1,29 +1,32 @@
 // Covers of the predecessors under kinds 1 to 5: first choices, of a, and second choices, of b.
 use crate::choice::put;
-use crate::choice::tried_choices;
 use crate::going::Going;
 use crate::going::Taken;
 use crate::one::take_one;
-use crate::retaining::Op;
-use crate::retaining::first_fits;
-use crate::retaining::is_hopeless;
-use crate::retaining::second_fits;
-use place::Place;
+use crate::wanting::Op;
+use crate::wanting::is_wanted_here;
+use crate::wanting::wanted_of_a;
+use crate::wanting::wanted_of_b;
+use choosing::Wanted;
+use choosing::choices_of;
 ghost use mathlib.Core.Bool.{true};
 ghost use mathlib.Core.List.{map};
-ghost use mathlib.Core.Logic.{_≢_};
 ghost use mathlib.Core.Path.{_≡_};
 ghost use Prim.Native.Nat.{_+_, _≤_, _<_};
+ghost use lib.Dec.{eqb};
 ghost use lib.ListN.{getD, take};
 ghost use Rattle.heap.specs.Operation.{kindOf};
 ghost use Rattle.backward.specs.Predecessors.{predecessors};
+ghost use Rattle.place.specs.Place.{placeOf};
 ghost use Rattle.kinds.specs.Kinds.{allowed};
 ghost use Rattle.layout.specs.Arrays.{shapeIn, Hold};
 ghost use Rattle.layout.specs.Entries.{membersAt, Table};
 ghost use Rattle.layout.specs.Transitions.{opOf};
 ghost use Rattle.choices.specs.Choice.{put as putBy};
 ghost use Rattle.choices.specs.Held.{Held, working, Working, Placed, Undoable, Undoes};
-ghost use Rattle.choices.specs.Retained.{changed, seconds, firsts, secondFits, secondOf, firstOf};
+ghost use Rattle.choices.specs.Retained.{changed, seconds, firsts};
+ghost use Rattle.choosing.specs.Chosen.{secondOf, firstOf};
+ghost use Rattle.choosing.specs.Wanted.{fitsIn, wantedFirst, wantedSecond};
 ghost use Rattle.checker.specs.Placing.{takeShapes, secondOperand};
 ghost use Rattle.checker.specs.Taking.{takeAll, goingOf, Within, StaysWithin, located};
 
@@ -60,7 +63,7 @@ pub(crate) fn undo(variables: usize, op: Op, vars: &mut [u8; 10], links: &mut [u
     vars[a] = 0;
 }
 
-// The predecessor of choice k of b, which is retained, in place. Its number of cells.
+// The predecessor of choice k of b, which is wanted, in place. Its number of cells.
 pub(crate) fn make_second(
     variables: usize,
     op: Op,
@@ -69,7 +72,7 @@ pub(crate) fn make_second(
     links: &mut [u8; 14],
     k: u8,
 ) -> u8
-    requires { ⌜ (Placed variables (op .kind) (op .a) (op .b) n (now vars) (now links)) × (k < n + (2 + n)) × (secondFits (op .kind) (getD (now vars) (op .a) 0) (getD (now vars) (op .b) 0) (take n (now links)) k ≡ true) ⌝ }
+    requires { ⌜ (Placed variables (op .kind) (op .a) (op .b) n (now vars) (now links)) × (k < n + (2 + n)) × (fitsIn (take n (now links)) (wantedSecond (op .kind) (take n (now links)) (placeOf (getD (now vars) (op .a) 0)) (placeOf (getD (now vars) (op .b) 0))) k ≡ true) ⌝ }
     ensures { λ r. ⌜ Held variables r (now (vars .exit)) (now (links .exit)) (changed variables (op .kind) (op .a) (op .b) (putBy (op .b) (shapeIn (working variables (op .b)) n (now (vars .entry)) (now (links .entry))) k)) ⌝ }
 {
     let m = put(n, vars, links, op.b, k);
@@ -77,7 +80,7 @@ pub(crate) fn make_second(
     m
 }
 
-// The cover of choice k of b, if it is retained.
+// The cover of choice k of b, if it is wanted.
 pub(crate) fn take_second(
     cert: &[u8],
     starts: &[u16; 512],
@@ -85,20 +88,17 @@ pub(crate) fn take_second(
     members: usize,
     state: u8,
     op: Op,
+    wanted: Wanted,
     n: u8,
     vars: &[u8; 10],
     links: &[u8; 14],
     k: u8,
     t: Taken,
 ) -> Going
-    requires { ⌜ (Table (now cert) variables (now starts) members) × (Placed variables (op .kind) (op .a) (op .b) n (now vars) (now links)) × (k < n + (2 + n)) × (Within (now cert) t) ⌝ }
+    requires { ⌜ (Table (now cert) variables (now starts) members) × (Placed variables (op .kind) (op .a) (op .b) n (now vars) (now links)) × (k < n + (2 + n)) × (wanted ≡ wantedSecond (op .kind) (take n (now links)) (placeOf (getD (now vars) (op .a) 0)) (placeOf (getD (now vars) (op .b) 0))) × (Within (now cert) t) ⌝ }
     ensures { λ r. ⌜ goingOf r ≡ takeShapes (now (cert .entry)) variables (now (starts .entry)) members state (secondOf variables (op .kind) (op .a) (op .b) (shapeIn (working variables (op .b)) n (now (vars .entry)) (now (links .entry))) k) t ⌝ }
 {
-    let a = op.a as usize;
-    let b = op.b as usize;
-    let x = Place { code: vars[a] };
-    let y = Place { code: vars[b] };
-    if !second_fits(op.kind, x, y, n, links, k) {
+    if !is_wanted_here(n, links, wanted, k) {
         return Going::On(t);
     }
     let mut v = *vars;
@@ -133,11 +133,8 @@ pub(crate) fn take_seconds(
     requires { ⌜ (Table (now cert) variables (now starts) members) × (Placed variables (op .kind) (op .a) (op .b) n (now vars) (now links)) × (Within (now cert) from) ⌝ }
     ensures { λ r. ⌜ goingOf r ≡ takeShapes (now (cert .entry)) variables (now (starts .entry)) members state (seconds variables (op .kind) (op .a) (op .b) (shapeIn (working variables (op .b)) n (now (vars .entry)) (now (links .entry)))) from ⌝ }
 {
-    let a = op.a as usize;
-    let b = op.b as usize;
-    let x = Place { code: vars[a] };
-    let y = Place { code: vars[b] };
-    let c = tried_choices(op.kind, n, y, x);
+    let wanted = wanted_of_b(op, n, vars, links);
+    let c = choices_of(n, wanted);
     let mut t = from;
     let mut k = c.from;
     while k < c.to {
@@ -148,22 +145,23 @@ pub(crate) fn take_seconds(
             members,
             state,
             op,
+            wanted,
             n,
             vars,
             links,
-            k,
+            k as u8,
             t,
         );
         let Going::On(u) = g else {
             return g;
         };
         t = u;
-        k += 1;
+        k += c.step;
     }
     Going::On(t)
 }
 
-// Covers of the predecessors of choice k of a.
+// Covers of the predecessors of choice k of a, if it is wanted.
 pub(crate) fn take_first(
     cert: &[u8],
     starts: &[u16; 512],
@@ -171,20 +169,17 @@ pub(crate) fn take_first(
     members: usize,
     state: u8,
     op: Op,
+    wanted: Wanted,
     n: u8,
     vars: &[u8; 10],
     links: &[u8; 14],
     k: u8,
     t: Taken,
 ) -> Going
-    requires { ⌜ (Table (now cert) variables (now starts) members) × (Working 12 variables (op .kind) (op .a) (op .b) n (now vars) (now links)) × (getD (now vars) (op .a) 0 ≢ 2) × (getD (now vars) (op .b) 0 ≢ 2) × (k < n + (2 + n)) × (Within (now cert) t) ⌝ }
+    requires { ⌜ (Table (now cert) variables (now starts) members) × (Working 12 variables (op .kind) (op .a) (op .b) n (now vars) (now links)) × (k < n + (2 + n)) × (wanted ≡ wantedFirst (op .kind) (eqb (op .a) (op .b)) (take n (now links)) (placeOf (getD (now vars) (op .a) 0)) (placeOf (getD (now vars) (op .b) 0))) × (Within (now cert) t) ⌝ }
     ensures { λ r. ⌜ goingOf r ≡ takeShapes (now (cert .entry)) variables (now (starts .entry)) members state (firstOf variables (op .kind) (op .a) (op .b) (shapeIn (working variables (op .b)) n (now (vars .entry)) (now (links .entry))) k) t ⌝ }
 {
-    let a = op.a as usize;
-    let b = op.b as usize;
-    let x = Place { code: vars[a] };
-    let y = Place { code: vars[b] };
-    if !first_fits(op, x, y, n, links, k) {
+    if !is_wanted_here(n, links, wanted, k) {
         return Going::On(t);
     }
     let mut v = *vars;
@@ -209,14 +204,8 @@ pub(crate) fn take_firsts(
     requires { ⌜ (Table (now cert) variables (now starts) members) × (Working 12 variables (op .kind) (op .a) (op .b) n (now vars) (now links)) × (Within (now cert) from) ⌝ }
     ensures { λ r. ⌜ goingOf r ≡ takeShapes (now (cert .entry)) variables (now (starts .entry)) members state (firsts variables (op .kind) (op .a) (op .b) (shapeIn (working variables (op .b)) n (now (vars .entry)) (now (links .entry)))) from ⌝ }
 {
-    let a = op.a as usize;
-    let b = op.b as usize;
-    let x = Place { code: vars[a] };
-    let y = Place { code: vars[b] };
-    if is_hopeless(op, x, y) {
-        return Going::On(from);
-    }
-    let c = tried_choices(op.kind, n, x, y);
+    let wanted = wanted_of_a(op, n, vars, links);
+    let c = choices_of(n, wanted);
     let mut t = from;
     let mut k = c.from;
     while k < c.to {
@@ -227,17 +216,18 @@ pub(crate) fn take_firsts(
             members,
             state,
             op,
+            wanted,
             n,
             vars,
             links,
-            k,
+            k as u8,
             t,
         );
         let Going::On(u) = g else {
             return g;
         };
         t = u;
-        k += 1;
+        k += c.step;
     }
     Going::On(t)
 }

@@ -1,7 +1,7 @@
 -- The choices of a placing that an operation of kinds 1 to 5 retains, by their numbers (see choices/specs/Choice.antt).
 use mathlib.Core.Bool.{Bool, true, false, _||_, _&&_, not, cond}
 use mathlib.Core.List.{List}
-use Prim.Native.Nat.{ℕ, zero, suc, _+_, _-_}
+use Prim.Native.Nat.{ℕ, suc, _+_, _-_}
 use lib.Dec.{eqb, ltb, leb}
 use lib.ListN.{length, getD}
 use Rattle.heap.specs.Codes.{linkIn}
@@ -10,6 +10,7 @@ use Rattle.place.specs.Place.{placeOf}
 use Rattle.place.specs.declared.Place.{Place}
 use Rattle.choices.specs.Choice.{choiceOf, exists}
 use Rattle.choices.specs.Retained.{retained}
+use Rattle.choosing.specs.declared.Choices.{Choices}
 use Rattle.choosing.specs.declared.Wanted.{Wanted}
 use Rattle.choosing.specs.declared.Wanted.the-variants.{Nothing, Once, Any, At, Off, Source, Itself, Target}
 
@@ -43,10 +44,24 @@ fitsIn links (Source p) k = sourceFits links (p .code) k
 fitsIn links Itself k = itselfFits links k
 fitsIn links (Target p i) k = targetFits (length links) (p .code) i k
 
--- the first number from one on, of so many, that passes a test; the one after them if none does
-unfoldable pub next : (ℕ → Bool) → ℕ → ℕ → ℕ
-next test zero from = from
-next test (suc count) from = let later = next test count (suc from) in cond (test from) from later
+-- ---- the choices to try, of a shape of n cells: all that are wanted are among them
+
+-- those of a target: one, or two with a step between them
+unfoldable pub targetChoices : ℕ → ℕ → ℕ → Choices
+targetChoices n p i =
+    let within = n + 2 + i in
+    cond (eqb p dangling) (record { from = within; step = 1; to = suc within })
+    (record { from = choiceOf n p; step = within - choiceOf n p; to = suc within })
+
+abbrev pub choicesOf : ℕ → Wanted → Choices
+choicesOf n Nothing = record { from = 0; step = 1; to = 0 }
+choicesOf n Once = record { from = 0; step = 1; to = 1 }
+choicesOf n Any = record { from = 0; step = 1; to = n + (2 + n) }
+choicesOf n (At p) = record { from = choiceOf n (p .code); step = 1; to = suc (choiceOf n (p .code)) }
+choicesOf n (Off p) = record { from = 0; step = 1; to = n + (2 + n) }
+choicesOf n (Source p) = record { from = 0; step = 1; to = n + (2 + n) }
+choicesOf n Itself = record { from = 0; step = 1; to = n + (2 + n) }
+choicesOf n (Target p i) = targetChoices n (p .code) i
 
 -- ---- what an operation wants of a variable that is nowhere
 

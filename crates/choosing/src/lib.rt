@@ -1,13 +1,12 @@
-// Which choices of a placing an operation of kinds 1 to 5 retains, and the next of them. In a shape of n cells, whose links are lent, the choices
+// Which choices of a placing an operation of kinds 1 to 5 retains. In a shape of n cells, whose links are lent, the choices
 // are 0 .. n - 1 a cell, n #, n + 1 a fresh cell, n + 2 + i a fresh cell in the middle of the link of cell i.
 use place::Place;
 ghost use mathlib.Core.Path.{_≡_};
-ghost use Prim.Native.Nat.{_-_};
-ghost use lib.Dec.{eqb};
+ghost use Prim.Native.Nat.{_<_};
 ghost use Rattle.heap.specs.Codes.{linkIn};
 ghost use Rattle.choices.specs.Choice.{choiceOf, exists};
 ghost use Rattle.choices.specs.Retained.{linkOpen, retained};
-ghost use Rattle.choosing.specs.Wanted.{sourceFits, itselfFits, targetFits, fitsIn, next, targetOf, beside, onceIf, wantedOne, wantedNowhere, wantedFirst, wantedSecond};
+ghost use Rattle.choosing.specs.Wanted.{sourceFits, itselfFits, targetFits, fitsIn, targetChoices, choicesOf, targetOf, beside, onceIf, wantedOne, wantedNowhere, wantedFirst, wantedSecond};
 
 // The choices of a variable that are retained.
 pub enum Wanted {
@@ -25,6 +24,13 @@ pub enum Wanted {
     Itself,
     // the link of the cell with this number stands at this place: there, or in the middle of the link
     Target(Place, u8),
+}
+
+// Choices from one on, in steps, before another.
+pub struct Choices {
+    pub from: usize,
+    pub step: usize,
+    pub to: usize,
 }
 
 // The link of the cell at p; nowhere if there is none.
@@ -129,7 +135,7 @@ fn itself_fits(links: &[u8], k: usize) -> bool
 }
 
 // Whether choice k is wanted.
-fn fits(links: &[u8], wanted: Wanted, k: usize) -> bool
+pub fn is_wanted(links: &[u8], wanted: Wanted, k: usize) -> bool
     ensures { λ r. ⌜ r ≡ fitsIn (now (links .entry)) wanted k ⌝ }
 {
     let n = links.len();
@@ -145,60 +151,64 @@ fn fits(links: &[u8], wanted: Wanted, k: usize) -> bool
     }
 }
 
-// The first choice that is wanted, from one on and before another; that other if there is none.
-fn scan(links: &[u8], wanted: Wanted, from: usize, past: usize) -> usize
-    ensures { λ r. ⌜ r ≡ next (fitsIn (now (links .entry)) wanted) (past - from) from ⌝ }
+// The choices of a target.
+fn target_choices(n: usize, p: Place, i: u8) -> Choices
+    requires { ⌜ n < 256 ⌝ }
+    ensures { λ r. ⌜ r ≡ targetChoices n (p .code) i ⌝ }
 {
-    let mut k = from;
-    while k < past {
-        if fits(links, wanted, k) {
-            return k;
-        }
-        k += 1;
-    }
-    k
-}
-
-// The same where choice k alone is wanted.
-fn only(k: usize, from: usize, past: usize) -> usize
-    ensures { λ r. ⌜ r ≡ next (eqb k) (past - from) from ⌝ }
-{
-    if past <= from {
-        return from;
-    }
-    if k < from {
-        return past;
-    }
-    if past <= k {
-        return past;
-    }
-    k
-}
-
-// The same where those of a target are.
-fn next_target(n: usize, p: Place, i: u8, from: usize, past: usize) -> usize
-    ensures { λ r. ⌜ r ≡ next (targetFits n (p .code) i) (past - from) from ⌝ }
-{
-    let within = only(n + 2 + i as usize, from, past);
+    let within = n + 2 + i as usize;
     if p.code == 2 {
-        return within;
+        return Choices {
+            from: within,
+            step: 1,
+            to: within + 1,
+        };
     }
-    let at = only(choice_of(n, p), from, past);
-    if at < within {
-        return at;
+    let at = choice_of(n, p);
+    if within <= at {
+        return Choices {
+            from: at,
+            step: 0,
+            to: within + 1,
+        };
     }
-    within
+    Choices {
+        from: at,
+        step: within - at,
+        to: within + 1,
+    }
 }
 
-// The first choice that is wanted, from one on and before another; that other if there is none.
-pub fn next_choice(links: &[u8], wanted: Wanted, from: usize, past: usize) -> usize
-    ensures { λ r. ⌜ r ≡ next (fitsIn (now (links .entry)) wanted) (past - from) from ⌝ }
+// The choices to try, which have all that are wanted among them.
+pub fn choices_of(n: u8, wanted: Wanted) -> Choices
+    ensures { λ r. ⌜ r ≡ choicesOf n wanted ⌝ }
 {
+    let cells = n as usize;
     match wanted {
-        Wanted::Once => only(0, from, past),
-        Wanted::At(p) => only(choice_of(links.len(), p), from, past),
-        Wanted::Target(p, i) => next_target(links.len(), p, i, from, past),
-        _ => scan(links, wanted, from, past),
+        Wanted::Nothing => Choices {
+            from: 0,
+            step: 1,
+            to: 0,
+        },
+        Wanted::Once => Choices {
+            from: 0,
+            step: 1,
+            to: 1,
+        },
+        Wanted::At(p) => {
+            let k = choice_of(cells, p);
+            Choices {
+                from: k,
+                step: 1,
+                to: k + 1,
+            }
+        }
+        Wanted::Target(p, i) => target_choices(cells, p, i),
+        _ => Choices {
+            from: 0,
+            step: 1,
+            to: cells + (2 + cells),
+        },
     }
 }
 

@@ -1,0 +1,58 @@
+// What an operation of kinds 1 to 5 wants of its operands, in a shape that two arrays hold.
+use choosing::Wanted;
+use choosing::is_wanted;
+use choosing::wanted_first;
+use choosing::wanted_second;
+use place::Place;
+ghost use mathlib.Core.Path.{_≡_};
+ghost use Prim.Native.Nat.{_≤_};
+ghost use lib.Dec.{eqb};
+ghost use lib.ListN.{length, getD, take};
+ghost use Rattle.place.specs.Place.{placeOf};
+ghost use Rattle.choosing.specs.Wanted.{fitsIn, wantedFirst, wantedSecond};
+
+// An operation of kinds 1 to 5. Where kind 4 has one variable, b is the helper, one above the variables.
+pub struct Op {
+    pub kind: u8,
+    pub a: u8,
+    pub b: u8,
+}
+
+// What is wanted of a.
+pub(crate) fn wanted_of_a(op: Op, n: u8, vars: &[u8; 10], links: &[u8; 14]) -> Wanted
+    requires { ⌜ (op .a ≤ 9) × (op .b ≤ 9) × (n ≤ 14) × (length (now links) ≡ 14) ⌝ }
+    ensures { λ r. ⌜ r ≡ wantedFirst (op .kind) (eqb (op .a) (op .b)) (take n (now (links .entry))) (placeOf (getD (now (vars .entry)) (op .a) 0)) (placeOf (getD (now (vars .entry)) (op .b) 0)) ⌝ }
+{
+    let x = Place {
+        code: vars[op.a as usize],
+    };
+    let y = Place {
+        code: vars[op.b as usize],
+    };
+    let all = &links[..];
+    wanted_first(op.kind, op.a == op.b, &all[..n as usize], x, y)
+}
+
+// What is wanted of b, where a is placed.
+pub(crate) fn wanted_of_b(op: Op, n: u8, vars: &[u8; 10], links: &[u8; 14]) -> Wanted
+    requires { ⌜ (op .a ≤ 9) × (op .b ≤ 9) × (n ≤ 14) × (length (now links) ≡ 14) ⌝ }
+    ensures { λ r. ⌜ r ≡ wantedSecond (op .kind) (take n (now (links .entry))) (placeOf (getD (now (vars .entry)) (op .a) 0)) (placeOf (getD (now (vars .entry)) (op .b) 0)) ⌝ }
+{
+    let x = Place {
+        code: vars[op.a as usize],
+    };
+    let y = Place {
+        code: vars[op.b as usize],
+    };
+    let all = &links[..];
+    wanted_second(op.kind, &all[..n as usize], x, y)
+}
+
+// Whether choice k is wanted.
+pub(crate) fn is_wanted_here(n: u8, links: &[u8; 14], wanted: Wanted, k: u8) -> bool
+    requires { ⌜ (n ≤ 14) × (length (now links) ≡ 14) ⌝ }
+    ensures { λ r. ⌜ r ≡ fitsIn (take n (now (links .entry))) wanted k ⌝ }
+{
+    let all = &links[..];
+    is_wanted(&all[..n as usize], wanted, k as usize)
+}
