@@ -4,6 +4,7 @@ use place::Place;
 ghost use mathlib.Core.Path.{_≡_};
 ghost use Prim.Native.Nat.{_-_};
 ghost use lib.Dec.{eqb};
+ghost use lib.ListN.{length};
 ghost use Rattle.heap.specs.Codes.{linkIn};
 ghost use Rattle.choices.specs.Choice.{choiceOf, exists};
 ghost use Rattle.choices.specs.Retained.{linkOpen, retained};
@@ -105,7 +106,11 @@ fn source_fits(links: &[u8], p: Place, k: usize) -> bool
 {
     let n = links.len();
     if k < n {
-        return links[k] == 0 || links[k] == p.code;
+        let link = links[k];
+        if link == 0 {
+            return true;
+        }
+        return link == p.code;
     }
     if k <= n + 1 {
         return k == n + 1;
@@ -114,7 +119,17 @@ fn source_fits(links: &[u8], p: Place, k: usize) -> bool
     if n <= i {
         return false;
     }
-    links[i] != 0 && links[i] == p.code
+    let link = links[i];
+    if link == 0 {
+        return false;
+    }
+    link == p.code
+}
+
+fn wide(byte: u8) -> usize
+    ensures { λ r. ⌜ r ≡ byte ⌝ }
+{
+    byte as usize
 }
 
 // Whether choice k puts a variable at a cell whose link is nowhere or at that cell itself.
@@ -123,7 +138,11 @@ fn itself_fits(links: &[u8], k: usize) -> bool
 {
     let n = links.len();
     if k < n {
-        return links[k] == 0 || links[k] as usize == k + 3;
+        let link = links[k];
+        if link == 0 {
+            return true;
+        }
+        return wide(link) == k + 3;
     }
     k == n + 1
 }
@@ -161,7 +180,7 @@ fn scan(links: &[u8], wanted: Wanted, from: usize, past: usize) -> usize
 
 // The same where choice k alone is wanted.
 fn only(k: usize, from: usize, past: usize) -> usize
-    ensures { λ r. ⌜ r ≡ next (eqb k) (past - from) from ⌝ }
+    ensures { λ r. ⌜ r ≡ next (λ j. eqb j k) (past - from) from ⌝ }
 {
     if past <= from {
         return from;
@@ -176,9 +195,10 @@ fn only(k: usize, from: usize, past: usize) -> usize
 }
 
 // The same where those of a target are.
-fn next_target(n: usize, p: Place, i: u8, from: usize, past: usize) -> usize
-    ensures { λ r. ⌜ r ≡ next (targetFits n (p .code) i) (past - from) from ⌝ }
+fn next_target(links: &[u8], p: Place, i: u8, from: usize, past: usize) -> usize
+    ensures { λ r. ⌜ r ≡ next (targetFits (length (now (links .entry))) (p .code) i) (past - from) from ⌝ }
 {
+    let n = links.len();
     let within = only(n + 2 + i as usize, from, past);
     if p.code == 2 {
         return within;
@@ -197,7 +217,7 @@ pub fn next_choice(links: &[u8], wanted: Wanted, from: usize, past: usize) -> us
     match wanted {
         Wanted::Once => only(0, from, past),
         Wanted::At(p) => only(choice_of(links.len(), p), from, past),
-        Wanted::Target(p, i) => next_target(links.len(), p, i, from, past),
+        Wanted::Target(p, i) => next_target(links, p, i, from, past),
         _ => scan(links, wanted, from, past),
     }
 }
