@@ -38,6 +38,10 @@ module _ (test : ℕ → Bool) where
   pub next-on : (from past : ℕ) → from < past → test from ≡ false → next test (past - from) from ≡ next test (past - suc from) (suc from)
   next-on from past h t = let e : past - from ≡ suc (past - suc from) = omega arith in rw e (next-after (past - suc from) from t)
 
+  -- the same for a loop
+  pub next-step : (from past : ℕ) → from < past → test from ≡ false → next test (past - (from + 1)) (from + 1) ≡ next test (past - from) from
+  next-step from past h t = let e : from + 1 ≡ suc from = omega arith in rw e (sym (next-on from past h t))
+
   -- ---- what is known of the next one, of so many
 
   least : (count from : ℕ) → from ≤ next test count from

@@ -13,7 +13,7 @@ use Rattle.heap.specs.Place.{nowhere, null, dangling, cell}
 use Rattle.choices.specs.Choice.{choiceOf, exists}
 use Rattle.choices.specs.Retained.{retained}
 use Rattle.place.specs.declared.Place.{Place}
-use Rattle.choosing.specs.Wanted.{sourceFits, itselfFits, targetOf, beside, onceIf, wantedOne, wantedNowhere, wantedFirst, wantedSecond}
+use Rattle.choosing.specs.Wanted.{sourceFits, itselfFits, targetFits, fitsIn, next, targetOf, beside, onceIf, wantedOne, wantedNowhere, wantedFirst, wantedSecond}
 use Rattle.choosing.specs.declared.Wanted.{Wanted}
 use Rattle.choosing.specs.declared.Wanted.the-variants.{Nothing, Once, Any, At, Off, Source, Itself, Target}
 
@@ -109,6 +109,64 @@ module _ (links : List ℕ) (k : ℕ) where
   pub itself-fresh : length links ≤ k → eqb k (length links + 1) ≡ itselfFits links k
   unfolding itselfFits
   itself-fresh h = simp (le-ltb k (length links) h)
+
+-- ---- whether choice k is wanted
+
+module _ (links : List ℕ) (wanted : Wanted) (k : ℕ) where
+  pub fits-nothing : wanted ≡ Nothing → false ≡ fitsIn links wanted k
+  fits-nothing e = rw e refl
+
+  pub fits-once : wanted ≡ Once → eqb k 0 ≡ fitsIn links wanted k
+  fits-once e = rw e refl
+
+  pub fits-any : wanted ≡ Any → exists links k ≡ fitsIn links wanted k
+  fits-any e = rw e refl
+
+  pub fits-itself : wanted ≡ Itself → itselfFits links k ≡ fitsIn links wanted k
+  fits-itself e = rw e refl
+
+  module _ (p : Place) where
+    pub fits-source : wanted ≡ Source p → sourceFits links (p .code) k ≡ fitsIn links wanted k
+    fits-source e = rw e refl
+
+    module _ (c : ℕ) (c-is : c ≡ choiceOf (length links) (p .code)) where
+      pub fits-at : wanted ≡ At p → eqb k c ≡ fitsIn links wanted k
+      fits-at e = rw (e, c-is) refl
+
+      pub fits-off : wanted ≡ Off p → k ≢ c → exists links k ≡ fitsIn links wanted k
+      fits-off e n = rw (e, ← c-is) (simp (ne-eqb k c n))
+
+      pub fits-not-off : wanted ≡ Off p → k ≡ c → not (eqb k c) ≡ fitsIn links wanted k
+      fits-not-off e n = rw (e, ← c-is) (simp (eq-eqb k c n))
+
+    module _ (i : ℕ) (e : wanted ≡ Target p i) where
+      pub fits-within : k ≡ length links + 2 + i → eqb k (length links + 2 + i) ≡ fitsIn links wanted k
+      unfolding targetFits
+      fits-within h = rw e (simp (eq-eqb k (length links + 2 + i) h))
+
+      module _ (h : k ≢ length links + 2 + i) where
+        pub fits-end : p .code ≢ dangling → (c : ℕ) → c ≡ choiceOf (length links) (p .code) → eqb k c ≡ fitsIn links wanted k
+        unfolding targetFits
+        fits-end n c c-is = rw (e, ← c-is) (simp (ne-eqb k (length links + 2 + i) h, ne-eqb (p .code) dangling n))
+
+        pub fits-dangling : p .code ≡ dangling → not (eqb (p .code) dangling) ≡ fitsIn links wanted k
+        unfolding targetFits
+        fits-dangling d = rw e (simp (ne-eqb k (length links + 2 + i) h, eq-eqb (p .code) dangling d))
+
+-- ---- the next one
+
+module _ (links : List ℕ) (wanted : Wanted) (count from : ℕ) where
+  pub next-once : wanted ≡ Once → next (λ j. eqb j 0) count from ≡ next (fitsIn links wanted) count from
+  next-once e = rw e refl
+
+  module _ (p : Place) where
+    pub next-at : wanted ≡ At p → (c : ℕ) → c ≡ choiceOf (length links) (p .code)
+        → next (λ j. eqb j c) count from ≡ next (fitsIn links wanted) count from
+    next-at e c c-is = rw (e, c-is) refl
+
+    pub next-target : (i : ℕ) → wanted ≡ Target p i
+        → next (targetFits (length links) (p .code) i) count from ≡ next (fitsIn links wanted) count from
+    next-target i e = rw e refl
 
 -- ---- what is wanted
 

@@ -1,48 +1,38 @@
-use Prim.Native.Nat.{ℕ, _+_, _-_, _*_, _<_, _≤_}
-use mathlib.Core.Path.{_≡_, refl, ap, _∙_, sym}
+use Prim.Native.Nat.{_-_}
+use mathlib.Core.Path.{_≡_, refl, sym, _∙_}
 use native.Mathlib.Omega.{arith}
-use lib.ListN.{length, getD, take, drop, set}
-use mathlib.Core.Logic.{⊎-elim}
+use Rattle.choosing.proofs.Next.{next-end, next-here, next-step}
+use Rattle.choosing.specs.Wanted.{fitsIn, next}
 use borrow.Author.Needs.{needs}
 use Rattle.choosing.proofs.scan.Statement.{statement}
 use Rattle.choosing.proofs.scan.Tie as tie
-use Rattle.choosing.proofs.scan.Reads as reads
-use Rattle.choosing.proofs.scan.Lts as lts
-use Rattle.choosing.proofs.fits.Reads as fits-reads
 
 abbrev Inv-loop : tie.InvT-loop
-Inv-loop links wanted from past k₀ k = ?
+Inv-loop links wanted from past k₀ k = next (fitsIn links wanted) (past - k) k ≡ next (fitsIn links wanted) (past - from) from
 
 abbrev μ-loop : tie.MeasureT-loop
-μ-loop links wanted from past k₀ k = ?
+μ-loop links wanted from past k₀ k = past - k
 
--- src/lib.rt:172:5
 loop-holds : tie.Need-loop-holds Inv-loop μ-loop
-loop-holds c = search needs
+loop-holds c = refl
 
--- src/lib.rt:173:12
 fits-requires : tie.Need-fits-requires Inv-loop μ-loop
 fits-requires c κs = search needs
 
--- src/lib.rt:174:13
 returns : tie.Need-returns Inv-loop μ-loop
-returns c = search needs
+returns c = let a = c .before .before .before .before .before .args in sym (next-here (fitsIn (a .links .now) (a .wanted)) (c .before .before .before .loop .k) (a .past) (omega arith) (sym (c .before .fits2 .ensures) ∙ c .if1 .taken)) ∙ c .before .before .before .loop .inv
 
--- src/lib.rt:176:9
 add-k : tie.Need-add-k Inv-loop μ-loop
 add-k c = search needs
 
--- src/lib.rt:172:5
 loop-less : tie.Need-loop-less Inv-loop μ-loop
 loop-less c = search needs
 
--- src/lib.rt:172:5
 loop-again : tie.Need-loop-again Inv-loop μ-loop
-loop-again c = search needs
+loop-again c = let a = c .before .before .before .before .before .args in next-step (fitsIn (a .links .now) (a .wanted)) (c .before .before .before .loop .k) (a .past) (omega arith) (sym (c .before .fits2 .ensures) ∙ c .if1 .left) ∙ c .before .before .before .loop .inv
 
--- src/lib.rt:168:1
 returns-2 : tie.Need-returns-2 Inv-loop μ-loop
-returns-2 c = search needs
+returns-2 c = let a = c .before .before .before .args in sym (next-end (fitsIn (a .links .now) (a .wanted)) (c .before .loop .k) (a .past) (omega arith)) ∙ c .before .loop .inv
 
 pub scan-spec : {M : Type 1} → statement M
 scan-spec =
