@@ -46,21 +46,23 @@ fitsIn links (Target p i) k = targetFits (length links) (p .code) i k
 
 -- ---- the choices to try, of a shape of n cells: all that are wanted are among them
 
+abbrev pub oneByOne : ℕ → ℕ → Choices
+oneByOne from to = record { from = from; step = 1; to = to }
+
 -- those of a target: one, or two with a step between them
 unfoldable pub targetChoices : ℕ → ℕ → ℕ → Choices
 targetChoices n p i =
     let within = n + 2 + i in
-    cond (eqb p dangling) (record { from = within; step = 1; to = suc within })
-    (record { from = choiceOf n p; step = within - choiceOf n p; to = suc within })
+    cond (eqb p dangling) (oneByOne within (suc within)) (record { from = choiceOf n p; step = within - choiceOf n p; to = suc within })
 
 abbrev pub choicesOf : ℕ → Wanted → Choices
-choicesOf n Nothing = record { from = 0; step = 1; to = 0 }
-choicesOf n Once = record { from = 0; step = 1; to = 1 }
-choicesOf n Any = record { from = 0; step = 1; to = n + (2 + n) }
-choicesOf n (At p) = record { from = choiceOf n (p .code); step = 1; to = suc (choiceOf n (p .code)) }
-choicesOf n (Off p) = record { from = 0; step = 1; to = n + (2 + n) }
-choicesOf n (Source p) = record { from = 0; step = 1; to = n + (2 + n) }
-choicesOf n Itself = record { from = 0; step = 1; to = n + (2 + n) }
+choicesOf n Nothing = oneByOne 0 0
+choicesOf n Once = oneByOne 0 1
+choicesOf n Any = oneByOne 0 (n + (2 + n))
+choicesOf n (At p) = oneByOne (choiceOf n (p .code)) (suc (choiceOf n (p .code)))
+choicesOf n (Off p) = oneByOne 0 (n + (2 + n))
+choicesOf n (Source p) = oneByOne 0 (n + (2 + n))
+choicesOf n Itself = oneByOne 0 (n + (2 + n))
 choicesOf n (Target p i) = targetChoices n (p .code) i
 
 -- ---- what an operation wants of a variable that is nowhere

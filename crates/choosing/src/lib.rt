@@ -6,7 +6,7 @@ ghost use Prim.Native.Nat.{_<_};
 ghost use Rattle.heap.specs.Codes.{linkIn};
 ghost use Rattle.choices.specs.Choice.{choiceOf, exists};
 ghost use Rattle.choices.specs.Retained.{linkOpen, retained};
-ghost use Rattle.choosing.specs.Wanted.{sourceFits, itselfFits, targetFits, fitsIn, targetChoices, choicesOf, targetOf, beside, onceIf, wantedOne, wantedNowhere, wantedFirst, wantedSecond};
+ghost use Rattle.choosing.specs.Wanted.{sourceFits, itselfFits, targetFits, fitsIn, oneByOne, targetChoices, choicesOf, targetOf, beside, onceIf, wantedOne, wantedNowhere, wantedFirst, wantedSecond};
 
 // The choices of a variable that are retained.
 pub enum Wanted {
@@ -111,7 +111,11 @@ fn source_fits(links: &[u8], p: Place, k: usize) -> bool
 {
     let n = links.len();
     if k < n {
-        return links[k] == 0 || links[k] == p.code;
+        let link = links[k];
+        if link == 0 {
+            return true;
+        }
+        return link == p.code;
     }
     if k <= n + 1 {
         return k == n + 1;
@@ -120,7 +124,17 @@ fn source_fits(links: &[u8], p: Place, k: usize) -> bool
     if n <= i {
         return false;
     }
-    links[i] != 0 && links[i] == p.code
+    let link = links[i];
+    if link == 0 {
+        return false;
+    }
+    link == p.code
+}
+
+fn wide(byte: u8) -> usize
+    ensures { λ r. ⌜ r ≡ byte ⌝ }
+{
+    byte as usize
 }
 
 // Whether choice k puts a variable at a cell whose link is nowhere or at that cell itself.
@@ -129,7 +143,11 @@ fn itself_fits(links: &[u8], k: usize) -> bool
 {
     let n = links.len();
     if k < n {
-        return links[k] == 0 || links[k] as usize == k + 3;
+        let link = links[k];
+        if link == 0 {
+            return true;
+        }
+        return wide(link) == k + 3;
     }
     k == n + 1
 }
@@ -151,6 +169,12 @@ pub fn is_wanted(links: &[u8], wanted: Wanted, k: usize) -> bool
     }
 }
 
+fn one_by_one(from: usize, to: usize) -> Choices
+    ensures { λ r. ⌜ r ≡ oneByOne from to ⌝ }
+{
+    Choices { from, step: 1, to }
+}
+
 // The choices of a target.
 fn target_choices(n: usize, p: Place, i: u8) -> Choices
     requires { ⌜ n < 256 ⌝ }
@@ -158,23 +182,16 @@ fn target_choices(n: usize, p: Place, i: u8) -> Choices
 {
     let within = n + 2 + i as usize;
     if p.code == 2 {
-        return Choices {
-            from: within,
-            step: 1,
-            to: within + 1,
-        };
+        return one_by_one(within, within + 1);
     }
     let at = choice_of(n, p);
-    if within <= at {
-        return Choices {
-            from: at,
-            step: 0,
-            to: within + 1,
-        };
+    let mut step = 0;
+    if at < within {
+        step = within - at;
     }
     Choices {
         from: at,
-        step: within - at,
+        step,
         to: within + 1,
     }
 }
@@ -184,31 +201,19 @@ pub fn choices_of(n: u8, wanted: Wanted) -> Choices
     ensures { λ r. ⌜ r ≡ choicesOf n wanted ⌝ }
 {
     let cells = n as usize;
+    let past = cells + (2 + cells);
     match wanted {
-        Wanted::Nothing => Choices {
-            from: 0,
-            step: 1,
-            to: 0,
-        },
-        Wanted::Once => Choices {
-            from: 0,
-            step: 1,
-            to: 1,
-        },
+        Wanted::Nothing => one_by_one(0, 0),
+        Wanted::Once => one_by_one(0, 1),
+        Wanted::Any => one_by_one(0, past),
         Wanted::At(p) => {
             let k = choice_of(cells, p);
-            Choices {
-                from: k,
-                step: 1,
-                to: k + 1,
-            }
+            one_by_one(k, k + 1)
         }
+        Wanted::Off(_) => one_by_one(0, past),
+        Wanted::Source(_) => one_by_one(0, past),
+        Wanted::Itself => one_by_one(0, past),
         Wanted::Target(p, i) => target_choices(cells, p, i),
-        _ => Choices {
-            from: 0,
-            step: 1,
-            to: cells + (2 + cells),
-        },
     }
 }
 
