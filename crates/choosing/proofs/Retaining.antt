@@ -1,0 +1,117 @@
+-- The choices of a variable that a kind retains are the wanted ones.
+use mathlib.Core.Bool.{Bool, true, false, _&&_, _||_, not}
+use mathlib.Core.List.{List, [], _∷_, _++_}
+use mathlib.Core.Logic.{_≢_}
+use mathlib.Core.Path.{_≡_, refl, sym, _∙_}
+use Prim.Native.Nat.{ℕ, zero, suc, _+_, _-_, _≤_, _<_}
+use native.Mathlib.Decide.{ℕ-discrete, decLt}
+use native.Mathlib.Omega.{arith}
+use borrow.Author.Tests.{lt-ltb, le-ltb, le-leb, lt-leb, eq-eqb, ne-eqb}
+use lib.Dec.{eqb}
+use lib.ListN.{length, getD, set, length-set, List·getD-eq-default, List·getD-append}
+use lib.Seq.{getD-set-same, getD-at}
+use Rattle.heap.specs.Codes.{linkIn}
+use Rattle.heap.specs.Place.{nowhere, null, dangling, cell}
+use Rattle.place.specs.Place.{placeOf}
+use Rattle.shape.proofs.Laws.{link-set-other, link-snoc, link-unlinked}
+use Rattle.kinds.proofs.Rows.{by-kind}
+use Rattle.choices.specs.Choice.{chosen, choiceOf, exists, opened}
+use Rattle.choices.specs.Held.{At}
+use Rattle.choices.specs.Retained.{linkOpen, retained}
+use Rattle.choices.proofs.ByNumber.{chosen-placed, chosen-other, choice-of-most}
+use Rattle.choices.proofs.Opening.{chosen-cell, chosen-null, chosen-fresh}
+use Rattle.choosing.specs.Wanted.{sourceFits, itselfFits, targetFits, fitsIn, targetOf, beside}
+
+and-false : (x : Bool) → x && false ≡ false
+and-false true = refl
+and-false false = refl
+
+and-true : (x : Bool) → x && true ≡ x
+and-true true = refl
+and-true false = refl
+
+or-false : (x : Bool) → x || false ≡ x
+or-false true = refl
+or-false false = refl
+
+-- ---- the link of the cell at p after choice k
+
+open-at : (links : List ℕ) (p q l : ℕ) → 2 < p → linkIn links p ≡ l → linkOpen links p q ≡ eqb l nowhere || eqb l q
+unfolding linkOpen
+open-at links p q l h e = rw (lt-ltb dangling p h, e) refl
+
+open-none : (links : List ℕ) (p q : ℕ) → p ≤ 2 → linkOpen links p q ≡ false
+unfolding linkOpen
+open-none links p q h = simp (le-ltb dangling p h)
+
+module _ (links : List ℕ) (k : ℕ) where
+  exists-low : k < length links + 2 → exists links k ≡ true
+  unfolding exists
+  exists-low h = simp (lt-ltb k (length links + 2) h)
+
+  exists-high : length links + 2 ≤ k → exists links k ≡ not (eqb (getD links (k - (length links + 2)) nowhere) nowhere)
+  unfolding exists
+  exists-high h = simp (le-ltb k (length links + 2) h)
+
+  opened-none : k ≤ length links → opened links k ≡ links
+  unfolding opened
+  opened-none h = simp (le-leb k (length links) h)
+
+  opened-fresh : k ≡ suc (length links) → opened links k ≡ links ++ (nowhere ∷ [])
+  unfolding opened
+  opened-fresh e = simp (lt-leb k (length links) (omega arith), eq-eqb k (suc (length links)) e)
+
+  link-kept : (p : ℕ) → k < length links + 2 → linkIn (opened links k) p ≡ linkIn links p
+  link-kept p h = go (ℕ-discrete k (suc (length links)))
+    where
+      go : Dec (k ≡ suc (length links)) → linkIn (opened links k) p ≡ linkIn links p
+      go (yes e) = rw (opened-fresh e) (link-unlinked links p)
+      go (no e) = rw (opened-none (omega arith)) refl
+
+  module _ (l : length links + 2 ≤ k) (b : k < length links + (2 + length links)) where
+    opened-middle : opened links k
+        ≡ set links (k - (length links + 2)) (cell (length links)) ++ (getD links (k - (length links + 2)) nowhere ∷ [])
+    unfolding opened
+    opened-middle = simp (lt-leb k (length links) (omega arith), ne-eqb k (suc (length links)) (omega arith))
+
+    set-length : length (set links (k - (length links + 2)) (cell (length links))) ≡ length links
+    set-length = length-set links (k - (length links + 2)) (cell (length links))
+
+    link-middle : linkIn (opened links k) (cell (length links)) ≡ getD links (k - (length links + 2)) nowhere
+    link-middle =
+        rw opened-middle
+        (getD-at (set links (k - (length links + 2)) (cell (length links))) (getD links (k - (length links + 2)) nowhere) [] nowhere (length links) set-length)
+
+    link-source : (j : ℕ) → j ≡ k - (length links + 2) → linkIn (opened links k) (cell j) ≡ cell (length links)
+    link-source j e =
+        rw (e, opened-middle)
+        (List·getD-append (set links (k - (length links + 2)) (cell (length links))) (getD links (k - (length links + 2)) nowhere ∷ []) nowhere
+        (k - (length links + 2)) (omega (arith, set-length))
+        ∙ getD-set-same links (k - (length links + 2)) (cell (length links)) nowhere (omega arith))
+
+    link-other : (j : ℕ) → j < length links → j ≢ k - (length links + 2) → linkIn (opened links k) (cell j) ≡ getD links j nowhere
+    link-other j h o =
+        rw opened-middle
+        (link-snoc (set links (k - (length links + 2)) (cell (length links))) (getD links (k - (length links + 2)) nowhere) (cell j) (omega (arith, set-length))
+        ∙ link-set-other links (k - (length links + 2)) (cell (length links)) (cell j) (omega arith))
+
+-- ---- the same place, and a different one
+
+chosen-there : (n q : ℕ) → At n q → chosen n (choiceOf n q) ≡ q
+unfolding choiceOf
+chosen-there n q at = go (ℕ-discrete q null)
+  where
+    go : Dec (q ≡ null) → chosen n (choiceOf n q) ≡ q
+    go (yes e) = simp (eq-eqb q null e) (chosen-null n n refl ∙ sym e)
+    go (no e) =
+        let c : cell (q - 3) ≡ q = omega (arith, at .some, at .safe) in
+        simp (ne-eqb q null e) (chosen-cell n (q - 3) (omega (arith, at .some, at .safe, at .inside)) ∙ c)
+
+module _ (n q k : ℕ) (at : At n q) where
+  pub same-place : eqb q (chosen n k) ≡ eqb k (choiceOf n q)
+  same-place = go (ℕ-discrete k (choiceOf n q))
+    where
+      go : Dec (k ≡ choiceOf n q) → eqb q (chosen n k) ≡ eqb k (choiceOf n q)
+      go (yes e) = rw e (eq-eqb q (chosen n (choiceOf n q)) (sym (chosen-there n q at)) ∙ sym (eq-eqb (choiceOf n q) (choiceOf n q) refl))
+      go (no e) =
+          ne-eqb q (chosen n k) (λ z. chosen-other n k q (at .some) (at .safe) (at .inside) e (sym z)) ∙ sym (ne-eqb k (choiceOf n q) e)
