@@ -115,3 +115,59 @@ module _ (n q k : ℕ) (at : At n q) where
       go (yes e) = rw e (eq-eqb q (chosen n (choiceOf n q)) (sym (chosen-there n q at)) ∙ sym (eq-eqb (choiceOf n q) (choiceOf n q) refl))
       go (no e) =
           ne-eqb q (chosen n k) (λ z. chosen-other n k q (at .some) (at .safe) (at .inside) e (sym z)) ∙ sym (ne-eqb k (choiceOf n q) e)
+
+  pub same-place-too : eqb (chosen n k) q ≡ eqb k (choiceOf n q)
+  same-place-too = go (ℕ-discrete k (choiceOf n q))
+    where
+      go : Dec (k ≡ choiceOf n q) → eqb (chosen n k) q ≡ eqb k (choiceOf n q)
+      go (yes e) = rw e (eq-eqb (chosen n (choiceOf n q)) q (chosen-there n q at) ∙ sym (eq-eqb (choiceOf n q) (choiceOf n q) refl))
+      go (no e) = ne-eqb (chosen n k) q (chosen-other n k q (at .some) (at .safe) (at .inside) e) ∙ sym (ne-eqb k (choiceOf n q) e)
+
+and-swap : (x y : Bool) → x && y ≡ y && x
+and-swap true y = sym (and-true y)
+and-swap false y = sym (and-false y)
+
+module _ (links : List ℕ) (q k : ℕ) (at : At (length links) q) where
+  -- a choice at a place of the shape is there
+  pub at-exists : exists links k && eqb k (choiceOf (length links) q) ≡ eqb k (choiceOf (length links) q)
+  at-exists = go (ℕ-discrete k (choiceOf (length links) q))
+    where
+      go : Dec (k ≡ choiceOf (length links) q) → exists links k && eqb k (choiceOf (length links) q) ≡ eqb k (choiceOf (length links) q)
+      go (yes e) = rw (exists-low links k (omega (arith, choice-of-most (length links) q (at .inside)))) refl
+      go (no e) = rw (ne-eqb k (choiceOf (length links) q) e) (and-false (exists links k))
+
+-- ---- a link from the chosen cell, and a link to it
+
+module _ (links : List ℕ) (k : ℕ) (most : k < length links + (2 + length links)) where
+  pub source-fits : (q : ℕ) → exists links k && linkOpen (opened links k) (chosen (length links) k) q ≡ sourceFits links q k
+  unfolding sourceFits
+  source-fits q = go (decLt k n) (ℕ-discrete k n) (ℕ-discrete k (n + 1))
+    where
+      n : ℕ
+      n = length links
+
+      go : Dec (k < n) → Dec (k ≡ n) → Dec (k ≡ n + 1) → exists links k && linkOpen (opened links k) (chosen n k) q ≡ sourceFits links q k
+      go (yes h) d e =
+          rw (exists-low links k (omega arith), chosen-cell n k h, open-at (opened links k) (cell k) q (getD links k nowhere) (omega arith) (link-kept links k (cell k) (omega arith)))
+          (simp (lt-ltb k n h))
+      go (no h) (yes d) e =
+          rw (chosen-null n k d, open-none (opened links k) null q (omega arith), and-false (exists links k))
+          (simp (le-ltb k n (omega arith), le-leb k (n + 1) (omega arith), ne-eqb k (n + 1) (omega arith)))
+      go (no h) (no d) (yes e) =
+          rw (
+            exists-low links k (omega arith),
+            chosen-fresh n k (omega arith),
+            open-at (opened links k) (cell n) q nowhere (omega arith) (link-kept links k (cell n) (omega arith) ∙ List·getD-eq-default links nowhere (omega arith)),
+          )
+          (simp (le-ltb k n (omega arith), le-leb k (n + 1) (omega arith), eq-eqb k (n + 1) e))
+      go (no h) (no d) (no e) =
+          rw (
+            exists-high links k (omega arith),
+            chosen-fresh n k (omega arith),
+            open-at (opened links k) (cell n) q (getD links (k - (n + 2)) nowhere) (omega arith) (link-middle links k (omega arith) most),
+          )
+          (simp (le-ltb k n (omega arith), lt-leb k (n + 1) (omega arith)) (open-same (eqb (getD links (k - (n + 2)) nowhere) nowhere) (eqb (getD links (k - (n + 2)) nowhere) q)))
+        where
+          open-same : (x y : Bool) → not x && (x || y) ≡ not x && y
+          open-same true y = refl
+          open-same false y = refl
