@@ -171,3 +171,107 @@ module _ (links : List ℕ) (k : ℕ) (most : k < length links + (2 + length lin
           open-same : (x y : Bool) → not x && (x || y) ≡ not x && y
           open-same true y = refl
           open-same false y = refl
+
+  module _ (range : (i : ℕ) → i < length links → getD links i nowhere < cell (length links)) where
+    pub itself-fits : exists links k && linkOpen (opened links k) (chosen (length links) k) (chosen (length links) k) ≡ itselfFits links k
+    unfolding sourceFits itselfFits
+    itself-fits = source-fits (chosen (length links) k) ∙ go (decLt k n) (decLt k (n + 2))
+      where
+        n : ℕ
+        n = length links
+
+        go : Dec (k < n) → Dec (k < n + 2) → sourceFits links (chosen n k) k ≡ itselfFits links k
+        go (yes h) e = rw (chosen-cell n k h) (simp (lt-ltb k n h))
+        go (no h) (yes e) = simp (le-ltb k n (omega arith), le-leb k (n + 1) (omega arith))
+        go (no h) (no e) =
+            rw (chosen-fresh n k (omega arith))
+            (simp (
+              le-ltb k n (omega arith),
+              lt-leb k (n + 1) (omega arith),
+              ne-eqb k (n + 1) (omega arith),
+              ne-eqb (getD links (k - (n + 2)) nowhere) (cell n) (omega (arith, range (k - (n + 2)) (omega arith))),
+              and-false,
+            ))
+
+    -- the link of cell j is nowhere, or at l
+    target-free : (j : ℕ) → j < length links → getD links j nowhere ≡ nowhere
+        → exists links k && linkOpen (opened links k) (cell j) (chosen (length links) k) ≡ exists links k
+    target-free j h z = go (decLt k (n + 2)) (ℕ-discrete j (k - (n + 2)))
+      where
+        n : ℕ
+        n = length links
+
+        is-open : linkIn (opened links k) (cell j) ≡ nowhere → exists links k && linkOpen (opened links k) (cell j) (chosen n k) ≡ exists links k
+        is-open e = rw (open-at (opened links k) (cell j) (chosen n k) nowhere (omega arith) e) (and-true (exists links k))
+
+        go : Dec (k < n + 2) → Dec (j ≡ k - (n + 2)) → exists links k && linkOpen (opened links k) (cell j) (chosen n k) ≡ exists links k
+        go (yes l) e = is-open (link-kept links k (cell j) l ∙ z)
+        go (no l) (no e) = is-open (link-other links k (omega arith) most j h e ∙ z)
+        go (no l) (yes e) = rw (exists-high links k (omega arith), ← e, z) refl
+
+    target-at : (j : ℕ) → j < length links → getD links j nowhere ≢ nowhere
+        → exists links k && linkOpen (opened links k) (cell j) (chosen (length links) k) ≡ targetFits (length links) (getD links j nowhere) j k
+    unfolding targetFits
+    target-at j h z = go (decLt k (n + 2)) (ℕ-discrete j (k - (n + 2))) (ℕ-discrete l dangling)
+      where
+        n : ℕ
+        n = length links
+
+        l : ℕ
+        l = getD links j nowhere
+
+        at : l ≢ dangling → At n l
+        at o = record { some = z; safe = o; inside = range j h }
+
+        as-was : linkIn (opened links k) (cell j) ≡ l → linkOpen (opened links k) (cell j) (chosen n k) ≡ eqb l (chosen n k)
+        as-was e = open-at (opened links k) (cell j) (chosen n k) l (omega arith) e ∙ rw (ne-eqb l nowhere z) refl
+
+        go : Dec (k < n + 2) → Dec (j ≡ k - (n + 2)) → Dec (l ≡ dangling)
+            → exists links k && linkOpen (opened links k) (cell j) (chosen n k) ≡ targetFits n l j k
+        go (yes i) e (yes d) =
+            rw (exists-low links k i, as-was (link-kept links k (cell j) i), ne-eqb l (chosen n k) (λ c. chosen-placed n k .1 (sym c ∙ d)))
+            (simp (ne-eqb k (n + 2 + j) (omega arith), eq-eqb l dangling d))
+        go (yes i) e (no d) =
+            rw (exists-low links k i, as-was (link-kept links k (cell j) i), same-place n l k (at d))
+            (simp (ne-eqb k (n + 2 + j) (omega arith), ne-eqb l dangling d))
+        go (no i) (yes e) d =
+            rw (
+              exists-high links k (omega arith),
+              ← e,
+              ne-eqb l nowhere z,
+              chosen-fresh n k (omega arith),
+              open-at (opened links k) (cell j) (cell n) (cell n) (omega arith) (link-source links k (omega arith) most j e),
+              eq-eqb (cell n) (cell n) refl,
+            )
+            (simp (eq-eqb k (n + 2 + j) (omega arith), ne-eqb (cell n) nowhere (omega arith)))
+        go (no i) (no e) (yes d) =
+            rw (
+              as-was (link-other links k (omega arith) most j h e),
+              ne-eqb l (chosen n k) (λ c. chosen-placed n k .1 (sym c ∙ d)),
+              and-false (exists links k),
+            )
+            (simp (ne-eqb k (n + 2 + j) (omega arith), eq-eqb l dangling d))
+        go (no i) (no e) (no d) =
+            rw (
+              as-was (link-other links k (omega arith) most j h e),
+              same-place n l k (at d),
+              ne-eqb k (choiceOf n l) (omega (arith, choice-of-most n l (range j h))),
+              and-false (exists links k),
+            )
+            (simp (ne-eqb k (n + 2 + j) (omega arith), ne-eqb l dangling d))
+
+    pub target-fits : (q : ℕ) → q < cell (length links)
+        → exists links k && linkOpen (opened links k) q (chosen (length links) k) ≡ fitsIn links (targetOf links q) k
+    unfolding targetOf
+    target-fits zero b = rw (open-none (opened links k) 0 (chosen (length links) k) (omega arith)) (and-false (exists links k))
+    target-fits (suc zero) b = rw (open-none (opened links k) 1 (chosen (length links) k) (omega arith)) (and-false (exists links k))
+    target-fits (suc (suc zero)) b = rw (open-none (opened links k) 2 (chosen (length links) k) (omega arith)) (and-false (exists links k))
+    target-fits (suc (suc (suc j))) b = go (ℕ-discrete (getD links j nowhere) nowhere)
+      where
+        j-is : cell j - 3 ≡ j
+        j-is = omega arith
+
+        go : Dec (getD links j nowhere ≡ nowhere)
+            → exists links k && linkOpen (opened links k) (cell j) (chosen (length links) k) ≡ fitsIn links (targetOf links (cell j)) k
+        go (yes z) = simp (lt-leb (cell j) dangling (omega arith), eq-eqb (getD links j nowhere) nowhere z) (target-free j (omega arith) z)
+        go (no z) = simp (lt-leb (cell j) dangling (omega arith), ne-eqb (getD links j nowhere) nowhere z, j-is) (target-at j (omega arith) z)
