@@ -20,13 +20,13 @@ use Rattle.choices.specs.Held.{At}
 use Rattle.choices.specs.Retained.{linkOpen, retained}
 use Rattle.choices.proofs.ByNumber.{chosen-placed, chosen-other, choice-of-most}
 use Rattle.choices.proofs.Opening.{chosen-cell, chosen-null, chosen-fresh}
-use Rattle.choosing.specs.Wanted.{sourceFits, itselfFits, targetFits, fitsIn, targetOf, beside}
+use Rattle.choosing.specs.Wanted.{sourceFits, itselfFits, targetFits, fitsIn, targetOf, beside, wantedOne}
 
 and-false : (x : Bool) → x && false ≡ false
 and-false true = refl
 and-false false = refl
 
-and-true : (x : Bool) → x && true ≡ x
+pub and-true : (x : Bool) → x && true ≡ x
 and-true true = refl
 and-true false = refl
 
@@ -275,3 +275,44 @@ module _ (links : List ℕ) (k : ℕ) (most : k < length links + (2 + length lin
             → exists links k && linkOpen (opened links k) (cell j) (chosen (length links) k) ≡ fitsIn links (targetOf links (cell j)) k
         go (yes z) = simp (lt-leb (cell j) dangling (omega arith), eq-eqb (getD links j nowhere) nowhere z) (target-free j (omega arith) z)
         go (no z) = simp (lt-leb (cell j) dangling (omega arith), ne-eqb (getD links j nowhere) nowhere z, j-is) (target-at j (omega arith) z)
+
+    -- ---- by kind
+
+    module _ (kind q : ℕ) (kind-least : 1 ≤ kind) (kind-most : kind ≤ 5) (at : At (length links) q) where
+      -- the first variable is at q
+      pub beside-first : exists links k && retained kind q (chosen (length links) k) (opened links k) ≡ fitsIn links (beside 4 kind links (placeOf q)) k
+      unfolding retained beside
+      beside-first =
+          by-kind (λ m. m ≤ 5 → exists links k && retained m q (chosen (length links) k) (opened links k) ≡ fitsIn links (beside 4 m links (placeOf q)) k)
+          (λ _. same) (λ _. rw (same-place (length links) q k at) (and-swap (exists links k) _)) (λ _. same) (λ _. source-fits q) (λ _. target-fits q (at .inside))
+          (λ h. absurd (omega arith)) (λ h. absurd (omega arith)) kind kind-least (omega arith) kind-most
+        where
+          same : exists links k && eqb q (chosen (length links) k) ≡ eqb k (choiceOf (length links) q)
+          same = rw (same-place (length links) q k at) (at-exists links q k at)
+
+      -- the second one is
+      pub beside-second : exists links k && retained kind (chosen (length links) k) q (opened links k) ≡ fitsIn links (beside 5 kind links (placeOf q)) k
+      unfolding retained beside
+      beside-second =
+          by-kind (λ m. m ≤ 5 → exists links k && retained m (chosen (length links) k) q (opened links k) ≡ fitsIn links (beside 5 m links (placeOf q)) k)
+          (λ _. same) (λ _. rw (same-place-too (length links) q k at) (and-swap (exists links k) _)) (λ _. same) (λ _. target-fits q (at .inside)) (λ _. source-fits q)
+          (λ h. absurd (omega arith)) (λ h. absurd (omega arith)) kind kind-least (omega arith) kind-most
+        where
+          same : exists links k && eqb (chosen (length links) k) q ≡ eqb k (choiceOf (length links) q)
+          same = rw (same-place-too (length links) q k at) (at-exists links q k at)
+
+    -- both are one
+    pub one-fits : (kind : ℕ) → 1 ≤ kind → kind ≤ 5 → kind ≢ 4
+        → exists links k && retained kind (chosen (length links) k) (chosen (length links) k) (opened links k) ≡ fitsIn links (wantedOne kind) k
+    unfolding retained wantedOne
+    one-fits kind l h o =
+        by-kind
+        (λ m. m ≤ 5 → m ≢ 4 → exists links k && retained m (chosen (length links) k) (chosen (length links) k) (opened links k) ≡ fitsIn links (wantedOne m) k)
+        (λ _ _. same) (λ _ _. simp (equal, and-false)) (λ _ _. same) (λ _ o. absurd (o refl)) (λ _ _. itself-fits)
+        (λ h _. absurd (omega arith)) (λ h _. absurd (omega arith)) kind l (omega arith) h o
+      where
+        equal : eqb (chosen (length links) k) (chosen (length links) k) ≡ true
+        equal = eq-eqb (chosen (length links) k) (chosen (length links) k) refl
+
+        same : exists links k && eqb (chosen (length links) k) (chosen (length links) k) ≡ exists links k
+        same = simp (equal, and-true)
