@@ -1,2 +1,3 @@
 pub mod Retaining
 pub mod Wants
+pub mod ByNumber
