@@ -1,3 +1,4 @@
 pub mod Retaining
 pub mod Wants
 pub mod ByNumber
+pub mod Steps
