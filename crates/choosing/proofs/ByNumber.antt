@@ -17,17 +17,27 @@ use Rattle.shape.specs.Placing.{place, placedFrom}
 use Rattle.shape.specs.Shape.{Shape, varAt, size}
 use Rattle.shape.proofs.PlacingByNumber.{choice, choices-by-number}
 use Rattle.backward.specs.Predecessors.{retain}
-use Rattle.choices.specs.Choice.{chosen, exists, opened, made, put}
+use Rattle.choices.specs.Choice.{chosen, exists, opened, made}
 use Rattle.choices.specs.Held.{At}
 use Rattle.choices.specs.Retained.{retained, tested, changed, seconds, firsts}
 use Rattle.choices.proofs.ByNumber.{
-  choice-made, made-same, made-other, made-links, not-null, chosen-placed, place-keeps, place-placed, place-dangling, retain-none, retain-keep,
-  concatMap-keep, tested-at,
+  choice-made,
+  made-same,
+  made-other,
+  made-links,
+  not-null,
+  chosen-placed,
+  place-keeps,
+  place-placed,
+  place-dangling,
+  retain-none,
+  retain-keep,
+  concatMap-keep,
+  tested-at,
 }
 use Rattle.choices.proofs.Lists.{concatMap-none, concatMap-same, concatMap-concatMap, concatMap-stretch}
 use Rattle.choices.proofs.Putting.{put-nothing, put-made}
-use Rattle.choosing.specs.Chosen.{wantedOfA, wantedOfB, secondOf, firstOf}
-use Rattle.choosing.specs.Wanted.{fitsIn, wantedFirst, wantedSecond}
+use Rattle.choosing.specs.Chosen.{secondOf, firstOf}
 use Rattle.choosing.proofs.Wants.{second-nowhere, second-once, second-later, first-a-dangling, first-b-dangling, first-nowhere, first-once, first-later}
 
 -- only choice 0 gives something
@@ -55,6 +65,14 @@ module _ (variables kind a b : ℕ) (s : Shape) (kind-least : 1 ≤ kind) (kind-
     (links-range : (i : ℕ) → i < size s → getD (s .links) i nowhere < cell (size s)) where
   -- ---- b
 
+  second-first : varAt s b ≢ nowhere → secondOf variables kind a b s 0 ≡ keep (tested kind a b s) (changed variables kind a b s)
+  unfolding secondOf tested
+  second-first z = rw (put-nothing b s 0 z, second-once kind (varAt s a) (varAt s b) (s .links) 0 z refl) refl
+
+  second-none : varAt s b ≢ nowhere → (k : ℕ) → k ≢ 0 → secondOf variables kind a b s k ≡ []
+  unfolding secondOf
+  second-none z k o = rw (second-later kind (varAt s a) (varAt s b) (s .links) k z o) refl
+
   module _ (a-at : At (size s) (varAt s a)) (h : b ≤ length (s .vars)) where
     second-made : varAt s b ≡ nowhere → (k : ℕ) → k < size s + (2 + size s)
         → secondOf variables kind a b s k ≡ retain (tested kind a b) (changed variables kind a b) (choice b s k)
@@ -73,14 +91,6 @@ module _ (variables kind a b : ℕ) (s : Shape) (kind-least : 1 ≤ kind) (kind-
         same =
             tested-at kind a b (made b s k) (varAt s a) (chosen (size s) k) (opened (s .links) k) (made-other b s k a (λ z. a-at .some (ap (varAt s) z ∙ e)))
             (made-same b s k (not-null s b e) h) (made-links b s k)
-
-    second-first : varAt s b ≢ nowhere → secondOf variables kind a b s 0 ≡ keep (tested kind a b s) (changed variables kind a b s)
-    unfolding secondOf tested
-    second-first z = rw (put-nothing b s 0 z, second-once kind (varAt s a) (varAt s b) (s .links) 0 z refl) refl
-
-    second-none : varAt s b ≢ nowhere → (k : ℕ) → k ≢ 0 → secondOf variables kind a b s k ≡ []
-    unfolding secondOf
-    second-none z k o = rw (second-later kind (varAt s a) (varAt s b) (s .links) k z o) refl
 
     pub seconds-by-number : varAt s b ≢ dangling → concatMap (secondOf variables kind a b s) (range 0 (size s + (2 + size s))) ≡ seconds variables kind a b s
     seconds-by-number b-safe = go (ℕ-discrete (varAt s b) nowhere)
@@ -151,7 +161,7 @@ module _ (variables kind a b : ℕ) (s : Shape) (kind-least : 1 ≤ kind) (kind-
             concatMap-keep (seconds variables kind a b) (exists (s .links) k) (made a s k),
             put-made a s k e,
             first-nowhere kind a b (varAt s a) (varAt s b) (s .links) k nx ny e kind-least kind-most apart
-              (λ z. record { some = z; safe = ny; inside = inside }) most links-range,
+                (λ z. record { some = z; safe = ny; inside = inside }) most links-range,
           )
           (go (exists (s .links) k) test (first-fails e k))
         where
@@ -194,8 +204,8 @@ module _ (variables kind a b : ℕ) (s : Shape) (kind-least : 1 ≤ kind) (kind-
     unfolding firstOf
     b-dangling e =
         let none =
-            concatMap-none (place b) (place a s)
-            (λ t m. place-dangling b t (place-keeps a s t b m (λ z. let q : dangling ≡ nowhere = sym e ∙ z in omega arith) ∙ e)) in
+        concatMap-none (place b) (place a s)
+        (λ t m. place-dangling b t (place-keeps a s t b m (λ z. let q : dangling ≡ nowhere = sym e ∙ z in omega arith) ∙ e)) in
         concatMap-none (firstOf variables kind a b s) (range 0 (size s + (2 + size s)))
         (λ k _. rw (first-b-dangling kind a b (varAt s a) (varAt s b) (s .links) k e) refl)
         ∙ sym (rw none refl)

@@ -30,10 +30,6 @@ pub and-true : (x : Bool) → x && true ≡ x
 and-true true = refl
 and-true false = refl
 
-or-false : (x : Bool) → x || false ≡ x
-or-false true = refl
-or-false false = refl
-
 -- ---- the link of the cell at p after choice k
 
 open-at : (links : List ℕ) (p q l : ℕ) → 2 < p → linkIn links p ≡ l → linkOpen links p q ≡ eqb l nowhere || eqb l q
@@ -108,7 +104,7 @@ chosen-there n q at = go (ℕ-discrete q null)
         simp (ne-eqb q null e) (chosen-cell n (q - 3) (omega (arith, at .some, at .safe, at .inside)) ∙ c)
 
 module _ (n q k : ℕ) (at : At n q) where
-  pub same-place : eqb q (chosen n k) ≡ eqb k (choiceOf n q)
+  same-place : eqb q (chosen n k) ≡ eqb k (choiceOf n q)
   same-place = go (ℕ-discrete k (choiceOf n q))
     where
       go : Dec (k ≡ choiceOf n q) → eqb q (chosen n k) ≡ eqb k (choiceOf n q)
@@ -116,7 +112,7 @@ module _ (n q k : ℕ) (at : At n q) where
       go (no e) =
           ne-eqb q (chosen n k) (λ z. chosen-other n k q (at .some) (at .safe) (at .inside) e (sym z)) ∙ sym (ne-eqb k (choiceOf n q) e)
 
-  pub same-place-too : eqb (chosen n k) q ≡ eqb k (choiceOf n q)
+  same-place-too : eqb (chosen n k) q ≡ eqb k (choiceOf n q)
   same-place-too = go (ℕ-discrete k (choiceOf n q))
     where
       go : Dec (k ≡ choiceOf n q) → eqb (chosen n k) q ≡ eqb k (choiceOf n q)
@@ -129,7 +125,7 @@ and-swap false y = sym (and-false y)
 
 module _ (links : List ℕ) (q k : ℕ) (at : At (length links) q) where
   -- a choice at a place of the shape is there
-  pub at-exists : exists links k && eqb k (choiceOf (length links) q) ≡ eqb k (choiceOf (length links) q)
+  at-exists : exists links k && eqb k (choiceOf (length links) q) ≡ eqb k (choiceOf (length links) q)
   at-exists = go (ℕ-discrete k (choiceOf (length links) q))
     where
       go : Dec (k ≡ choiceOf (length links) q) → exists links k && eqb k (choiceOf (length links) q) ≡ eqb k (choiceOf (length links) q)
@@ -139,7 +135,7 @@ module _ (links : List ℕ) (q k : ℕ) (at : At (length links) q) where
 -- ---- a link from the chosen cell, and a link to it
 
 module _ (links : List ℕ) (k : ℕ) (most : k < length links + (2 + length links)) where
-  pub source-fits : (q : ℕ) → exists links k && linkOpen (opened links k) (chosen (length links) k) q ≡ sourceFits links q k
+  source-fits : (q : ℕ) → exists links k && linkOpen (opened links k) (chosen (length links) k) q ≡ sourceFits links q k
   unfolding sourceFits
   source-fits q = go (decLt k n) (ℕ-discrete k n) (ℕ-discrete k (n + 1))
     where
@@ -173,7 +169,7 @@ module _ (links : List ℕ) (k : ℕ) (most : k < length links + (2 + length lin
           open-same false y = refl
 
   module _ (range : (i : ℕ) → i < length links → getD links i nowhere < cell (length links)) where
-    pub itself-fits : exists links k && linkOpen (opened links k) (chosen (length links) k) (chosen (length links) k) ≡ itselfFits links k
+    itself-fits : exists links k && linkOpen (opened links k) (chosen (length links) k) (chosen (length links) k) ≡ itselfFits links k
     unfolding sourceFits itselfFits
     itself-fits = source-fits (chosen (length links) k) ∙ go (decLt k n) (decLt k (n + 2))
       where
@@ -260,7 +256,7 @@ module _ (links : List ℕ) (k : ℕ) (most : k < length links + (2 + length lin
             )
             (simp (ne-eqb k (n + 2 + j) (omega arith), ne-eqb l dangling d))
 
-    pub target-fits : (q : ℕ) → q < cell (length links)
+    target-fits : (q : ℕ) → q < cell (length links)
         → exists links k && linkOpen (opened links k) q (chosen (length links) k) ≡ fitsIn links (targetOf links q) k
     unfolding targetOf
     target-fits zero b = rw (open-none (opened links k) 0 (chosen (length links) k) (omega arith)) (and-false (exists links k))

@@ -2,7 +2,7 @@
 use mathlib.Core.Bool.{Bool, true, false, _&&_, _||_, cond}
 use mathlib.Core.List.{List}
 use mathlib.Core.Logic.{_≢_}
-use mathlib.Core.Path.{_≡_, refl, sym, ap, _∙_}
+use mathlib.Core.Path.{_≡_, refl, sym}
 use Prim.Native.Nat.{ℕ, _+_, _≤_, _<_}
 use native.Mathlib.Decide.{ℕ-discrete}
 use borrow.Author.Tests.{eq-eqb, ne-eqb}
@@ -13,7 +13,7 @@ use Rattle.place.specs.Place.{placeOf}
 use Rattle.choices.specs.Choice.{chosen, exists, opened}
 use Rattle.choices.specs.Held.{At}
 use Rattle.choices.specs.Retained.{retained}
-use Rattle.choosing.specs.Wanted.{fitsIn, beside, onceIf, wantedOne, wantedNowhere, wantedFirst, wantedSecond}
+use Rattle.choosing.specs.Wanted.{fitsIn, onceIf, wantedNowhere, wantedFirst, wantedSecond}
 use Rattle.choosing.specs.declared.Wanted.the-variants.{Nothing, Once}
 use Rattle.choosing.proofs.Retaining.{and-true, beside-first, beside-second, one-fits}
 
