@@ -122,19 +122,19 @@ retain-none test change l h = concatMap-none (λ s. keep (test s) (change s)) l 
 
 -- ---- the choices of b, and of a, by their numbers
 
-retain-keep : (test : Shape → Bool) (change : Shape → Shape) (x : Bool) (t : Shape) → retain test change (keep x t) ≡ keep (x && test t) (change t)
+pub retain-keep : (test : Shape → Bool) (change : Shape → Shape) (x : Bool) (t : Shape) → retain test change (keep x t) ≡ keep (x && test t) (change t)
 retain-keep test change true t = append-nil (keep (test t) (change t))
 retain-keep test change false t = refl
 
-concatMap-keep : (f : Shape → List Shape) (x : Bool) (t : Shape) → concatMap f (keep x t) ≡ cond x (f t) []
+pub concatMap-keep : (f : Shape → List Shape) (x : Bool) (t : Shape) → concatMap f (keep x t) ≡ cond x (f t) []
 concatMap-keep f true t = append-nil (f t)
 concatMap-keep f false t = refl
 
-made-links : (v : ℕ) (s : Shape) (k : ℕ) → made v s k .links ≡ opened (s .links) k
+pub made-links : (v : ℕ) (s : Shape) (k : ℕ) → made v s k .links ≡ opened (s .links) k
 unfolding made
 made-links v s k = refl
 
-tested-at : (kind a b : ℕ) (t : Shape) (x y : ℕ) (links : List ℕ) → varAt t a ≡ x → varAt t b ≡ y → t .links ≡ links
+pub tested-at : (kind a b : ℕ) (t : Shape) (x y : ℕ) (links : List ℕ) → varAt t a ≡ x → varAt t b ≡ y → t .links ≡ links
     → tested kind a b t ≡ retained kind x y links
 unfolding tested
 tested-at kind a b t x y links ex ey el = rw (← ex, ← ey, ← el) refl
