@@ -1,5 +1,5 @@
 pub mod Tests
-pub mod Choices
+pub mod Ranges
 pub mod Retaining
 pub mod Wants
 pub mod ByNumber

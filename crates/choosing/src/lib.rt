@@ -185,13 +185,16 @@ fn target_choices(n: usize, p: Place, i: u8) -> Choices
         return one_by_one(within, within + 1);
     }
     let at = choice_of(n, p);
-    let mut step = 0;
-    if at < within {
-        step = within - at;
+    if within <= at {
+        return Choices {
+            from: at,
+            step: 0,
+            to: within + 1,
+        };
     }
     Choices {
         from: at,
-        step,
+        step: within - at,
         to: within + 1,
     }
 }
