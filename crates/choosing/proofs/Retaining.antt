@@ -22,7 +22,7 @@ use Rattle.choices.proofs.ByNumber.{chosen-placed, chosen-other, choice-of-most
 use Rattle.choices.proofs.Opening.{chosen-cell, chosen-null, chosen-fresh}
 use Rattle.choosing.specs.Wanted.{sourceFits, itselfFits, targetFits, fitsIn, targetOf, beside, wantedOne}
 
-and-false : (x : Bool) → x && false ≡ false
+pub and-false : (x : Bool) → x && false ≡ false
 and-false true = refl
 and-false false = refl
 
