@@ -71,14 +71,25 @@ module _ (n : ℕ) (wanted : Wanted) where
 
 -- ---- what is left out is not wanted
 
--- of the numbers below `past`, those outside the choices fail the test
-pub record Covers (c : Choices) (test : ℕ → Bool) (past : ℕ) : Type 0 where
+-- of the numbers below `past`, those outside the choices are such
+pub record Covers (c : Choices) (Out : ℕ → Type 0) (past : ℕ) : Type 0 where
   pub forward : 1 ≤ c .step
   pub most : c .to ≤ past
-  pub before : (j : ℕ) → j < c .from → test j ≡ false
-  pub between : c .step ≢ 1 → (j : ℕ) → c .from < j → suc j < c .to → test j ≡ false
+  pub before : (j : ℕ) → j < c .from → Out j
+  pub between : c .step ≢ 1 → (j : ℕ) → c .from < j → suc j < c .to → Out j
   pub two : c .step ≢ 1 → c .from + c .step + 1 ≡ c .to
-  pub after : (j : ℕ) → c .to ≤ j → j < past → test j ≡ false
+  pub after : (j : ℕ) → c .to ≤ j → j < past → Out j
+
+pub covers-map : {c : Choices} {Out Off : ℕ → Type 0} {past : ℕ} → ((j : ℕ) → Out j → Off j) → Covers c Out past → Covers c Off past
+covers-map f h =
+    record {
+      forward = h .forward;
+      most = h .most;
+      before = λ j b. f j (h .before j b);
+      between = λ s j b m. f j (h .between s j b m);
+      two = h .two;
+      after = λ j b m. f j (h .after j b m);
+    }
 
 -- the places and cells that are named are those of a shape of n cells
 abbrev pub Sound : ℕ → Wanted → Type 0
@@ -96,14 +107,14 @@ unfolding targetFits
 target-else n p i j w (inl d) = simp (ne-eqb j (n + 2 + i) w, eq-eqb p dangling d)
 target-else n p i j w (inr c) = simp (ne-eqb j (n + 2 + i) w, ne-eqb j (choiceOf n p) c, and-false)
 
-covers-target : (n p i : ℕ) → p < cell n → i < n → Covers (targetChoices n p i) (targetFits n p i) (n + (2 + n))
+covers-target : (n p i : ℕ) → p < cell n → i < n → Covers (targetChoices n p i) (λ j. targetFits n p i j ≡ false) (n + (2 + n))
 unfolding targetChoices
 covers-target n p i inside cell-is = go (ℕ-discrete p dangling)
   where
     low : choiceOf n p ≤ n
     low = choice-of-most n p inside
 
-    go : Dec (p ≡ dangling) → Covers (targetChoices n p i) (targetFits n p i) (n + (2 + n))
+    go : Dec (p ≡ dangling) → Covers (targetChoices n p i) (λ j. targetFits n p i j ≡ false) (n + (2 + n))
     go (yes d) =
         rw (eq-eqb p dangling d)
         (record {
@@ -125,8 +136,8 @@ covers-target n p i inside cell-is = go (ℕ-discrete p dangling)
           after = λ j h b. target-else n p i j (omega arith) (inr (omega (arith, low)));
         })
 
-covers-all : (n : ℕ) (test : ℕ → Bool) → Covers (oneByOne 0 (n + (2 + n))) test (n + (2 + n))
-covers-all n test =
+covers-all : (n : ℕ) (Out : ℕ → Type 0) → Covers (oneByOne 0 (n + (2 + n))) Out (n + (2 + n))
+covers-all n Out =
     record {
       forward = omega arith;
       most = omega arith;
@@ -136,7 +147,7 @@ covers-all n test =
       after = λ j h b. absurd (omega arith);
     }
 
-covers-one : (n k : ℕ) → k ≤ n → Covers (oneByOne k (suc k)) (λ j. eqb j k) (n + (2 + n))
+covers-one : (n k : ℕ) → k ≤ n → Covers (oneByOne k (suc k)) (λ j. eqb j k ≡ false) (n + (2 + n))
 covers-one n k h =
     record {
       forward = omega arith;
@@ -148,7 +159,7 @@ covers-one n k h =
     }
 
 pub covers : (links : List ℕ) (wanted : Wanted) → Sound (length links) wanted
-    → Covers (choicesOf (length links) wanted) (fitsIn links wanted) (length links + (2 + length links))
+    → Covers (choicesOf (length links) wanted) (λ j. fitsIn links wanted j ≡ false) (length links + (2 + length links))
 covers links Nothing s =
     record {
       forward = omega arith;
@@ -159,11 +170,11 @@ covers links Nothing s =
       after = λ j h b. refl;
     }
 covers links Once s = covers-one (length links) 0 (omega arith)
-covers links Any s = covers-all (length links) (fitsIn links Any)
+covers links Any s = covers-all (length links) (λ j. fitsIn links Any j ≡ false)
 covers links (At p) s = covers-one (length links) (choiceOf (length links) (p .code)) (choice-of-most (length links) (p .code) s)
-covers links (Off p) s = covers-all (length links) (fitsIn links (Off p))
-covers links (Source p) s = covers-all (length links) (fitsIn links (Source p))
-covers links Itself s = covers-all (length links) (fitsIn links Itself)
+covers links (Off p) s = covers-all (length links) (λ j. fitsIn links (Off p) j ≡ false)
+covers links (Source p) s = covers-all (length links) (λ j. fitsIn links (Source p) j ≡ false)
+covers links Itself s = covers-all (length links) (λ j. fitsIn links Itself j ≡ false)
 covers links (Target p i) s = covers-target (length links) (p .code) i (s .0) (s .1)
 
 -- ---- an operation speaks of the shape's own places

@@ -2,7 +2,7 @@
 use mathlib.Core.Bool.{true, false, _&&_}
 use mathlib.Core.List.{List, [], _∷_}
 use mathlib.Core.Logic.{_≢_}
-use mathlib.Core.Path.{_≡_, refl, sym, ap, _∙_}
+use mathlib.Core.Path.{_≡_, refl, sym, ap, subst, _∙_}
 use Prim.Native.Nat.{ℕ, suc, _+_, _≤_, _<_}
 use native.Mathlib.Decide.{ℕ-discrete}
 use native.Mathlib.Omega.{arith}
@@ -23,9 +23,10 @@ use Rattle.choices.proofs.Arrays.{size-in, vars-in, var-in}
 use Rattle.choices.proofs.ByNumber.{chosen-placed}
 use Rattle.choices.proofs.Putting.{put-keeps, put-other, put-same}
 use Rattle.choices.proofs.Undoing.{working-room, retained-cell}
-use Rattle.choosing.specs.Chosen.{secondOf, firstOf}
-use Rattle.choosing.specs.Wanted.{fitsIn, wantedFirst, wantedSecond}
+use Rattle.choosing.specs.Chosen.{wantedA, wantedB, secondOf, firstOf}
+use Rattle.choosing.specs.Wanted.{fitsIn, choicesOf, wantedSecond}
 use Rattle.choosing.proofs.ByNumber.{seconds-by-number, firsts-by-number}
+use Rattle.choosing.proofs.Ranges.{Covers, covers-map, covers, sound-second, sound-first}
 use Rattle.choosing.proofs.Wants.{second-nowhere, second-once, second-later, first-a-dangling, first-b-dangling}
 
 clash : {A : Type 0} → false ≡ true → A
@@ -96,7 +97,7 @@ module _ {variables kind a b n : ℕ} {vars links : List ℕ} where
     second-held m vars′ links′ vars″ links″ q u = let h = placed m vars′ links′ q in rw (h .same) at (u .held m (h .hold))
 
     pub second-undoable : (m : ℕ) (vars′ links′ : List ℕ) → Puts n vars links b k m vars′ links′ → k < n + (2 + n)
-        → fitsIn (take n links) (wantedSecond kind (take n links) (placeOf (getD vars a nowhere)) (placeOf (getD vars b nowhere))) k ≡ true
+        → fitsIn (take n links) (wantedB kind a b n vars links) k ≡ true
         → Undoable variables kind a b vars′
     second-undoable m vars′ links′ q past e =
         record { operands = p .work .operands; load = λ k. (load k (ℕ-discrete y nowhere), most b); store = λ k. (store k, most a) }
@@ -133,16 +134,26 @@ module _ {variables kind a b n : ℕ} {vars links : List ℕ} where
 
     -- ---- what is taken
 
-    pub second-none : fitsIn (take n links) (wantedSecond kind (take n links) (placeOf (getD vars a nowhere)) (placeOf (getD vars b nowhere))) k ≡ false
+    pub second-none : fitsIn (take n links) (wantedB kind a b n vars links) k ≡ false
         → secondOf variables kind a b (shapeIn (working variables b) n vars links) k ≡ []
     unfolding secondOf
     second-none e = rw (at-operand 13 (p .work) a, at-operand 13 (p .work) b, e) refl
 
-    pub second-one : fitsIn (take n links) (wantedSecond kind (take n links) (placeOf (getD vars a nowhere)) (placeOf (getD vars b nowhere))) k ≡ true
+    pub second-one : fitsIn (take n links) (wantedB kind a b n vars links) k ≡ true
         → secondOf variables kind a b (shapeIn (working variables b) n vars links) k
         ≡ changed variables kind a b (put b (shapeIn (working variables b) n vars links) k) ∷ []
     unfolding secondOf
     second-one e = rw (at-operand 13 (p .work) a, at-operand 13 (p .work) b, e) refl
+
+  -- the choices of b to try leave none of them out
+  pub second-covers : (p : Placed variables kind a b n vars links)
+      → Covers (choicesOf n (wantedB kind a b n vars links)) (λ j. secondOf variables kind a b (shapeIn (working variables b) n vars links) j ≡ []) (n + (2 + n))
+  second-covers p =
+      let x = getD vars a nowhere in
+      let w = wantedB kind a b n vars links in
+      let sound = sound-second kind (take n links) x (getD vars b nowhere) (links-range 13 (p .work)) (a-in p .inside) in
+      covers-map (λ j. second-none p j)
+      (subst (λ (m : ℕ). Covers (choicesOf m w) (λ j. fitsIn (take n links) w j ≡ false) (m + (2 + m))) (size-is 13 (p .work)) (covers (take n links) w sound))
 
   -- ---- a
 
@@ -157,12 +168,12 @@ module _ {variables kind a b n : ℕ} {vars links : List ℕ} where
         (rw (at-operand 12 p b, size-is 12 p) (p .hold .vars-range b))
 
     module _ (k : ℕ) where
-      pub first-none : fitsIn (take n links) (wantedFirst kind (eqb a b) (take n links) (placeOf (getD vars a nowhere)) (placeOf (getD vars b nowhere))) k ≡ false
+      pub first-none : fitsIn (take n links) (wantedA kind a b n vars links) k ≡ false
           → firstOf variables kind a b (shapeIn (working variables b) n vars links) k ≡ []
       unfolding firstOf
       first-none e = rw (at-operand 12 p a, at-operand 12 p b, e) refl
 
-      pub first-some : fitsIn (take n links) (wantedFirst kind (eqb a b) (take n links) (placeOf (getD vars a nowhere)) (placeOf (getD vars b nowhere))) k ≡ true
+      pub first-some : fitsIn (take n links) (wantedA kind a b n vars links) k ≡ true
           → firstOf variables kind a b (shapeIn (working variables b) n vars links) k
           ≡ seconds variables kind a b (put a (shapeIn (working variables b) n vars links) k)
       unfolding firstOf
@@ -177,7 +188,7 @@ module _ {variables kind a b n : ℕ} {vars links : List ℕ} where
             ≡ seconds variables kind a b (shapeIn (working variables b) m vars′ links′)
         first-same = ap (seconds variables kind a b) (sym (put-held .same))
 
-        pub first-placed : fitsIn (take n links) (wantedFirst kind (eqb a b) (take n links) (placeOf (getD vars a nowhere)) (placeOf (getD vars b nowhere))) k ≡ true
+        pub first-placed : fitsIn (take n links) (wantedA kind a b n vars links) k ≡ true
             → Placed variables kind a b m vars′ links′
         first-placed wanted =
             record {
@@ -220,3 +231,13 @@ module _ {variables kind a b n : ℕ} {vars links : List ℕ} where
                 chosen-placed (size s) k .1 (sym (chosen-at (ap (λ (v : ℕ). getD vars v nowhere) e ∙ z)) ∙ ap (λ (v : ℕ). getD vars′ v nowhere) e ∙ i)
             b-place (yes z) (no e) i =
                 let q : nowhere ≡ dangling = sym (now b ∙ put-other a s k b (λ j. e (sym j)) ∙ was b ∙ z) ∙ i in omega arith
+
+  -- the choices of a to try leave none of them out
+  pub first-covers : (p : Working 12 variables kind a b n vars links)
+      → Covers (choicesOf n (wantedA kind a b n vars links)) (λ j. firstOf variables kind a b (shapeIn (working variables b) n vars links) j ≡ []) (n + (2 + n))
+  first-covers p =
+      let w = wantedA kind a b n vars links in
+      let inside : getD vars b nowhere < cell (length (take n links)) = rw (size-is 12 p) (p .hold .vars-range b) in
+      let sound = sound-first kind (take n links) (getD vars a nowhere) (getD vars b nowhere) (links-range 12 p) (eqb a b) inside in
+      covers-map (λ j. first-none p j)
+      (subst (λ (m : ℕ). Covers (choicesOf m w) (λ j. fitsIn (take n links) w j ≡ false) (m + (2 + m))) (size-is 12 p) (covers (take n links) w sound))

@@ -3,13 +3,22 @@ use mathlib.Core.Bool.{cond}
 use mathlib.Core.List.{List, []}
 use Prim.Native.Nat.{ℕ}
 use lib.Dec.{eqb}
+use lib.ListN.{getD, take}
 use Rattle.lists.specs.List.{keep}
+use Rattle.heap.specs.Place.{nowhere}
 use Rattle.place.specs.Place.{placeOf}
 use Rattle.shape.specs.Shape.{Shape, varAt}
 use Rattle.choices.specs.Choice.{put}
 use Rattle.choices.specs.Retained.{changed, seconds}
 use Rattle.choosing.specs.Wanted.{fitsIn, wantedFirst, wantedSecond}
 use Rattle.choosing.specs.declared.Wanted.{Wanted}
+
+-- what is wanted of a, and then of b, in a shape of n cells that two arrays hold (layout/specs/Arrays.antt)
+abbrev pub wantedA : ℕ → ℕ → ℕ → ℕ → List ℕ → List ℕ → Wanted
+wantedA kind a b n vars links = wantedFirst kind (eqb a b) (take n links) (placeOf (getD vars a nowhere)) (placeOf (getD vars b nowhere))
+
+abbrev pub wantedB : ℕ → ℕ → ℕ → ℕ → List ℕ → List ℕ → Wanted
+wantedB kind a b n vars links = wantedSecond kind (take n links) (placeOf (getD vars a nowhere)) (placeOf (getD vars b nowhere))
 
 -- what is wanted of b in the shape s, where a is placed
 abbrev pub wantedOfB : ℕ → ℕ → ℕ → Shape → Wanted
