@@ -1,12 +1,17 @@
 -- Taking the covers of what choices give, one choice after the other.
-use mathlib.Core.List.{List, _++_, map, map-append}
-use mathlib.Core.Path.{_≡_}
-use Prim.Native.Nat.{ℕ, _+_, _-_, _≤_, _<_}
+use mathlib.Core.List.{List, [], _++_, map, map-append}
+use mathlib.Core.Logic.{_⊎_, inl, inr}
+use mathlib.Core.Path.{_≡_, refl, _∙_}
+use Prim.Native.Nat.{ℕ, zero, suc, _+_, _-_, _≤_, _<_}
+use native.Mathlib.Decide.{ℕ-discrete, decLt}
+use native.Mathlib.Omega.{arith}
 use Rattle.lists.specs.List.{concatMap}
 use Rattle.lists.specs.Range.{range}
 use Rattle.shape.specs.Shape.{Shape}
 use Rattle.run.specs.Run.{Located}
 use Rattle.verdict.specs.declared.Refusal.{Refusal}
+use Rattle.choosing.specs.declared.Choices.{Choices}
+use Rattle.choosing.proofs.Ranges.{Covers}
 use Rattle.checker.specs.Taking.{takeAll, goingOf, Within, located, TakesAll, Takes}
 use Rattle.checker.specs.declared.going.Going.{Going}
 use Rattle.checker.specs.declared.going.Going.the-variants.{On, Refused}
@@ -14,35 +19,95 @@ use Rattle.checker.specs.declared.going.Taken.{Taken}
 use Rattle.checker.proofs.Lists.{range-next, range-end}
 use Rattle.checker.proofs.Taking.{stays, Progress, begin, advance, halt, finish}
 
--- what the choices from k to before `to` give
+-- what the choices from k to before `past` give
 abbrev rest : ℕ → (ℕ → List Shape) → ℕ → ℕ → List Located
-rest state f k to = map (located state) (concatMap f (range k (to - k)))
+rest state f past k = map (located state) (concatMap f (range k (past - k)))
 
--- covers are taken for the choices before k
-pub record Trying (cert : List ℕ) (ms : List Located) (state : ℕ) (f : ℕ → List Shape) (from to : ℕ) (t₀ : Taken) (k : ℕ) (t : Taken) : Type 0 where
-  pub progress : Progress cert ms (rest state f from to) t₀ (rest state f k to) t
+rest-on : (state : ℕ) (f : ℕ → List Shape) (past k : ℕ) → f k ≡ [] → rest state f past k ≡ rest state f past (k + 1)
+rest-on state f past k none = go (decLt k past)
+  where
+    go : Dec (k < past) → rest state f past k ≡ rest state f past (k + 1)
+    go (yes h) = rw (range-next past k h, none) refl
+    go (no h) = rw (range-end past k (omega arith), range-end past (k + 1) (omega arith)) refl
 
-module _ {cert : List ℕ} {ms : List Located} {state : ℕ} {f : ℕ → List Shape} {from to : ℕ} where
-  pub trying-none : {t : Taken} → Within cert t → Trying cert ms state f from to t from t
-  trying-none w = record { progress = begin w }
+rest-end : (state : ℕ) (f : ℕ → List Shape) (past k m : ℕ) → past ≤ k → past ≤ m → rest state f past k ≡ rest state f past m
+rest-end state f past k m h l = rw (range-end past k h, range-end past m l) refl
 
-  module _ {t₀ : Taken} {k : ℕ} {t : Taken} (now : Trying cert ms state f from to t₀ k t) where
+-- choices that give nothing are passed over
+rest-skip : (state : ℕ) (f : ℕ → List Shape) (past d k : ℕ) → ((i : ℕ) → k ≤ i → i < k + d → i < past → f i ≡ [])
+    → rest state f past k ≡ rest state f past (k + d)
+rest-skip state f past zero k none = let e : k + 0 ≡ k = omega arith in rw e refl
+rest-skip state f past (suc d) k none =
+    go (decLt k past) (rest-skip state f past d (k + 1) (λ i l h b. none i (omega arith) (omega arith) b))
+  where
+    go : Dec (k < past) → rest state f past (k + 1) ≡ rest state f past (k + 1 + d) → rest state f past k ≡ rest state f past (k + suc d)
+    go (yes h) later = let e : k + suc d ≡ k + 1 + d = omega arith in rw e (rest-on state f past k (none k (omega arith) (omega arith) h) ∙ later)
+    go (no h) later = rest-end state f past k (k + suc d) (omega arith) (omega arith)
+
+-- k is one of the choices, or after them
+abbrev Among : Choices → ℕ → Type 0
+Among c k = (c .step ≡ 1) ⊎ ((k ≡ c .from) ⊎ (c .to ≤ suc k))
+
+-- covers are taken for the choices before k, which is one of those to try
+pub record Trying (cert : List ℕ) (ms : List Located) (state : ℕ) (f : ℕ → List Shape) (c : Choices) (start past : ℕ) (t₀ : Taken) (k : ℕ) (t : Taken) : Type 0 where
+  pub progress : Progress cert ms (rest state f past start) t₀ (rest state f past k) t
+  pub among : Among c k
+
+-- what lies within a step gives nothing
+module _ {f : ℕ → List Shape} {c : Choices} {start past : ℕ} (h : Covers c (λ j. f j ≡ []) start past) (k : ℕ) (inside : k < c .to) where
+  passed : Among c k → Dec (c .step ≡ 1) → (i : ℕ) → k + 1 ≤ i → i < k + c .step → i < past → f i ≡ []
+  passed a (yes e) i l b m = absurd (omega arith)
+  passed (inl e) (no s) i l b m = absurd (s e)
+  passed (inr (inl e)) (no s) i l b m = h .between s i (omega arith) (omega (arith, h .two s))
+  passed (inr (inr e)) (no s) i l b m = h .after i (omega arith) m
+
+  still : Among c k → Dec (c .step ≡ 1) → Among c (k + c .step)
+  still a (yes e) = inl e
+  still (inl e) (no s) = inl e
+  still (inr (inl e)) (no s) = inr (inr (omega (arith, h .two s)))
+  still (inr (inr e)) (no s) = inr (inr (omega arith))
+
+  skipped : (state : ℕ) → Among c k → rest state f past (k + 1) ≡ rest state f past (k + c .step)
+  skipped state a =
+      let e : k + 1 + (c .step - 1) ≡ k + c .step = omega (arith, h .forward) in
+      rest-skip state f past (c .step - 1) (k + 1) (λ i l b m. passed a (ℕ-discrete (c .step) 1) i l (omega arith) m) ∙ rw e refl
+
+module _ {cert : List ℕ} {ms : List Located} {state : ℕ} {f : ℕ → List Shape} {c : Choices} {start past : ℕ} (h : Covers c (λ j. f j ≡ []) start past) where
+  pub trying-none : {t : Taken} → Within cert t → Trying cert ms state f c start past t (c .from) t
+  trying-none w =
+      let e : start + (c .from - start) ≡ c .from = omega (arith, h .least) in
+      let skip : rest state f past start ≡ rest state f past (c .from) =
+      rw e at (rest-skip state f past (c .from - start) start (λ i l b m. h .before i l (omega (arith, h .least)))) in
+      record { progress = rw skip (begin w); among = inr (inl refl) }
+
+  module _ {t₀ : Taken} {k : ℕ} {t : Taken} (now : Trying cert ms state f c start past t₀ k t) where
     abbrev here : List Located
     here = map (located state) (f k)
 
-    next : k < to → Progress cert ms (rest state f from to) t₀ (here ++ rest state f (k + 1) to) t
-    next inside = rw (range-next to k inside, map-append (located state) (f k) (concatMap f (range (k + 1) (to - (k + 1))))) at (now .progress)
+    next : k < c .to → Progress cert ms (rest state f past start) t₀ (here ++ rest state f past (k + 1)) t
+    next inside =
+        rw (range-next past k (omega (arith, h .most)), map-append (located state) (f k) (concatMap f (range (k + 1) (past - (k + 1))))) at (now .progress)
 
     takes : (g : Going) → goingOf g ≡ takeAll cert ms here (t .covers) (t .at) → TakesAll cert ms here t g
     takes g taken = (taken, stays cert ms here t (now .progress .within) g taken)
 
-    module _ (inside : k < to) {g : Going} (taken : goingOf g ≡ takeAll cert ms here (t .covers) (t .at)) where
-      pub trying-more : {u : Taken} → g ≡ On u → Trying cert ms state f from to t₀ (k + 1) u
-      trying-more e = record { progress = advance here (rest state f (k + 1) to) (next inside) (takes g taken) e }
+    module _ (inside : k < c .to) {g : Going} (taken : goingOf g ≡ takeAll cert ms here (t .covers) (t .at)) where
+      pub trying-more : {u : Taken} → g ≡ On u → Trying cert ms state f c start past t₀ (k + c .step) u
+      trying-more e =
+          record {
+            progress = rw (skipped h k inside state (now .among)) at (advance here (rest state f past (k + 1)) (next inside) (takes g taken) e);
+            among = still h k inside (now .among) (ℕ-discrete (c .step) 1);
+          }
 
-      pub trying-stop : {r : Refusal} {place : ℕ} → g ≡ Refused r place → {all : List Shape} → concatMap f (range from (to - from)) ≡ all
+      pub trying-stop : {r : Refusal} {place : ℕ} → g ≡ Refused r place → {all : List Shape} → concatMap f (range start (past - start)) ≡ all
           → Takes cert ms state all t₀ g
-      trying-stop e all-is = rw (← all-is) (halt here (rest state f (k + 1) to) (next inside) (takes g taken) e)
+      trying-stop e all-is = rw (← all-is) (halt here (rest state f past (k + 1)) (next inside) (takes g taken) e)
 
-    pub trying-all : to ≤ k → {all : List Shape} → concatMap f (range from (to - from)) ≡ all → Takes cert ms state all t₀ (On t)
-    trying-all h all-is = rw (← all-is) (finish (rw (range-end to k h) at (now .progress)))
+    pub trying-all : c .to ≤ k → {all : List Shape} → concatMap f (range start (past - start)) ≡ all → Takes cert ms state all t₀ (On t)
+    trying-all b all-is = rw (← all-is) (finish (rw (over ∙ end) at (now .progress)))
+      where
+        over : rest state f past k ≡ rest state f past (k + past)
+        over = rest-skip state f past past k (λ i l _ m. h .after i (omega arith) m)
+
+        end : rest state f past (k + past) ≡ []
+        end = rw (range-end past (k + past) (omega arith)) refl

@@ -13,11 +13,9 @@ ghost use mathlib.Core.Bool.{true};
 ghost use mathlib.Core.List.{map};
 ghost use mathlib.Core.Path.{_≡_};
 ghost use Prim.Native.Nat.{_+_, _≤_, _<_};
-ghost use lib.Dec.{eqb};
-ghost use lib.ListN.{getD, take};
+ghost use lib.ListN.{take};
 ghost use Rattle.heap.specs.Operation.{kindOf};
 ghost use Rattle.backward.specs.Predecessors.{predecessors};
-ghost use Rattle.place.specs.Place.{placeOf};
 ghost use Rattle.kinds.specs.Kinds.{allowed};
 ghost use Rattle.layout.specs.Arrays.{shapeIn, Hold};
 ghost use Rattle.layout.specs.Entries.{membersAt, Table};
@@ -25,8 +23,8 @@ ghost use Rattle.layout.specs.Transitions.{opOf};
 ghost use Rattle.choices.specs.Choice.{put as putBy};
 ghost use Rattle.choices.specs.Held.{Held, working, Working, Placed, Undoable, Undoes};
 ghost use Rattle.choices.specs.Retained.{changed, seconds, firsts};
-ghost use Rattle.choosing.specs.Chosen.{secondOf, firstOf};
-ghost use Rattle.choosing.specs.Wanted.{fitsIn, wantedFirst, wantedSecond};
+ghost use Rattle.choosing.specs.Chosen.{wantedA, wantedB, secondOf, firstOf};
+ghost use Rattle.choosing.specs.Wanted.{fitsIn};
 ghost use Rattle.checker.specs.Placing.{takeShapes, secondOperand};
 ghost use Rattle.checker.specs.Taking.{takeAll, goingOf, Within, StaysWithin, located};
 
@@ -72,7 +70,7 @@ pub(crate) fn make_second(
     links: &mut [u8; 14],
     k: u8,
 ) -> u8
-    requires { ⌜ (Placed variables (op .kind) (op .a) (op .b) n (now vars) (now links)) × (k < n + (2 + n)) × (fitsIn (take n (now links)) (wantedSecond (op .kind) (take n (now links)) (placeOf (getD (now vars) (op .a) 0)) (placeOf (getD (now vars) (op .b) 0))) k ≡ true) ⌝ }
+    requires { ⌜ (Placed variables (op .kind) (op .a) (op .b) n (now vars) (now links)) × (k < n + (2 + n)) × (fitsIn (take n (now links)) (wantedB (op .kind) (op .a) (op .b) n (now vars) (now links)) k ≡ true) ⌝ }
     ensures { λ r. ⌜ Held variables r (now (vars .exit)) (now (links .exit)) (changed variables (op .kind) (op .a) (op .b) (putBy (op .b) (shapeIn (working variables (op .b)) n (now (vars .entry)) (now (links .entry))) k)) ⌝ }
 {
     let m = put(n, vars, links, op.b, k);
@@ -95,7 +93,7 @@ pub(crate) fn take_second(
     k: u8,
     t: Taken,
 ) -> Going
-    requires { ⌜ (Table (now cert) variables (now starts) members) × (Placed variables (op .kind) (op .a) (op .b) n (now vars) (now links)) × (k < n + (2 + n)) × (wanted ≡ wantedSecond (op .kind) (take n (now links)) (placeOf (getD (now vars) (op .a) 0)) (placeOf (getD (now vars) (op .b) 0))) × (Within (now cert) t) ⌝ }
+    requires { ⌜ (Table (now cert) variables (now starts) members) × (Placed variables (op .kind) (op .a) (op .b) n (now vars) (now links)) × (k < n + (2 + n)) × (wanted ≡ wantedB (op .kind) (op .a) (op .b) n (now vars) (now links)) × (Within (now cert) t) ⌝ }
     ensures { λ r. ⌜ goingOf r ≡ takeShapes (now (cert .entry)) variables (now (starts .entry)) members state (secondOf variables (op .kind) (op .a) (op .b) (shapeIn (working variables (op .b)) n (now (vars .entry)) (now (links .entry))) k) t ⌝ }
 {
     if !is_wanted_here(n, links, wanted, k) {
@@ -176,7 +174,7 @@ pub(crate) fn take_first(
     k: u8,
     t: Taken,
 ) -> Going
-    requires { ⌜ (Table (now cert) variables (now starts) members) × (Working 12 variables (op .kind) (op .a) (op .b) n (now vars) (now links)) × (k < n + (2 + n)) × (wanted ≡ wantedFirst (op .kind) (eqb (op .a) (op .b)) (take n (now links)) (placeOf (getD (now vars) (op .a) 0)) (placeOf (getD (now vars) (op .b) 0))) × (Within (now cert) t) ⌝ }
+    requires { ⌜ (Table (now cert) variables (now starts) members) × (Working 12 variables (op .kind) (op .a) (op .b) n (now vars) (now links)) × (k < n + (2 + n)) × (wanted ≡ wantedA (op .kind) (op .a) (op .b) n (now vars) (now links)) × (Within (now cert) t) ⌝ }
     ensures { λ r. ⌜ goingOf r ≡ takeShapes (now (cert .entry)) variables (now (starts .entry)) members state (firstOf variables (op .kind) (op .a) (op .b) (shapeIn (working variables (op .b)) n (now (vars .entry)) (now (links .entry))) k) t ⌝ }
 {
     if !is_wanted_here(n, links, wanted, k) {

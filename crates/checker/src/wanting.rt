@@ -6,10 +6,9 @@ use choosing::wanted_second;
 use place::Place;
 ghost use mathlib.Core.Path.{_≡_};
 ghost use Prim.Native.Nat.{_≤_};
-ghost use lib.Dec.{eqb};
-ghost use lib.ListN.{length, getD, take};
-ghost use Rattle.place.specs.Place.{placeOf};
-ghost use Rattle.choosing.specs.Wanted.{fitsIn, wantedFirst, wantedSecond};
+ghost use lib.ListN.{length, take};
+ghost use Rattle.choosing.specs.Chosen.{wantedA, wantedB};
+ghost use Rattle.choosing.specs.Wanted.{fitsIn};
 
 // An operation of kinds 1 to 5. Where kind 4 has one variable, b is the helper, one above the variables.
 pub struct Op {
@@ -21,7 +20,7 @@ pub struct Op {
 // What is wanted of a.
 pub(crate) fn wanted_of_a(op: Op, n: u8, vars: &[u8; 10], links: &[u8; 14]) -> Wanted
     requires { ⌜ (op .a ≤ 9) × (op .b ≤ 9) × (n ≤ 14) × (length (now links) ≡ 14) ⌝ }
-    ensures { λ r. ⌜ r ≡ wantedFirst (op .kind) (eqb (op .a) (op .b)) (take n (now (links .entry))) (placeOf (getD (now (vars .entry)) (op .a) 0)) (placeOf (getD (now (vars .entry)) (op .b) 0)) ⌝ }
+    ensures { λ r. ⌜ r ≡ wantedA (op .kind) (op .a) (op .b) n (now (vars .entry)) (now (links .entry)) ⌝ }
 {
     let x = Place {
         code: vars[op.a as usize],
@@ -36,7 +35,7 @@ pub(crate) fn wanted_of_a(op: Op, n: u8, vars: &[u8; 10], links: &[u8; 14]) -> W
 // What is wanted of b, where a is placed.
 pub(crate) fn wanted_of_b(op: Op, n: u8, vars: &[u8; 10], links: &[u8; 14]) -> Wanted
     requires { ⌜ (op .a ≤ 9) × (op .b ≤ 9) × (n ≤ 14) × (length (now links) ≡ 14) ⌝ }
-    ensures { λ r. ⌜ r ≡ wantedSecond (op .kind) (take n (now (links .entry))) (placeOf (getD (now (vars .entry)) (op .a) 0)) (placeOf (getD (now (vars .entry)) (op .b) 0)) ⌝ }
+    ensures { λ r. ⌜ r ≡ wantedB (op .kind) (op .a) (op .b) n (now (vars .entry)) (now (links .entry)) ⌝ }
 {
     let x = Place {
         code: vars[op.a as usize],

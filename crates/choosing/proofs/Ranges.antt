@@ -71,21 +71,32 @@ module _ (n : ℕ) (wanted : Wanted) where
 
 -- ---- what is left out is not wanted
 
--- of the numbers below `past`, those outside the choices are such
-pub record Covers (c : Choices) (Out : ℕ → Type 0) (past : ℕ) : Type 0 where
+-- of the numbers from `start` to before `past`, those outside the choices are such
+pub record Covers (c : Choices) (Out : ℕ → Type 0) (start past : ℕ) : Type 0 where
   pub forward : 1 ≤ c .step
   pub most : c .to ≤ past
-  pub before : (j : ℕ) → j < c .from → Out j
+  pub least : start ≤ c .from
+  pub before : (j : ℕ) → start ≤ j → j < c .from → Out j
   pub between : c .step ≢ 1 → (j : ℕ) → c .from < j → suc j < c .to → Out j
   pub two : c .step ≢ 1 → c .from + c .step + 1 ≡ c .to
   pub after : (j : ℕ) → c .to ≤ j → j < past → Out j
 
-pub covers-map : {c : Choices} {Out Off : ℕ → Type 0} {past : ℕ} → ((j : ℕ) → Out j → Off j) → Covers c Out past → Covers c Off past
+-- a step stays small
+pub step-most : {c : Choices} {Out : ℕ → Type 0} {start past : ℕ} → Covers c Out start past → c .step ≤ suc (c .to)
+step-most {c} h = go (ℕ-discrete (c .step) 1)
+  where
+    go : Dec (c .step ≡ 1) → c .step ≤ suc (c .to)
+    go (yes e) = omega arith
+    go (no e) = omega (arith, h .two e)
+
+pub covers-map : {c : Choices} {Out Off : ℕ → Type 0} {start past : ℕ} → ((j : ℕ) → Out j → Off j) → Covers c Out start past
+    → Covers c Off start past
 covers-map f h =
     record {
       forward = h .forward;
       most = h .most;
-      before = λ j b. f j (h .before j b);
+      least = h .least;
+      before = λ j b m. f j (h .before j b m);
       between = λ s j b m. f j (h .between s j b m);
       two = h .two;
       after = λ j b m. f j (h .after j b m);
@@ -107,20 +118,21 @@ unfolding targetFits
 target-else n p i j w (inl d) = simp (ne-eqb j (n + 2 + i) w, eq-eqb p dangling d)
 target-else n p i j w (inr c) = simp (ne-eqb j (n + 2 + i) w, ne-eqb j (choiceOf n p) c, and-false)
 
-covers-target : (n p i : ℕ) → p < cell n → i < n → Covers (targetChoices n p i) (λ j. targetFits n p i j ≡ false) (n + (2 + n))
+covers-target : (n p i : ℕ) → p < cell n → i < n → Covers (targetChoices n p i) (λ j. targetFits n p i j ≡ false) 0 (n + (2 + n))
 unfolding targetChoices
 covers-target n p i inside cell-is = go (ℕ-discrete p dangling)
   where
     low : choiceOf n p ≤ n
     low = choice-of-most n p inside
 
-    go : Dec (p ≡ dangling) → Covers (targetChoices n p i) (λ j. targetFits n p i j ≡ false) (n + (2 + n))
+    go : Dec (p ≡ dangling) → Covers (targetChoices n p i) (λ j. targetFits n p i j ≡ false) 0 (n + (2 + n))
     go (yes d) =
         rw (eq-eqb p dangling d)
         (record {
           forward = omega arith;
           most = omega arith;
-          before = λ j h. target-else n p i j (omega arith) (inl d);
+          least = omega arith;
+          before = λ j _ h. target-else n p i j (omega arith) (inl d);
           between = λ h. absurd (h refl);
           two = λ h. absurd (h refl);
           after = λ j h b. target-else n p i j (omega arith) (inl d);
@@ -130,51 +142,56 @@ covers-target n p i inside cell-is = go (ℕ-discrete p dangling)
         (record {
           forward = omega (arith, low);
           most = omega arith;
-          before = λ j h. target-else n p i j (omega (arith, low)) (inr (omega arith));
+          least = omega arith;
+          before = λ j _ h. target-else n p i j (omega (arith, low)) (inr (omega arith));
           between = λ h j l m. target-else n p i j (omega arith) (inr (omega arith));
           two = λ h. omega (arith, low);
           after = λ j h b. target-else n p i j (omega arith) (inr (omega (arith, low)));
         })
 
-covers-all : (n : ℕ) (Out : ℕ → Type 0) → Covers (oneByOne 0 (n + (2 + n))) Out (n + (2 + n))
-covers-all n Out =
+-- a whole stretch
+pub covers-stretch : (Out : ℕ → Type 0) (start past : ℕ) → Covers (oneByOne start past) Out start past
+covers-stretch Out start past =
     record {
       forward = omega arith;
       most = omega arith;
-      before = λ j h. absurd (omega arith);
+      least = omega arith;
+      before = λ j l h. absurd (omega arith);
       between = λ h. absurd (h refl);
       two = λ h. absurd (h refl);
       after = λ j h b. absurd (omega arith);
     }
 
-covers-one : (n k : ℕ) → k ≤ n → Covers (oneByOne k (suc k)) (λ j. eqb j k ≡ false) (n + (2 + n))
+covers-one : (n k : ℕ) → k ≤ n → Covers (oneByOne k (suc k)) (λ j. eqb j k ≡ false) 0 (n + (2 + n))
 covers-one n k h =
     record {
       forward = omega arith;
       most = omega arith;
-      before = λ j b. ne-eqb j k (omega arith);
+      least = omega arith;
+      before = λ j _ b. ne-eqb j k (omega arith);
       between = λ h. absurd (h refl);
       two = λ h. absurd (h refl);
       after = λ j b _. ne-eqb j k (omega arith);
     }
 
 pub covers : (links : List ℕ) (wanted : Wanted) → Sound (length links) wanted
-    → Covers (choicesOf (length links) wanted) (λ j. fitsIn links wanted j ≡ false) (length links + (2 + length links))
+    → Covers (choicesOf (length links) wanted) (λ j. fitsIn links wanted j ≡ false) 0 (length links + (2 + length links))
 covers links Nothing s =
     record {
       forward = omega arith;
       most = omega arith;
-      before = λ j h. refl;
+      least = omega arith;
+      before = λ j _ h. refl;
       between = λ h. absurd (h refl);
       two = λ h. absurd (h refl);
       after = λ j h b. refl;
     }
 covers links Once s = covers-one (length links) 0 (omega arith)
-covers links Any s = covers-all (length links) (λ j. fitsIn links Any j ≡ false)
+covers links Any s = covers-stretch (λ j. fitsIn links Any j ≡ false) 0 (length links + (2 + length links))
 covers links (At p) s = covers-one (length links) (choiceOf (length links) (p .code)) (choice-of-most (length links) (p .code) s)
-covers links (Off p) s = covers-all (length links) (λ j. fitsIn links (Off p) j ≡ false)
-covers links (Source p) s = covers-all (length links) (λ j. fitsIn links (Source p) j ≡ false)
-covers links Itself s = covers-all (length links) (λ j. fitsIn links Itself j ≡ false)
+covers links (Off p) s = covers-stretch (λ j. fitsIn links (Off p) j ≡ false) 0 (length links + (2 + length links))
+covers links (Source p) s = covers-stretch (λ j. fitsIn links (Source p) j ≡ false) 0 (length links + (2 + length links))
+covers links Itself s = covers-stretch (λ j. fitsIn links Itself j ≡ false) 0 (length links + (2 + length links))
 covers links (Target p i) s = covers-target (length links) (p .code) i (s .0) (s .1)
 
 -- ---- an operation speaks of the shape's own places

@@ -25,6 +25,8 @@ use Rattle.choices.proofs.Putting.{put-keeps, put-other, put-same}
 use Rattle.choices.proofs.Undoing.{working-room, retained-cell}
 use Rattle.choosing.specs.Chosen.{wantedA, wantedB, secondOf, firstOf}
 use Rattle.choosing.specs.Wanted.{fitsIn, choicesOf, wantedSecond}
+use Rattle.choosing.specs.declared.Choices.{Choices}
+use Rattle.choosing.specs.declared.Wanted.{Wanted}
 use Rattle.choosing.proofs.ByNumber.{seconds-by-number, firsts-by-number}
 use Rattle.choosing.proofs.Ranges.{Covers, covers-map, covers, sound-second, sound-first}
 use Rattle.choosing.proofs.Wants.{second-nowhere, second-once, second-later, first-a-dangling, first-b-dangling}
@@ -146,14 +148,14 @@ module _ {variables kind a b n : ℕ} {vars links : List ℕ} where
     second-one e = rw (at-operand 13 (p .work) a, at-operand 13 (p .work) b, e) refl
 
   -- the choices of b to try leave none of them out
-  pub second-covers : (p : Placed variables kind a b n vars links)
-      → Covers (choicesOf n (wantedB kind a b n vars links)) (λ j. secondOf variables kind a b (shapeIn (working variables b) n vars links) j ≡ []) (n + (2 + n))
-  second-covers p =
+  pub second-covers : (p : Placed variables kind a b n vars links) {w : Wanted} {c : Choices} → w ≡ wantedB kind a b n vars links → c ≡ choicesOf n w
+      → Covers c (λ j. secondOf variables kind a b (shapeIn (working variables b) n vars links) j ≡ []) 0 (n + (2 + n))
+  second-covers p w-is c-is =
       let x = getD vars a nowhere in
       let w = wantedB kind a b n vars links in
       let sound = sound-second kind (take n links) x (getD vars b nowhere) (links-range 13 (p .work)) (a-in p .inside) in
-      covers-map (λ j. second-none p j)
-      (subst (λ (m : ℕ). Covers (choicesOf m w) (λ j. fitsIn (take n links) w j ≡ false) (m + (2 + m))) (size-is 13 (p .work)) (covers (take n links) w sound))
+      rw (c-is, w-is) (covers-map (λ j. second-none p j)
+      (subst (λ (m : ℕ). Covers (choicesOf m w) (λ j. fitsIn (take n links) w j ≡ false) 0 (m + (2 + m))) (size-is 13 (p .work)) (covers (take n links) w sound)))
 
   -- ---- a
 
@@ -233,11 +235,11 @@ module _ {variables kind a b n : ℕ} {vars links : List ℕ} where
                 let q : nowhere ≡ dangling = sym (now b ∙ put-other a s k b (λ j. e (sym j)) ∙ was b ∙ z) ∙ i in omega arith
 
   -- the choices of a to try leave none of them out
-  pub first-covers : (p : Working 12 variables kind a b n vars links)
-      → Covers (choicesOf n (wantedA kind a b n vars links)) (λ j. firstOf variables kind a b (shapeIn (working variables b) n vars links) j ≡ []) (n + (2 + n))
-  first-covers p =
+  pub first-covers : (p : Working 12 variables kind a b n vars links) {w : Wanted} {c : Choices} → w ≡ wantedA kind a b n vars links → c ≡ choicesOf n w
+      → Covers c (λ j. firstOf variables kind a b (shapeIn (working variables b) n vars links) j ≡ []) 0 (n + (2 + n))
+  first-covers p w-is c-is =
       let w = wantedA kind a b n vars links in
       let inside : getD vars b nowhere < cell (length (take n links)) = rw (size-is 12 p) (p .hold .vars-range b) in
       let sound = sound-first kind (take n links) (getD vars a nowhere) (getD vars b nowhere) (links-range 12 p) (eqb a b) inside in
-      covers-map (λ j. first-none p j)
-      (subst (λ (m : ℕ). Covers (choicesOf m w) (λ j. fitsIn (take n links) w j ≡ false) (m + (2 + m))) (size-is 12 p) (covers (take n links) w sound))
+      rw (c-is, w-is) (covers-map (λ j. first-none p j)
+      (subst (λ (m : ℕ). Covers (choicesOf m w) (λ j. fitsIn (take n links) w j ≡ false) 0 (m + (2 + m))) (size-is 12 p) (covers (take n links) w sound)))

@@ -1,4 +1,4 @@
-use Rattle.choices.proofs.Steps.{second-held, second-undoable}
+use Rattle.choosing.proofs.Steps.{second-held, second-undoable}
 use borrow.Author.Needs.{needs}
 use Rattle.checker.proofs.placing.make_second.Statement.{statement}
 use Rattle.checker.proofs.placing.make_second.Tie as tie
@@ -10,7 +10,7 @@ undo-requires : tie.Need-undo-requires
 undo-requires c κs =
     let a = c .before .before .before .before .before .args in
     second-undoable (c .before .before .before .before .before .pre .0) (a .k) (c .before .before .put .result) _ _ (c .before .before .put .ensures)
-    (c .before .before .before .before .before .pre .2)
+    (c .before .before .before .before .before .pre .1) (c .before .before .before .before .before .pre .2)
 
 returns : tie.Need-returns
 returns c =
