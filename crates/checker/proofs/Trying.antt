@@ -11,7 +11,7 @@ use Rattle.shape.specs.Shape.{Shape}
 use Rattle.run.specs.Run.{Located}
 use Rattle.verdict.specs.declared.Refusal.{Refusal}
 use Rattle.choosing.specs.declared.Choices.{Choices}
-use Rattle.choosing.proofs.Ranges.{Covers}
+use Rattle.choosing.proofs.Ranges.{stretch, Covers}
 use Rattle.checker.specs.Taking.{takeAll, goingOf, Within, located, TakesAll, Takes}
 use Rattle.checker.specs.declared.going.Going.{Going}
 use Rattle.checker.specs.declared.going.Going.the-variants.{On, Refused}
@@ -21,7 +21,7 @@ use Rattle.checker.proofs.Taking.{stays, Progress, begin, advance, halt
 
 -- what the choices from k to before `past` give
 abbrev rest : ℕ → (ℕ → List Shape) → ℕ → ℕ → List Located
-rest state f past k = map (located state) (concatMap f (range k (past - k)))
+rest state f past k = map (located state) (stretch f k past)
 
 rest-on : (state : ℕ) (f : ℕ → List Shape) (past k : ℕ) → f k ≡ [] → rest state f past k ≡ rest state f past (k + 1)
 rest-on state f past k none = go (decLt k past)
@@ -99,11 +99,10 @@ module _ {cert : List ℕ} {ms : List Located} {state : ℕ} {f : ℕ → List S
             among = still h k inside (now .among) (ℕ-discrete (c .step) 1);
           }
 
-      pub trying-stop : {r : Refusal} {place : ℕ} → g ≡ Refused r place → {all : List Shape} → concatMap f (range start (past - start)) ≡ all
-          → Takes cert ms state all t₀ g
+      pub trying-stop : {r : Refusal} {place : ℕ} → g ≡ Refused r place → {all : List Shape} → stretch f start past ≡ all → Takes cert ms state all t₀ g
       trying-stop e all-is = rw (← all-is) (halt here (rest state f past (k + 1)) (next inside) (takes g taken) e)
 
-    pub trying-all : c .to ≤ k → {all : List Shape} → concatMap f (range start (past - start)) ≡ all → Takes cert ms state all t₀ (On t)
+    pub trying-all : c .to ≤ k → {all : List Shape} → stretch f start past ≡ all → Takes cert ms state all t₀ (On t)
     trying-all b all-is = rw (← all-is) (finish (rw (over ∙ end) at (now .progress)))
       where
         over : rest state f past k ≡ rest state f past (k + past)

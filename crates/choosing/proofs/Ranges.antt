@@ -9,6 +9,8 @@ use native.Mathlib.Omega.{arith}
 use borrow.Author.Tests.{eq-eqb, ne-eqb, le-leb, lt-leb}
 use lib.Dec.{eqb, ltb}
 use lib.ListN.{length, getD}
+use Rattle.lists.specs.List.{concatMap}
+use Rattle.lists.specs.Range.{range}
 use Rattle.heap.specs.Codes.{linkIn}
 use Rattle.heap.specs.Place.{nowhere, null, dangling, cell}
 use Rattle.place.specs.Place.{placeOf}
@@ -70,6 +72,10 @@ module _ (n : ℕ) (wanted : Wanted) where
     choices-target i e = rw e refl
 
 -- ---- what is left out is not wanted
+
+-- what the choices from one on give, before another
+abbrev pub stretch : {A : Type 0} → (ℕ → List A) → ℕ → ℕ → List A
+stretch f start past = concatMap f (range start (past - start))
 
 -- of the numbers from `start` to before `past`, those outside the choices are such
 pub record Covers (c : Choices) (Out : ℕ → Type 0) (start past : ℕ) : Type 0 where

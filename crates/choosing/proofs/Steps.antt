@@ -3,7 +3,7 @@ use mathlib.Core.Bool.{true, false, _&&_}
 use mathlib.Core.List.{List, [], _∷_}
 use mathlib.Core.Logic.{_≢_}
 use mathlib.Core.Path.{_≡_, refl, sym, ap, subst, _∙_}
-use Prim.Native.Nat.{ℕ, suc, _+_, _≤_, _<_}
+use Prim.Native.Nat.{ℕ, suc, _+_, _-_, _≤_, _<_}
 use native.Mathlib.Decide.{ℕ-discrete}
 use native.Mathlib.Omega.{arith}
 use lib.Dec.{eqb}
@@ -28,8 +28,11 @@ use Rattle.choosing.specs.Wanted.{fitsIn, choicesOf, wantedSecond}
 use Rattle.choosing.specs.declared.Choices.{Choices}
 use Rattle.choosing.specs.declared.Wanted.{Wanted}
 use Rattle.choosing.proofs.ByNumber.{seconds-by-number, firsts-by-number}
-use Rattle.choosing.proofs.Ranges.{Covers, covers-map, covers, sound-second, sound-first}
+use Rattle.choosing.proofs.Ranges.{stretch, Covers, covers-map, covers, sound-second, sound-first}
 use Rattle.choosing.proofs.Wants.{second-nowhere, second-once, second-later, first-a-dangling, first-b-dangling}
+
+whole-size : {m n : ℕ} → m ≡ n → n + (2 + n) - 0 ≡ m + (2 + m)
+whole-size e = omega arith
 
 clash : {A : Type 0} → false ≡ true → A
 clash e = let z : _≡_ {A = ℕ} 0 1 = cc in absurd (omega arith)
@@ -81,11 +84,11 @@ module _ {variables kind a b n : ℕ} {vars links : List ℕ} where
     a-in = rw (size-is 13 (p .work)) (p .a-at)
 
     -- the wanted choices of b give all that is retained
-    pub second-range : concatMap (secondOf variables kind a b (shapeIn (working variables b) n vars links)) (range 0 (n + (2 + n)))
+    pub second-range : stretch (secondOf variables kind a b (shapeIn (working variables b) n vars links)) 0 (n + (2 + n))
         ≡ seconds variables kind a b (shapeIn (working variables b) n vars links)
     second-range =
         let s = shapeIn (working variables b) n vars links in
-        sym (ap (λ (m : ℕ). concatMap (secondOf variables kind a b s) (range 0 (m + (2 + m)))) (size-is 13 (p .work)))
+        ap (λ (m : ℕ). concatMap (secondOf variables kind a b s) (range 0 m)) (whole-size (size-is 13 (p .work)))
         ∙ seconds-by-number variables kind a b s (p .work .operands .kind-least) (p .work .operands .kind-most) (links-range 13 (p .work))
         (rw (at-operand 13 (p .work) a) a-in) (b-slot 13 (p .work)) (rw (at-operand 13 (p .work) b) (p .b-safe))
 
@@ -161,11 +164,11 @@ module _ {variables kind a b n : ℕ} {vars links : List ℕ} where
 
   module _ (p : Working 12 variables kind a b n vars links) where
     -- the wanted choices of a give all that is retained
-    pub first-range : concatMap (firstOf variables kind a b (shapeIn (working variables b) n vars links)) (range 0 (n + (2 + n)))
+    pub first-range : stretch (firstOf variables kind a b (shapeIn (working variables b) n vars links)) 0 (n + (2 + n))
         ≡ firsts variables kind a b (shapeIn (working variables b) n vars links)
     first-range =
         let s = shapeIn (working variables b) n vars links in
-        sym (ap (λ (m : ℕ). concatMap (firstOf variables kind a b s) (range 0 (m + (2 + m)))) (size-is 12 p))
+        ap (λ (m : ℕ). concatMap (firstOf variables kind a b s) (range 0 m)) (whole-size (size-is 12 p))
         ∙ firsts-by-number variables kind a b s (p .operands .kind-least) (p .operands .kind-most) (links-range 12 p) (p .operands .apart) (a-slot 12 p)
         (rw (at-operand 12 p b, size-is 12 p) (p .hold .vars-range b))
 

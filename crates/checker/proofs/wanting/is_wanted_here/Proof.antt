@@ -1,9 +1,12 @@
+use mathlib.Core.Path.{sym}
+use native.Mathlib.Omega.{arith}
+use lib.Seq.{length-take-le}
 use borrow.Author.Needs.{needs}
 use Rattle.checker.proofs.wanting.is_wanted_here.Statement.{statement}
 use Rattle.checker.proofs.wanting.is_wanted_here.Tie as tie
 
 slice-aggregate-is-wanted : tie.Need-slice-aggregate-is-wanted
-slice-aggregate-is-wanted c = ?
+slice-aggregate-is-wanted c = sym (length-take-le _ _ (omega (arith, c .before .before .pre .0, c .before .before .pre .1)))
 
 is-wanted-requires : tie.Need-is-wanted-requires
 is-wanted-requires c κs = search needs

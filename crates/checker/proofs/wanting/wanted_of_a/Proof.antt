@@ -1,3 +1,6 @@
+use mathlib.Core.Path.{sym}
+use native.Mathlib.Omega.{arith}
+use lib.Seq.{length-take-le}
 use borrow.Author.Needs.{needs}
 use Rattle.checker.proofs.wanting.wanted_of_a.Statement.{statement}
 use Rattle.checker.proofs.wanting.wanted_of_a.Tie as tie
@@ -15,7 +18,7 @@ element-copy-out-t11-2 : tie.Need-element-copy-out-t11-2
 element-copy-out-t11-2 c = search needs
 
 slice-aggregate-wanted-first : tie.Need-slice-aggregate-wanted-first
-slice-aggregate-wanted-first c = ?
+slice-aggregate-wanted-first c = sym (length-take-le _ _ (omega (arith, c .before .before .before .before .before .before .before .pre .2, c .before .before .before .before .before .before .before .pre .3)))
 
 wanted-first-requires : tie.Need-wanted-first-requires
 wanted-first-requires c κs = search needs
