@@ -1,6 +1,6 @@
 -- What each choice gives, and the predecessors of kinds 1 to 5 by choices.
 use mathlib.Core.Bool.{Bool, true, false, _&&_, cond}
-use mathlib.Core.List.{List, [], _∷_, append-nil, List·Memᴰ·not-nil, List·Memᴰ·eq-of-singleton}
+use mathlib.Core.List.{List, [], append-nil, List·Memᴰ·not-nil, List·Memᴰ·eq-of-singleton}
 use mathlib.Core.Logic.{_≢_}
 use mathlib.Core.Path.{_≡_, refl, sym, ap, _∙_}
 use Prim.Native.Nat.{ℕ, zero, suc, _+_, _-_, _≤_, _<_}
@@ -13,14 +13,14 @@ use Rattle.lists.specs.List.{_∈_, concatMap, keep}
 use Rattle.lists.specs.Range.{range}
 use Rattle.lists.proofs.List.{keep-mem, concatMap-mem}
 use Rattle.heap.specs.Place.{nowhere, null, dangling, cell}
-use Rattle.shape.specs.Placing.{place, placedFrom, placeBoth}
+use Rattle.shape.specs.Placing.{place, placedFrom}
 use Rattle.shape.specs.Shape.{Shape, varAt, size}
 use Rattle.shape.proofs.Laws.{var-set-same, var-set-other}
 use Rattle.shape.proofs.PlacingByNumber.{choice, choicesFrom, choiceFrom, place-by-number}
 use Rattle.backward.specs.Predecessors.{retain}
-use Rattle.choices.specs.Choice.{chosen, choiceOf, exists, opened, made, put}
-use Rattle.choices.specs.Retained.{retained, tested, changed, seconds, firsts, secondFits, secondOf, placedFits, firstFits, firstOf}
-use Rattle.choices.proofs.Lists.{concatMap-none, concatMap-same, concatMap-concatMap}
+use Rattle.choices.specs.Choice.{chosen, choiceOf, exists, opened, made}
+use Rattle.choices.specs.Retained.{retained, tested}
+use Rattle.choices.proofs.Lists.{concatMap-none}
 
 pub choice-made : (v : ℕ) (s : Shape) (k : ℕ) → choice v s k ≡ keep (exists (s .links) k) (made v s k)
 unfolding exists made chosen opened
@@ -111,16 +111,10 @@ place-placed v s t n = go (varAt s v) n
 pub place-dangling : (v : ℕ) (s : Shape) → varAt s v ≡ dangling → place v s ≡ []
 place-dangling v s e = rw e refl
 
-pub both-keeps : (a b : ℕ) (s t : Shape) (u : ℕ) → t ∈ placeBoth a b s → varAt s u ≢ nowhere → varAt t u ≡ varAt s u
-both-keeps a b s t u m n =
-    let (r, i, j) = concatMap-mem (place b) (place a s) t m in
-    let e = place-keeps a s r u i n in
-    place-keeps b r t u j (λ z. n (sym e ∙ z)) ∙ e
-
 pub retain-none : (test : Shape → Bool) (change : Shape → Shape) (l : List Shape) → ((t : Shape) → t ∈ l → test t ≡ false) → retain test change l ≡ []
 retain-none test change l h = concatMap-none (λ s. keep (test s) (change s)) l (λ t m. ap (λ b. keep b (change t)) (h t m))
 
--- ---- the choices of b, and of a, by their numbers
+-- ---- what is retained
 
 pub retain-keep : (test : Shape → Bool) (change : Shape → Shape) (x : Bool) (t : Shape) → retain test change (keep x t) ≡ keep (x && test t) (change t)
 retain-keep test change true t = append-nil (keep (test t) (change t))
@@ -138,97 +132,3 @@ pub tested-at : (kind a b : ℕ) (t : Shape) (x y : ℕ) (links : List ℕ) → 
     → tested kind a b t ≡ retained kind x y links
 unfolding tested
 tested-at kind a b t x y links ex ey el = rw (← ex, ← ey, ← el) refl
-
-module _ (variables kind a b : ℕ) (s : Shape) where
-  second-placed : (k : ℕ) → varAt s b ≢ nowhere
-      → secondOf variables kind a b s k ≡ retain (tested kind a b) (changed variables kind a b) (s ∷ [])
-  unfolding secondOf secondFits tested put
-  second-placed k n = simp (ne-eqb (varAt s b) nowhere n) (sym (append-nil (keep (tested kind a b s) (changed variables kind a b s))))
-
-  second-made : (k : ℕ) → varAt s a ≢ nowhere → b ≤ length (s .vars) → varAt s b ≡ nowhere
-      → secondOf variables kind a b s k ≡ retain (tested kind a b) (changed variables kind a b) (choice b s k)
-  unfolding secondOf secondFits put
-  second-made k n h e =
-      rw (choice-made b s k, retain-keep (tested kind a b) (changed variables kind a b) (exists (s .links) k) (made b s k), ← same)
-      (simp (eq-eqb (varAt s b) nowhere e))
-    where
-      same : retained kind (varAt s a) (chosen (size s) k) (opened (s .links) k) ≡ tested kind a b (made b s k)
-      same =
-          sym (tested-at kind a b (made b s k) (varAt s a) (chosen (size s) k) (opened (s .links) k)
-          (made-other b s k a (λ z. n (ap (varAt s) z ∙ e))) (made-same b s k (not-null s b e) h) (made-links b s k))
-
-  second-choice : (k : ℕ) → varAt s a ≢ nowhere → b ≤ length (s .vars)
-      → secondOf variables kind a b s k ≡ retain (tested kind a b) (changed variables kind a b) (choiceFrom (varAt s b) b s k)
-  second-choice k n h = go (varAt s b) refl
-    where
-      go : (p : ℕ) → varAt s b ≡ p → secondOf variables kind a b s k ≡ retain (tested kind a b) (changed variables kind a b) (choiceFrom p b s k)
-      go zero e = second-made k n h e
-      go (suc p) e = second-placed k (λ z. let q : suc p ≡ 0 = sym e ∙ z in omega arith)
-
-  pub seconds-by-number : varAt s a ≢ nowhere → b ≤ length (s .vars)
-      → concatMap (secondOf variables kind a b s) (range 0 (choicesFrom (varAt s b) s)) ≡ seconds variables kind a b s
-  seconds-by-number n h =
-      let numbers = range 0 (choicesFrom (varAt s b) s) in
-      let keepOne : Shape → List Shape = λ t. keep (tested kind a b t) (changed variables kind a b t) in
-      concatMap-same (secondOf variables kind a b s) (λ k. concatMap keepOne (choiceFrom (varAt s b) b s k)) numbers (λ k m. second-choice k n h)
-      ∙ sym (concatMap-concatMap keepOne (choiceFrom (varAt s b) b s) numbers)
-      ∙ ap (concatMap keepOne) (place-by-number b s)
-
-  -- where b has a place once a is placed, the kind decides at once
-  first-fails : (k : ℕ) → a ≤ length (s .vars) → varAt s a ≡ nowhere → exists (s .links) k ≡ true → placedFits kind a b (varAt s b) (s .links) k ≡ false
-      → seconds variables kind a b (made a s k) ≡ []
-  unfolding placedFits
-  first-fails k h e there f = go (ℕ-discrete a b) (ℕ-discrete (varAt s b) nowhere)
-    where
-      a-at : varAt (made a s k) a ≡ chosen (size s) k
-      a-at = made-same a s k (not-null s a e) h
-
-      fails : (y : ℕ) → y ≢ nowhere → varAt (made a s k) b ≡ y → retained kind (chosen (size s) k) y (opened (s .links) k) ≡ false
-          → seconds variables kind a b (made a s k) ≡ []
-      fails y n b-at r =
-          retain-none (tested kind a b) (changed variables kind a b) (place b (made a s k))
-          (λ t m.
-          let t-is = place-placed b (made a s k) t (λ z. n (sym b-at ∙ z)) m in
-          rw t-is (tested-at kind a b (made a s k) (chosen (size s) k) y (opened (s .links) k) a-at b-at (made-links a s k) ∙ r))
-
-      go : Dec (a ≡ b) → Dec (varAt s b ≡ nowhere) → seconds variables kind a b (made a s k) ≡ []
-      go (yes i) d =
-          fails (chosen (size s) k) (chosen-placed (size s) k .0) (ap (varAt (made a s k)) (sym i) ∙ a-at) (simp (there, eq-eqb a b i) at f)
-      go (no i) (yes z) = let q : true ≡ false = simp (there, ne-eqb a b i, eq-eqb (varAt s b) nowhere z) at f in let w : _≡_ {A = ℕ} 0 1 = cc in absurd (omega arith)
-      go (no i) (no z) =
-          fails (varAt s b) z (made-other a s k b (λ j. i (sym j))) (simp (there, ne-eqb a b i, ne-eqb (varAt s b) nowhere z) at f)
-
-  first-made : (k : ℕ) → a ≤ length (s .vars) → varAt s a ≡ nowhere
-      → firstOf variables kind a b s k ≡ concatMap (seconds variables kind a b) (choice a s k)
-  unfolding firstOf firstFits placedFits put
-  first-made k h e =
-      rw (choice-made a s k, concatMap-keep (seconds variables kind a b) (exists (s .links) k) (made a s k))
-      (simp (eq-eqb (varAt s a) nowhere e) (go (exists (s .links) k) (placedFits kind a b (varAt s b) (s .links) k) refl refl))
-    where
-      go : (x f : Bool) → exists (s .links) k ≡ x → placedFits kind a b (varAt s b) (s .links) k ≡ f
-          → cond f (seconds variables kind a b (made a s k)) [] ≡ cond x (seconds variables kind a b (made a s k)) []
-      go true true p q = refl
-      go true false p q = sym (first-fails k h e p q)
-      go false true p q = let z : false ≡ true = simp p at q in let w : _≡_ {A = ℕ} 0 1 = cc in absurd (omega arith)
-      go false false p q = refl
-
-  first-choice : (k : ℕ) → a ≤ length (s .vars)
-      → firstOf variables kind a b s k ≡ concatMap (seconds variables kind a b) (choiceFrom (varAt s a) a s k)
-  unfolding firstOf firstFits put
-  first-choice k h = go (varAt s a) refl
-    where
-      go : (p : ℕ) → varAt s a ≡ p → firstOf variables kind a b s k ≡ concatMap (seconds variables kind a b) (choiceFrom p a s k)
-      go zero e = first-made k h e
-      go (suc p) e =
-          simp (ne-eqb (varAt s a) nowhere (λ z. let q : suc p ≡ 0 = sym e ∙ z in omega arith)) (sym (append-nil (seconds variables kind a b s)))
-
-  pub firsts-by-number : a ≤ length (s .vars)
-      → concatMap (firstOf variables kind a b s) (range 0 (choicesFrom (varAt s a) s)) ≡ firsts variables kind a b s
-  firsts-by-number h =
-      let numbers = range 0 (choicesFrom (varAt s a) s) in
-      let keepOne : Shape → List Shape = λ t. keep (tested kind a b t) (changed variables kind a b t) in
-      concatMap-same (firstOf variables kind a b s) (λ k. concatMap (seconds variables kind a b) (choiceFrom (varAt s a) a s k)) numbers
-      (λ k m. first-choice k h)
-      ∙ sym (concatMap-concatMap (seconds variables kind a b) (choiceFrom (varAt s a) a s) numbers)
-      ∙ ap (concatMap (seconds variables kind a b)) (place-by-number a s)
-      ∙ sym (concatMap-concatMap keepOne (place b) (place a s))

@@ -1,10 +1,8 @@
 pub mod Lists
 pub mod ByNumber
-pub mod Tried
 pub mod Operations
 pub mod Arrays
 pub mod Opening
 pub mod Putting
 pub mod Undoing
 pub mod Tests
-pub mod Steps

@@ -1,19 +1,15 @@
--- A choice in an array of links: whether it is there, opening its cell, and the links after that.
-use mathlib.Core.Bool.{true, not}
+-- A choice in an array of links: where it is, and opening its cell.
 use mathlib.Core.List.{List, [], _∷_, _++_}
 use mathlib.Core.Logic.{_≢_}
 use mathlib.Core.Path.{_≡_, refl, sym, ap, _∙_}
-use Prim.Native.Nat.{ℕ, zero, suc, _+_, _-_, _≤_, _<_}
+use Prim.Native.Nat.{ℕ, suc, _+_, _-_, _≤_, _<_}
 use native.Mathlib.Decide.{ℕ-discrete, decLt}
 use native.Mathlib.Omega.{arith}
 use borrow.Author.Tests.{lt-ltb, le-ltb, le-leb, lt-leb, eq-eqb, ne-eqb}
-use lib.Dec.{eqb}
-use lib.ListN.{length, getD, set, take, length-set, List·getD-eq-default, List·getD-append}
-use lib.Seq.{length-take-le, getD-take, getD-set-same, getD-set-other, getD-at, take-set-lt, take-suc-set, set-append-left}
-use Rattle.heap.specs.Codes.{linkIn}
+use lib.ListN.{length, getD, set, take, length-set}
+use lib.Seq.{length-take-le, getD-take, getD-set-same, getD-set-other, take-set-lt, take-suc-set, set-append-left}
 use Rattle.heap.specs.Place.{nowhere, null, cell}
-use Rattle.shape.proofs.Laws.{link-set-other, link-snoc, link-unlinked}
-use Rattle.choices.specs.Choice.{chosen, choiceOf, exists, opened}
+use Rattle.choices.specs.Choice.{chosen, choiceOf, opened}
 use Rattle.choices.specs.Held.{Opens}
 
 pub chosen-cell : (n k : ℕ) → k < n → chosen n k ≡ cell k
@@ -36,12 +32,6 @@ pub choice-of-cell : (n p : ℕ) → p ≢ null → choiceOf n p ≡ p - 3
 unfolding choiceOf
 choice-of-cell n p e = simp (ne-eqb p null e)
 
-by-code : (P : ℕ → Type 0) → P 0 → P 1 → P 2 → ((i : ℕ) → P (cell i)) → (p : ℕ) → P p
-by-code P p0 p1 p2 pc zero = p0
-by-code P p0 p1 p2 pc (suc zero) = p1
-by-code P p0 p1 p2 pc (suc (suc zero)) = p2
-by-code P p0 p1 p2 pc (suc (suc (suc i))) = pc i
-
 -- the fresh cell is in use after a choice above #
 pub chosen-inside : (n k m : ℕ) → n ≤ m → (n < k → m ≡ suc n) → chosen n k < cell m
 chosen-inside n k m l fresh = go (decLt k n) (ℕ-discrete k n)
@@ -54,19 +44,6 @@ chosen-inside n k m l fresh = go (decLt k n) (ℕ-discrete k n)
 module _ (n : ℕ) (links : List ℕ) (room : length links ≡ 14) (cells : n ≤ 13) where
   pub length-first : length (take n links) ≡ n
   length-first = length-take-le n links (omega arith)
-
-  pub chosen-first : (k p : ℕ) → p ≡ chosen n k → p ≡ chosen (length (take n links)) k
-  chosen-first k p e = rw length-first e
-
-  pub exists-low : (k : ℕ) → k < n + 2 → true ≡ exists (take n links) k
-  unfolding exists
-  exists-low k h = rw length-first (simp (lt-ltb k (n + 2) h))
-
-  pub exists-high : (k : ℕ) → n + 2 ≤ k → k < n + (2 + n) → not (eqb (getD links (k - n - 2) nowhere) nowhere) ≡ exists (take n links) k
-  unfolding exists
-  exists-high k h b =
-      let i-is : k - (n + 2) ≡ k - n - 2 = omega arith in
-      rw (length-first, i-is) (simp (le-ltb k (n + 2) h, getD-take n links (k - n - 2) nowhere (omega arith)))
 
   -- ---- the links after choice k is opened
 
@@ -134,52 +111,3 @@ module _ (n : ℕ) (links : List ℕ) (room : length links ≡ 14) (cells : n �
           rw (getD-set-other (set links n p) i j (3 + n) nowhere e, f, getD-set-same links n p nowhere (omega arith)) (omega (arith, r i (omega arith)))
       range r j c (no e) (no f) =
           rw (getD-set-other (set links n p) i j (3 + n) nowhere e, getD-set-other links n j p nowhere f) (omega (arith, r j (omega arith)))
-
-  -- ---- the link of the cell at p
-
-  link-first : (p : ℕ) → 3 ≤ p → p < cell n → linkIn (take n links) p ≡ getD links (p - 3) nowhere
-  link-first =
-      by-code (λ p. 3 ≤ p → p < cell n → linkIn (take n links) p ≡ getD links (p - 3) nowhere) (λ l h. absurd (omega arith)) (λ l h. absurd (omega arith))
-      (λ l h. absurd (omega arith))
-      (λ i l h. let e : cell i - 3 ≡ i = omega arith in rw e (getD-take n links i nowhere (omega arith)))
-
-  link-last : linkIn (take n links) (cell n) ≡ nowhere
-  link-last = List·getD-eq-default (take n links) nowhere (omega (arith, length-first))
-
-  -- not split: as before, and a fresh cell has no link
-  pub link-kept : (k p : ℕ) → k ≤ n + 1 → 3 ≤ p → p < cell n → getD links (p - 3) nowhere ≡ linkIn (opened (take n links) k) p
-  link-kept k p h l b = go (ℕ-discrete k (n + 1))
-    where
-      go : Dec (k ≡ n + 1) → getD links (p - 3) nowhere ≡ linkIn (opened (take n links) k) p
-      go (yes e) = sym (rw (opened-fresh k e) (link-unlinked (take n links) p ∙ link-first p l b))
-      go (no e) = sym (rw (opened-none k (omega arith)) (link-first p l b))
-
-  pub link-fresh : (k p : ℕ) → k ≤ n + 1 → p ≡ cell n → nowhere ≡ linkIn (opened (take n links) k) p
-  link-fresh k p h e = rw e (go (ℕ-discrete k (n + 1)))
-    where
-      go : Dec (k ≡ n + 1) → nowhere ≡ linkIn (opened (take n links) k) (cell n)
-      go (yes e) = sym (rw (opened-fresh k e) (link-unlinked (take n links) (cell n) ∙ link-last))
-      go (no e) = sym (rw (opened-none k (omega arith)) link-last)
-
-  module _ (k : ℕ) (h : n + 1 < k) (b : k < n + (2 + n)) where
-    split-length : length (set (take n links) (k - n - 2) (cell n)) ≡ n
-    split-length = length-set (take n links) (k - n - 2) (cell n) ∙ length-first
-
-    pub link-middle : (p : ℕ) → p ≡ cell n → getD links (k - n - 2) nowhere ≡ linkIn (opened (take n links) k) p
-    link-middle p e = rw e (sym (rw (opened-middle k h b) (getD-at (set (take n links) (k - n - 2) (cell n)) (getD links (k - n - 2) nowhere) [] nowhere n split-length)))
-
-    pub link-source : (p : ℕ) → p ≡ cell (k - n - 2) → cell n ≡ linkIn (opened (take n links) k) p
-    link-source p e =
-        rw e
-        (sym
-        (rw (opened-middle k h b)
-        (List·getD-append (set (take n links) (k - n - 2) (cell n)) (getD links (k - n - 2) nowhere ∷ []) nowhere (k - n - 2) (omega (arith, split-length))
-        ∙ getD-set-same (take n links) (k - n - 2) (cell n) nowhere (omega (arith, length-first)))))
-
-    pub link-other : (p : ℕ) → 3 ≤ p → p < cell n → p ≢ cell (k - n - 2) → getD links (p - 3) nowhere ≡ linkIn (opened (take n links) k) p
-    link-other p l c o =
-        sym
-        (rw (opened-middle k h b)
-        (link-snoc (set (take n links) (k - n - 2) (cell n)) (getD links (k - n - 2) nowhere) p (omega (arith, split-length))
-        ∙ link-set-other (take n links) (k - n - 2) (cell n) p o
-        ∙ link-first p l c))

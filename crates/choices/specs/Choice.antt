@@ -1,6 +1,6 @@
 -- Placing by the number of a choice. In a shape of n cells: 0 .. n - 1 a cell, n #, n + 1 a fresh cell, n + 2 + i a fresh cell in the middle
 -- of the link of cell i.
-use mathlib.Core.Bool.{Bool, _||_, _&&_, not, cond}
+use mathlib.Core.Bool.{Bool, _||_, not, cond}
 use mathlib.Core.List.{List, [], _∷_, _++_}
 use Prim.Native.Nat.{ℕ, suc, _+_, _-_}
 use lib.Dec.{eqb, ltb, leb}
@@ -36,14 +36,3 @@ made v s k = record { vars = setVarIn v (chosen (size s) k) (s .vars); links = o
 -- the same; nothing where it has a place
 unfoldable pub put : ℕ → Shape → ℕ → Shape
 put v s k = cond (eqb (varAt s v) nowhere) (made v s k) s
-
--- ---- the choices that can be retained, of a variable at p where the other one of the operation is at q: from the first to before the other
-
-unfoldable pub wantsSame : ℕ → Bool
-wantsSame kind = eqb kind 1 || eqb kind 3
-
-unfoldable pub firstTried : ℕ → ℕ → ℕ → ℕ → ℕ
-firstTried kind n p q = cond (eqb p nowhere) (cond (wantsSame kind && not (eqb q nowhere)) (choiceOf n q) 0) 0
-
-unfoldable pub pastTried : ℕ → ℕ → ℕ → ℕ → ℕ
-pastTried kind n p q = cond (eqb p nowhere) (cond (wantsSame kind && not (eqb q nowhere)) (suc (choiceOf n q)) (n + (2 + n))) 1

@@ -1,16 +1,13 @@
 -- Kinds 1 to 5: what is retained of two placings, how it is changed, and the same by the numbers of the choices.
 use mathlib.Core.Bool.{Bool, _||_, _&&_, not, cond}
-use mathlib.Core.List.{List, []}
+use mathlib.Core.List.{List}
 use Prim.Native.Nat.{ℕ}
 use lib.Dec.{eqb, ltb}
-use lib.ListN.{length}
-use Rattle.lists.specs.List.{keep}
 use Rattle.heap.specs.Codes.{linkIn}
-use Rattle.heap.specs.Place.{nowhere, null, dangling}
+use Rattle.heap.specs.Place.{nowhere, dangling}
 use Rattle.shape.specs.Placing.{setVar, place, placeBoth}
 use Rattle.shape.specs.Shape.{Shape, varAt}
 use Rattle.backward.specs.Predecessors.{setLink, dropHelper, retain}
-use Rattle.choices.specs.Choice.{chosen, exists, opened, put}
 
 -- ---- one result of the placings
 
@@ -42,33 +39,3 @@ seconds variables kind a b s = retain (tested kind a b) (changed variables kind 
 
 abbrev pub firsts : ℕ → ℕ → ℕ → ℕ → Shape → List Shape
 firsts variables kind a b s = retain (tested kind a b) (changed variables kind a b) (placeBoth a b s)
-
--- no choices of a, at x, and of b, at y, are retained
-unfoldable pub hopeless : ℕ → ℕ → ℕ → ℕ → ℕ → Bool
-hopeless kind a b x y =
-    (eqb x dangling || eqb y dangling) || cond (eqb kind 2) (eqb a b) (cond (eqb kind 4) (eqb y null) (eqb kind 5 && eqb x null))
-
--- ---- by the number of a choice
-
--- choice k of b is retained, where a is at x and b at y
-unfoldable pub secondFits : ℕ → ℕ → ℕ → List ℕ → ℕ → Bool
-secondFits kind x y links k =
-    cond (eqb y nowhere) (exists links k && retained kind x (chosen (length links) k) (opened links k)) (retained kind x y links)
-
-unfoldable pub secondOf : ℕ → ℕ → ℕ → ℕ → Shape → ℕ → List Shape
-secondOf variables kind a b s k = keep (secondFits kind (varAt s a) (varAt s b) (s .links) k) (changed variables kind a b (put b s k))
-
--- choice k of a, which stands nowhere, is there; and where b, at y, then has a place, the kind retains it
-unfoldable pub placedFits : ℕ → ℕ → ℕ → ℕ → List ℕ → ℕ → Bool
-placedFits kind a b y links k =
-    let x = chosen (length links) k in
-    let after = opened links k in
-    exists links k && cond (eqb a b) (retained kind x x after) (eqb y nowhere || retained kind x y after)
-
--- the same of a at x
-unfoldable pub firstFits : ℕ → ℕ → ℕ → ℕ → ℕ → List ℕ → ℕ → Bool
-firstFits kind a b x y links k = not (eqb x nowhere) || placedFits kind a b y links k
-
-unfoldable pub firstOf : ℕ → ℕ → ℕ → ℕ → Shape → ℕ → List Shape
-firstOf variables kind a b s k =
-    cond (firstFits kind a b (varAt s a) (varAt s b) (s .links) k) (seconds variables kind a b (put a s k)) []
