@@ -2,11 +2,11 @@ use Prim.Native.Nat.{_-_}
 use native.Mathlib.Omega.{arith}
 use lib.ListN.{length, getD}
 use mathlib.Core.Logic.{⊎-elim}
-use Rattle.removing.proofs.Loops.{Sweeping, sweep-none, sweep-set, sweep-keep, sweep-all, forgotten, known}
+use Rattle.places.proofs.Loops.{Sweeping, sweep-none, sweep-set, sweep-keep, sweep-all, forgotten, known}
 use Rattle.backward.specs.Predecessors.{forget}
 use borrow.Author.Needs.{needs}
-use Rattle.checker.proofs.removal.forget_all.Statement.{statement}
-use Rattle.checker.proofs.removal.forget_all.Tie as tie
+use Rattle.places.proofs.forget_all.Statement.{statement}
+use Rattle.places.proofs.forget_all.Tie as tie
 
 abbrev Inv-loop : tie.InvT-loop
 Inv-loop places₀ i₀ places i = Sweeping (forget) places₀ places i

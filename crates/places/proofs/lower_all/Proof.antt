@@ -2,11 +2,11 @@ use Prim.Native.Nat.{_-_}
 use native.Mathlib.Omega.{arith}
 use lib.ListN.{length, getD}
 use mathlib.Core.Logic.{⊎-elim}
-use Rattle.removing.proofs.Loops.{Sweeping, sweep-none, sweep-set, sweep-keep, sweep-all, lowered, kept}
+use Rattle.places.proofs.Loops.{Sweeping, sweep-none, sweep-set, sweep-keep, sweep-all, lowered, kept}
 use Rattle.backward.specs.Predecessors.{lower}
 use borrow.Author.Needs.{needs}
-use Rattle.checker.proofs.removal.lower_all.Statement.{statement}
-use Rattle.checker.proofs.removal.lower_all.Tie as tie
+use Rattle.places.proofs.lower_all.Statement.{statement}
+use Rattle.places.proofs.lower_all.Tie as tie
 
 abbrev Inv-loop : tie.InvT-loop
 Inv-loop places₀ gone i₀ places i = Sweeping (lower gone) places₀ places i
