@@ -2,7 +2,6 @@ use Prim.Native.Nat.{_-_}
 use native.Mathlib.Omega.{arith}
 use lib.ListN.{length}
 use Rattle.places.proofs.Moves.{close-outside, Moving, move-none, move-more, move-all}
-use borrow.Author.Needs.{needs}
 use Rattle.places.proofs.close_up.Statement.{statement}
 use Rattle.places.proofs.close_up.Tie as tie
 

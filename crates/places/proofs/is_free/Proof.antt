@@ -1,9 +1,7 @@
-use mathlib.Core.Path.{_≡_, _∙_, sym}
+use mathlib.Core.Path.{_∙_, sym}
 use native.Mathlib.Omega.{arith}
 use borrow.Author.Tests.{not-true, not-false}
-use Rattle.heap.specs.Place.{null, dangling}
-use Prim.Native.Nat.{_≤_}
-use Rattle.shape.specs.Shape.{Shape, linkAt}
+use Rattle.shape.specs.Shape.{Shape}
 use Rattle.places.proofs.Free.{no-cell, to-null, to-cell, link-at, var-at}
 use borrow.Author.Needs.{needs}
 use Rattle.places.proofs.is_free.Statement.{statement}
