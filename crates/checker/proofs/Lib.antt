@@ -10,5 +10,4 @@ pub mod Operands
 pub mod Made
 pub mod Loading
 pub mod Chain
-pub mod Empty
 pub mod Verdicts

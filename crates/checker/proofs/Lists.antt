@@ -4,8 +4,6 @@ use mathlib.Core.Path.{_≡_, refl}
 use Prim.Native.Nat.{ℕ, suc, _+_, _-_, _≤_, _<_}
 use native.Mathlib.Numerals.{add-one}
 use native.Mathlib.Omega.{arith}
-use lib.ListN.{length, getD, take, drop}
-use lib.Seq.{drop-cons}
 use Rattle.lists.specs.Range.{range}
 use Rattle.layout.specs.Entries.{locatedAt, Entry, entryEnd, entriesAt, EntriesIn}
 
@@ -33,10 +31,3 @@ module _ (n i : ℕ) (h : n ≤ i) where
   pub entries-end : (bytes : List ℕ) (variables at : ℕ) → entriesAt bytes variables at (n - i) ≡ []
   unfolding entriesAt
   entries-end bytes variables at = let none : n - i ≡ 0 = omega arith in rw none refl
-
--- a stretch of which i of n are passed
-pub stretch-next : (l : List ℕ) (first n i : ℕ) → i < n → first + n ≤ length l
-    → take (n - i) (drop (first + i) l) ≡ getD l (first + i) 0 ∷ take (n - (i + 1)) (drop (first + (i + 1)) l)
-stretch-next l first n i h inside =
-    let next : first + (i + 1) ≡ suc (first + i) = omega arith in
-    rw (left n i h, next, drop-cons l (first + i) 0 (omega arith)) refl

@@ -1,11 +1,12 @@
 -- The arrays that new and delete make.
 use mathlib.Core.Bool.{true}
-use mathlib.Core.List.{List, [], _∷_, map}
-use mathlib.Core.Path.{_≡_, refl}
-use Prim.Native.Nat.{ℕ, _+_, _-_, _≤_, _<_}
+use mathlib.Core.List.{List, [], _∷_, _++_, map}
+use mathlib.Core.Path.{_≡_, refl, ap, _∙_}
+use Prim.Native.Nat.{ℕ, suc, _+_, _-_, _≤_, _<_}
 use native.Mathlib.Numerals.{add-one}
 use native.Mathlib.Omega.{arith}
-use lib.ListN.{length, getD, take, set}
+use lib.ListN.{length, getD, take, drop, set, length-append, length-drop}
+use lib.Seq.{length-take-le, take-append-le}
 use Rattle.lists.proofs.Reflect.{passes}
 use Rattle.heap.specs.Operation.{delete}
 use Rattle.heap.specs.Place.{nowhere, null, dangling, cell}
@@ -13,9 +14,27 @@ use Rattle.backward.specs.Predecessors.{removeAt, lower, forget, predecessors}
 use Rattle.layout.specs.Arrays.{shapeIn, Hold}
 use Rattle.place.specs.Place.{cellPlace}
 use Rattle.place.specs.declared.Place.{Place}
+use Rattle.places.specs.Places.{closeUp}
+use Rattle.places.proofs.Moves.{length-close, close-removed}
 use Rattle.removing.specs.Without.{isFree, without}
 use Rattle.removing.proofs.Arrays.{hold-without, shape-without, hold-delete, delete-some}
 use Rattle.checker.proofs.Places.{cell-code}
+
+-- the test for a free cell on parts of the arrays
+pub free-is : (variables n k : ℕ) (vars links : List ℕ) (p : Place) → p ≡ cellPlace k → k < 253
+    → isFree (p .code) (record { vars = take (1 + variables - 1) (drop 1 vars); links = take n links }) ≡ isFree (cell k) (shapeIn variables n vars links)
+free-is variables n k vars links p is-k b = let all : 1 + variables - 1 ≡ variables = omega arith in rw (cell-code p k is-k b, all) refl
+
+-- the links once those of the first n are closed up at k
+pub closed : (n k : ℕ) (links front : List ℕ) → length links ≡ 14 → n ≤ 14 → k < n → front ≡ closeUp k (take n links)
+    → (length (front ++ drop n links) ≡ 14) × (take (n - 1) (front ++ drop n links) ≡ removeAt k (take n links))
+closed n k links front room fits is-cell e =
+    let long : length (take n links) ≡ n = length-take-le n links (omega arith) in
+    let size : length front ≡ n = ap length e ∙ length-close k (take n links) ∙ long in
+    let some : n ≡ suc (n - 1) = omega arith in (
+      length-append front (drop n links) ∙ omega (arith, length-drop n links),
+      take-append-le (n - 1) front (drop n links) (omega arith) ∙ ap (take (n - 1)) e ∙ close-removed (n - 1) k (take n links) (long ∙ some) (omega arith),
+    )
 
 module _ (variables n : ℕ) (vars links : List ℕ) (h : Hold variables n vars links) where
   -- without the cell k

@@ -1,16 +1,14 @@
 -- From what the code answers to the verdict.
 use mathlib.Core.Bool.{true, false}
-use mathlib.Core.List.{List, [], _∷_, map}
+use mathlib.Core.List.{List, [], map}
 use mathlib.Core.Path.{_≡_, refl, sym, ap, ap₂, _∙_}
 use Prim.Native.Nat.{ℕ, zero, suc, _+_, _≤_, _<_}
 use native.Mathlib.Omega.{arith}
 use native.Mathlib.Decide.{decLe}
 use borrow.Author.Tests.{lt-leb, le-leb, lt-ltb, le-ltb, ltb-true}
 use lib.Dec.{leb, ltb}
-use lib.ListN.{length, getD, take}
-use lib.Seq.{length-take-le, getD-take}
+use lib.ListN.{length}
 use Rattle.lists.specs.Range.{range}
-use Rattle.lists.proofs.Range.{tabled}
 use Rattle.lists.proofs.Test.{and-right}
 use Rattle.run.specs.Run.{Located, Job}
 use Rattle.cover.specs.Cover.{owed}
@@ -20,23 +18,20 @@ use Rattle.format.specs.Job.{JobFile, readWholeJob}
 use Rattle.format.specs.Parser.{Parsed, parsed, fault, Parser, onward, each, certificateBuffer, jobBuffer, end}
 use Rattle.format.specs.Verdict.{Counts, accepted, refused, answer, readCertificate, fits, verdict, readBoth}
 use Rattle.format.proofs.Guarantee.{safe-bytes}
-use Rattle.layout.specs.Entries.{locatedAt, entryEnd, entriesAt, membersAt}
+use Rattle.layout.specs.Entries.{entryEnd, entriesAt}
 use Rattle.reader.specs.Job.{JobRead}
-use Rattle.reader.specs.Members.{Bounds}
+use Rattle.reader.specs.Members.{Bounds, tested, readTested}
 use Rattle.reader.specs.declared.Header.{Header}
-use Rattle.verdict.specs.Verdict.{refusalNumber, verdictOf, reachedOf}
-use Rattle.verdict.specs.declared.Reached.{Reached}
-use Rattle.verdict.specs.declared.Reached.the-variants.{At, Refused as ReachedRefused}
+use Rattle.verdict.specs.Verdict.{refusalNumber, verdictOf}
 use Rattle.verdict.specs.declared.Refusal.{Refusal}
 use Rattle.verdict.specs.declared.Counts.{Counts as CountsAnswer}
 use Rattle.verdict.specs.declared.Verdict.{Verdict as Answer}
 use Rattle.verdict.specs.declared.Verdict.the-variants.{Accepted}
-use Rattle.checker.specs.Jobs.{fileIn, placedFrom, testAll, testThenCover, readCovers}
+use Rattle.checker.specs.Jobs.{fileIn, readCovers}
 use Rattle.checker.specs.Taking.{takeAll, goingOf}
 use Rattle.checker.specs.declared.going.Going.{Going}
 use Rattle.checker.specs.declared.going.Going.the-variants.{On, Refused}
 use Rattle.checker.specs.declared.going.Taken.{Taken}
-use Rattle.checker.proofs.Empty.{start-place}
 use Rattle.checker.proofs.Taking.{takeAll-each}
 
 -- ---- lengths
@@ -110,73 +105,40 @@ pub range-number : {A : Type 0} (f : ℕ → A) (k n : ℕ) → n ≡ length (ma
 range-number f k zero = refl
 range-number f k (suc n) = ap suc (range-number f (suc k) n)
 
--- ---- the members
-
-module _ (cert : List ℕ) (variables : ℕ) (starts : List ℕ) where
-  -- members are known by their places and by what they are without places
-  placed : (ms : List Member) (i n : ℕ) → map (λ m. m .first) ms ≡ map (λ k. getD starts k 0) (range i n)
-      → withoutPlaces ms ≡ map (λ k. locatedAt cert variables (getD starts k 0)) (range i n) → ms ≡ placedFrom cert variables starts n i
-  placed [] i zero e f = refl
-  placed [] i (suc n) e f = let z : _≡_ {A = ℕ} 0 (suc (length (map (λ k. getD starts k 0) (range (suc i) n)))) = ap length e in absurd (omega arith)
-  placed (m ∷ ms) i zero e f = let z : _≡_ {A = ℕ} (suc (length (map (λ m. m .first) ms))) 0 = ap length e in absurd (omega arith)
-  placed (m ∷ ms) i (suc n) e f =
-      let first-is : m .first ≡ getD starts i 0 = cc in
-      let located-is : m .located ≡ locatedAt cert variables (getD starts i 0) = cc in
-      let firsts : map (λ m. m .first) ms ≡ map (λ k. getD starts k 0) (range (suc i) n) = cc in
-      let others : withoutPlaces ms ≡ map (λ k. locatedAt cert variables (getD starts k 0)) (range (suc i) n) = cc in
-      ap₂ _∷_ (ap₂ {C = Member} (λ p l. record { first = p; located = l }) first-is located-is) (placed ms (suc i) n firsts others)
-
-  pub members-placed : (ms : List Member) (n : ℕ) → n ≤ length starts → map (λ m. m .first) ms ≡ take n starts
-      → withoutPlaces ms ≡ membersAt cert variables starts n → ms ≡ placedFrom cert variables starts n 0
-  members-placed ms n h e f =
-      placed ms 0 n (e ∙ tabled (λ k. getD starts k 0) 0 n (take n starts) (length-take-le n starts h) (λ i b. getD-take n starts i 0 b)) f
-
-  -- without their places they are those of the table
-  pub placed-without : (n i : ℕ) → withoutPlaces (placedFrom cert variables starts n i) ≡ map (λ k. locatedAt cert variables (getD starts k 0)) (range i n)
-  placed-without zero i = refl
-  placed-without (suc n) i = ap (λ l. locatedAt cert variables (getD starts i 0) ∷ l) (placed-without n (suc i))
-
--- ---- refusal 8, then the covers
-
-module _ (cert : List ℕ) (j : Job) (ms : List Member) (at : ℕ) (r : Reached) (tested : reachedOf r ≡ testAll (j .start) ms at) where
-  test-then : testThenCover cert j ms at ≡ onward (testAll (j .start) ms at) (λ u. readCovers cert j (withoutPlaces ms))
-  unfolding testThenCover
-  test-then = go (each (testStart (j .start)) ms at)
-    where
-      one : Unit {0}
-      one = tt
-
-      go : (p : Parsed (List (Unit {0}))) → onward p (λ us. readCovers cert j (withoutPlaces ms))
-          ≡ onward (onward p (λ us next. parsed one next)) (λ u. readCovers cert j (withoutPlaces ms))
-      go (parsed us next) = refl
-      go (fault number place) = refl
-
-  pub members-refused : (why : Refusal) (place : ℕ) → r ≡ ReachedRefused why place → refused (refusalNumber why) place ≡ answer (testThenCover cert j ms at)
-  members-refused why place r-is =
-      let e : testAll (j .start) ms at ≡ fault (refusalNumber why) place = sym tested ∙ ap reachedOf r-is in
-      rw (test-then, e) refl
-
-  pub members-passed : (next : ℕ) → r ≡ At next → testThenCover cert j ms at ≡ readCovers cert j (withoutPlaces ms) at
-  members-passed next r-is =
-      let e : testAll (j .start) ms at ≡ parsed tt next = sym tested ∙ ap reachedOf r-is in
-      let place-is = start-place (j .start) ms at e in
-      test-then ∙ rw (e, place-is) refl
-
 -- ---- the certificate
 
 pub bounds : (job cert : List ℕ) (h : Header) → JobRead job h → length cert ≤ 65536 → Bounds cert (h .variables) (h .states)
 bounds job cert h d fits = record { variables-range = d .variables; states-most = d .states .1; fits = fits }
 
 module _ (cert : List ℕ) (f : JobFile) where
-  pub certificate-refused : (number place : ℕ) → readMembers (certificateBuffer cert) (f .job .variables) (f .states) 0 ≡ fault number place
-      → refused number place ≡ answer (readCertificate (certificateBuffer cert) f 0)
-  unfolding readCertificate
-  certificate-refused number place e = rw e refl
+  -- what is read after the members
+  abbrev covers : List Member → Parser Counts
+  covers ms = readCovers cert (f .job) (withoutPlaces ms)
 
-  pub certificate-members : (ms : List Member) (next : ℕ) → readMembers (certificateBuffer cert) (f .job .variables) (f .states) 0 ≡ parsed ms next
-      → testThenCover cert (f .job) ms next ≡ readCertificate (certificateBuffer cert) f 0
-  unfolding readCertificate testThenCover readCovers
-  certificate-members ms next e = rw e refl
+  -- the members are read and tested, then the covers are
+  in-turn : readCertificate (certificateBuffer cert) f 0
+      ≡ onward (readTested (certificateBuffer cert) (f .job .variables) (f .states) (f .job .start) 0) covers
+  unfolding readCertificate readTested readCovers
+  in-turn = go (readMembers (certificateBuffer cert) (f .job .variables) (f .states) 0)
+    where
+      go : (r : Parsed (List Member)) → onward r (λ ms at. onward (each (testStart (f .job .start)) ms at) (λ us. covers ms))
+          ≡ onward (onward r (tested (f .job .start))) covers
+      go (parsed ms next) = tests (each (testStart (f .job .start)) ms next)
+        where
+          tests : (r : Parsed (List (Unit {0}))) → onward r (λ us. covers ms) ≡ onward (onward r (λ us at. parsed ms at)) covers
+          tests (parsed us at) = refl
+          tests (fault number place) = refl
+      go (fault number place) = refl
+
+  pub certificate-refused : (number place : ℕ)
+      → readTested (certificateBuffer cert) (f .job .variables) (f .states) (f .job .start) 0 ≡ fault number place
+      → refused number place ≡ answer (readCertificate (certificateBuffer cert) f 0)
+  certificate-refused number place e = rw (in-turn, e) refl
+
+  pub certificate-members : (ms : List Member) (next : ℕ)
+      → readTested (certificateBuffer cert) (f .job .variables) (f .states) (f .job .start) 0 ≡ parsed ms next
+      → covers ms next ≡ readCertificate (certificateBuffer cert) f 0
+  certificate-members ms next e = rw (in-turn, e) refl
 
 -- ---- the job
 

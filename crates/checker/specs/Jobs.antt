@@ -1,17 +1,16 @@
 -- A job by its bytes and its header.
 use mathlib.Core.List.{List, map}
 use Prim.Native.Nat.{ℕ, _+_, _*_}
-use lib.ListN.{getD}
 use Rattle.lists.specs.List.{concatMap}
 use Rattle.lists.specs.Range.{range}
 use Rattle.run.specs.Run.{Transition, Located, Job}
 use Rattle.cover.specs.Cover.{predecessorsBy, owed}
-use Rattle.format.specs.Certificate.{Member, withoutPlaces, testStart, readCover}
+use Rattle.format.specs.Certificate.{readCover}
 use Rattle.format.specs.Conditions.{countsOf}
 use Rattle.format.specs.Job.{JobFile}
 use Rattle.format.specs.Parser.{Parser, _>>_, return, each, certificateBuffer, end}
 use Rattle.format.specs.Verdict.{Counts}
-use Rattle.layout.specs.Entries.{locatedAt, entriesAt}
+use Rattle.layout.specs.Entries.{entriesAt}
 use Rattle.layout.specs.Transitions.{transitionAt}
 use Rattle.reader.specs.declared.Header.{Header}
 
@@ -43,26 +42,9 @@ module _ (job : List ℕ) (h : Header) where
   abbrev pub owedBy : Located → List Located
   owedBy m = concatMap (predecessorsBy m) transitionsIn
 
--- the members with their places, from the i-th on, `left` of them
-abbrev pub placedFrom : List ℕ → ℕ → List ℕ → ℕ → ℕ → List Member
-placedFrom cert variables starts left i =
-    map (λ k. record { first = getD starts k 0; located = locatedAt cert variables (getD starts k 0) }) (range i left)
-
--- refusal 8 of members, and the place that was reached
-abbrev pub testAll : ℕ → List Member → Parser (Unit {0})
-testAll start ms = do
-  each (testStart start) ms
-  return tt
-
 -- the covers that a job and members owe, and nothing after them
 unfoldable pub readCovers : List ℕ → Job → List Located → Parser Counts
 readCovers cert j ms = do
   each (readCover (certificateBuffer cert) ms) (owed j ms)
   end (certificateBuffer cert)
   return (countsOf j ms)
-
--- refusal 8 of the members, then the covers
-unfoldable pub testThenCover : List ℕ → Job → List Member → Parser Counts
-testThenCover cert j members = do
-  each (testStart (j .start)) members
-  readCovers cert j (withoutPlaces members)

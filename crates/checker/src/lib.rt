@@ -1,6 +1,5 @@
 // The checker: one verdict for the bytes of a job and of a certificate.
 use crate::going::Going;
-use crate::start::test_start;
 use crate::take::take_covers;
 use reader::Header;
 use reader::JobAnswer;
@@ -8,13 +7,12 @@ use reader::MembersAnswer;
 use reader::read_job;
 use reader::read_members;
 use verdict::Counts;
-use verdict::Reached;
 use verdict::Refusal;
 use verdict::Verdict;
 ghost use mathlib.Core.Path.{_≡_};
 ghost use Prim.Native.Nat.{_≤_};
 ghost use lib.ListN.{length};
-ghost use Rattle.checker.specs.Jobs.{fileIn, placedFrom, readCovers, testThenCover};
+ghost use Rattle.checker.specs.Jobs.{fileIn, readCovers};
 ghost use Rattle.format.specs.Conditions.{SafeBytes};
 ghost use Rattle.format.specs.Parser.{certificateBuffer, within};
 ghost use Rattle.format.specs.Verdict.{answer, readCertificate, verdict};
@@ -31,7 +29,6 @@ mod load;
 mod one;
 mod placing;
 mod removal;
-mod start;
 mod take;
 mod wanting;
 
@@ -73,35 +70,16 @@ fn check_covers(
     }
 }
 
-// Tests the members that were read, and takes the covers.
-fn check_members(
-    job: &[u8],
-    h: Header,
-    cert: &[u8],
-    starts: &[u16; 512],
-    members: usize,
-    at: usize,
-) -> Verdict
-    requires { ⌜ (JobRead (now job) h) × (Table (now cert) (h .variables) (now starts) members) × (at ≤ length (now cert)) × (length (now cert) ≤ 65536) ⌝ }
-    ensures { λ r. ⌜ verdictOf r ≡ answer (testThenCover (now (cert .entry)) (fileIn (now (job .entry)) h .job) (placedFrom (now (cert .entry)) (h .variables) (now (starts .entry)) members 0) at) ⌝ }
-{
-    let r = test_start(cert, starts, h.variables, members, h.start, at);
-    match r {
-        Reached::Refused(why, place) => Verdict::Refused(why, place),
-        Reached::At(_) => check_covers(job, h, cert, starts, members, at),
-    }
-}
-
 // Checks a certificate for a job that was read.
 fn check_certificate(job: &[u8], h: Header, cert: &[u8]) -> Verdict
     requires { ⌜ (JobRead (now job) h) × (length (now cert) ≤ 65536) ⌝ }
     ensures { λ r. ⌜ verdictOf r ≡ answer (readCertificate (certificateBuffer (now (cert .entry))) (fileIn (now (job .entry)) h) 0) ⌝ }
 {
     let mut starts = [0u16; 512];
-    let r = read_members(cert, h.variables, h.states, &mut starts);
+    let r = read_members(cert, h.variables, h.states, h.start, &mut starts);
     match r {
         MembersAnswer::Refused(why, place) => Verdict::Refused(why, place),
-        MembersAnswer::Members(members, at) => check_members(job, h, cert, &starts, members, at),
+        MembersAnswer::Members(members, at) => check_covers(job, h, cert, &starts, members, at),
     }
 }
 

@@ -6,4 +6,5 @@ pub mod Jobs
 pub mod Bytes
 pub mod Standing
 pub mod WholeJob
+pub mod Testing
 pub mod Noting

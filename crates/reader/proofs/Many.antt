@@ -32,7 +32,7 @@ forget-made (parsed v next) f = refl
 forget-made (fault number place) f = refl
 
 module _ {A : Type 0} (p : Parser A) where
-  many-suc : (k at : ℕ) → many (suc k) p at ≡ onward (p at) (λ x mid. onward (many k p mid) (λ xs next. parsed (x ∷ xs) next))
+  pub many-suc : (k at : ℕ) → many (suc k) p at ≡ onward (p at) (λ x mid. onward (many k p mid) (λ xs next. parsed (x ∷ xs) next))
   unfolding many
   many-suc k at = refl
 

@@ -12,16 +12,17 @@ use Rattle.lists.proofs.Range.{tabled}
 use Rattle.run.specs.Run.{Located}
 use Rattle.format.specs.Certificate.{Member, readMember, readMembers}
 use Rattle.format.specs.Job.{readLocated}
-use Rattle.format.specs.Parser.{parsed, fault, Buffer, certificateBuffer, many, ranged}
+use Rattle.format.specs.Parser.{Parsed, parsed, fault, onward, Buffer, certificateBuffer, many, ranged}
 use Rattle.format.proofs.Covers.{members-sound}
 use Rattle.format.proofs.Parsing.{ranged-exact}
 use Rattle.format.proofs.Sequence.{reads-one}
 use Rattle.layout.specs.Entries.{locatedAt, Entry, entryEnd, placesAt, EntriesIn}
-use Rattle.reader.specs.Members.{Bounds, Noted, MembersRead}
+use Rattle.reader.specs.Members.{Bounds, Noted, tested, readTested, MembersRead}
 use Rattle.reader.specs.Number.{forget}
 use Rattle.reader.proofs.Bytes.{reads-inside, number-inside}
 use Rattle.reader.proofs.Many.{remembered, forget-fault, forget-made, many-length, Left, left-none, left-more}
 use Rattle.reader.proofs.Standing.{entry-read, members-read}
+use Rattle.reader.proofs.Testing.{tested-place, tested-same}
 
 -- the values of f at the first elements, by their index
 map-take : {B : Type 0} (f : ℕ → B) (n : ℕ) (l : List ℕ) → n ≤ length l → map f (take n l) ≡ map (λ i. f (getD l i 0)) (range 0 n)
@@ -104,50 +105,68 @@ module _ (cert : List ℕ) (variables states : ℕ) where
 
   -- ---- the certificate's first bytes
 
-  pub lost-version : {number place : ℕ} → ranged s 1 2 0 ≡ fault number place → readMembers s variables states 0 ≡ fault number place
-  unfolding readMembers
-  lost-version e = rw e refl
+  module _ (start : ℕ) where
+    pub lost-version : {number place : ℕ} → ranged s 1 2 0 ≡ fault number place → readTested s variables states start 0 ≡ fault number place
+    unfolding readTested readMembers
+    lost-version e = rw e refl
 
-  module _ {version a : ℕ} (e₁ : ranged s 1 2 0 ≡ parsed version a) where
-    pub lost-number : {number place : ℕ} → ranged s 1 513 a ≡ fault number place → readMembers s variables states 0 ≡ fault number place
-    unfolding readMembers
-    lost-number e = rw (e₁, e) refl
+    module _ {version a : ℕ} (e₁ : ranged s 1 2 0 ≡ parsed version a) where
+      pub lost-number : {number place : ℕ} → ranged s 1 513 a ≡ fault number place → readTested s variables states start 0 ≡ fault number place
+      unfolding readTested readMembers
+      lost-number e = rw (e₁, e) refl
 
-    module _ {count first : ℕ} (e₂ : ranged s 1 513 a ≡ parsed count first) where
-      pub lost-member : {number place : ℕ} → forget (many count (readMember s variables states) first) ≡ fault number place
-          → readMembers s variables states 0 ≡ fault number place
-      unfolding readMembers
-      lost-member {number} {place} e = rw (e₁, e₂) (forget-fault (many count (readMember s variables states) first) number place e)
+      module _ {count first : ℕ} (e₂ : ranged s 1 513 a ≡ parsed count first) where
+        abbrev all : Parsed (List Member)
+        all = many count (readMember s variables states) first
 
-      pub members-made : (before after : List ℕ) (next : ℕ) → forget (many count (readMember s variables states) first) ≡ parsed tt next
-          → Noted cert variables states first count before after → length before ≡ 512 → MembersRead cert variables states before after count next
-      unfolding readMembers
-      members-made before after next e n full =
-          let (ms, g) = remembered (many count (readMember s variables states) first) next e in
-          let read : readMembers s variables states 0 ≡ parsed ms next = rw (e₁, e₂) g in
-          let (number-read, (low, high)) = ranged-exact s 1 513 .sound a count first e₂ in
-          let first-inside : first ≤ length cert = number-inside cert a count first (reads-one number-read) in
-          let room : count ≤ length after = omega (arith, n .size) in
-          record {
-            members = ms;
-            read = read;
-            number = many-length (readMember s variables states) count first ms next g;
-            number-range = (low, omega arith);
-            inside = reads-inside (members-sound s variables states 0 ms next read .0) (omega arith);
-            size = n .size;
-            places-are = λ b. members-read s variables states (b .states-most) count first ms next first-inside g .places ∙ sym (n .places b);
-            members-are = λ b.
-                members-read s variables states (b .states-most) count first ms next first-inside g .located
-                ∙ ap (map (locatedAt cert variables)) (sym (n .places b)) ∙ map-take (locatedAt cert variables) count after room;
-            table = λ b.
-                record {
-                  size = n .size ∙ full;
-                  variables-some = b .variables-range .0;
-                  variables-most = b .variables-range .1;
-                  count-most = omega arith;
-                  entry = λ i h.
-                      subst (Entry cert variables) (ap (λ l. getD l i 0) (sym (n .places b)) ∙ getD-take count after i 0 h)
-                      (entry-of cert variables count first i (members-read s variables states (b .states-most) count first ms next first-inside g .entries) h);
-                };
-            rest = n .rest;
-          }
+        reading-is : readMembers s variables states 0 ≡ all
+        unfolding readMembers
+        reading-is = rw (e₁, e₂) refl
+
+        testing-is : readTested s variables states start 0 ≡ onward all (tested start)
+        unfolding readTested
+        testing-is = ap (λ x. onward x (tested start)) reading-is
+
+        pub lost-member : {number place : ℕ} → forget all ≡ fault number place → readTested s variables states start 0 ≡ fault number place
+        lost-member {number} {place} e = testing-is ∙ ap (λ x. onward x (tested start)) (forget-fault all number place e)
+
+        pub lost-test : {number place : ℕ} → forget (onward all (tested start)) ≡ fault number place
+            → readTested s variables states start 0 ≡ fault number place
+        lost-test {number} {place} e = testing-is ∙ forget-fault (onward all (tested start)) number place e
+
+        pub members-made : (before after : List ℕ) (end next : ℕ) → forget all ≡ parsed tt end → Noted cert variables states first count before after
+            → forget (onward all (tested start)) ≡ parsed tt next → length before ≡ 512
+            → MembersRead cert variables states start before after count next
+        members-made before after end next e n t full =
+            let (ms, g) = remembered all end e in
+            let end-is : end ≡ next = tested-place start ms end next (sym (ap (λ x. forget (onward x (tested start))) g) ∙ t) in
+            let read : readTested s variables states start 0 ≡ parsed ms next =
+            testing-is ∙ ap (λ x. onward x (tested start)) g
+            ∙ tested-same start ms end next (sym (ap (λ x. forget (onward x (tested start))) g) ∙ t) in
+            let (number-read, (low, high)) = ranged-exact s 1 513 .sound a count first e₂ in
+            let first-inside : first ≤ length cert = number-inside cert a count first (reads-one number-read) in
+            let room : count ≤ length after = omega (arith, n .size) in
+            let end-inside : end ≤ length cert = reads-inside (members-sound s variables states 0 ms end (reading-is ∙ g) .0) (omega arith) in
+            record {
+              members = ms;
+              read = read;
+              number = many-length (readMember s variables states) count first ms end g;
+              number-range = (low, omega arith);
+              inside = omega arith;
+              size = n .size;
+              places-are = λ b. members-read s variables states (b .states-most) count first ms end first-inside g .places ∙ sym (n .places b);
+              members-are = λ b.
+                  members-read s variables states (b .states-most) count first ms end first-inside g .located
+                  ∙ ap (map (locatedAt cert variables)) (sym (n .places b)) ∙ map-take (locatedAt cert variables) count after room;
+              table = λ b.
+                  record {
+                    size = n .size ∙ full;
+                    variables-some = b .variables-range .0;
+                    variables-most = b .variables-range .1;
+                    count-most = omega arith;
+                    entry = λ i h.
+                        subst (Entry cert variables) (ap (λ l. getD l i 0) (sym (n .places b)) ∙ getD-take count after i 0 h)
+                        (entry-of cert variables count first i (members-read s variables states (b .states-most) count first ms end first-inside g .entries) h);
+                  };
+              rest = n .rest;
+            }

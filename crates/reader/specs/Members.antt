@@ -3,9 +3,9 @@ use mathlib.Core.List.{List, map}
 use mathlib.Core.Path.{_≡_}
 use Prim.Native.Nat.{ℕ, _≤_}
 use lib.ListN.{length, take, drop}
-use Rattle.format.specs.Certificate.{Member, withoutPlaces, readMembers}
+use Rattle.format.specs.Certificate.{Member, withoutPlaces, readMembers, testStart}
 use Rattle.format.specs.Conditions.{Between}
-use Rattle.format.specs.Parser.{parsed, fault, certificateBuffer}
+use Rattle.format.specs.Parser.{parsed, fault, Parser, _>>=_, _>>_, return, each, Buffer, certificateBuffer}
 use Rattle.layout.specs.Entries.{placesAt, membersAt, Table}
 use Rattle.verdict.specs.Verdict.{refusalNumber}
 use Rattle.verdict.specs.declared.Reached.{Reached}
@@ -29,10 +29,23 @@ abbrev pub NotedBy : List ℕ → ℕ → ℕ → ℕ → ℕ → List ℕ → L
 NotedBy cert variables states first count before after (At next) = Noted cert variables states first count before after
 NotedBy cert variables states first count before after (ReachedRefused r place) = length after ≡ length before
 
--- The certificate's first bytes are read as members, and the table has their first places. What the table held behind them stays.
-pub record MembersRead (cert : List ℕ) (variables states : ℕ) (before after : List ℕ) (count next : ℕ) : Type 0 where
+-- members that were read, once each has passed the test of refusal 8
+abbrev pub tested : ℕ → List Member → Parser (List Member)
+tested start ms = do
+  each (testStart start) ms
+  return ms
+
+-- the members of a certificate, all of them read and then tested
+unfoldable pub readTested : Buffer → ℕ → ℕ → ℕ → Parser (List Member)
+readTested s variables states start = do
+  members ← readMembers s variables states
+  tested start members
+
+-- The certificate's first bytes are read as members that pass the test, and the table has their first places. What the table held behind
+-- them stays.
+pub record MembersRead (cert : List ℕ) (variables states start : ℕ) (before after : List ℕ) (count next : ℕ) : Type 0 where
   pub members : List Member
-  pub read : readMembers (certificateBuffer cert) variables states 0 ≡ parsed members next
+  pub read : readTested (certificateBuffer cert) variables states start 0 ≡ parsed members next
   pub number : length members ≡ count
   pub number-range : Between 1 512 count
   pub inside : next ≤ length cert
@@ -43,7 +56,7 @@ pub record MembersRead (cert : List ℕ) (variables states : ℕ) (before after 
   pub rest : drop count after ≡ drop count before
 
 -- After a refusal what the table holds is the program's choice; its length is the same.
-abbrev pub MembersAnswered : List ℕ → ℕ → ℕ → List ℕ → List ℕ → MembersAnswer → Type 0
-MembersAnswered cert variables states before after (Members count next) = MembersRead cert variables states before after count next
-MembersAnswered cert variables states before after (Refused r place) =
-    (readMembers (certificateBuffer cert) variables states 0 ≡ fault (refusalNumber r) place) × (length after ≡ length before)
+abbrev pub MembersAnswered : List ℕ → ℕ → ℕ → ℕ → List ℕ → List ℕ → MembersAnswer → Type 0
+MembersAnswered cert variables states start before after (Members count next) = MembersRead cert variables states start before after count next
+MembersAnswered cert variables states start before after (Refused r place) =
+    (readTested (certificateBuffer cert) variables states start 0 ≡ fault (refusalNumber r) place) × (length after ≡ length before)

@@ -1,4 +1,5 @@
 // Reads the numbers of a job and of the members of a certificate, each held to its range.
+use crate::start::test_members;
 use kinds::least_a;
 use kinds::least_b;
 use kinds::most_b;
@@ -17,6 +18,8 @@ ghost use Rattle.verdict.specs.Verdict.{refusalNumber, reachedOf};
 ghost use Rattle.reader.specs.Job.{readCounts, readFront, frontOf, RestAnswered, JobAnswered};
 ghost use Rattle.reader.specs.Members.{NotedBy, MembersAnswered};
 ghost use Rattle.reader.specs.Number.{bufferOf, rangedOf, forget};
+
+mod start;
 
 // Which buffer is read: it decides the refusals.
 pub enum Side {
@@ -362,14 +365,15 @@ fn note_members(
     Reached::At(at)
 }
 
-// Reads the members of a certificate.
+// Reads the members of a certificate, and then tests them at the start state.
 pub fn read_members(
     cert: &[u8],
     variables: usize,
     states: usize,
+    start: usize,
     starts: &mut [u16; 512],
 ) -> MembersAnswer
-    ensures { λ r. ⌜ MembersAnswered (now (cert .entry)) variables states (now (starts .entry)) (now (starts .exit)) r ⌝ }
+    ensures { λ r. ⌜ MembersAnswered (now (cert .entry)) variables states start (now (starts .entry)) (now (starts .exit)) r ⌝ }
 {
     let version = read_ranged(Side::Certificate, cert, 0, 1, 2);
     let at = match version {
@@ -383,7 +387,13 @@ pub fn read_members(
             let r = note_members(cert, first, count, variables, states, starts);
             match r {
                 Reached::Refused(why, place) => MembersAnswer::Refused(why, place),
-                Reached::At(next) => MembersAnswer::Members(count, next),
+                Reached::At(_) => {
+                    let r = test_members(cert, first, count, variables, states, start);
+                    match r {
+                        Reached::Refused(why, place) => MembersAnswer::Refused(why, place),
+                        Reached::At(next) => MembersAnswer::Members(count, next),
+                    }
+                }
             }
         }
     }

@@ -1,4 +1,3 @@
-pub mod Loops
 pub mod New
 pub mod Arrays
 pub mod Free

@@ -1,10 +1,7 @@
 use mathlib.Core.Path.{ap, _∙_, sym}
-use native.Mathlib.Omega.{arith}
-use Rattle.checker.specs.Jobs.{fileIn}
-use Rattle.checker.proofs.Verdicts.{certificate-refused, certificate-members, members-placed}
 use Rattle.format.specs.Verdict.{answer}
-use Rattle.checker.specs.Jobs.{testThenCover}
-use Rattle.checker.proofs.Verdicts.{bounds}
+use Rattle.checker.specs.Jobs.{fileIn, readCovers}
+use Rattle.checker.proofs.Verdicts.{bounds, certificate-refused, certificate-members}
 use borrow.Author.Needs.{needs}
 use Rattle.checker.proofs.check_certificate.Statement.{statement}
 use Rattle.checker.proofs.check_certificate.Tie as tie
@@ -18,12 +15,11 @@ enum-known-r c = search needs
 enum-known-r-2 : tie.Need-enum-known-r-2
 enum-known-r-2 c = search needs
 
-check-members-requires : tie.Need-check-members-requires
-check-members-requires c κs =
+check-covers-requires : tie.Need-check-covers-requires
+check-covers-requires c κs =
     let a = c .before .before .before .before .before .before .before .before .args in
     let p = c .before .before .before .before .before .before .before .before .pre in
-    let v = c .before .before .r2 .given in
-    let m = rw (v .1) at (c .before .before .before .before .read-members .ensures) in
+    let m = rw (c .before .before .r2 .given .1) at (c .before .before .before .before .read-members .ensures) in
     let b = bounds (a .job .now) (a .cert .now) (a .h) (p .0) (p .1) in
     (p .0, m .table b, m .inside, p .1)
 
@@ -40,9 +36,9 @@ returns-2 c =
     let v = c .before .before .before .r2 .given in
     let m = rw (v .1) at (c .before .before .before .before .before .read-members .ensures) in
     let b = bounds (a .job .now) (a .cert .now) (a .h) (p .0) (p .1) in
-    let t = m .table b in
-    let same = members-placed (a .cert .now) (a .h .variables) _ (m .members) (v .0 .0) (omega (arith, t .size, t .count-most)) (m .places-are b) (m .members-are b) in
-    c .check-members .ensures ∙ ap answer (ap (λ ms. testThenCover (a .cert .now) ((fileIn (a .job .now) (a .h)) .job) ms (v .0 .1 .0)) (sym same) ∙ certificate-members (a .cert .now) (fileIn (a .job .now) (a .h)) (m .members) (v .0 .1 .0) (m .read))
+    let f = fileIn (a .job .now) (a .h) in
+    c .check-covers .ensures
+    ∙ ap answer (ap (λ ms. readCovers (a .cert .now) (f .job) ms (v .0 .1 .0)) (sym (m .members-are b)) ∙ certificate-members (a .cert .now) f (m .members) (v .0 .1 .0) (m .read))
 
 pub check-certificate-spec : {M : Type 1} → statement M
 check-certificate-spec =
@@ -51,6 +47,6 @@ check-certificate-spec =
     read-members-requires
     enum-known-r
     enum-known-r-2
-    check-members-requires
+    check-covers-requires
     returns
     returns-2)

@@ -1,8 +1,10 @@
 use mathlib.Core.Path.{refl}
 use native.Mathlib.Omega.{arith}
-use Rattle.format.specs.Parser.{certificateBuffer}
+use Rattle.format.specs.Certificate.{readMember}
+use Rattle.format.specs.Parser.{certificateBuffer, many}
 use Rattle.reader.proofs.Answers.{got, lost, reached-got, reached-lost, in-range}
-use Rattle.reader.proofs.Noting.{lost-version, lost-number, lost-member, members-made}
+use Rattle.reader.proofs.Many.{remembered}
+use Rattle.reader.proofs.Noting.{lost-version, lost-number, lost-member, lost-test, members-made}
 use borrow.Author.Needs.{needs}
 use Rattle.reader.proofs.read_members.Statement.{statement}
 use Rattle.reader.proofs.read_members.Tie as tie
@@ -15,11 +17,8 @@ enum-known-version c = search needs
 
 returns : tie.Need-returns
 returns c =
-    let a = c .before .before .before .before .before .args in (
-      lost-version (a .cert .now) (a .variables) (a .states)
-          (lost (c .before .before .before .read-ranged .ensures) (c .before .version .given .1)),
-      refl,
-    )
+    let a = c .before .before .before .before .before .args in
+    (lost-version (a .cert .now) (a .variables) (a .states) (a .start) (lost (c .before .before .before .read-ranged .ensures) (c .before .version .given .1)), refl)
 
 enum-known-version-2 : tie.Need-enum-known-version-2
 enum-known-version-2 c = search needs
@@ -41,37 +40,46 @@ note-members-requires c κs =
 enum-known-r : tie.Need-enum-known-r
 enum-known-r c = search needs
 
+enum-told : tie.Need-enum-told
+enum-told c = search needs
+
+test-members-requires : tie.Need-test-members-requires
+test-members-requires c κs =
+    let a = c .before .before .before .before .before .before .before .before .before .before .before .before .before .args in
+    let v = c .before .before .before .before .before .number2 .given in
+    let (ms, g) = remembered (many (v .0 .0) (readMember (certificateBuffer (a .cert .now)) (a .variables) (a .states)) (v .0 .1 .0)) _ (reached-got (c .before .before .note-members .ensures .0) (c .enum-told .given .1)) in
+    (ms, _, g)
+
 enum-known-r-2 : tie.Need-enum-known-r-2
 enum-known-r-2 c = search needs
 
+enum-known-r-3 : tie.Need-enum-known-r-3
+enum-known-r-3 c = search needs
+
 returns-2 : tie.Need-returns-2
 returns-2 c =
-    let a = c .before .before .before .before .before .before .before .before .before .args in (
-      lost-number (a .cert .now) (a .variables) (a .states)
-          (got (c .before .before .before .before .before .before .before .read-ranged .ensures) (c .before .before .before .before .before .version2 .given .1))
-          (lost (c .before .before .before .read-ranged2 .ensures) (c .before .number .given .1)),
-      refl,
-    )
+    let a = c .before .before .before .before .before .before .before .before .before .args in
+    (lost-number (a .cert .now) (a .variables) (a .states) (a .start) (got (c .before .before .before .before .before .before .before .read-ranged .ensures) (c .before .before .before .before .before .version2 .given .1)) (lost (c .before .before .before .read-ranged2 .ensures) (c .before .number .given .1)), refl)
 
 returns-3 : tie.Need-returns-3
 returns-3 c =
     let a = c .before .before .before .before .before .before .before .before .before .before .before .before .before .before .args in (
-      lost-member (a .cert .now) (a .variables) (a .states)
-          (got (c .before .before .before .before .before .before .before .before .before .before .before .before .read-ranged .ensures) (c .before .before .before .before .before .before .before .before .before .before .version2 .given .1))
-          (got (c .before .before .before .before .before .before .before .before .read-ranged2 .ensures) (c .before .before .before .before .before .before .number2 .given .1))
-          (reached-lost (c .before .before .before .note-members .ensures .0) (c .before .r .given .1)),
+      lost-member (a .cert .now) (a .variables) (a .states) (a .start) (got (c .before .before .before .before .before .before .before .before .before .before .before .before .read-ranged .ensures) (c .before .before .before .before .before .before .before .before .before .before .version2 .given .1)) (got (c .before .before .before .before .before .before .before .before .read-ranged2 .ensures) (c .before .before .before .before .before .before .number2 .given .1)) (reached-lost (c .before .before .before .note-members .ensures .0) (c .before .r .given .1)),
       rw (c .before .r .given .1) at (c .before .before .before .note-members .ensures .1),
     )
 
 returns-4 : tie.Need-returns-4
 returns-4 c =
-    let a = c .before .before .before .before .before .before .before .before .before .before .before .before .before .before .args in
-    members-made (a .cert .now) (a .variables) (a .states)
-    (got (c .before .before .before .before .before .before .before .before .before .before .before .before .read-ranged .ensures) (c .before .before .before .before .before .before .before .before .before .before .version2 .given .1))
-    (got (c .before .before .before .before .before .before .before .before .read-ranged2 .ensures) (c .before .before .before .before .before .before .number2 .given .1))
-    (a .starts .now) _ _ (reached-got (c .before .before .before .note-members .ensures .0) (c .before .r2 .given .1))
-    (rw (c .before .r2 .given .1) at (c .before .before .before .note-members .ensures .1))
-    (c .before .before .before .before .note-members-arg .given .0 .1)
+    let a = c .before .before .before .before .before .before .before .before .before .before .before .before .before .before .before .before .before .args in
+    let n = rw (c .before .before .before .before .enum-told .given .1) at (c .before .before .before .before .before .before .note-members .ensures .1) in
+    (lost-test (a .cert .now) (a .variables) (a .states) (a .start) (got (c .before .before .before .before .before .before .before .before .before .before .before .before .before .before .before .read-ranged .ensures) (c .before .before .before .before .before .before .before .before .before .before .before .before .before .version2 .given .1)) (got (c .before .before .before .before .before .before .before .before .before .before .before .read-ranged2 .ensures) (c .before .before .before .before .before .before .before .before .before .number2 .given .1)) (reached-lost (c .before .before .before .test-members .ensures) (c .before .r2 .given .1)), n .size)
+
+returns-5 : tie.Need-returns-5
+returns-5 c =
+    let a = c .before .before .before .before .before .before .before .before .before .before .before .before .before .before .before .before .before .args in
+    let n = rw (c .before .before .before .before .enum-told .given .1) at (c .before .before .before .before .before .before .note-members .ensures .1) in
+    members-made (a .cert .now) (a .variables) (a .states) (a .start) (got (c .before .before .before .before .before .before .before .before .before .before .before .before .before .before .before .read-ranged .ensures) (c .before .before .before .before .before .before .before .before .before .before .before .before .before .version2 .given .1)) (got (c .before .before .before .before .before .before .before .before .before .before .before .read-ranged2 .ensures) (c .before .before .before .before .before .before .before .before .before .number2 .given .1)) (a .starts .now) _ _ _ (reached-got (c .before .before .before .before .before .before .note-members .ensures .0) (c .before .before .before .before .enum-told .given .1)) n
+    (reached-got (c .before .before .before .test-members .ensures) (c .before .r3 .given .1)) (c .before .before .before .before .before .before .before .note-members-arg .given .0 .1)
 
 pub read-members-spec : {M : Type 1} → statement M
 read-members-spec =
@@ -86,7 +94,11 @@ read-members-spec =
     enum-known-number-2
     note-members-requires
     enum-known-r
+    enum-told
+    test-members-requires
     enum-known-r-2
+    enum-known-r-3
     returns-2
     returns-3
-    returns-4)
+    returns-4
+    returns-5)

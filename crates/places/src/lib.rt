@@ -1,0 +1,112 @@
+// Places kept in slices of bytes, each place by its code.
+ghost use mathlib.Core.List.{_++_, map};
+ghost use mathlib.Core.Path.{_≡_};
+ghost use lib.ListN.{length, take, drop};
+ghost use Rattle.lists.specs.List.{absent};
+ghost use Rattle.heap.specs.Codes.{linkIn};
+ghost use Rattle.backward.specs.Predecessors.{lower, forget};
+ghost use Rattle.places.specs.Places.{closeUp};
+ghost use Rattle.removing.specs.Without.{isFree};
+
+// Whether none of the places is that one.
+pub fn none_at(places: &[u8], code: u8) -> bool
+    ensures { λ r. ⌜ r ≡ absent code (now (places .entry)) ⌝ }
+{
+    let mut i = 0;
+    while i < places.len() {
+        if places[i] == code {
+            return false;
+        }
+        i += 1;
+    }
+    true
+}
+
+// The places once the cell at `gone` is taken out.
+pub fn lower_all(places: &mut [u8], gone: u8)
+    ensures { λ r. ⌜ now (places .exit) ≡ map (lower gone) (now (places .entry)) ⌝ }
+{
+    let mut i = 0;
+    while i < places.len() {
+        let code = places[i];
+        if gone < code {
+            places[i] = code - 1;
+        }
+        i += 1;
+    }
+}
+
+// What stands at * stands nowhere.
+pub fn forget_all(places: &mut [u8])
+    ensures { λ r. ⌜ now (places .exit) ≡ map forget (now (places .entry)) ⌝ }
+{
+    let mut i = 0;
+    while i < places.len() {
+        if places[i] == 2 {
+            places[i] = 0;
+        }
+        i += 1;
+    }
+}
+
+// The places after that at k move one to the left; the last one stays too.
+pub fn close_up(places: &mut [u8], k: usize)
+    ensures { λ r. ⌜ now (places .exit) ≡ closeUp k (now (places .entry)) ⌝ }
+{
+    if places.len() <= k {
+        return;
+    }
+    let mut c = k;
+    while c + 1 < places.len() {
+        places[c] = places[c + 1];
+        c += 1;
+    }
+}
+
+// Copies as many bytes as both have.
+pub fn copy(from: &[u8], to: &mut [u8])
+    ensures { λ r. ⌜ now (to .exit) ≡ take (length (now (to .entry))) (now (from .entry)) ++ drop (length (now (from .entry))) (now (to .entry)) ⌝ }
+{
+    let mut i = 0;
+    while i < to.len() {
+        if from.len() <= i {
+            return;
+        }
+        to[i] = from[i];
+        i += 1;
+    }
+}
+
+// Where the link of the cell with that code stands: nowhere, if there is none.
+fn link_of(links: &[u8], code: u8) -> u8
+    ensures { λ r. ⌜ r ≡ linkIn (now (links .entry)) code ⌝ }
+{
+    if code < 3 {
+        return 0;
+    }
+    let k = (code - 3) as usize;
+    if links.len() <= k {
+        return 0;
+    }
+    links[k]
+}
+
+// Whether the code is that of a cell, nothing stands at it and its link is nowhere or *.
+pub fn is_free(vars: &[u8], links: &[u8], code: u8) -> bool
+    ensures { λ r. ⌜ r ≡ isFree code (record { vars = now (vars .entry); links = now (links .entry) }) ⌝ }
+{
+    if code < 3 {
+        return false;
+    }
+    let link = link_of(links, code);
+    if link == 1 {
+        return false;
+    }
+    if 2 < link {
+        return false;
+    }
+    if !none_at(links, code) {
+        return false;
+    }
+    none_at(vars, code)
+}

@@ -1,0 +1,247 @@
+-- Refusal 8: the test of the members, one after the other.
+use mathlib.Core.Bool.{Bool, true, false, not}
+use mathlib.Core.List.{List, [], _∷_}
+use mathlib.Core.Path.{_≡_, refl, sym, ap, _∙_}
+use Prim.Native.Nat.{ℕ, suc, _+_, _-_, _≤_, _<_}
+use native.Mathlib.Omega.{arith}
+use borrow.Author.Tests.{eq-eqb, ne-eqb}
+use lib.ListN.{length, getD, take, drop}
+use Rattle.lists.specs.List.{absent}
+use Rattle.heap.specs.Place.{null}
+use Rattle.run.specs.Run.{Located}
+use Rattle.format.specs.Certificate.{Member, atStart, readMember, testStart}
+use Rattle.format.specs.Job.{readLocated}
+use Rattle.format.specs.Parser.{Parsed, parsed, fault, onward, require, many, each, Buffer, certificateBuffer, ranged}
+use Rattle.format.proofs.Files.{located-exact}
+use Rattle.format.proofs.Parsing.{not-fault, then, require-sound, ranged-exact}
+use Rattle.format.proofs.Sequence.{reads-first, reads-one, reads-split}
+use Rattle.reader.specs.Members.{tested}
+use Rattle.reader.specs.Number.{forget}
+use Rattle.reader.proofs.Bytes.{single, reads-inside, reads-bytes}
+use Rattle.reader.proofs.Entries.{lost-state}
+use Rattle.reader.proofs.Many.{remembered, many-suc}
+
+-- ---- where a member that was read stands, and its test
+
+module _ (cert : List ℕ) (variables states start at : ℕ) (l : Located) (next : ℕ) (h : readLocated (certificateBuffer cert) variables states at ≡ parsed l next)
+  where
+    abbrev s : Buffer
+    s = certificateBuffer cert
+
+    abbrev member : Member
+    member = record { first = at; located = l }
+
+    pub state-read : {number place : ℕ} → ranged s 0 states at ≡ fault number place → ⊥
+    state-read {number} {place} e = not-fault tt next number place (lost-state s variables states at e ∙ ap forget h)
+
+    module _ (state a : ℕ) (e : ranged s 0 states at ≡ parsed state a) where
+      pub record Stand : Type 0 where
+        pub state-is : l .state ≡ state
+        pub some : a < length cert
+        pub cells : getD cert a 0 ≤ 12
+        pub cells-are : length (l .shape .links) ≡ getD cert a 0
+        pub vars-are : l .shape .vars ≡ take variables (drop (a + 1) cert)
+        pub after : next ≡ a + 1 + variables + getD cert a 0
+        pub inside : next ≤ length cert
+
+      pub stand : Stand
+      stand =
+          let (r, ok) = located-exact s variables states .sound at l next h in
+          let vars : List ℕ = l .shape .vars in
+          let links : List ℕ = l .shape .links in
+          let (p, g₁, r₁) = reads-first r in
+          let (b, g₂, r₂) = reads-first r₁ in
+          let (d, r₃, r₄) = reads-split vars r₂ in
+          let cells : length links ≤ 12 = ok .shape .cells in
+          let t = single cert p (length links) b g₂ (omega arith) in
+          let (vars-are, d-is) = reads-bytes r₃ (λ x i. omega (arith, ok .shape .vars x i)) in
+          let (links-are, next-is) = reads-bytes r₄ (λ x i. omega (arith, ok .shape .links x i)) in
+          let long : length vars ≡ variables = ok .shape .variables-number in
+          let g = reads-one (ranged-exact s 0 states .sound at state a e .0) in
+          let state-is : l .state ≡ state = cc in
+          let p-is : p ≡ a = cc in
+          let n-is : length links ≡ getD cert a 0 = t .value ∙ ap (λ k. getD cert k 0) p-is in
+          let b-is : b ≡ a + 1 = t .after ∙ ap (λ k. k + 1) p-is in
+          record {
+            state-is = state-is;
+            some = omega (arith, t .inside);
+            cells = omega arith;
+            cells-are = n-is;
+            vars-are = rw (long, b-is) at vars-are;
+            after = omega arith;
+            inside = reads-inside r₁ (omega (arith, t .inside));
+          }
+
+      passes : (end : ℕ) → end ≡ a + 1 + variables + getD cert a 0 → atStart start l ≡ false → parsed tt end ≡ testStart start member next
+      passes end end-is q = rw q (ap (parsed tt) (end-is ∙ sym (stand .after)))
+
+      pub other-state : (end : ℕ) → end ≡ a + 1 + variables + getD cert a 0 → (state ≡ start → ⊥) → parsed tt end ≡ testStart start member next
+      other-state end end-is z = passes end end-is (rw (stand .state-is, ne-eqb state start z) refl)
+
+      module _ (is-start : state ≡ start) where
+        pub some-cells : (end : ℕ) → end ≡ a + 1 + variables + getD cert a 0 → (getD cert a 0 ≡ 0 → ⊥) → parsed tt end ≡ testStart start member next
+        some-cells end end-is z =
+            passes end end-is (rw (stand .state-is, eq-eqb state start is-start, stand .cells-are, ne-eqb (getD cert a 0) 0 z) refl)
+
+        module _ (none : getD cert a 0 ≡ 0) (k : ℕ) (k-is : k ≡ variables) where
+          by-vars : atStart start l ≡ absent null (take k (drop (a + 1) cert))
+          by-vars = rw (stand .state-is, eq-eqb state start is-start, stand .cells-are, none, stand .vars-are, k-is) refl
+
+          pub some-null : (end : ℕ) → end ≡ a + 1 + variables + getD cert a 0 → absent null (take k (drop (a + 1) cert)) ≡ false
+              → parsed tt end ≡ testStart start member next
+          some-null end end-is z = passes end end-is (by-vars ∙ z)
+
+          pub satisfied : absent null (take k (drop (a + 1) cert)) ≡ true → fault 8 at ≡ testStart start member next
+          satisfied z = rw (by-vars, z) refl
+
+-- ---- the tests keep the place
+
+each-place : (start : ℕ) (ms : List Member) (at : ℕ) (us : List (Unit {0})) (next : ℕ) → each (testStart start) ms at ≡ parsed us next → at ≡ next
+unfolding each
+each-place start [] at us next e = cc
+each-place start (m ∷ ms) at us next e =
+    then (testStart start m at) _
+    (λ u a h₁. then (each (testStart start) ms a) _
+    (λ vs b h₂ r.
+    let (_, here) = require-sound (not (atStart start (m .located))) 8 (m .first) at h₁ in
+    let later = each-place start ms a vs b h₂ in
+    cc)) e
+
+module _ (start : ℕ) (ms : List Member) (at next : ℕ) (e : forget (tested start ms at) ≡ parsed tt next) where
+  all-passed : (at ≡ next) × (tested start ms at ≡ parsed ms next)
+  all-passed =
+      let (vs, g) = remembered (tested start ms at) next e in
+      then (each (testStart start) ms at) _
+      (λ us mid h r.
+      let here = each-place start ms at us mid h in
+      let vs-are : ms ≡ vs = cc in
+      let mid-is : mid ≡ next = cc in
+      (here ∙ mid-is, g ∙ ap (λ l. parsed l next) (sym vs-are))) g
+
+  pub tested-place : at ≡ next
+  tested-place = all-passed .0
+
+  pub tested-same : tested start ms at ≡ parsed ms next
+  tested-same = all-passed .1
+
+-- ---- one member more
+
+module _ (start : ℕ) (m : Member) (ms : List Member) (mid end : ℕ) where
+  pub first-refused : (number place : ℕ) → testStart start m mid ≡ fault number place → fault number place ≡ forget (tested start (m ∷ ms) end)
+  unfolding each
+  first-refused number place e = go (not (atStart start (m .located))) e
+    where
+      one : Unit {0}
+      one = tt
+
+      go : (b : Bool) → require b 8 (m .first) mid ≡ fault number place
+          → fault number place ≡ forget (onward (onward (require b 8 (m .first) end) (λ u a. onward (each (testStart start) ms a) (λ us c. parsed (u ∷ us) c)))
+          (λ us c. parsed (m ∷ ms) c))
+      go true e = absurd (not-fault one mid number place (sym e))
+      go false e = ap forget {x = fault number place} {y = fault 8 (m .first)} (sym e)
+
+  pub first-passed : (next : ℕ) → testStart start m mid ≡ parsed tt next → (mid ≡ next) × (forget (tested start (m ∷ ms) end) ≡ forget (tested start ms end))
+  unfolding each
+  first-passed next e = go (not (atStart start (m .located))) e
+    where
+      one : Unit {0}
+      one = tt
+
+      rest : (x : Parsed (List (Unit {0}))) → forget (onward (onward x (λ us c. parsed (one ∷ us) c)) (λ us c. parsed (m ∷ ms) c))
+          ≡ forget (onward x (λ us c. parsed ms c))
+      rest (parsed us c) = refl
+      rest (fault number place) = refl
+
+      go : (b : Bool) → require b 8 (m .first) mid ≡ parsed one next
+          → (mid ≡ next)
+          × (forget (onward (onward (require b 8 (m .first) end) (λ u a. onward (each (testStart start) ms a) (λ us c. parsed (u ∷ us) c)))
+          (λ us c. parsed (m ∷ ms) c)) ≡ forget (onward (each (testStart start) ms end) (λ us c. parsed ms c)))
+      go true e = (cc, rest (each (testStart start) ms end))
+      go false e = absurd (not-fault one next 8 (m .first) e)
+
+-- ---- the loop: i of the members are tested, the next is at a place
+
+module _ (cert : List ℕ) (variables states start first count : ℕ) where
+  abbrev p : ℕ → Parsed Member
+  p = readMember (certificateBuffer cert) variables states
+
+  pub record Testing (at i : ℕ) : Type 0 where
+    pub upto : i ≤ count
+    pub left : List Member
+    pub end : ℕ
+    pub read : many (count - i) p at ≡ parsed left end
+    pub same : forget (tested start left end) ≡ forget (onward (many count p first) (tested start))
+
+  pub test-none : (ms : List Member) (end : ℕ) → many count p first ≡ parsed ms end → Testing first 0
+  test-none ms end e =
+      let all : count - 0 ≡ count = omega arith in
+      record {
+        upto = omega arith;
+        left = ms;
+        end = end;
+        read = ap (λ k. many k p first) all ∙ e;
+        same = sym (ap (λ x. forget (onward x (tested start))) e);
+      }
+
+  -- the member at the place
+  pub record Next (at i : ℕ) (left : List Member) (end : ℕ) : Type 0 where
+    pub located : Located
+    pub mid : ℕ
+    pub read : readLocated (certificateBuffer cert) variables states at ≡ parsed located mid
+    pub others : List Member
+    pub read-others : many (count - (i + 1)) p mid ≡ parsed others end
+    pub left-are : record { first = at; located = located } ∷ others ≡ left
+
+  module _ (at i : ℕ) (w : Testing at i) where
+    pub next-member : i < count → Next at i (w .left) (w .end)
+    unfolding readMember
+    next-member b =
+        let less : count - i ≡ suc (count - (i + 1)) = omega arith in
+        then (p at) _
+        (λ m mid h₁. then (many (count - (i + 1)) p mid) _
+        (λ ms last h₂ r. then (readLocated (certificateBuffer cert) variables states at) _
+        (λ l c h₃ q.
+        let m-is : record { first = at; located = l } ≡ m = cc in
+        let c-is : c ≡ mid = cc in
+        let left-are : m ∷ ms ≡ w .left = cc in
+        let last-is : last ≡ w .end = cc in
+        record {
+          located = l;
+          mid = mid;
+          read = h₃ ∙ ap (parsed l) c-is;
+          others = ms;
+          read-others = h₂ ∙ ap (parsed ms) last-is;
+          left-are = ap (λ x. x ∷ ms) m-is ∙ left-are;
+        })
+        h₁))
+        (sym (many-suc p (count - (i + 1)) at) ∙ ap (λ k. many k p at) (sym less) ∙ w .read)
+
+    module _ (n : Next at i (w .left) (w .end)) where
+      abbrev here : Member
+      here = record { first = at; located = n .located }
+
+      pub test-lost : (number place : ℕ) → testStart start here (n .mid) ≡ fault number place
+          → fault number place ≡ forget (onward (many count p first) (tested start))
+      test-lost number place e =
+          first-refused start here (n .others) (n .mid) (w .end) number place e
+          ∙ ap (λ ms. forget (tested start ms (w .end))) (n .left-are) ∙ w .same
+
+      pub test-more : (next : ℕ) → i < count → testStart start here (n .mid) ≡ parsed tt next → Testing next (i + 1)
+      test-more next b e =
+          let (place-is, rest) = first-passed start here (n .others) (n .mid) (w .end) next e in
+          record {
+            upto = omega arith;
+            left = n .others;
+            end = w .end;
+            read = ap (many (count - (i + 1)) p) (sym place-is) ∙ n .read-others;
+            same = sym rest ∙ ap (λ ms. forget (tested start ms (w .end))) (n .left-are) ∙ w .same;
+          }
+
+    pub test-all : count ≤ i → parsed tt at ≡ forget (onward (many count p first) (tested start))
+    unfolding many each
+    test-all b =
+        let none : count - i ≡ 0 = omega arith in
+        let done : _≡_ {A = Parsed (List Member)} (parsed [] at) (parsed (w .left) (w .end)) = sym (ap (λ k. many k p at) none) ∙ w .read in
+        let left-are : [] ≡ w .left = cc in
+        let end-is : at ≡ w .end = cc in
+        ap (parsed tt) end-is ∙ ap (λ ms. forget (tested start ms (w .end))) left-are ∙ w .same

@@ -1,0 +1,69 @@
+// Refusal 8: a member at the start state that the empty heap satisfies.
+use crate::Ranged;
+use crate::Side;
+use crate::reached;
+use crate::read_ranged;
+use place::Place;
+use places::none_at;
+use verdict::Reached;
+use verdict::Refusal;
+ghost use mathlib.Core.List.{List};
+ghost use mathlib.Core.Path.{_≡_};
+ghost use Prim.Native.Nat.{ℕ};
+ghost use Rattle.run.specs.Run.{Located};
+ghost use Rattle.format.specs.Certificate.{Member, readMember, testStart};
+ghost use Rattle.format.specs.Job.{readLocated};
+ghost use Rattle.format.specs.Parser.{parsed, onward, certificateBuffer, many};
+ghost use Rattle.verdict.specs.Verdict.{reachedOf};
+ghost use Rattle.reader.specs.Members.{tested};
+ghost use Rattle.reader.specs.Number.{forget};
+
+// Tests the member at a place, which was read: refused if it is at the start state and has no cells and no variable at #.
+fn test_member(cert: &[u8], at: usize, variables: usize, states: usize, start: usize) -> Reached
+    requires { ⌜ ((l : Located) × (next : ℕ) × (readLocated (certificateBuffer (now cert)) variables states at ≡ parsed l next)) ⌝ }
+    ensures { λ r. ⌜ ((l : Located) (next : ℕ) → readLocated (certificateBuffer (now (cert .entry))) variables states at ≡ parsed l next → reachedOf r ≡ testStart start (record { first = at; located = l }) next) ⌝ }
+{
+    let number = read_ranged(Side::Certificate, cert, at, 0, states);
+    let Ranged::Value(state, n_at) = number else {
+        return reached(number);
+    };
+    let n = cert[n_at] as usize;
+    let vars_at = n_at + 1;
+    let next = vars_at + variables + n;
+    if state != start {
+        return Reached::At(next);
+    }
+    if n != 0 {
+        return Reached::At(next);
+    }
+    let null = Place::NULL;
+    if none_at(&cert[vars_at..next], null.code) {
+        return Reached::Refused(Refusal::StartSatisfied, at);
+    }
+    Reached::At(next)
+}
+
+// Tests so many members that were read, the first of them at a place.
+pub(crate) fn test_members(
+    cert: &[u8],
+    first: usize,
+    count: usize,
+    variables: usize,
+    states: usize,
+    start: usize,
+) -> Reached
+    requires { ⌜ ((ms : List Member) × (end : ℕ) × (many count (readMember (certificateBuffer (now cert)) variables states) first ≡ parsed ms end)) ⌝ }
+    ensures { λ r. ⌜ reachedOf r ≡ forget (onward (many count (readMember (certificateBuffer (now (cert .entry))) variables states) first) (tested start)) ⌝ }
+{
+    let mut at = first;
+    let mut i = 0;
+    while i < count {
+        let r = test_member(cert, at, variables, states, start);
+        let Reached::At(next) = r else {
+            return r;
+        };
+        at = next;
+        i += 1;
+    }
+    Reached::At(at)
+}
