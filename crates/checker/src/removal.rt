@@ -37,7 +37,7 @@ fn take_cell(
     let p = Place::cell(k);
     let codes = &vars[..];
     let places = &links[..];
-    if !is_free(&codes[1..1 + variables], &places[..n as usize], p.code) {
+    if !is_free(&codes[1..1 + variables], &places[..n as usize], p) {
         return Going::On(t);
     }
     let mut v = *vars;

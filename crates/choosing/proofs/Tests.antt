@@ -17,24 +17,6 @@ use Rattle.choosing.specs.Wanted.{sourceFits, itselfFits, targetFits, fi
 use Rattle.choosing.specs.declared.Wanted.{Wanted}
 use Rattle.choosing.specs.declared.Wanted.the-variants.{Nothing, Once, Any, At, Off, Source, Itself, Target}
 
--- ---- the link of the cell at p
-
-module _ (links : List ℕ) where
-  pub link-low : (p : ℕ) → p ≤ 2 → nowhere ≡ linkIn links p
-  link-low zero h = refl
-  link-low (suc zero) h = refl
-  link-low (suc (suc zero)) h = refl
-  link-low (suc (suc (suc i))) h = absurd (omega arith)
-
-  pub link-here : (p : ℕ) → 2 < p → getD links (p - 3) nowhere ≡ linkIn links p
-  link-here zero h = absurd (omega arith)
-  link-here (suc zero) h = absurd (omega arith)
-  link-here (suc (suc zero)) h = absurd (omega arith)
-  link-here (suc (suc (suc i))) h = let e : suc (suc (suc i)) - 3 ≡ i = omega arith in rw e refl
-
-  pub link-past : (p : ℕ) → 2 < p → length links ≤ p - 3 → nowhere ≡ linkIn links p
-  link-past p h b = sym (List·getD-eq-default links nowhere b) ∙ link-here p h
-
 -- ---- the choice of a place
 
 pub choice-low : (n p : ℕ) → p ≢ null → p < 3 → 0 ≡ choiceOf n p

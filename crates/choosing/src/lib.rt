@@ -1,9 +1,9 @@
 // Which choices of a placing an operation of kinds 1 to 5 retains. In a shape of n cells, whose links are lent, the choices
 // are 0 .. n - 1 a cell, n #, n + 1 a fresh cell, n + 2 + i a fresh cell in the middle of the link of cell i.
 use place::Place;
+use places::link_at;
 ghost use mathlib.Core.Path.{_≡_};
 ghost use Prim.Native.Nat.{_<_};
-ghost use Rattle.heap.specs.Codes.{linkIn};
 ghost use Rattle.choices.specs.Choice.{choiceOf, exists};
 ghost use Rattle.choices.specs.Retained.{linkOpen, retained};
 ghost use Rattle.choosing.specs.Wanted.{sourceFits, itselfFits, targetFits, fitsIn, oneByOne, targetChoices, choicesOf, targetOf, beside, onceIf, wantedOne, wantedNowhere, wantedFirst, wantedSecond};
@@ -31,20 +31,6 @@ pub struct Choices {
     pub from: usize,
     pub step: usize,
     pub to: usize,
-}
-
-// The link of the cell at p; nowhere if there is none.
-fn link_at(links: &[u8], p: Place) -> Place
-    ensures { λ r. ⌜ r .code ≡ linkIn (now (links .entry)) (p .code) ⌝ }
-{
-    if p.code <= 2 {
-        return Place::NOWHERE;
-    }
-    let i = (p.code - 3) as usize;
-    if links.len() <= i {
-        return Place::NOWHERE;
-    }
-    Place { code: links[i] }
 }
 
 // Whether p is a cell whose link is nowhere or at q.

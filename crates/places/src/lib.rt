@@ -1,4 +1,5 @@
 // Places kept in slices of bytes, each place by its code.
+use place::Place;
 ghost use mathlib.Core.List.{_++_, map};
 ghost use mathlib.Core.Path.{_≡_};
 ghost use lib.ListN.{length, take, drop};
@@ -77,36 +78,36 @@ pub fn copy(from: &[u8], to: &mut [u8])
     }
 }
 
-// Where the link of the cell with that code stands: nowhere, if there is none.
-fn link_of(links: &[u8], code: u8) -> u8
-    ensures { λ r. ⌜ r ≡ linkIn (now (links .entry)) code ⌝ }
+// The link of the cell at p; nowhere if there is none.
+pub fn link_at(links: &[u8], p: Place) -> Place
+    ensures { λ r. ⌜ r .code ≡ linkIn (now (links .entry)) (p .code) ⌝ }
 {
-    if code < 3 {
-        return 0;
+    if p.code <= 2 {
+        return Place::NOWHERE;
     }
-    let k = (code - 3) as usize;
-    if links.len() <= k {
-        return 0;
+    let i = (p.code - 3) as usize;
+    if i < links.len() {
+        return Place { code: links[i] };
     }
-    links[k]
+    Place::NOWHERE
 }
 
-// Whether the code is that of a cell, nothing stands at it and its link is nowhere or *.
-pub fn is_free(vars: &[u8], links: &[u8], code: u8) -> bool
-    ensures { λ r. ⌜ r ≡ isFree code (record { vars = now (vars .entry); links = now (links .entry) }) ⌝ }
+// Whether p is a cell, nothing stands at it and its link is nowhere or *.
+pub fn is_free(vars: &[u8], links: &[u8], p: Place) -> bool
+    ensures { λ r. ⌜ r ≡ isFree (p .code) (record { vars = now (vars .entry); links = now (links .entry) }) ⌝ }
 {
-    if code < 3 {
+    if p.code < 3 {
         return false;
     }
-    let link = link_of(links, code);
-    if link == 1 {
+    let link = link_at(links, p);
+    if link.code == 1 {
         return false;
     }
-    if 2 < link {
+    if 2 < link.code {
         return false;
     }
-    if !none_at(links, code) {
+    if !none_at(links, p.code) {
         return false;
     }
-    none_at(vars, code)
+    none_at(vars, p.code)
 }
