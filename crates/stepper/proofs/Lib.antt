@@ -4,3 +4,4 @@ pub mod Change
 pub mod Dangle
 pub mod Perform
 pub mod Steps
+pub mod Fits

@@ -45,6 +45,10 @@ standing used (suc (suc (suc i))) = getD used i false
 abbrev pub placeFits : List Bool → Bool → ℕ → Bool
 placeFits used present p = cond present (standing used p) (eqb p nowhere)
 
+-- no cell or a used one
+abbrev pub aimed : List Bool → ℕ → Bool
+aimed used p = cond (ltb p 3) true (standing used p)
+
 -- "a nonzero slot above V, a variable .. that isn't at #, * or a used cell": slot i is right
 abbrev pub slotFits : Heap64 → ℕ → Bool
 slotFits t i = placeFits (t .used) (ltb i (t .variables)) (getD (codes (t .vars)) i nowhere)

@@ -10,7 +10,7 @@ ghost use Rattle.kinds.specs.Kinds.{allowed};
 ghost use Rattle.lists.specs.Test.{allFrom};
 ghost use Rattle.place.specs.Place.{codes};
 ghost use Rattle.stepper.specs.Step.{outcomeCode, lowestUnused, comparison, perform, performNamed, Steps};
-ghost use Rattle.stepper.specs.Table.{standing, placeFits, slotFits, cellFits, wellFormed, Sized, Ready, dangleVars, dangleLinks};
+ghost use Rattle.stepper.specs.Table.{aimed, slotFits, cellFits, wellFormed, Sized, Ready, dangleVars, dangleLinks};
 
 // A heap of up to 64 cells: how many variables there are, where each stands, which cells are used, where their links stand.
 pub struct Heap64 {
@@ -53,14 +53,11 @@ pub fn outcome_code(outcome: Outcome) -> u32
     }
 }
 
-// Whether a code is #, * or a used cell.
-fn is_standing(used: &[bool; 64], code: u8) -> bool
+// Whether a code, if it is a cell's, is a used cell's.
+fn is_aimed(used: &[bool; 64], code: u8) -> bool
     requires { ⌜ length (now used) ≡ 64 ⌝ }
-    ensures { λ r. ⌜ r ≡ standing (now (used .entry)) code ⌝ }
+    ensures { λ r. ⌜ r ≡ aimed (now (used .entry)) code ⌝ }
 {
-    if code == 0 {
-        return false;
-    }
     if code < 3 {
         return true;
     }
@@ -71,18 +68,8 @@ fn is_standing(used: &[bool; 64], code: u8) -> bool
     used[i]
 }
 
-// Whether the place of a variable or link is right, where there is one and where there is none.
-fn place_fits(used: &[bool; 64], present: bool, code: u8) -> bool
-    requires { ⌜ length (now used) ≡ 64 ⌝ }
-    ensures { λ r. ⌜ r ≡ placeFits (now (used .entry)) present code ⌝ }
-{
-    if present {
-        return is_standing(used, code);
-    }
-    code == 0
-}
-
 impl Heap64 {
+    // Whether the slots of variables are right.
     fn slots_fit(self) -> bool
         ensures { λ r. ⌜ r ≡ allFrom 8 0 (slotFits self) ⌝ }
     {
@@ -90,7 +77,11 @@ impl Heap64 {
         let variables = self.variables as usize;
         let mut i: usize = 0;
         while i < 8 {
-            if !place_fits(&used, i < variables, self.vars[i].code) {
+            let code = self.vars[i].code;
+            if (i < variables) != (0 < code) {
+                return false;
+            }
+            if !is_aimed(&used, code) {
                 return false;
             }
             i += 1;
@@ -98,13 +89,21 @@ impl Heap64 {
         true
     }
 
+    // Whether the links of cells are right: nowhere just where a cell is unused, and at used cells.
     fn cells_fit(self) -> bool
         ensures { λ r. ⌜ r ≡ allFrom 64 0 (cellFits self) ⌝ }
     {
         let used = self.used;
         let mut i: usize = 0;
         while i < 64 {
-            if !place_fits(&used, self.used[i], self.links[i].code) {
+            if used[i] != (0 < self.links[i].code) {
+                return false;
+            }
+            i += 1;
+        }
+        i = 0;
+        while i < 64 {
+            if !is_aimed(&used, self.links[i].code) {
                 return false;
             }
             i += 1;

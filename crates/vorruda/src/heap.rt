@@ -13,14 +13,16 @@ fn is_readable(bytes: &[u8]) -> bool
     if bytes.len() != 137 {
         return false;
     }
+    let mut largest: u8 = 0;
     let mut i: usize = 0;
     while i < 64 {
-        if 1 < bytes[9 + i] {
-            return false;
+        let mark = bytes[9 + i];
+        if largest < mark {
+            largest = mark;
         }
         i += 1;
     }
-    true
+    largest < 2
 }
 
 fn slots_from(bytes: &[u8]) -> [Place; 8]

@@ -5,6 +5,7 @@ use lib.Dec.{ltb}
 use Rattle.lists.specs.Test.{allFrom}
 use Rattle.lists.proofs.Test.{all-passed, all-failed, all-done}
 use Rattle.stepper.specs.Table.{placeFits, slotFits}
+use Rattle.stepper.proofs.Fits.{unlike, alike}
 use Rattle.stepper.proofs.Places.{code-at}
 use borrow.Author.Tests.{not-true, not-false}
 use borrow.Author.Needs.{needs}
@@ -23,24 +24,33 @@ cast-variables c = search needs
 loop-holds : tie.Need-loop-holds Inv-loop μ-loop
 loop-holds c = (omega arith, refl)
 
-element-copy-out-place-fits : tie.Need-element-copy-out-place-fits Inv-loop μ-loop
-element-copy-out-place-fits c = search needs
-
-place-fits-requires : tie.Need-place-fits-requires Inv-loop μ-loop
-place-fits-requires c κs = search needs
-
--- what was tested is the slot of i
-tested : (c : tie.After-place-fits Inv-loop μ-loop) → c .place-fits .result ≡ slotFits (c .before .before .before .before .before .args .t1) (c .before .before .before .loop .i)
-tested c =
-    let t = c .before .before .before .before .before .args .t1 in
-    let i = c .before .before .before .loop .i in
-    c .place-fits .ensures ∙ ap (placeFits (t .used) (ltb i (t .variables))) (code-at (t .vars) i)
+element-copy-out-code : tie.Need-element-copy-out-code Inv-loop μ-loop
+element-copy-out-code c = search needs
 
 returns : tie.Need-returns Inv-loop μ-loop
 returns c =
+    let t = c .before .before .before .before .args .t1 in
+    let i = c .before .before .loop .i in
+    let fits = sym (ap (placeFits (t .used) (ltb i (t .variables))) (code-at (t .vars) i)) ∙ unlike (t .used) _ (ltb i (t .variables)) (c .if1 .taken) in
+    sym (all-failed (slotFits t) 8 i (omega arith) fits) ∙ c .before .before .loop .inv .1
+
+is-aimed-requires : tie.Need-is-aimed-requires Inv-loop μ-loop
+is-aimed-requires c κs = search needs
+
+-- what was tested is the slot of i
+tested : (c : tie.After-is-aimed Inv-loop μ-loop) → slotFits (c .before .before .before .before .before .before .args .t1) (c .before .before .before .before .loop .i) ≡ c .is-aimed .result
+tested c =
     let t = c .before .before .before .before .before .before .args .t1 in
     let i = c .before .before .before .before .loop .i in
-    sym (all-failed (slotFits t) 8 i (omega arith) (sym (tested (c .before)) ∙ not-true _ (c .if1 .taken))) ∙ c .before .before .before .before .loop .inv .1
+    sym (ap (placeFits (t .used) (ltb i (t .variables))) (code-at (t .vars) i))
+    ∙ alike (t .used) _ (ltb i (t .variables)) (c .before .before .if1 .left) ∙ sym (c .is-aimed .ensures)
+
+returns-2 : tie.Need-returns-2 Inv-loop μ-loop
+returns-2 c =
+    let t = c .before .before .before .before .before .before .before .args .t1 in
+    let i = c .before .before .before .before .before .loop .i in
+    sym (all-failed (slotFits t) 8 i (omega arith) (tested (c .before) ∙ not-true _ (c .if2 .taken)))
+    ∙ c .before .before .before .before .before .loop .inv .1
 
 add-i : tie.Need-add-i Inv-loop μ-loop
 add-i c = search needs
@@ -50,12 +60,15 @@ loop-less c = search needs
 
 loop-again : tie.Need-loop-again Inv-loop μ-loop
 loop-again c =
-    let t = c .before .before .before .before .before .before .args .t1 in
-    let i = c .before .before .before .before .loop .i in
-    (omega arith, sym (all-passed (slotFits t) 8 i (omega arith) (sym (tested (c .before)) ∙ not-false _ (c .if1 .left))) ∙ c .before .before .before .before .loop .inv .1)
+    let t = c .before .before .before .before .before .before .before .args .t1 in
+    let i = c .before .before .before .before .before .loop .i in (
+      omega arith,
+      sym (all-passed (slotFits t) 8 i (omega arith) (tested (c .before) ∙ not-false _ (c .if2 .left)))
+          ∙ c .before .before .before .before .before .loop .inv .1,
+    )
 
-returns-2 : tie.Need-returns-2 Inv-loop μ-loop
-returns-2 c =
+returns-3 : tie.Need-returns-3 Inv-loop μ-loop
+returns-3 c =
     let t = c .before .before .before .args .t1 in
     let i = c .before .loop .i in
     sym (all-done (slotFits t) 8 i (omega arith)) ∙ c .before .loop .inv .1
@@ -68,10 +81,11 @@ slots-fit-spec =
     μ-loop
     cast-variables
     loop-holds
-    element-copy-out-place-fits
-    place-fits-requires
+    element-copy-out-code
     returns
+    is-aimed-requires
+    returns-2
     add-i
     loop-less
     loop-again
-    returns-2)
+    returns-3)
