@@ -1,17 +1,22 @@
 -- The test of a place by halves: there is one just where it is wanted, and a cell's is a used cell's.
-use mathlib.Core.Bool.{Bool, true, false, not, Bool·beq}
+use mathlib.Core.Bool.{Bool, true, false, not, cond, Bool·beq}
 use mathlib.Core.List.{List}
 use mathlib.Core.Path.{_≡_, refl, sym, _∙_}
 use Prim.Native.Nat.{ℕ, _+_, _-_, _≤_, _<_}
 use native.Mathlib.Decide.{ℕ-discrete, decLt}
 use native.Mathlib.Omega.{arith}
 use borrow.Author.Tests.{lt-ltb, le-ltb, eq-eqb, ne-eqb}
-use lib.Dec.{ltb}
+use lib.Dec.{eqb, ltb}
 use lib.ListN.{length, getD}
+use Rattle.heap.specs.Place.{nowhere}
 use Rattle.lists.specs.Test.{allFrom}
 use Rattle.lists.proofs.Test.{all-at}
-use Rattle.stepper.specs.Table.{standing, placeFits, aimed}
+use Rattle.stepper.specs.Table.{standing, aimed}
 use Rattle.stepper.proofs.Places.{standing-none, standing-low, standing-cell, standing-high}
+
+-- the test of a place: one is wanted, or none
+abbrev pub placeFits : List Bool → Bool → ℕ → Bool
+placeFits used wanted p = cond wanted (standing used p) (eqb p nowhere)
 
 module _ (used : List Bool) (p : ℕ) where
   pub aimed-low : p < 3 → true ≡ aimed used p
@@ -28,8 +33,8 @@ module _ (used : List Bool) (p : ℕ) where
   aimed-some l (no h) = simp (le-ltb p 3 (omega arith))
 
   -- the first half fails
-  pub unlike : (present : Bool) → not (Bool·beq present (ltb 0 p)) ≡ true → placeFits used present p ≡ false
-  unlike present e = go present (ℕ-discrete p 0) e
+  pub unlike : (wanted : Bool) → not (Bool·beq wanted (ltb 0 p)) ≡ true → placeFits used wanted p ≡ false
+  unlike wanted e = go wanted (ℕ-discrete p 0) e
     where
       go : (u : Bool) → Dec (p ≡ 0) → not (Bool·beq u (ltb 0 p)) ≡ true → placeFits used u p ≡ false
       go true (yes z) e = sym (standing-none used p z)
@@ -38,8 +43,8 @@ module _ (used : List Bool) (p : ℕ) where
       go false (no n) e = ne-eqb p 0 n
 
   -- the first half holds
-  pub alike : (present : Bool) → not (Bool·beq present (ltb 0 p)) ≡ false → placeFits used present p ≡ aimed used p
-  alike present e = go present (ℕ-discrete p 0) e
+  pub alike : (wanted : Bool) → not (Bool·beq wanted (ltb 0 p)) ≡ false → placeFits used wanted p ≡ aimed used p
+  alike wanted e = go wanted (ℕ-discrete p 0) e
     where
       go : (u : Bool) → Dec (p ≡ 0) → not (Bool·beq u (ltb 0 p)) ≡ false → placeFits used u p ≡ aimed used p
       go true (yes z) e = let q : true ≡ false = simp (le-ltb 0 p (omega arith)) at e in cc

@@ -1,7 +1,7 @@
 pub mod Places
+pub mod Fits
 pub mod Formed
 pub mod Change
 pub mod Dangle
 pub mod Perform
 pub mod Steps
-pub mod Fits

@@ -41,21 +41,17 @@ standing used (suc zero) = true
 standing used (suc (suc zero)) = true
 standing used (suc (suc (suc i))) = getD used i false
 
--- a place is right: where a variable or used cell is present it stands at #, * or a used cell, else it is nowhere
-abbrev pub placeFits : List Bool → Bool → ℕ → Bool
-placeFits used present p = cond present (standing used p) (eqb p nowhere)
-
 -- no cell or a used one
 abbrev pub aimed : List Bool → ℕ → Bool
 aimed used p = cond (ltb p 3) true (standing used p)
 
 -- "a nonzero slot above V, a variable .. that isn't at #, * or a used cell": slot i is right
 abbrev pub slotFits : Heap64 → ℕ → Bool
-slotFits t i = placeFits (t .used) (ltb i (t .variables)) (getD (codes (t .vars)) i nowhere)
+slotFits t i = let p = getD (codes (t .vars)) i nowhere in cond (ltb i (t .variables)) (standing (t .used) p) (eqb p nowhere)
 
 -- "a .. used link that isn't at #, * or a used cell, or an unused cell with a nonzero link": cell i is right
 abbrev pub cellFits : Heap64 → ℕ → Bool
-cellFits t i = placeFits (t .used) (getD (t .used) i false) (getD (codes (t .links)) i nowhere)
+cellFits t i = let p = getD (codes (t .links)) i nowhere in cond (getD (t .used) i false) (standing (t .used) p) (eqb p nowhere)
 
 -- the opposite of refusal 13, "The stepper's heap is ill formed: V outside 1..8", and so on
 unfoldable pub wellFormed : Heap64 → Bool

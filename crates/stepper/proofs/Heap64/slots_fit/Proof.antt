@@ -4,8 +4,8 @@ use native.Mathlib.Omega.{arith}
 use lib.Dec.{ltb}
 use Rattle.lists.specs.Test.{allFrom}
 use Rattle.lists.proofs.Test.{all-passed, all-failed, all-done}
-use Rattle.stepper.specs.Table.{placeFits, slotFits}
-use Rattle.stepper.proofs.Fits.{unlike, alike}
+use Rattle.stepper.specs.Table.{slotFits}
+use Rattle.stepper.proofs.Fits.{placeFits, unlike, alike}
 use Rattle.stepper.proofs.Places.{code-at}
 use borrow.Author.Tests.{not-true, not-false}
 use borrow.Author.Needs.{needs}
