@@ -1,4 +1,5 @@
 pub mod Places
+pub mod Fits
 pub mod Formed
 pub mod Change
 pub mod Dangle

@@ -41,6 +41,10 @@ standing used (suc zero) = true
 standing used (suc (suc zero)) = true
 standing used (suc (suc (suc i))) = getD used i false
 
+-- no cell or a used one
+abbrev pub aimed : List Bool → ℕ → Bool
+aimed used p = cond (ltb p 3) true (standing used p)
+
 -- "a nonzero slot above V, a variable .. that isn't at #, * or a used cell": slot i is right
 abbrev pub slotFits : Heap64 → ℕ → Bool
 slotFits t i = let p = getD (codes (t .vars)) i nowhere in cond (ltb i (t .variables)) (standing (t .used) p) (eqb p nowhere)

@@ -2,14 +2,15 @@
 use place::Place;
 ghost use mathlib.Core.Bool.{true};
 ghost use mathlib.Core.Path.{_≡_};
-ghost use Prim.Native.Nat.{_≤_, _<_};
+ghost use Prim.Native.Nat.{_≤_};
+ghost use lib.ListN.{length};
 ghost use Rattle.heap.specs.Codes.{varIn, linkIn};
 ghost use Rattle.heap.specs.Operation.{assign, load, store, new, delete, operation};
 ghost use Rattle.kinds.specs.Kinds.{allowed};
 ghost use Rattle.lists.specs.Test.{allFrom};
 ghost use Rattle.place.specs.Place.{codes};
 ghost use Rattle.stepper.specs.Step.{outcomeCode, lowestUnused, comparison, perform, performNamed, Steps};
-ghost use Rattle.stepper.specs.Table.{standing, slotFits, cellFits, wellFormed, Sized, Ready, dangleVars, dangleLinks};
+ghost use Rattle.stepper.specs.Table.{aimed, slotFits, cellFits, wellFormed, Sized, Ready, dangleVars, dangleLinks};
 
 // A heap of up to 64 cells: how many variables there are, where each stands, which cells are used, where their links stand.
 pub struct Heap64 {
@@ -52,55 +53,35 @@ pub fn outcome_code(outcome: Outcome) -> u32
     }
 }
 
+// Whether a code, if it is a cell's, is a used cell's.
+fn is_aimed(used: &[bool; 64], code: u8) -> bool
+    requires { ⌜ length (now used) ≡ 64 ⌝ }
+    ensures { λ r. ⌜ r ≡ aimed (now (used .entry)) code ⌝ }
+{
+    if code < 3 {
+        return true;
+    }
+    if 66 < code {
+        return false;
+    }
+    let i = (code - 3) as usize;
+    used[i]
+}
+
 impl Heap64 {
-    // Whether a code is #, * or a used cell.
-    fn is_standing(self, code: u8) -> bool
-        ensures { λ r. ⌜ r ≡ standing (self .used) code ⌝ }
-    {
-        if code == 0 {
-            return false;
-        }
-        if code < 3 {
-            return true;
-        }
-        if 66 < code {
-            return false;
-        }
-        let i = (code - 3) as usize;
-        self.used[i]
-    }
-
-    // Whether the slot of a variable is right.
-    fn slot_fits(self, i: usize) -> bool
-        requires { ⌜ i < 8 ⌝ }
-        ensures { λ r. ⌜ r ≡ slotFits self i ⌝ }
-    {
-        let p = self.vars[i];
-        let variables = self.variables as usize;
-        if i < variables {
-            return self.is_standing(p.code);
-        }
-        p.code == 0
-    }
-
-    // Whether the link of a cell is right.
-    fn cell_fits(self, i: usize) -> bool
-        requires { ⌜ i < 64 ⌝ }
-        ensures { λ r. ⌜ r ≡ cellFits self i ⌝ }
-    {
-        let p = self.links[i];
-        if self.used[i] {
-            return self.is_standing(p.code);
-        }
-        p.code == 0
-    }
-
+    // Whether the slots of variables are right.
     fn slots_fit(self) -> bool
         ensures { λ r. ⌜ r ≡ allFrom 8 0 (slotFits self) ⌝ }
     {
+        let used = self.used;
+        let variables = self.variables as usize;
         let mut i: usize = 0;
         while i < 8 {
-            if !self.slot_fits(i) {
+            let code = self.vars[i].code;
+            if (i < variables) != (0 < code) {
+                return false;
+            }
+            if !is_aimed(&used, code) {
                 return false;
             }
             i += 1;
@@ -108,12 +89,21 @@ impl Heap64 {
         true
     }
 
+    // Whether the links of cells are right: nowhere just where a cell is unused, and at used cells.
     fn cells_fit(self) -> bool
         ensures { λ r. ⌜ r ≡ allFrom 64 0 (cellFits self) ⌝ }
     {
+        let used = self.used;
         let mut i: usize = 0;
         while i < 64 {
-            if !self.cell_fits(i) {
+            if used[i] != (0 < self.links[i].code) {
+                return false;
+            }
+            i += 1;
+        }
+        i = 0;
+        while i < 64 {
+            if !is_aimed(&used, self.links[i].code) {
                 return false;
             }
             i += 1;

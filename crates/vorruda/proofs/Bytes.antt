@@ -1,9 +1,11 @@
 -- The bytes of a heap, by their places.
-use mathlib.Core.Bool.{Bool, true, false}
+use mathlib.Core.Bool.{Bool, true, false, _&&_}
 use mathlib.Core.List.{List, [], _∷_}
 use mathlib.Core.Logic.{⊎-elim}
 use mathlib.Core.Path.{_≡_, refl, subst}
-use Prim.Native.Nat.{ℕ, _+_, _-_, _≤_, _<_}
+use Prim.Native.Nat.{ℕ, suc, _+_, _-_, _≤_, _<_}
+use native.Mathlib.Decide.{decLt}
+use native.Mathlib.Numerals.{add-one}
 use native.Mathlib.Omega.{arith}
 use borrow.Author.Tests.{lt-ltb, le-ltb, eq-eqb, ne-eqb, eqb-true}
 use lib.Dec.{eqb, ltb}
@@ -12,7 +14,7 @@ use denote.Enum.Declared.{tagOf}
 use types.Run.{OneOf}
 use Rattle.stepper.proofs.Outcome.{the-type}
 use Rattle.lists.specs.Test.{allFrom}
-use Rattle.lists.proofs.Test.{and-left}
+use Rattle.lists.proofs.Test.{and-left, all-done}
 use Rattle.place.specs.Place.{placeOf}
 use Rattle.stepper.specs.Step.{outcomeCode, Steps}
 use Rattle.stepper.specs.declared.Heap64.{Heap64}
@@ -43,6 +45,37 @@ module _ (t : Heap64) (i : ℕ) where
 
 abbrev pub markFits : List ℕ → ℕ → Bool
 markFits bytes i = ltb (getD bytes (9 + i) 0) 2
+
+and-true : (b : Bool) → b ≡ b && true
+and-true true = refl
+and-true false = refl
+
+and-false : (b : Bool) → false ≡ b && false
+and-false true = refl
+and-false false = refl
+
+-- the largest of i marks is known, and then that of one more
+module _ (bytes : List ℕ) (i largest : ℕ) where
+  left-marks : i < 64 → allFrom (64 - i) i (markFits bytes) ≡ markFits bytes i && allFrom (64 - (i + 1)) (i + 1) (markFits bytes)
+  unfolding allFrom
+  left-marks h = let one : 64 - i ≡ suc (64 - (i + 1)) = omega arith in rw (one, add-one i) refl
+
+  pub mark-larger : i < 64 → largest < getD bytes (9 + i) 0 → markFits bytes i && allFrom (64 - (i + 1)) (i + 1) (markFits bytes) ≡ ltb largest 2 && allFrom (64 - i) i (markFits bytes)
+  mark-larger h l = rw (left-marks h) (go (decLt (getD bytes (9 + i) 0) 2))
+    where
+      go : Dec (getD bytes (9 + i) 0 < 2) → markFits bytes i && allFrom (64 - (i + 1)) (i + 1) (markFits bytes) ≡ ltb largest 2 && (markFits bytes i && allFrom (64 - (i + 1)) (i + 1) (markFits bytes))
+      go (yes d) = rw (lt-ltb largest 2 (omega arith)) refl
+      go (no d) = rw (le-ltb (getD bytes (9 + i) 0) 2 (omega arith)) (and-false (ltb largest 2))
+
+  pub mark-smaller : i < 64 → getD bytes (9 + i) 0 ≤ largest → ltb largest 2 && allFrom (64 - (i + 1)) (i + 1) (markFits bytes) ≡ ltb largest 2 && allFrom (64 - i) i (markFits bytes)
+  mark-smaller h l = rw (left-marks h) (go (decLt largest 2))
+    where
+      go : Dec (largest < 2) → ltb largest 2 && allFrom (64 - (i + 1)) (i + 1) (markFits bytes) ≡ ltb largest 2 && (markFits bytes i && allFrom (64 - (i + 1)) (i + 1) (markFits bytes))
+      go (yes d) = rw (lt-ltb (getD bytes (9 + i) 0) 2 (omega arith)) refl
+      go (no d) = rw (le-ltb largest 2 (omega arith)) refl
+
+  pub marks-done : 64 ≤ i → ltb largest 2 ≡ ltb largest 2 && allFrom (64 - i) i (markFits bytes)
+  marks-done h = rw (all-done (markFits bytes) 64 i h) (and-true (ltb largest 2))
 
 module _ (bytes : List ℕ) where
   pub other-length : (length bytes ≡ 137 → ⊥) → false ≡ readable bytes

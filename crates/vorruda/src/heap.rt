@@ -3,9 +3,8 @@ use stepper::Heap64;
 use stepper::Outcome;
 use stepper::Stepped;
 ghost use mathlib.Core.Path.{_≡_};
-ghost use Prim.Native.Nat.{_<_, _≤_};
 ghost use lib.ListN.{length};
-ghost use Rattle.vorruda.specs.HeapBytes.{readable, heapFrom, byteOf, bytesOf, StepsBytes};
+ghost use Rattle.vorruda.specs.HeapBytes.{readable, heapFrom, bytesOf, StepsBytes};
 
 // Whether bytes can be a heap's: 137 of them, the used marks 0 or 1.
 fn is_readable(bytes: &[u8]) -> bool
@@ -14,14 +13,16 @@ fn is_readable(bytes: &[u8]) -> bool
     if bytes.len() != 137 {
         return false;
     }
+    let mut largest: u8 = 0;
     let mut i: usize = 0;
     while i < 64 {
-        if 1 < bytes[9 + i] {
-            return false;
+        let mark = bytes[9 + i];
+        if largest < mark {
+            largest = mark;
         }
         i += 1;
     }
-    true
+    largest < 2
 }
 
 fn slots_from(bytes: &[u8]) -> [Place; 8]
@@ -65,33 +66,22 @@ fn links_from(bytes: &[u8]) -> [Place; 64]
     links
 }
 
-// The byte at a place of a heap's bytes.
-fn byte_at(heap: Heap64, i: usize) -> u8
-    requires { ⌜ i < 137 ⌝ }
-    ensures { λ r. ⌜ r ≡ byteOf heap i ⌝ }
-{
-    if i < 1 {
-        return heap.variables;
-    }
-    if i < 9 {
-        return heap.vars[i - 1].code;
-    }
-    if i < 73 {
-        if heap.used[i - 9] {
-            return 1;
-        }
-        return 0;
-    }
-    heap.links[i - 73].code
-}
-
 fn put_heap(heap: Heap64, bytes: &mut [u8])
     requires { ⌜ length (now bytes) ≡ 137 ⌝ }
     ensures { λ r. ⌜ now (bytes .exit) ≡ bytesOf heap ⌝ }
 {
-    let mut i: usize = 0;
+    bytes[0] = heap.variables;
+    let mut i: usize = 1;
+    while i < 9 {
+        bytes[i] = heap.vars[i - 1].code;
+        i += 1;
+    }
+    while i < 73 {
+        bytes[i] = heap.used[i - 9] as u8;
+        i += 1;
+    }
     while i < 137 {
-        bytes[i] = byte_at(heap, i);
+        bytes[i] = heap.links[i - 73].code;
         i += 1;
     }
 }

@@ -1,32 +1,56 @@
 use Prim.Native.Nat.{_-_, _≤_}
-use mathlib.Core.Path.{_≡_, refl, _∙_, sym}
+use mathlib.Core.Path.{_≡_, refl, ap, _∙_, sym}
 use native.Mathlib.Omega.{arith}
+use lib.Dec.{ltb}
 use Rattle.lists.specs.Test.{allFrom}
 use Rattle.lists.proofs.Test.{all-passed, all-failed, all-done}
 use Rattle.stepper.specs.Table.{slotFits}
+use Rattle.stepper.proofs.Fits.{placeFits, unlike, alike}
+use Rattle.stepper.proofs.Places.{code-at}
 use borrow.Author.Tests.{not-true, not-false}
 use borrow.Author.Needs.{needs}
 use Rattle.stepper.proofs.Heap64.slots_fit.Statement.{statement}
 use Rattle.stepper.proofs.Heap64.slots_fit.Tie as tie
 
 abbrev Inv-loop : tie.InvT-loop
-Inv-loop self i₀ i = (i ≤ 8) × (allFrom (8 - i) i (slotFits self) ≡ allFrom 8 0 (slotFits self))
+Inv-loop self used variables i₀ i = (i ≤ 8) × (allFrom (8 - i) i (slotFits self) ≡ allFrom 8 0 (slotFits self))
 
 abbrev μ-loop : tie.MeasureT-loop
-μ-loop self i₀ i = 8 - i
+μ-loop self used variables i₀ i = 8 - i
+
+cast-variables : tie.Need-cast-variables Inv-loop μ-loop
+cast-variables c = search needs
 
 loop-holds : tie.Need-loop-holds Inv-loop μ-loop
 loop-holds c = (omega arith, refl)
 
-slot-fits-requires : tie.Need-slot-fits-requires Inv-loop μ-loop
-slot-fits-requires c κs = search needs
+element-copy-out-code : tie.Need-element-copy-out-code Inv-loop μ-loop
+element-copy-out-code c = search needs
 
 returns : tie.Need-returns Inv-loop μ-loop
 returns c =
-    let t = c .before .before .before .before .args .self in
-    let i = c .before .before .before .loop .i in
-    sym (all-failed (slotFits t) 8 i (omega arith) (sym (c .before .slot-fits .ensures) ∙ not-true _ (c .if1 .taken)))
-    ∙ c .before .before .before .loop .inv .1
+    let t = c .before .before .before .before .args .t1 in
+    let i = c .before .before .loop .i in
+    let fits = sym (ap (placeFits (t .used) (ltb i (t .variables))) (code-at (t .vars) i)) ∙ unlike (t .used) _ (ltb i (t .variables)) (c .if1 .taken) in
+    sym (all-failed (slotFits t) 8 i (omega arith) fits) ∙ c .before .before .loop .inv .1
+
+is-aimed-requires : tie.Need-is-aimed-requires Inv-loop μ-loop
+is-aimed-requires c κs = search needs
+
+-- what was tested is the slot of i
+tested : (c : tie.After-is-aimed Inv-loop μ-loop) → slotFits (c .before .before .before .before .before .before .args .t1) (c .before .before .before .before .loop .i) ≡ c .is-aimed .result
+tested c =
+    let t = c .before .before .before .before .before .before .args .t1 in
+    let i = c .before .before .before .before .loop .i in
+    sym (ap (placeFits (t .used) (ltb i (t .variables))) (code-at (t .vars) i))
+    ∙ alike (t .used) _ (ltb i (t .variables)) (c .before .before .if1 .left) ∙ sym (c .is-aimed .ensures)
+
+returns-2 : tie.Need-returns-2 Inv-loop μ-loop
+returns-2 c =
+    let t = c .before .before .before .before .before .before .before .args .t1 in
+    let i = c .before .before .before .before .before .loop .i in
+    sym (all-failed (slotFits t) 8 i (omega arith) (tested (c .before) ∙ not-true _ (c .if2 .taken)))
+    ∙ c .before .before .before .before .before .loop .inv .1
 
 add-i : tie.Need-add-i Inv-loop μ-loop
 add-i c = search needs
@@ -36,16 +60,16 @@ loop-less c = search needs
 
 loop-again : tie.Need-loop-again Inv-loop μ-loop
 loop-again c =
-    let t = c .before .before .before .before .args .self in
-    let i = c .before .before .before .loop .i in (
+    let t = c .before .before .before .before .before .before .before .args .t1 in
+    let i = c .before .before .before .before .before .loop .i in (
       omega arith,
-      sym (all-passed (slotFits t) 8 i (omega arith) (sym (c .before .slot-fits .ensures) ∙ not-false _ (c .if1 .left)))
-          ∙ c .before .before .before .loop .inv .1,
+      sym (all-passed (slotFits t) 8 i (omega arith) (tested (c .before) ∙ not-false _ (c .if2 .left)))
+          ∙ c .before .before .before .before .before .loop .inv .1,
     )
 
-returns-2 : tie.Need-returns-2 Inv-loop μ-loop
-returns-2 c =
-    let t = c .before .before .args .self in
+returns-3 : tie.Need-returns-3 Inv-loop μ-loop
+returns-3 c =
+    let t = c .before .before .before .args .t1 in
     let i = c .before .loop .i in
     sym (all-done (slotFits t) 8 i (omega arith)) ∙ c .before .loop .inv .1
 
@@ -55,10 +79,13 @@ slots-fit-spec =
     (tie.spec
     Inv-loop
     μ-loop
+    cast-variables
     loop-holds
-    slot-fits-requires
+    element-copy-out-code
     returns
+    is-aimed-requires
+    returns-2
     add-i
     loop-less
     loop-again
-    returns-2)
+    returns-3)
