@@ -11,6 +11,8 @@ use Rattle.lists.proofs.Reflect.{r-le, r-and}
 use Rattle.heap.specs.Operation.{kindOf}
 use Rattle.shape.specs.Shape.{InRange}
 use Rattle.run.specs.Run.{Transition, Located}
+use Rattle.number.specs.Number.{numberAt}
+use Rattle.number.specs.declared.Read.the-variants.{Number}
 use Rattle.kinds.specs.Kinds.{mostB, isSome, allowed}
 use Rattle.kinds.proofs.Rows.{known}
 use Rattle.format.specs.Certificate.{Member, readMember}
@@ -25,8 +27,50 @@ use Rattle.reader.specs.Job.{TransitionIn}
 use Rattle.reader.proofs.Bytes.{Single, single, reads-inside, reads-bytes}
 use Rattle.reader.proofs.Transitions.{most-bound}
 
+-- ---- an entry by the place after its state
+
+module _ (s : Buffer) (variables states : ℕ) where
+  pub record EntryAfter (at a : ℕ) (m : Located) (next : ℕ) : Type 0 where
+    pub number : numberAt (s .bytes) at ≡ Number (m .state) a
+    pub state : m .state < states
+    pub shape : InRange variables 12 (m .shape)
+    pub some : a < length (s .bytes)
+    pub cells : length (m .shape .links) ≡ getD (s .bytes) a 0
+    pub vars : m .shape .vars ≡ take variables (drop (a + 1) (s .bytes))
+    pub links : m .shape .links ≡ take (length (m .shape .links)) (drop (a + 1 + variables) (s .bytes))
+    pub after : next ≡ a + 1 + variables + getD (s .bytes) a 0
+    pub inside : next ≤ length (s .bytes)
+
+  pub entry-after : (at : ℕ) (m : Located) (next : ℕ) → readLocated s variables states at ≡ parsed m next → (a : ℕ) × EntryAfter at a m next
+  entry-after at m next h =
+      let (r, ok) = located-exact s variables states .sound at m next h in
+      let vars : List ℕ = m .shape .vars in
+      let links : List ℕ = m .shape .links in
+      let (a, g₁, r₁) = reads-first r in
+      let (b, g₂, r₂) = reads-first r₁ in
+      let (c, r₃, r₄) = reads-split vars r₂ in
+      let cells : length links ≤ 12 = ok .shape .cells in
+      let t = single (s .bytes) a (length links) b g₂ (omega arith) in
+      let (vars-are, c-is) = reads-bytes r₃ (λ x i. omega (arith, ok .shape .vars x i)) in
+      let (links-are, next-is) = reads-bytes r₄ (λ x i. omega (arith, ok .shape .links x i)) in
+      let long : length vars ≡ variables = ok .shape .variables-number in
+      let links-at : c ≡ a + 1 + variables = omega (arith, t .after) in (
+        a,
+        record {
+          number = g₁;
+          state = ok .state;
+          shape = ok .shape;
+          some = t .inside;
+          cells = t .value;
+          vars = rw (long, t .after) at vars-are;
+          links = rw links-at at links-are;
+          after = omega (arith, t .value);
+          inside = reads-inside r₁ (omega (arith, t .inside));
+        },
+      )
+
 module _ (s : Buffer) (variables states : ℕ) (few : states ≤ 64) where
-  -- ---- an entry
+  -- ---- an entry whose state is one byte
 
   pub record EntryRead (at : ℕ) (m : Located) (next : ℕ) : Type 0 where
     pub same : m ≡ locatedAt (s .bytes) variables at
@@ -42,31 +86,21 @@ module _ (s : Buffer) (variables states : ℕ) (few : states ≤ 64) where
 
   pub entry-read : (at : ℕ) (m : Located) (next : ℕ) → readLocated s variables states at ≡ parsed m next → EntryRead at m next
   entry-read at m next h =
-      let (r, ok) = located-exact s variables states .sound at m next h in
-      let vars : List ℕ = m .shape .vars in
-      let links : List ℕ = m .shape .links in
-      let (a, g₁, r₁) = reads-first r in
-      let (b, g₂, r₂) = reads-first r₁ in
-      let (c, r₃, r₄) = reads-split vars r₂ in
-      let cells : length links ≤ 12 = ok .shape .cells in
-      let t₁ = single (s .bytes) at (m .state) a g₁ (omega (arith, ok .state)) in
-      let t₂ = single (s .bytes) a (length links) b g₂ (omega arith) in
-      let (vars-are, c-is) = reads-bytes r₃ (λ x i. omega (arith, ok .shape .vars x i)) in
-      let (links-are, next-is) = reads-bytes r₄ (λ x i. omega (arith, ok .shape .links x i)) in
-      let long : length vars ≡ variables = ok .shape .variables-number in
-      let a-is : a ≡ at + 1 = t₁ .after in
-      let n-is : length links ≡ getD (s .bytes) (at + 1) 0 = t₂ .value ∙ ap (λ k. getD (s .bytes) k 0) a-is in
-      let after : next ≡ entryEnd (s .bytes) variables at = omega (arith, t₂ .after) in
+      let (a, e) = entry-after s variables states at m next h in
+      let t = single (s .bytes) at (m .state) a (e .number) (omega (arith, e .state)) in
+      let a-is : a ≡ at + 1 = t .after in
+      let n-at : getD (s .bytes) a 0 ≡ getD (s .bytes) (at + 1) 0 = ap (λ k. getD (s .bytes) k 0) a-is in
+      let cells : length (m .shape .links) ≤ 12 = e .shape .cells in
       let same : m ≡ locatedAt (s .bytes) variables at =
-      located-is at (length links) m b c (t₁ .value) n-is (omega (arith, t₂ .after)) (omega (arith, t₂ .after)) (rw long at vars-are) links-are in
+      located-is at (length (m .shape .links)) m (a + 1) (a + 1 + variables) (t .value) (e .cells ∙ n-at) (omega arith) (omega arith) (e .vars) (e .links) in
       record {
         same = same;
-        after = after;
+        after = omega (arith, e .after);
         entry = record {
-          inside = omega (arith, reads-inside r (omega (arith, t₁ .inside)));
-          cells = omega arith;
-          state = omega (arith, t₁ .value, ok .state);
-          range = subst (λ (k : Located). InRange variables 12 (k .shape)) same (ok .shape);
+          inside = omega (arith, e .after, e .inside);
+          cells = omega (arith, e .cells);
+          state = omega (arith, t .value, e .state);
+          range = subst (λ (k : Located). InRange variables 12 (k .shape)) same (e .shape);
         };
       }
 

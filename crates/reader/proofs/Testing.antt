@@ -1,7 +1,7 @@
 -- Refusal 8: the test of the members, one after the other.
 use mathlib.Core.Bool.{Bool, true, false, not}
 use mathlib.Core.List.{List, [], _∷_}
-use mathlib.Core.Path.{_≡_, refl, sym, ap, _∙_}
+use mathlib.Core.Path.{_≡_, refl, sym, ap, subst, _∙_}
 use Prim.Native.Nat.{ℕ, suc, _+_, _-_, _≤_, _<_}
 use native.Mathlib.Omega.{arith}
 use borrow.Author.Tests.{eq-eqb, ne-eqb}
@@ -12,14 +12,13 @@ use Rattle.run.specs.Run.{Located}
 use Rattle.format.specs.Certificate.{Member, atStart, readMember, testStart}
 use Rattle.format.specs.Job.{readLocated}
 use Rattle.format.specs.Parser.{Parsed, parsed, fault, onward, require, many, each, Buffer, certificateBuffer, ranged}
-use Rattle.format.proofs.Files.{located-exact}
 use Rattle.format.proofs.Parsing.{not-fault, then, require-sound, ranged-exact}
-use Rattle.format.proofs.Sequence.{reads-first, reads-one, reads-split}
+use Rattle.format.proofs.Sequence.{reads-one}
 use Rattle.reader.specs.Members.{tested}
 use Rattle.reader.specs.Number.{forget}
-use Rattle.reader.proofs.Bytes.{single, reads-inside, reads-bytes}
 use Rattle.reader.proofs.Entries.{lost-state}
 use Rattle.reader.proofs.Many.{remembered, many-suc}
+use Rattle.reader.proofs.Standing.{EntryAfter, entry-after}
 
 -- ---- where a member that was read stands, and its test
 
@@ -35,57 +34,34 @@ module _ (cert : List ℕ) (variables states start at : ℕ) (l : Located) (next
     state-read {number} {place} e = not-fault tt next number place (lost-state s variables states at e ∙ ap forget h)
 
     module _ (state a : ℕ) (e : ranged s 0 states at ≡ parsed state a) where
-      pub record Stand : Type 0 where
-        pub state-is : l .state ≡ state
-        pub some : a < length cert
-        pub cells : getD cert a 0 ≤ 12
-        pub cells-are : length (l .shape .links) ≡ getD cert a 0
-        pub vars-are : l .shape .vars ≡ take variables (drop (a + 1) cert)
-        pub after : next ≡ a + 1 + variables + getD cert a 0
-        pub inside : next ≤ length cert
-
-      pub stand : Stand
+      pub stand : EntryAfter s variables states at a l next
       stand =
-          let (r, ok) = located-exact s variables states .sound at l next h in
-          let vars : List ℕ = l .shape .vars in
-          let links : List ℕ = l .shape .links in
-          let (p, g₁, r₁) = reads-first r in
-          let (b, g₂, r₂) = reads-first r₁ in
-          let (d, r₃, r₄) = reads-split vars r₂ in
-          let cells : length links ≤ 12 = ok .shape .cells in
-          let t = single cert p (length links) b g₂ (omega arith) in
-          let (vars-are, d-is) = reads-bytes r₃ (λ x i. omega (arith, ok .shape .vars x i)) in
-          let (links-are, next-is) = reads-bytes r₄ (λ x i. omega (arith, ok .shape .links x i)) in
-          let long : length vars ≡ variables = ok .shape .variables-number in
+          let (b, w) = entry-after s variables states at l next h in
+          let number = w .number in
           let g = reads-one (ranged-exact s 0 states .sound at state a e .0) in
-          let state-is : l .state ≡ state = cc in
-          let p-is : p ≡ a = cc in
-          let n-is : length links ≡ getD cert a 0 = t .value ∙ ap (λ k. getD cert k 0) p-is in
-          let b-is : b ≡ a + 1 = t .after ∙ ap (λ k. k + 1) p-is in
-          record {
-            state-is = state-is;
-            some = omega (arith, t .inside);
-            cells = omega arith;
-            cells-are = n-is;
-            vars-are = rw (long, b-is) at vars-are;
-            after = omega arith;
-            inside = reads-inside r₁ (omega (arith, t .inside));
-          }
+          let b-is : b ≡ a = cc in
+          subst (λ (k : ℕ). EntryAfter s variables states at k l next) b-is w
+
+      state-is : l .state ≡ state
+      state-is = let number = stand .number in let g = reads-one (ranged-exact s 0 states .sound at state a e .0) in cc
+
+      pub cells-most : getD cert a 0 ≤ 12
+      cells-most = let most : length (l .shape .links) ≤ 12 = stand .shape .cells in omega (arith, stand .cells)
 
       passes : (end : ℕ) → end ≡ a + 1 + variables + getD cert a 0 → atStart start l ≡ false → parsed tt end ≡ testStart start member next
       passes end end-is q = rw q (ap (parsed tt) (end-is ∙ sym (stand .after)))
 
       pub other-state : (end : ℕ) → end ≡ a + 1 + variables + getD cert a 0 → (state ≡ start → ⊥) → parsed tt end ≡ testStart start member next
-      other-state end end-is z = passes end end-is (rw (stand .state-is, ne-eqb state start z) refl)
+      other-state end end-is z = passes end end-is (rw (state-is, ne-eqb state start z) refl)
 
       module _ (is-start : state ≡ start) where
         pub some-cells : (end : ℕ) → end ≡ a + 1 + variables + getD cert a 0 → (getD cert a 0 ≡ 0 → ⊥) → parsed tt end ≡ testStart start member next
         some-cells end end-is z =
-            passes end end-is (rw (stand .state-is, eq-eqb state start is-start, stand .cells-are, ne-eqb (getD cert a 0) 0 z) refl)
+            passes end end-is (rw (state-is, eq-eqb state start is-start, stand .cells, ne-eqb (getD cert a 0) 0 z) refl)
 
         module _ (none : getD cert a 0 ≡ 0) (k : ℕ) (k-is : k ≡ variables) where
           by-vars : atStart start l ≡ absent null (take k (drop (a + 1) cert))
-          by-vars = rw (stand .state-is, eq-eqb state start is-start, stand .cells-are, none, stand .vars-are, k-is) refl
+          by-vars = rw (state-is, eq-eqb state start is-start, stand .cells, none, stand .vars, k-is) refl
 
           pub some-null : (end : ℕ) → end ≡ a + 1 + variables + getD cert a 0 → absent null (take k (drop (a + 1) cert)) ≡ false
               → parsed tt end ≡ testStart start member next

@@ -3,7 +3,7 @@ use mathlib.Core.Path.{refl, sym, _∙_}
 use native.Mathlib.Omega.{arith}
 use lib.ListN.{getD}
 use Rattle.reader.proofs.Answers.{got, lost}
-use Rattle.reader.proofs.Testing.{state-read, stand, other-state, some-cells, some-null, satisfied}
+use Rattle.reader.proofs.Testing.{state-read, stand, cells-most, other-state, some-cells, some-null, satisfied}
 use borrow.Author.Needs.{needs}
 use Rattle.reader.proofs.start.test_member.Statement.{statement}
 use Rattle.reader.proofs.start.test_member.Tie as tie
@@ -27,7 +27,7 @@ shared-slice-read-n : tie.Need-shared-slice-read-n
 shared-slice-read-n c = let a = c .before .before .before .before .before .before .args in let p = c .before .before .before .before .before .before .pre in let v = c .before .before .number .given in let t = stand (a .cert .now) (a .variables) (a .states) (a .start) (a .at) (p .0) (p .1) (p .2) (v .0 .0) (v .0 .1 .0) (got (c .before .before .before .before .read-ranged .ensures) (v .1)) in omega (arith, t .some)
 
 cast-n : tie.Need-cast-n
-cast-n c = let a = c .before .before .before .before .before .before .args in let p = c .before .before .before .before .before .before .pre in let v = c .before .before .number .given in let t = stand (a .cert .now) (a .variables) (a .states) (a .start) (a .at) (p .0) (p .1) (p .2) (v .0 .0) (v .0 .1 .0) (got (c .before .before .before .before .read-ranged .ensures) (v .1)) in omega (arith, t .cells)
+cast-n c = let a = c .before .before .before .before .before .before .args in let p = c .before .before .before .before .before .before .pre in let v = c .before .before .number .given in let m = cells-most (a .cert .now) (a .variables) (a .states) (a .start) (a .at) (p .0) (p .1) (p .2) (v .0 .0) (v .0 .1 .0) (got (c .before .before .before .before .read-ranged .ensures) (v .1)) in omega (arith, m)
 
 add-vars-at : tie.Need-add-vars-at
 add-vars-at c = let a = c .before .before .before .before .before .before .args in let p = c .before .before .before .before .before .before .pre in let v = c .before .before .number .given in let t = stand (a .cert .now) (a .variables) (a .states) (a .start) (a .at) (p .0) (p .1) (p .2) (v .0 .0) (v .0 .1 .0) (got (c .before .before .before .before .read-ranged .ensures) (v .1)) in omega (arith, t .some)
