@@ -4,7 +4,6 @@ use crate::going::Going;
 use crate::going::Taken;
 use verdict::Reached;
 ghost use mathlib.Core.List.{[], _∷_};
-ghost use mathlib.Core.Path.{_≡_};
 ghost use Rattle.checker.specs.Taking.{Within, Takes};
 ghost use Rattle.layout.specs.Arrays.{shapeIn, Hold};
 ghost use Rattle.layout.specs.Entries.{membersAt, Table};

@@ -1,5 +1,5 @@
 -- The choices of a placing that an operation of kinds 1 to 5 retains, by their numbers (see choices/specs/Choice.antt).
-use mathlib.Core.Bool.{Bool, true, false, _||_, _&&_, not, cond}
+use mathlib.Core.Bool.{Bool, false, _||_, _&&_, not, cond}
 use mathlib.Core.List.{List}
 use Prim.Native.Nat.{ℕ, suc, _+_, _-_}
 use lib.Dec.{eqb, ltb, leb}

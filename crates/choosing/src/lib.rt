@@ -6,7 +6,7 @@ ghost use mathlib.Core.Path.{_≡_};
 ghost use Prim.Native.Nat.{_<_};
 ghost use Rattle.choices.specs.Choice.{choiceOf, exists};
 ghost use Rattle.choices.specs.Retained.{linkOpen, retained};
-ghost use Rattle.choosing.specs.Wanted.{sourceFits, itselfFits, targetFits, fitsIn, oneByOne, targetChoices, choicesOf, targetOf, beside, onceIf, wantedOne, wantedNowhere, wantedFirst, wantedSecond};
+ghost use Rattle.choosing.specs.Wanted.{sourceFits, itselfFits, fitsIn, oneByOne, targetChoices, choicesOf, targetOf, beside, onceIf, wantedOne, wantedNowhere, wantedFirst, wantedSecond};
 
 // The choices of a variable that are retained.
 pub enum Wanted {

@@ -4,14 +4,13 @@ use mathlib.Core.List.{List, [], _∷_}
 use mathlib.Core.Logic.{ite}
 use mathlib.Core.Option.{Option, none, some}
 use mathlib.Core.Path.{_≡_}
-use Prim.Native.Nat.{ℕ, zero, suc}
+use Prim.Native.Nat.{ℕ, suc}
 use lib.Dec.{leb}
 use Rattle.heap.specs.Operation.{Op, equal, different, assign, load, store, new, delete, Enabled, enabled?, after, operation}
 use Rattle.stepper.specs.Table.{heapOf, tableOf, wellFormed}
 use Rattle.stepper.specs.declared.Heap64.{Heap64}
 use Rattle.stepper.specs.declared.Outcome.{Outcome}
 use Rattle.stepper.specs.declared.Outcome.the-variants.{Moved, Blocked, Refused}
-use Rattle.stepper.specs.declared.StepRefusal.{StepRefusal}
 use Rattle.stepper.specs.declared.StepRefusal.the-variants.{IllFormed, BadOperation, Full}
 use Rattle.stepper.specs.declared.Stepped.{Stepped}
 

@@ -4,7 +4,6 @@ use Prim.Native.Nat.{ℕ}
 use Rattle.format.specs.Parser.{Parsed, parsed, fault}
 use Rattle.format.specs.Verdict.{Verdict, accepted, refused}
 use Rattle.number.specs.Outcome.{Outcome}
-use Rattle.verdict.specs.declared.Counts.{Counts}
 use Rattle.verdict.specs.declared.Reached.{Reached}
 use Rattle.verdict.specs.declared.Reached.the-variants.{At, Refused as ReachedRefused}
 use Rattle.verdict.specs.declared.Refusal.{Refusal}
