@@ -1,22 +1,23 @@
--- What the arrays hold once a shape is loaded.
+-- The loops that load a shape, and what the arrays then hold.
 use mathlib.Core.List.{List, _∷_, _++_}
-use mathlib.Core.Path.{_≡_, refl, sym, ap, ap₂, _∙_}
+use mathlib.Core.Path.{_≡_, refl, ap, ap₂, _∙_}
 use Prim.Native.Nat.{ℕ, zero, suc, _+_, _-_, _≤_, _<_}
 use native.Mathlib.Decide.{decLt}
+use native.Mathlib.Numerals.{add-one}
 use native.Mathlib.Omega.{arith}
 use lib.ListN.{length, getD, take, drop, set, length-append, length-drop, replicate, getD-replicate, List·getD-append, List·getD-eq-default}
-use lib.Seq.{length-take-le, take-at, getD-append-add, getD-drop}
+use lib.Seq.{length-take-le, take-at, getD-append-add, getD-drop, paste, paste-suc}
 use Rattle.lists.proofs.List.{getD-mem}
 use Rattle.heap.specs.Place.{cell}
 use Rattle.shape.specs.Shape.{Shape, AllBelow}
 use Rattle.layout.specs.Entries.{Entry}
-use Rattle.places.proofs.Moves.{copy-whole}
 use Rattle.checker.specs.Loading.{Loaded}
 
--- n bytes copied over n
-part-copied : (s d : List ℕ) (n : ℕ) → n ≤ length s → n ≤ length d
-    → take (length (take n d)) (take n s) ++ drop (length (take n s)) (take n d) ≡ take n s
-part-copied s d n a b = copy-whole (take n s) (take n d) (length-take-le n s a ∙ sym (length-take-le n d b))
+-- i bytes have been copied, and one more is
+pub copied-more : (d : List ℕ) (at : ℕ) (bytes : List ℕ) (first i k : ℕ) (l : List ℕ) → k ≡ at + i → at + i < length d → first + i < length bytes
+    → l ≡ paste d at (drop first bytes) i → set l k (getD bytes (first + i) 0) ≡ paste d at (drop first bytes) (i + 1)
+copied-more d at bytes first i k l e h b inv =
+    rw (inv, e, ← getD-drop first bytes i 0, add-one i) (paste-suc d at (drop first bytes) i 0 h (omega (arith, length-drop first bytes)))
 
 -- what is below k throughout is so at each index, and 0 past the end
 below-at : (k : ℕ) (l : List ℕ) → AllBelow k l → (i : ℕ) → i < length l → getD l i 0 < k
@@ -97,26 +98,15 @@ module _ (bytes : List ℕ) (variables at : ℕ) (entry : Entry bytes variables 
             (take-at (take n places) (drop n links₀) n cells);
       }
 
--- the arrays as the copies leave them: the first has k₁ of the entry's bytes in place of k₂ from slot 1 on
-pub loaded : (bytes : List ℕ) (variables at : ℕ) (vars₀ links₀ : List ℕ) (k₁ k₂ k₃ : ℕ) (front back : List ℕ) → Entry bytes variables at → variables ≤ 8
-    → vars₀ ≡ replicate 10 0 → links₀ ≡ replicate 14 0 → k₁ ≡ variables → k₂ ≡ variables → k₃ ≡ getD bytes (at + 1) 0
-    → front ≡ take (length (take k₂ (drop 1 (set vars₀ 0 1)))) (take k₁ (drop (at + 2) bytes))
-    ++ drop (length (take k₁ (drop (at + 2) bytes))) (take k₂ (drop 1 (set vars₀ 0 1)))
-    → back ≡ take (length (take (getD bytes (at + 1) 0) links₀)) (take k₃ (drop (at + 2 + variables) bytes))
-    ++ drop (length (take k₃ (drop (at + 2 + variables) bytes))) (take (getD bytes (at + 1) 0) links₀)
-    → Loaded bytes variables at (getD bytes (at + 1) 0) (take 1 (set vars₀ 0 1) ++ (front ++ drop k₂ (drop 1 (set vars₀ 0 1))))
-    (back ++ drop (getD bytes (at + 1) 0) links₀)
-loaded bytes variables at vars₀ links₀ k₁ k₂ k₃ front back entry few vars-clear links-clear k₁-is k₂-is k₃-is front-is back-is =
+-- the arrays as the loops leave them
+pub loaded : (bytes : List ℕ) (variables at : ℕ) (vars₀ links₀ vars links : List ℕ) → Entry bytes variables at → variables ≤ 8
+    → vars₀ ≡ replicate 10 0 → links₀ ≡ replicate 14 0 → vars ≡ paste (set vars₀ 0 1) 1 (drop (at + 2) bytes) variables
+    → links ≡ paste links₀ 0 (drop (at + 2 + variables) bytes) (getD bytes (at + 1) 0) → Loaded bytes variables at (getD bytes (at + 1) 0) vars links
+loaded bytes variables at vars₀ links₀ vars links entry few vars-clear links-clear vars-is links-is =
     let n = getD bytes (at + 1) 0 in
-    let codes = drop (at + 2) bytes in
-    let places = drop (at + 2 + variables) bytes in
-    let front-all : front ≡ take variables codes =
-    rw (vars-clear, k₁-is, k₂-is) at front-is
-    ∙ part-copied codes (replicate 9 0) variables (omega (arith, length-drop (at + 2) bytes, entry .inside)) (omega arith) in
-    let back-all : back ≡ take n places =
-    rw (links-clear, k₃-is) at back-is
-    ∙ part-copied places (replicate 14 0) n (omega (arith, length-drop (at + 2 + variables) bytes, entry .inside)) (omega (arith, entry .cells)) in
-    rw (front-all, back-all, vars-clear, links-clear, k₂-is)
+    let one-more : 1 + variables ≡ suc variables = omega arith in
+    let all : 0 + n ≡ n = omega arith in
+    rw (vars-is, links-is, vars-clear, links-clear, one-more, all)
     (load-in bytes variables at entry few (replicate 9 0) (replicate 14 0) refl refl clear)
   where
     clear : (i : ℕ) → getD {A = ℕ} (replicate 9 0) i 0 ≡ 0

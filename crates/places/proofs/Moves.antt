@@ -1,11 +1,10 @@
--- Places that move up by one, and bytes that are copied.
-use mathlib.Core.List.{List, [], _∷_, _++_, append-nil}
-use mathlib.Core.Path.{_≡_, refl, sym, ap, ap₂, _∙_}
+-- Places that move up by one.
+use mathlib.Core.List.{List, [], _∷_, _++_}
+use mathlib.Core.Path.{_≡_, refl, ap, _∙_}
 use Prim.Native.Nat.{ℕ, zero, suc, _+_, _-_, _≤_, _<_}
 use native.Mathlib.Numerals.{add-one}
 use native.Mathlib.Omega.{arith}
-use lib.ListN.{length, length-set, getD, take, drop, set, drop-of-length-le}
-use lib.Seq.{take-all}
+use lib.ListN.{length, length-set, getD, take, drop, set}
 use Rattle.backward.specs.Predecessors.{removeAt}
 use Rattle.places.specs.Places.{closeUp}
 
@@ -82,51 +81,3 @@ module _ {k : ℕ} {xs l : List ℕ} {c : ℕ} (w : Moving k xs l c) where
 
   pub move-all : length xs ≤ c + 1 → l ≡ closeUp k xs
   move-all b = w .so-far ∙ moved-all k c xs (w .low) (omega (arith, w .below))
-
--- ---- copying: i bytes are copied
-
-abbrev copied : List ℕ → List ℕ → ℕ → List ℕ
-copied from to i = take i from ++ drop i to
-
-set-copied : (from to : List ℕ) (i : ℕ) → i < length from → i < length to → set (copied from to i) i (getD from i 0) ≡ copied from to (suc i)
-set-copied [] to i a b = absurd (omega arith)
-set-copied (x ∷ xs) [] i a b = absurd (omega arith)
-set-copied (x ∷ xs) (y ∷ ys) zero a b = refl
-set-copied (x ∷ xs) (y ∷ ys) (suc i) a b = ap (λ (m : List ℕ). x ∷ m) (set-copied xs ys i (omega arith) (omega arith))
-
-pub record Copying (from to l : List ℕ) (i : ℕ) : Type 0 where
-  pub some : i ≤ length from
-  pub room : i ≤ length to
-  pub same : length l ≡ length to
-  pub so-far : l ≡ copied from to i
-
-pub copy-none : (from to : List ℕ) → Copying from to to 0
-copy-none from to = record { some = omega arith; room = omega arith; same = refl; so-far = refl }
-
-module _ {from to l : List ℕ} {i : ℕ} (w : Copying from to l i) where
-  pub copy-more : i < length from → i < length to → Copying from to (set l i (getD from i 0)) (i + 1)
-  copy-more a b =
-      record {
-        some = omega arith;
-        room = omega arith;
-        same = length-set l i (getD from i 0) ∙ w .same;
-        so-far = rw (add-one i, w .so-far) (set-copied from to i a b);
-      }
-
-  -- no byte is left to copy
-  pub copy-short : length from ≤ i → l ≡ take (length to) from ++ drop (length from) to
-  copy-short h =
-      let i-is : i ≡ length from = omega (arith, w .some) in
-      let room = w .room in
-      w .so-far ∙ ap₂ _++_ (take-all i from h ∙ sym (take-all (length to) from (omega arith))) (ap (λ (k : ℕ). drop k to) i-is)
-
-  -- there is no room left
-  pub copy-full : length to ≤ i → l ≡ take (length to) from ++ drop (length from) to
-  copy-full h =
-      let i-is : i ≡ length to = omega (arith, w .room) in
-      let some = w .some in
-      w .so-far ∙ ap₂ _++_ (ap (λ (k : ℕ). take k from) i-is) (drop-of-length-le to {i = i} h ∙ sym (drop-of-length-le to {i = length from} (omega arith)))
-
--- as many bytes as there is room for
-pub copy-whole : (from to : List ℕ) → length from ≡ length to → take (length to) from ++ drop (length from) to ≡ from
-copy-whole from to e = ap₂ _++_ (take-all (length to) from (omega arith)) (drop-of-length-le to {i = length from} (omega arith)) ∙ append-nil from

@@ -1,8 +1,7 @@
 // Places kept in slices of bytes, each place by its code.
 use place::Place;
-ghost use mathlib.Core.List.{_++_, map};
+ghost use mathlib.Core.List.{map};
 ghost use mathlib.Core.Path.{_≡_};
-ghost use lib.ListN.{length, take, drop};
 ghost use Rattle.lists.specs.List.{absent};
 ghost use Rattle.heap.specs.Codes.{linkIn};
 ghost use Rattle.backward.specs.Predecessors.{lower, forget};
@@ -61,20 +60,6 @@ pub fn close_up(places: &mut [u8], k: usize)
     while c + 1 < places.len() {
         places[c] = places[c + 1];
         c += 1;
-    }
-}
-
-// Copies as many bytes as both have.
-pub fn copy(from: &[u8], to: &mut [u8])
-    ensures { λ r. ⌜ now (to .exit) ≡ take (length (now (to .entry))) (now (from .entry)) ++ drop (length (now (from .entry))) (now (to .entry)) ⌝ }
-{
-    let mut i = 0;
-    while i < to.len() {
-        if from.len() <= i {
-            return;
-        }
-        to[i] = from[i];
-        i += 1;
     }
 }
 

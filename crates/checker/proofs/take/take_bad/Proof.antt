@@ -3,12 +3,6 @@ use borrow.Author.Needs.{needs}
 use Rattle.checker.proofs.take.take_bad.Statement.{statement}
 use Rattle.checker.proofs.take.take_bad.Tie as tie
 
-slice-aggregate-load-shape : tie.Need-slice-aggregate-load-shape
-slice-aggregate-load-shape c = search needs
-
-slice-aggregate-load-shape-2 : tie.Need-slice-aggregate-load-shape-2
-slice-aggregate-load-shape-2 c = search needs
-
 load-shape-requires : tie.Need-load-shape-requires
 load-shape-requires c κs =
     let p = c .before .before .before .before .pre in
@@ -22,18 +16,16 @@ cast-take-one c = search needs
 
 take-one-requires : tie.Need-take-one-requires
 take-one-requires c κs =
-    let p = c .before .before .before .before .before .before .before .before .before .before .pre in
-    (p .1, c .before .before .before .before .before .load-shape .ensures .hold, p .2)
+    let p = c .before .before .before .before .before .before .before .before .pre in
+    (p .1, c .before .before .before .load-shape .ensures .hold, p .2)
 
 returns : tie.Need-returns
-returns c = (rw (c .before .before .before .before .before .before .load-shape .ensures .shape) at (c .take-one .ensures .0), c .take-one .ensures .1)
+returns c = (rw (c .before .before .before .before .load-shape .ensures .shape) at (c .take-one .ensures .0), c .take-one .ensures .1)
 
 pub take-bad-spec : {M : Type 1} → statement M
 take-bad-spec =
     tie.close
     (tie.spec
-    slice-aggregate-load-shape
-    slice-aggregate-load-shape-2
     load-shape-requires
     shared-slice-read-take-one
     cast-take-one

@@ -5,7 +5,6 @@ use lib.ListN.{getD}
 use Rattle.order.proofs.Index.{linked-head}
 use Rattle.checker.specs.Jobs.{toState}
 use Rattle.checker.proofs.Chain.{chain-begin, chain-end}
-use borrow.Author.Needs.{needs}
 use Rattle.checker.proofs.take.take_member.Statement.{statement}
 use Rattle.checker.proofs.take.take_member.Tie as tie
 
@@ -48,12 +47,6 @@ returns c =
     let m = locatedAt (a .cert .now) (a .h .variables) (getD (a .starts .now) (a .m) 0) in
     chain-end {job = a .job .now} {h = a .h} {m = m} (chain-begin (linked-head (toState (a .job .now) (a .h)) (a .h .transitions) (a .heads .now) (a .nexts .now) (p .1) (m .state) (e .state)) (p .4)) (omega arith)
 
-slice-aggregate-load-shape : tie.Need-slice-aggregate-load-shape
-slice-aggregate-load-shape c = search needs
-
-slice-aggregate-load-shape-2 : tie.Need-slice-aggregate-load-shape-2
-slice-aggregate-load-shape-2 c = search needs
-
 load-shape-requires : tie.Need-load-shape-requires
 load-shape-requires c κs =
     let p = c .before .before .before .before .before .before .before .before .pre in
@@ -62,14 +55,14 @@ load-shape-requires c κs =
 
 take-transitions-requires : tie.Need-take-transitions-requires
 take-transitions-requires c κs =
-    let a = c .before .before .before .before .before .before .before .before .before .before .before .before .before .args in
-    let p = c .before .before .before .before .before .before .before .before .before .before .before .before .before .pre in
-    let e = c .before .before .before .before .before .before .before .before .before .before .before .before .before .pre .2 .entry (c .before .before .before .before .before .before .before .before .before .before .before .before .before .args .m) (c .before .before .before .before .before .before .before .before .before .before .before .before .before .pre .3) in
-    let l = c .before .before .before .before .load-shape .ensures in
+    let a = c .before .before .before .before .before .before .before .before .before .before .before .args in
+    let p = c .before .before .before .before .before .before .before .before .before .before .before .pre in
+    let e = c .before .before .before .before .before .before .before .before .before .before .before .pre .2 .entry (c .before .before .before .before .before .before .before .before .before .before .before .args .m) (c .before .before .before .before .before .before .before .before .before .before .before .pre .3) in
+    let l = c .before .before .load-shape .ensures in
     (p .0, p .1 .next, linked-head (toState (a .job .now) (a .h)) (a .h .transitions) (a .heads .now) (a .nexts .now) (p .1) (getD (a .cert .now) (getD (a .starts .now) (a .m) 0) 0) (e .state), p .2, l .hold, l .cells, p .4)
 
 returns-2 : tie.Need-returns-2
-returns-2 c = (rw (c .before .before .before .before .before .load-shape .ensures .shape) at (c .take-transitions .ensures .0), c .take-transitions .ensures .1)
+returns-2 c = (rw (c .before .before .before .load-shape .ensures .shape) at (c .take-transitions .ensures .0), c .take-transitions .ensures .1)
 
 pub take-member-spec : {M : Type 1} → statement M
 take-member-spec =
@@ -83,8 +76,6 @@ take-member-spec =
     mul-head
     element-copy-out-head
     returns
-    slice-aggregate-load-shape
-    slice-aggregate-load-shape-2
     load-shape-requires
     take-transitions-requires
     returns-2)
