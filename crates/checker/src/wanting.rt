@@ -6,7 +6,8 @@ use choosing::wanted_second;
 use place::Place;
 ghost use mathlib.Core.Path.{_≡_};
 ghost use Prim.Native.Nat.{_≤_};
-ghost use lib.ListN.{length, take};
+ghost use lib.ListN.{length, getD, take};
+ghost use Rattle.place.specs.Place.{placeOf};
 ghost use Rattle.choosing.specs.Chosen.{wantedA, wantedB};
 ghost use Rattle.choosing.specs.Wanted.{fitsIn};
 
@@ -17,17 +18,23 @@ pub struct Op {
     pub b: u8,
 }
 
+// Where an operand stands.
+fn place_of(vars: &[u8; 10], operand: u8) -> Place
+    requires { ⌜ operand ≤ 9 ⌝ }
+    ensures { λ r. ⌜ r ≡ placeOf (getD (now (vars .entry)) operand 0) ⌝ }
+{
+    Place {
+        code: vars[operand as usize],
+    }
+}
+
 // What is wanted of a.
 pub(crate) fn wanted_of_a(op: Op, n: u8, vars: &[u8; 10], links: &[u8; 14]) -> Wanted
     requires { ⌜ (op .a ≤ 9) × (op .b ≤ 9) × (n ≤ 14) × (length (now links) ≡ 14) ⌝ }
     ensures { λ r. ⌜ r ≡ wantedA (op .kind) (op .a) (op .b) n (now (vars .entry)) (now (links .entry)) ⌝ }
 {
-    let x = Place {
-        code: vars[op.a as usize],
-    };
-    let y = Place {
-        code: vars[op.b as usize],
-    };
+    let x = place_of(vars, op.a);
+    let y = place_of(vars, op.b);
     let all = &links[..];
     wanted_first(op.kind, op.a == op.b, &all[..n as usize], x, y)
 }
@@ -37,12 +44,8 @@ pub(crate) fn wanted_of_b(op: Op, n: u8, vars: &[u8; 10], links: &[u8; 14]) -> W
     requires { ⌜ (op .a ≤ 9) × (op .b ≤ 9) × (n ≤ 14) × (length (now links) ≡ 14) ⌝ }
     ensures { λ r. ⌜ r ≡ wantedB (op .kind) (op .a) (op .b) n (now (vars .entry)) (now (links .entry)) ⌝ }
 {
-    let x = Place {
-        code: vars[op.a as usize],
-    };
-    let y = Place {
-        code: vars[op.b as usize],
-    };
+    let x = place_of(vars, op.a);
+    let y = place_of(vars, op.b);
     let all = &links[..];
     wanted_second(op.kind, &all[..n as usize], x, y)
 }

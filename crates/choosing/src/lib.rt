@@ -1,5 +1,5 @@
-// Which choices of a placing an operation of kinds 1 to 5 retains. In a shape of n cells, whose links are lent, the choices
-// are 0 .. n - 1 a cell, n #, n + 1 a fresh cell, n + 2 + i a fresh cell in the middle of the link of cell i.
+// Which choices of a placing an operation of kinds 1 to 5 retains. In a shape of n cells, whose links are lent, the choices are 0 .. n - 1 a
+// cell, n #, n + 1 a fresh cell, n + 2 + i a fresh cell in the middle of the link of cell i.
 use place::Place;
 use places::link_at;
 ghost use mathlib.Core.Path.{_≡_};
