@@ -1,5 +1,4 @@
-pub mod CoverReading
-pub mod CoverTaking
+pub mod Members
 pub mod CoverPlace
 pub mod Lists
 pub mod Taking

@@ -23,7 +23,6 @@ ghost use Rattle.verdict.specs.declared.Counts.{Counts as CountsAnswer};
 ghost use Rattle.verdict.specs.declared.Verdict.the-variants.{Accepted};
 
 mod choice;
-mod covering;
 mod going;
 mod load;
 mod one;

@@ -1,7 +1,7 @@
 // Taking one cover.
-use crate::covering::take_cover;
 use crate::going::Going;
 use crate::going::Taken;
+use covering::take_cover;
 use verdict::Reached;
 ghost use mathlib.Core.List.{[], _∷_};
 ghost use Rattle.checker.specs.Taking.{Within, Takes};
@@ -23,11 +23,11 @@ pub(crate) fn take_one(
     requires { ⌜ (Table (now cert) variables (now starts) members) × (Hold variables n (now vars) (now links)) × (Within (now cert) t) ⌝ }
     ensures { λ r. ⌜ Takes (now (cert .entry)) (membersAt (now (cert .entry)) variables (now (starts .entry)) members) state (shapeIn variables n (now (vars .entry)) (now (links .entry)) ∷ []) t r ⌝ }
 {
+    let all = &starts[..];
     let r = take_cover(
         cert,
-        starts,
+        &all[..members],
         variables,
-        members,
         t.at,
         state,
         n,

@@ -4,22 +4,24 @@ use mathlib.Core.List.{List}
 use mathlib.Core.Logic.{_≢_}
 use mathlib.Core.Path.{_≡_, sym, ap, _∙_}
 use Prim.Native.Nat.{ℕ, _+_, _-_, _≤_, _<_}
+use native.Mathlib.Decide.{decLt}
 use native.Mathlib.Numerals.{add-one}
 use native.Mathlib.Omega.{arith}
-use lib.ListN.{getD}
+use lib.ListN.{length, getD}
 use Rattle.lists.specs.Test.{allFrom}
-use Rattle.lists.proofs.Reflect.{is-true}
+use Rattle.lists.proofs.Reflect.{is-true, passes}
 use Rattle.lists.proofs.Test.{all-passed, all-failed, all-done}
 use Rattle.heap.specs.Place.{nowhere, cell}
 use Rattle.shape.specs.Shape.{Shape, linkAt, size}
 use Rattle.cover.specs.Test.{imageMap, stops, betweenBelow}
 use Rattle.cover.proofs.Embeds.{r-stops}
-use Rattle.embedding.specs.Images.{imagesIn, pathFits}
+use Rattle.embedding.specs.Images.{imagesIn, imageIn, pathFits}
 use Rattle.embedding.specs.Marks.{Marks, Walking, Followed, Linking}
 use Rattle.embedding.proofs.Images.{images-length, image-at, image-of}
 use Rattle.embedding.proofs.Paths.{path-none, below-none, path-good, path-bad}
 
-module _ (member covered : Shape) (cert : List ℕ) (first count : ℕ) (codes marks₀ links : List ℕ) (l : Linking member covered cert first count codes marks₀ links) where
+module _ (member covered : Shape) (cert : List ℕ) (first count : ℕ) (codes marks₀ : List ℕ) (n : ℕ) (links : List ℕ)
+    (l : Linking member covered cert first count codes marks₀ n links) where
   abbrev images : List ℕ
   images = imagesIn count codes
 
@@ -43,9 +45,6 @@ module _ (member covered : Shape) (cert : List ℕ) (first count : ℕ) (codes m
       to : p ≡ linkAt member (cell i)
       to = e ∙ l .same i b
 
-      pub place-in : p < cell count
-      place-in = omega (arith, to, l .closed i)
-
       pub fit-skip : (marks′ : List ℕ) → marks′ ≡ marks → p ≡ nowhere → Fitting marks′ (i + 1)
       fit-skip marks′ y z =
           let none : linkAt member (cell i) ≡ nowhere = sym to ∙ z in
@@ -59,9 +58,10 @@ module _ (member covered : Shape) (cert : List ℕ) (first count : ℕ) (codes m
         start : from ≡ imageMap images (cell i)
         start = s ∙ sym (image-at count (size covered) codes (l .images) i b)
 
-        pub fit-walk : Walking (covered .links) images (betweenBelow member covered images i) links marks from
+        pub fit-walk : Walking (covered .links) images (betweenBelow member covered images i) links marks n from
         fit-walk =
             record {
+              cells = l .covered-cells;
               linked = l .linked;
               marked = f .marked;
               low = omega (arith, s, l .images .low i b);
@@ -69,15 +69,23 @@ module _ (member covered : Shape) (cert : List ℕ) (first count : ℕ) (codes m
               image =
                   is-true (stops images from)
                   (r-stops images from .tests (λ _. (i, omega (arith, images-length count (size covered) codes (l .images)), start)));
+              ends-in = λ q z. ends-in q (r-stops images q .holds (passes (stops images q) z)) (decLt q (cell 0));
             }
+          where
+            ends-in : (q : ℕ) → (¬ (q < cell 0) → (j : ℕ) × (j < length images) × (q ≡ cell (getD images j 0))) → Dec (q < cell 0) → q < cell (size covered)
+            ends-in q h (yes b) = omega arith
+            ends-in q h (no b) =
+                let (j, c, z) = h b in
+                let d : j < count = omega (arith, images-length count (size covered) codes (l .images)) in
+                omega (arith, z, image-at count (size covered) codes (l .images) j d, l .images .high j d)
 
-        module _ (n : p ≢ nowhere) (end : ℕ) (t : end ≡ getD codes p 0) (r : ℕ) (marks′ : List ℕ)
+        module _ (o : p ≢ nowhere) (end : ℕ) (t : end ≡ imageIn codes p) (r : ℕ) (marks′ : List ℕ)
             (w : Followed (covered .links) images (betweenBelow member covered images i) from r marks′) where
           stop : end ≡ imageMap images (linkAt member (cell i))
-          stop = t ∙ image-of count (size covered) codes (l .images) p place-in ∙ ap (imageMap images) to
+          stop = t ∙ image-of count (size covered) codes (l .images) p ∙ ap (imageMap images) to
 
           some : linkAt member (cell i) ≢ nowhere
-          some z = n (to ∙ z)
+          some z = o (to ∙ z)
 
           pub fit-good : r ≡ end → Fitting marks′ (i + 1)
           fit-good z =

@@ -1,15 +1,18 @@
 -- Images in an array.
+use mathlib.Core.Bool.{cond}
 use mathlib.Core.List.{List, [], _∷_, map}
 use mathlib.Core.Logic.{_≢_}
 use mathlib.Core.Path.{_≡_, refl, sym, ap, _∙_}
-use Prim.Native.Nat.{ℕ, zero, suc, _+_, _-_, _<_}
+use Prim.Native.Nat.{ℕ, zero, suc, _+_, _-_, _≤_, _<_}
+use native.Mathlib.Decide.{decLt}
 use native.Mathlib.Omega.{arith}
-use lib.ListN.{length, getD, take, drop, length-map, length-take, length-drop}
+use borrow.Author.Tests.{lt-ltb, le-ltb}
+use lib.Dec.{ltb}
+use lib.ListN.{length, getD, take, drop, length-map, length-take, length-drop, replicate, getD-replicate, List·getD-eq-default}
 use lib.Seq.{getD-take, getD-drop}
 use Rattle.heap.specs.Place.{nowhere, cell}
 use Rattle.cover.specs.Test.{imageMap}
-use Rattle.embedding.specs.Images.{imagesIn, Images}
-use Rattle.embedding.proofs.Marks.{zeros}
+use Rattle.embedding.specs.Images.{imagesIn, Images, imageIn}
 
 getD-sub : (l : List ℕ) (i : ℕ) → getD (map (λ p. p - 3) l) i 0 ≡ getD l i 0 - 3
 getD-sub [] i = refl
@@ -33,14 +36,35 @@ module _ (count n : ℕ) (codes : List ℕ) (m : Images count n codes) where
       let z : 3 + i ≡ i + 3 = omega arith in
       omega (arith, rw z at e, m .low i b)
 
-  -- the array is the map of places
-  pub image-of : (p : ℕ) → p < cell count → getD codes p 0 ≡ imageMap (imagesIn count codes) p
-  image-of zero b = m .nowhere-fixed
-  image-of (suc zero) b = m .null-fixed
-  image-of (suc (suc zero)) b = m .dangling-fixed
-  image-of (suc (suc (suc i))) b = let z : i + 3 ≡ cell i = omega arith in rw z at (sym (image-at i (omega arith)))
+  -- a cell without an image
+  no-image : (i : ℕ) → count ≤ i → cell (getD (imagesIn count codes) i 0) ≡ cell 0
+  no-image i b = ap cell (List·getD-eq-default (imagesIn count codes) 0 (omega (arith, images-length)))
 
-pub images-none : (n : ℕ) → Images 0 n (0 ∷ 1 ∷ 2 ∷ zeros 12)
+  -- the array is the map of places
+  pub image-of : (p : ℕ) → imageIn codes p ≡ imageMap (imagesIn count codes) p
+  unfolding imageIn
+  image-of zero = m .nowhere-fixed
+  image-of (suc zero) = m .null-fixed
+  image-of (suc (suc zero)) = m .dangling-fixed
+  image-of (suc (suc (suc i))) = go (decLt i 12) (decLt i count)
+    where
+      swap : i + 3 ≡ cell i
+      swap = omega arith
+
+      go : Dec (i < 12) → Dec (i < count) → cond (ltb (cell i) 15) (getD codes (cell i) 0) (cell 0) ≡ cell (getD (imagesIn count codes) i 0)
+      go (yes b) (yes c) = rw (lt-ltb (cell i) 15 (omega arith)) (rw swap at (sym (image-at i c)))
+      go (yes b) (no c) = rw (lt-ltb (cell i) 15 (omega arith)) ((rw swap at (m .rest i (omega arith) b)) ∙ sym (no-image i (omega arith)))
+      go (no b) c = rw (le-ltb (cell i) 15 (omega arith)) (sym (no-image i (omega (arith, m .few))))
+
+pub image-read : (codes : List ℕ) (p : ℕ) → p < 15 → imageIn codes p ≡ getD codes p 0
+unfolding imageIn
+image-read codes p b = rw (lt-ltb p 15 b) refl
+
+pub image-past : (codes : List ℕ) (p : ℕ) → 15 ≤ p → imageIn codes p ≡ cell 0
+unfolding imageIn
+image-past codes p b = rw (le-ltb p 15 b) refl
+
+pub images-none : (n : ℕ) → Images 0 n (0 ∷ 1 ∷ 2 ∷ replicate 12 3)
 images-none n =
     record {
       room = refl;
@@ -50,4 +74,8 @@ images-none n =
       dangling-fixed = refl;
       low = λ i b. absurd (omega arith);
       high = λ i b. absurd (omega arith);
+      rest = λ i _ b. swap i (getD-replicate 12 i 3 0 b);
     }
+  where
+    swap : (i : ℕ) → getD {A = ℕ} (replicate 12 3) i 0 ≡ 3 → getD {A = ℕ} (0 ∷ 1 ∷ 2 ∷ replicate 12 3) (i + 3) 0 ≡ 3
+    swap i e = let z : i + 3 ≡ cell i = omega arith in rw z e

@@ -54,6 +54,7 @@ module _ (n i : ℕ) (codes : List ℕ) (m : Images i n codes) (x : ℕ) (room :
         dangling-fixed = getD-set-other codes (i + 3) 2 (x + 3) 0 (omega arith) ∙ m .dangling-fixed;
         low = λ j c. at-least j c (ℕ-discrete j i);
         high = λ j c. below j c (ℕ-discrete j i);
+        rest = λ j c d. getD-set-other codes (i + 3) (j + 3) (x + 3) 0 (omega arith) ∙ m .rest j (omega arith) d;
       }
     where
       here : getD (set codes (i + 3) (x + 3)) (i + 3) 0 ≡ x + 3

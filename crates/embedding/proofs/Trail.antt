@@ -6,7 +6,7 @@ use mathlib.Core.Path.{_≡_, refl, sym, subst, _∙_}
 use Prim.Native.Nat.{ℕ, zero, suc, _+_, _≤_, _<_}
 use native.Mathlib.Omega.{arith}
 use lib.Dec.{ltb}
-use lib.ListN.{length, length-append}
+use lib.ListN.{length, length-append, List·getD-eq-default}
 use Rattle.lists.specs.List.{_∈_, disjoint}
 use Rattle.lists.proofs.List.{all-cons, Distinct, pigeonhole}
 use Rattle.lists.proofs.Reflect.{is-false, passes, fails, r-lt, r-disjoint}
@@ -66,10 +66,9 @@ module _ (links images used : List ℕ) (from : ℕ) where
     pub unused : (x : ℕ) → x ∈ path → ¬ (x ∈ used)
     pub onward : (x : ℕ) → x ∈ path → (link x ∈ path) ⊎ (link x ≡ q)
     pub begins : (link from ∈ path) ⊎ (link from ≡ q)
-    pub here : q < cell (length links)
 
-  pub trail-none : link from < cell (length links) → Trail [] (link from)
-  trail-none b =
+  pub trail-none : Trail [] (link from)
+  trail-none =
       record {
         left = length links;
         turns = omega arith;
@@ -81,7 +80,6 @@ module _ (links images used : List ℕ) (from : ℕ) where
         unused = λ x m. absurd (List·Memᴰ·not-nil m);
         onward = λ x m. absurd (List·Memᴰ·not-nil m);
         begins = inr refl;
-        here = b;
       }
 
   module _ (path : List ℕ) (q : ℕ) (t : Trail path q) where
@@ -94,6 +92,24 @@ module _ (links images used : List ℕ) (from : ℕ) where
         next (inl j) = j
         next (inr e) = Memᴰ·cast e m
 
+    -- a place past the cells has no link
+    pub trail-past : cell (length links) ≤ q → stop q ≡ false → endFrom links images from ≡ nowhere
+    trail-past b e = t .ends ∙ go (t .left)
+      where
+        dead : (p : ℕ) → cell (length links) ≤ p → link p ≡ nowhere
+        dead zero o = refl
+        dead (suc zero) o = refl
+        dead (suc (suc zero)) o = refl
+        dead (suc (suc (suc i))) o = List·getD-eq-default links nowhere (omega arith)
+
+        still : (k : ℕ) → walkEnd link stop k nowhere ≡ nowhere
+        still zero = refl
+        still (suc k) = refl
+
+        go : (k : ℕ) → walkEnd link stop k q ≡ nowhere
+        go zero = refl
+        go (suc k) = rw (e, dead q b) (still k)
+
     module _ (c : CellOf (length links) from) (s : stop from ≡ true) where
       -- from is an end, so that the path has fewer cells than the shape
       short : length path < length links
@@ -101,7 +117,7 @@ module _ (links images used : List ℕ) (from : ℕ) where
           pigeonhole (cell 0) (length links) (from ∷ path) ((λ m. fails (stop from) (t .free from m) (passes (stop from) s)), t .distinct)
           (all-cons (λ x. (cell 0 ≤ x) × (x < cell 0 + length links)) (c .0, omega arith) (λ x m. let (a, b) = t .cells x m in (a, omega arith)))
 
-      pub trail-more : link q < cell (length links) → stop q ≡ false → ¬ (q ∈ path) → ¬ (q ∈ used) → Trail (path ++ (q ∷ [])) (link q)
+      pub trail-more : q < cell (length links) → stop q ≡ false → ¬ (q ∈ path) → ¬ (q ∈ used) → Trail (path ++ (q ∷ [])) (link q)
       trail-more b e o u = go (t .left) refl
         where
           widen : (x : ℕ) → (x ∈ path) ⊎ (x ≡ q) → (x ∈ (path ++ (q ∷ []))) ⊎ (x ≡ link q)
@@ -117,13 +133,12 @@ module _ (links images used : List ℕ) (from : ℕ) where
                 ends = t .ends ∙ rw (z, e) refl;
                 passes = t .passes ∙ rw (z, e) (sym (append-assoc path (q ∷ []) (walked link stop k (link q))));
                 distinct = distinct-snoc path q (t .distinct) o;
-                cells = all-snoc (CellOf (length links)) path q (t .cells) (free-low images q e, t .here);
+                cells = all-snoc (CellOf (length links)) path q (t .cells) (free-low images q e, b);
                 free = all-snoc (λ x. stop x ≡ false) path q (t .free) e;
                 unused = all-snoc (λ x. ¬ (x ∈ used)) path q (t .unused) u;
                 onward =
                     all-snoc (λ x. (link x ∈ (path ++ (q ∷ []))) ⊎ (link x ≡ link q)) path q (λ x m. widen (link x) (t .onward x m)) (inr refl);
                 begins = widen (link from) (t .begins);
-                here = b;
               }
 
       pub trail-found : stop q ≡ true → (endFrom links images from ≡ q) × (pathFrom links images from ≡ path)

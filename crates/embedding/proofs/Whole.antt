@@ -2,20 +2,17 @@
 use mathlib.Core.Bool.{Bool, true, false, _&&_, _||_, not}
 use mathlib.Core.List.{List, []}
 use mathlib.Core.Path.{_≡_, refl, sym, ap, ap₂, _∙_}
-use Prim.Native.Nat.{ℕ, zero, suc, _+_, _<_}
-use native.Mathlib.Decide.{decLt}
+use Prim.Native.Nat.{ℕ, zero, suc, _+_, _≤_, _<_}
 use native.Mathlib.Omega.{arith}
 use lib.Dec.{eqb}
-use lib.ListN.{length, getD, take, drop, length-drop, List·getD-eq-default}
+use lib.ListN.{length, getD, take, drop, length-drop}
 use lib.Seq.{length-take-le, getD-take, getD-drop}
 use Rattle.lists.specs.Test.{allFrom}
-use Rattle.heap.specs.Place.{cell}
 use Rattle.shape.specs.Shape.{Shape, varAt, size}
-use Rattle.shape.proofs.InRange.{all-at}
 use Rattle.cover.specs.Test.{imageMap, varFits, linkMeets, pathUnshared, embeds?}
-use Rattle.layout.specs.Arrays.{shapeIn, Hold}
-use Rattle.layout.specs.Entries.{locatedAt, Entry}
-use Rattle.embedding.specs.Images.{imagesIn, Images, once, varFitsIn, pathFits}
+use Rattle.layout.specs.Arrays.{shapeIn}
+use Rattle.layout.specs.Entries.{locatedAt}
+use Rattle.embedding.specs.Images.{Whole, imagesIn, Images, imageIn, once, varFitsIn, pathFits}
 use Rattle.embedding.specs.Marks.{Marks, Linked, Linking}
 use Rattle.embedding.proofs.Images.{images-length, image-of}
 
@@ -39,24 +36,15 @@ all-and f g (suc k) i = regroup (f i) (g i) (allFrom k (suc i) f) (allFrom k (su
 
 -- ---- the covered shape
 
-module _ (variables n : ℕ) (vars links : List ℕ) (h : Hold variables n vars links) where
+module _ (variables n : ℕ) (vars links : List ℕ) (room : length links ≡ 14) (fit : n ≤ 14) where
   pub covered-size : size (shapeIn variables n vars links) ≡ n
-  covered-size = length-take-le n links (omega (arith, h .room, h .cells-fit))
+  covered-size = length-take-le n links (omega arith)
 
   covered-linked : Linked (take n links) links
   covered-linked =
-      record {
-        room = h .room;
-        fit = omega (arith, covered-size, h .cells-fit);
-        same = λ i b. sym (getD-take n links i 0 (omega (arith, covered-size)));
-        closed = λ i. below i (decLt i n);
-      }
-    where
-      below : (i : ℕ) → Dec (i < n) → getD (take n links) i 0 < cell (length (take n links))
-      below i (yes b) = rw (getD-take n links i 0 b, covered-size) (h .links-range i b)
-      below i (no o) = let z : getD (take n links) i 0 ≡ 0 = List·getD-eq-default (take n links) 0 (omega (arith, covered-size)) in omega arith
+      record { room = room; fit = omega (arith, covered-size); same = λ i b. sym (getD-take n links i 0 (omega (arith, covered-size))) }
 
-  module _ (cert : List ℕ) (start : ℕ) (e : Entry cert variables start) (codes : List ℕ) (im : Images (getD cert (start + 1) 0) n codes) where
+  module _ (cert : List ℕ) (start : ℕ) (e : Whole cert variables start) (codes : List ℕ) (im : Images (getD cert (start + 1) 0) n codes) where
     abbrev cells : ℕ
     cells = getD cert (start + 1) 0
 
@@ -73,22 +61,19 @@ module _ (variables n : ℕ) (vars links : List ℕ) (h : Hold variables n vars 
     member-size =
         length-take-le cells (drop (start + 2 + variables) cert) (omega (arith, length-drop (start + 2 + variables) cert, e .inside))
 
+    member-vars : length (member .vars) ≡ variables
+    member-vars = length-take-le variables (drop (start + 2) cert) (omega (arith, length-drop (start + 2) cert, e .inside))
+
     member-var : (i : ℕ) → i < variables → getD cert (start + 2 + i) 0 ≡ varAt member (suc i)
     member-var i b = sym (getD-take variables (drop (start + 2) cert) i 0 b ∙ getD-drop (start + 2) cert i 0)
 
-    var-below : (i : ℕ) → i < variables → getD cert (start + 2 + i) 0 < cell cells
-    var-below i b = omega (arith, member-var i b, member-size, all-at (cell (size member)) (member .vars) i (omega arith) (e .range .vars))
-
-    pub var-in : (i : ℕ) → i < variables → getD cert (start + 2 + i) 0 < 15
-    var-in i b = omega (arith, var-below i b, e .cells)
-
-    linking : (marks : List ℕ) → Marks images [] marks → Linking member covered cert (start + 2 + variables) cells codes marks links
+    linking : (marks : List ℕ) → Marks images [] marks → Linking member covered cert (start + 2 + variables) cells codes marks n links
     linking marks m =
         record {
           inside = e .inside;
           cells = member-size;
           same = λ i b. sym (getD-take cells (drop (start + 2 + variables) cert) i 0 b ∙ getD-drop (start + 2 + variables) cert i 0);
-          closed = λ i. omega (arith, member-size, all-at (cell (size member)) (member .links) i (omega arith) (e .range .links));
+          covered-cells = covered-size;
           images = rw covered-size im;
           linked = covered-linked;
           marked = m;
@@ -98,8 +83,8 @@ module _ (variables n : ℕ) (vars links : List ℕ) (h : Hold variables n vars 
     var-same i b =
         let swap : 1 + i ≡ i + 1 = omega arith in
         let have : varAt covered (suc i) ≡ getD vars (i + 1) 0 = rw (← swap) (getD-take variables (drop 1 vars) i 0 b ∙ getD-drop 1 vars i 0) in
-        let want : imageMap images (getD cert (start + 2 + i) 0) ≡ getD codes (getD cert (start + 2 + i) 0) 0 =
-        sym (image-of cells n codes im (getD cert (start + 2 + i) 0) (var-below i b)) in
+        let want : imageMap images (getD cert (start + 2 + i) 0) ≡ imageIn codes (getD cert (start + 2 + i) 0) =
+        sym (image-of cells n codes im (getD cert (start + 2 + i) 0)) in
         rw (← member-var i b, have, want) refl
 
     pub embeds-parts : embeds? member covered images
@@ -109,7 +94,7 @@ module _ (variables n : ℕ) (vars links : List ℕ) (h : Hold variables n vars 
         (ap (λ (k : ℕ). allFrom k 0 (λ i. allFrom k 0 (λ j. eqb i j || not (eqb (getD images i 0) (getD images j 0)))))
         (member-size ∙ sym (images-length cells n codes im)))
         (ap₂ _&&_
-        (ap (λ (k : ℕ). allFrom k 0 (varFits member covered images)) (e .range .variables-number)
+        (ap (λ (k : ℕ). allFrom k 0 (varFits member covered images)) member-vars
         ∙ all-same (varFits member covered images) (varFitsIn cert (start + 2) codes vars) variables 0 (λ i b. var-same i (omega arith)))
         (all-and (linkMeets member covered images) (pathUnshared member covered images) (size member) 0
         ∙ ap (λ (k : ℕ). allFrom k 0 (pathFits member covered images)) member-size))
@@ -127,11 +112,12 @@ module _ (variables n : ℕ) (vars links : List ℕ) (h : Hold variables n vars 
             null-fixed = im .null-fixed;
             dangling-fixed = im .dangling-fixed;
             low = im .low;
-            high = λ i b. omega (arith, im .high i b, h .cells-fit);
+            high = λ i b. omega (arith, im .high i b);
+            rest = im .rest;
           })
 
       pub linking-read : (marks : List ℕ) → Marks (imagesIn count codes) [] marks
-          → Linking member covered cert (start + 2 + variables) count codes marks links
+          → Linking member covered cert (start + 2 + variables) count codes marks n links
       linking-read marks = rw read (linking marks)
 
       pub not-once : once (imagesIn count codes) ≡ false → false ≡ embeds? member covered images

@@ -1,20 +1,27 @@
 -- Images, as an array from the code of a place to the code of its image.
-use mathlib.Core.Bool.{Bool, _&&_, _||_, not}
+use mathlib.Core.Bool.{Bool, _&&_, _||_, not, cond}
 use mathlib.Core.List.{List, map}
 use mathlib.Core.Path.{_≡_}
 use Prim.Native.Nat.{ℕ, _+_, _-_, _≤_, _<_}
-use lib.Dec.{eqb}
+use lib.Dec.{eqb, ltb}
 use lib.ListN.{length, getD, take, drop}
 use Rattle.lists.specs.Test.{allFrom}
 use Rattle.heap.specs.Place.{nowhere, null, dangling, cell}
 use Rattle.shape.specs.Shape.{Shape}
 use Rattle.cover.specs.Test.{linkMeets, pathUnshared}
 
+-- An entry of at most 12 cells stands whole from a place on, its variables no more than the array of a shape has room for. Its codes may be
+-- out of range.
+pub record Whole (bytes : List ℕ) (variables start : ℕ) : Type 0 where
+  pub variables-most : variables ≤ 9
+  pub cells : getD bytes (start + 1) 0 ≤ 12
+  pub inside : start + 2 + variables + getD bytes (start + 1) 0 ≤ length bytes
+
 -- the images of so many cells, as numbers of cells
 abbrev pub imagesIn : ℕ → List ℕ → List ℕ
 imagesIn count codes = map (λ p. p - 3) (take count (drop 3 codes))
 
--- the array maps so many cells to cells below n: "# to # and * to *"
+-- the array maps so many cells to cells below n: "# to # and * to *". What it has no image of it maps to cell 0, as `imageMap` does.
 pub record Images (count n : ℕ) (codes : List ℕ) : Type 0 where
   pub room : length codes ≡ 15
   pub few : count ≤ 12
@@ -23,6 +30,11 @@ pub record Images (count n : ℕ) (codes : List ℕ) : Type 0 where
   pub dangling-fixed : getD codes 2 0 ≡ dangling
   pub low : (i : ℕ) → i < count → cell 0 ≤ getD codes (i + 3) 0
   pub high : (i : ℕ) → i < count → getD codes (i + 3) 0 < cell n
+  pub rest : (i : ℕ) → count ≤ i → i < 12 → getD codes (i + 3) 0 ≡ cell 0
+
+-- the image of a place by the array
+unfoldable pub imageIn : List ℕ → ℕ → ℕ
+imageIn codes p = cond (ltb p 15) (getD codes p 0) (cell 0)
 
 -- "no two cells have the same image"
 abbrev pub once : List ℕ → Bool
@@ -33,7 +45,7 @@ once images =
 -- variable i + 1 fits, where the member's variables are the bytes from a place on and the covered shape's are in an array
 abbrev pub varFitsIn : List ℕ → ℕ → List ℕ → List ℕ → ℕ → Bool
 varFitsIn cert first codes vars i =
-    eqb (getD cert (first + i) 0) nowhere || eqb (getD vars (i + 1) 0) (getD codes (getD cert (first + i) 0) 0)
+    eqb (getD cert (first + i) 0) nowhere || eqb (getD vars (i + 1) 0) (imageIn codes (getD cert (first + i) 0))
 
 -- the path for the link of cell i ends where it should and shares no cell with that of a lower cell
 abbrev pub pathFits : Shape → Shape → List ℕ → ℕ → Bool

@@ -1,9 +1,10 @@
 -- Marks by the code of a place, while the paths of a cover are followed.
-use mathlib.Core.Bool.{Bool, true, false}
+use mathlib.Core.Bool.{Bool, true, false, cond}
 use mathlib.Core.List.{List, [], _++_}
 use mathlib.Core.Logic.{_≢_, _⊎_}
 use mathlib.Core.Path.{_≡_}
 use Prim.Native.Nat.{ℕ, _+_, _≤_, _<_}
+use lib.Dec.{ltb}
 use lib.ListN.{length, getD}
 use Rattle.lists.specs.List.{absent, disjoint}
 use Rattle.heap.specs.Codes.{linkIn}
@@ -23,20 +24,25 @@ pub record Marks (images used marks : List ℕ) : Type 0 where
   pub room : length marks ≡ 17
   pub marked : (p : ℕ) → p < 17 → getD marks p 0 ≡ mark (stops images p) (absent p used)
 
+-- the mark of a place in a shape of n cells; one past its cells counts as used
+unfoldable pub markIn : ℕ → List ℕ → ℕ → ℕ
+markIn n marks p = cond (ltb p (cell n)) (getD marks p 0) 2
+
 -- the links of a shape are the first in an array
 pub record Linked (links codes : List ℕ) : Type 0 where
   pub room : length codes ≡ 14
   pub fit : length links ≤ 14
   pub same : (i : ℕ) → i < length links → getD codes i 0 ≡ getD links i 0
-  pub closed : (i : ℕ) → getD links i 0 < cell (length links)
 
--- a path may be followed from a cell that is an image
-pub record Walking (links images used codes marks : List ℕ) (from : ℕ) : Type 0 where
+-- a path may be followed from a cell that is an image, in a shape of n cells
+pub record Walking (links images used codes marks : List ℕ) (n from : ℕ) : Type 0 where
+  pub cells : length links ≡ n
   pub linked : Linked links codes
   pub marked : Marks images used marks
   pub low : cell 0 ≤ from
   pub high : from < cell (length links)
   pub image : stops images from ≡ true
+  pub ends-in : (p : ℕ) → stops images p ≡ true → p < cell (length links)
 
 -- where the path from a cell ends, and what is between
 module _ (links images : List ℕ) where
@@ -53,12 +59,12 @@ pub record Followed (links images used : List ℕ) (from r : ℕ) (marks : List 
   pub marked : r ≢ nowhere → Marks images (pathFrom links images from ++ used) marks
   pub lost : r ≡ nowhere → (endFrom links images from ≡ nowhere) ⊎ (disjoint (pathFrom links images from) used ≡ false)
 
--- The paths of a member's links may be followed: the links are the bytes from a place on, and no path has used a cell.
-pub record Linking (member covered : Shape) (cert : List ℕ) (first count : ℕ) (codes marks links : List ℕ) : Type 0 where
+-- The paths of a member's links may be followed in a shape of n cells: the links are the bytes from a place on, and no path has used a cell.
+pub record Linking (member covered : Shape) (cert : List ℕ) (first count : ℕ) (codes marks : List ℕ) (n : ℕ) (links : List ℕ) : Type 0 where
   pub inside : first + count ≤ length cert
   pub cells : size member ≡ count
   pub same : (i : ℕ) → i < count → getD cert (first + i) 0 ≡ getD (member .links) i 0
-  pub closed : (i : ℕ) → getD (member .links) i 0 < cell count
+  pub covered-cells : size covered ≡ n
   pub images : Images count (size covered) codes
   pub linked : Linked (covered .links) links
   pub marked : Marks (imagesIn count codes) [] marks

@@ -1,0 +1,117 @@
+-- One cover as it is read, case by case.
+use mathlib.Core.Bool.{true, false}
+use mathlib.Core.List.{List}
+use mathlib.Core.Option.{some, none}
+use mathlib.Core.Path.{_≡_, refl, ap, _∙_}
+use Prim.Native.Nat.{ℕ, _+_, _≤_, _<_}
+use native.Mathlib.Omega.{arith}
+use borrow.Author.Tests.{ne-eqb}
+use lib.ListN.{length, getD, getElem?, drop, length-drop}
+use lib.Seq.{length-take-le}
+use Rattle.number.specs.Number.{numberAt}
+use Rattle.number.specs.declared.Read.the-variants.{Number, Unreadable}
+use Rattle.run.specs.Run.{Located}
+use Rattle.shape.specs.Shape.{size}
+use Rattle.format.specs.Certificate.{readCover}
+use Rattle.format.specs.Parser.{certificateBuffer, many}
+use Rattle.format.proofs.Parsing.{read-outside, read-complete}
+use Rattle.verdict.specs.declared.Reached.{Reached}
+use Rattle.verdict.specs.declared.Reached.the-variants.{At, Refused}
+use Rattle.verdict.specs.declared.Refusal.{Refusal}
+use Rattle.verdict.specs.declared.Refusal.the-variants.{CertificateUnreadable, CertificateRange, CoverFails}
+use Rattle.layout.specs.Entries.{locatedAt}
+use Rattle.embedding.specs.Images.{Whole}
+use Rattle.embedding.proofs.Reading.{read-unreadable}
+use Rattle.covering.specs.Members.{isWhole, memberAt, membersFrom}
+use Rattle.covering.specs.Reading.{ImagesRead, CoverIs}
+use Rattle.covering.specs.declared.reading.CoverRead.{CoverRead}
+use Rattle.covering.specs.declared.reading.CoverRead.the-variants.{Taken, Refused as NotRead}
+use Rattle.covering.proofs.Members.{whole, element, no-element}
+
+module _ (cert : List ℕ) (variables : ℕ) (starts : List ℕ) (at n : ℕ) (codes : List ℕ) where
+  abbrev Is : CoverRead → Type 0
+  Is r = CoverIs cert variables starts at n r codes
+
+  pub cover-unreadable : (place : ℕ) → numberAt cert at ≡ Unreadable place → Is (NotRead CertificateUnreadable at)
+  unfolding readCover
+  cover-unreadable place e =
+      record {
+        reads = λ covered s z. rw (read-unreadable cert (getElem? (membersFrom cert variables starts)) at place e) refl;
+        whole = λ m next y. let x : _≡_ {A = ℕ} 0 1 = cc in absurd (omega arith);
+        images = λ m next y. let x : _≡_ {A = ℕ} 0 1 = cc in absurd (omega arith);
+      }
+
+  module _ (m next : ℕ) (e : numberAt cert at ≡ Number m next) where
+    pub cover-outside : length starts ≤ m → Is (NotRead CertificateRange at)
+    unfolding readCover
+    cover-outside b =
+        record {
+          reads = λ covered s z.
+              rw (read-outside (certificateBuffer cert) (getElem? (membersFrom cert variables starts)) at m next e
+              (no-element (memberAt cert variables) starts m b)) refl;
+          whole = λ m next y. let x : _≡_ {A = ℕ} 0 1 = cc in absurd (omega arith);
+          images = λ m next y. let x : _≡_ {A = ℕ} 0 1 = cc in absurd (omega arith);
+        }
+
+    module _ (b : m < length starts) (start : ℕ) (is : start ≡ getD starts m 0) where
+      member-some : getElem? (membersFrom cert variables starts) m ≡ some (memberAt cert variables start)
+      member-some = rw is (element (memberAt cert variables) starts m b)
+
+      pub cover-absent : isWhole cert variables start ≡ false → Is (NotRead CoverFails at)
+      unfolding readCover many
+      cover-absent o =
+          record {
+            reads = λ covered s z.
+                let other : 256 ≡ covered .state → ⊥ = λ y. omega arith in
+                rw (
+                  read-complete (certificateBuffer cert) (getElem? (membersFrom cert variables starts)) at m next _ e member-some,
+                  o,
+                  ne-eqb 256 (covered .state) other,
+                ) refl;
+            whole = λ m next y. let x : _≡_ {A = ℕ} 0 1 = cc in absurd (omega arith);
+            images = λ m next y. let x : _≡_ {A = ℕ} 0 1 = cc in absurd (omega arith);
+          }
+
+      module _ (w : isWhole cert variables start ≡ true) (count : ℕ) (size-is : count ≡ getD cert (start + 1) 0) (q : Reached)
+          (i : ImagesRead cert next n count q codes) where
+        member-is : getElem? (membersFrom cert variables starts) m ≡ some (locatedAt cert variables start)
+        member-is = rw w at member-some
+
+        member-size : size (locatedAt cert variables start .shape) ≡ count
+        member-size =
+            rw size-is
+            (length-take-le (getD cert (start + 1) 0) (drop (start + 2 + variables) cert)
+            (omega (arith, length-drop (start + 2 + variables) cert, whole cert variables start w .inside)))
+
+        pub cover-refused : (r : Refusal) (place : ℕ) → q ≡ Refused r place → Is (NotRead r place)
+        unfolding readCover
+        cover-refused r place y =
+            record {
+              reads = λ covered s z.
+                  rw (
+                    read-complete (certificateBuffer cert) (getElem? (membersFrom cert variables starts)) at m next _ e member-is,
+                    member-size,
+                    z,
+                    ← i .reads,
+                    y,
+                  ) refl;
+              whole = λ m next y. let x : _≡_ {A = ℕ} 0 1 = cc in absurd (omega arith);
+              images = λ m next y. let x : _≡_ {A = ℕ} 0 1 = cc in absurd (omega arith);
+            }
+
+        pub cover-taken : (end : ℕ) → q ≡ At end → Is (Taken start end)
+        unfolding readCover
+        cover-taken end y =
+            record {
+              reads = λ covered s z.
+                  rw (
+                    read-complete (certificateBuffer cert) (getElem? (membersFrom cert variables starts)) at m next _ e member-is,
+                    member-size,
+                    z,
+                    ← i .reads,
+                    y,
+                    size-is,
+                  ) refl;
+              whole = λ start′ next′ y. let x : start ≡ start′ = cc in rw (← x) (whole cert variables start w);
+              images = λ start′ next′ z. let x : start ≡ start′ = cc in rw (← x, ← size-is) (i .images end y);
+            }

@@ -1,0 +1,3 @@
+pub mod Members
+pub mod Covers
+pub mod Taking

@@ -1,0 +1,104 @@
+use Prim.Native.Nat.{_-_, _≤_}
+use mathlib.Core.Logic.{⊎-elim}
+use mathlib.Core.Path.{_∙_}
+use native.Mathlib.Omega.{arith}
+use Rattle.shape.specs.Shape.{Shape}
+use Rattle.embedding.specs.Marks.{Linking}
+use Rattle.embedding.proofs.Fitting.{Fitting, fit-none, fit-all, fit-skip, fit-walk, fit-good, fit-bad}
+use borrow.Author.Needs.{needs}
+use Rattle.covering.proofs.fitting.links_fit.Statement.{statement}
+use Rattle.covering.proofs.fitting.links_fit.Tie as tie
+
+abbrev Inv-loop : tie.InvT-loop
+Inv-loop cert first count images marks₀ n links i₀ marks i =
+    (i ≤ count)
+    × ((member covered : Shape) (l : Linking member covered cert first count images marks₀ n links)
+    → Fitting member covered cert first count images marks₀ n links l marks i)
+
+abbrev μ-loop : tie.MeasureT-loop
+μ-loop cert first count images marks₀ n links i₀ marks i = count - i
+
+loop-holds : tie.Need-loop-holds Inv-loop μ-loop
+loop-holds c = (omega arith, λ m p l. fit-none _ _ _ _ _ _ _ _ _ l)
+
+add-wide : tie.Need-add-wide Inv-loop μ-loop
+add-wide c = let (m, p, l) = c .before .before .before .pre in omega (arith, l .inside)
+
+shared-slice-read-wide : tie.Need-shared-slice-read-wide Inv-loop μ-loop
+shared-slice-read-wide c = let (m, p, l) = c .before .before .before .before .pre in omega (arith, l .inside)
+
+wide-requires : tie.Need-wide-requires Inv-loop μ-loop
+wide-requires c κs = search needs
+
+add-wide-2 : tie.Need-add-wide-2 Inv-loop μ-loop
+add-wide-2 c = search needs
+
+element-copy-out-wide : tie.Need-element-copy-out-wide Inv-loop μ-loop
+element-copy-out-wide c = let (m, p, l) = c .before .before .before .before .before .before .pre in omega (arith, l .images .few)
+
+wide-requires-2 : tie.Need-wide-requires-2 Inv-loop μ-loop
+wide-requires-2 c κs = search needs
+
+image-of-requires : tie.Need-image-of-requires Inv-loop μ-loop
+image-of-requires c κs = search needs
+
+wide-requires-3 : tie.Need-wide-requires-3 Inv-loop μ-loop
+wide-requires-3 c κs = search needs
+
+walk-requires : tie.Need-walk-requires Inv-loop μ-loop
+walk-requires c κs =
+    let (m, p, l) = c .before .before .before .before .before .before .before .before .before .before .before .pre in
+    (p .links, _, _, fit-walk _ _ _ _ _ _ _ _ _ l _ _ (c .before .before .before .before .before .before .before .before .before .loop .inv .1 m p l) (omega arith) _ (c .before .before .before .before .before .before .wide .ensures .0) _ (c .before .before .before .wide2 .ensures .0))
+
+returns : tie.Need-returns Inv-loop μ-loop
+returns c = λ m p l.
+    let f = c .before .before .before .before .before .before .before .before .before .before .before .loop .inv .1 m p l in
+    let e = c .before .before .before .before .before .before .before .before .wide .ensures .0 in
+    let s = c .before .before .before .before .before .wide2 .ensures .0 in
+    fit-bad _ _ _ _ _ _ _ _ _ l _ _ f (omega arith) _ e _ s (c .before .before .before .before .before .before .before .if1 .taken) _ (c .before .before .before .wide3 .ensures .0 ∙ c .before .before .before .before .image-of .ensures) _ _
+    (c .before .walk .ensures _ _ _ (fit-walk _ _ _ _ _ _ _ _ _ l _ _ f (omega arith) _ e _ s)) (c .if2 .taken)
+
+add-i : tie.Need-add-i Inv-loop μ-loop
+add-i c = search needs
+
+loop-less : tie.Need-loop-less Inv-loop μ-loop
+loop-less c = search needs
+
+loop-again : tie.Need-loop-again Inv-loop μ-loop
+loop-again c = (
+  omega arith,
+  λ m p l.
+      let f = c .before .before .before .before .loop .inv .1 m p l in
+      let e = c .before .wide .ensures .0 in
+      ⊎-elim
+      (λ (n, _, s, q, t, _, w, z, y).
+      rw y
+      (fit-good _ _ _ _ _ _ _ _ _ l _ _ f (omega arith) _ e _ (s .ensures .0) (n .taken) _ (t .ensures .0 ∙ q .ensures) _ _
+      (w .ensures _ _ _ (fit-walk _ _ _ _ _ _ _ _ _ l _ _ f (omega arith) _ e _ (s .ensures .0))) (z .left)))
+      (λ (n, y). fit-skip _ _ _ _ _ _ _ _ _ l _ _ f (omega arith) _ e _ y (n .left)) (c .if1 .came),
+)
+
+returns-2 : tie.Need-returns-2 Inv-loop μ-loop
+returns-2 c = λ m p l. fit-all _ _ _ _ _ _ _ _ _ l _ _ (c .before .loop .inv .1 m p l) (omega arith)
+
+pub links-fit-spec : {M : Type 1} → statement M
+links-fit-spec =
+    tie.close
+    (tie.spec
+    Inv-loop
+    μ-loop
+    loop-holds
+    add-wide
+    shared-slice-read-wide
+    wide-requires
+    add-wide-2
+    element-copy-out-wide
+    wide-requires-2
+    image-of-requires
+    wide-requires-3
+    walk-requires
+    returns
+    add-i
+    loop-less
+    loop-again
+    returns-2)

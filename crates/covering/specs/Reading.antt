@@ -1,0 +1,42 @@
+-- One cover as it is read: "A cover is a member number below N and one image for each of its cells, below the number of cells of the covered
+-- shape."
+use mathlib.Core.List.{List}
+use mathlib.Core.Path.{_≡_}
+use Prim.Native.Nat.{ℕ, _+_, _<_}
+use lib.ListN.{getD}
+use Rattle.shape.specs.Shape.{size}
+use Rattle.run.specs.Run.{Located}
+use Rattle.cover.specs.Cover.{holds?}
+use Rattle.format.specs.Certificate.{readCover}
+use Rattle.format.specs.Parser.{Parsed, parsed, fault, many, ranged, require, certificateBuffer}
+use Rattle.verdict.specs.Verdict.{refusalNumber}
+use Rattle.verdict.specs.declared.Reached.{Reached}
+use Rattle.verdict.specs.declared.Reached.the-variants.{At, Refused}
+use Rattle.layout.specs.Entries.{locatedAt}
+use Rattle.embedding.specs.Images.{Whole, imagesIn, Images}
+use Rattle.covering.specs.Members.{membersFrom}
+use Rattle.covering.specs.declared.reading.CoverRead.{CoverRead}
+use Rattle.covering.specs.declared.reading.CoverRead.the-variants.{Taken, Refused as NotRead}
+
+-- a place reached with images beside, as the answer of a parser
+abbrev pub imagesOf : Reached → List ℕ → Parsed (List ℕ)
+imagesOf (At next) images = parsed images next
+imagesOf (Refused r place) images = fault (refusalNumber r) place
+
+-- so many images below n are read from a place on, into an array
+pub record ImagesRead (cert : List ℕ) (first n count : ℕ) (r : Reached) (codes : List ℕ) : Type 0 where
+  pub reads : imagesOf r (imagesIn count codes) ≡ many count (ranged (certificateBuffer cert) 0 n) first
+  pub images : (next : ℕ) → r ≡ At next → Images count n codes
+
+module _ (cert : List ℕ) (variables : ℕ) where
+  -- what becomes of the cover at a place, once it is read: it is refused, or judged
+  abbrev pub coverOf : ℕ → Located → CoverRead → List ℕ → Parsed (Unit {0})
+  coverOf at covered (Taken start next) codes =
+      require (holds? (locatedAt cert variables start) (imagesIn (getD cert (start + 1) 0) codes) covered) 9 at next
+  coverOf at covered (NotRead r place) codes = fault (refusalNumber r) place
+
+  pub record CoverIs (starts : List ℕ) (at n : ℕ) (r : CoverRead) (codes : List ℕ) : Type 0 where
+    pub reads : (covered : Located) → covered .state < 256 → size (covered .shape) ≡ n
+        → coverOf at covered r codes ≡ readCover (certificateBuffer cert) (membersFrom cert variables starts) covered at
+    pub whole : (start next : ℕ) → r ≡ Taken start next → Whole cert variables start
+    pub images : (start next : ℕ) → r ≡ Taken start next → Images (getD cert (start + 1) 0) n codes

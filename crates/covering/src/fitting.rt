@@ -1,0 +1,178 @@
+// Testing that images embed a member in a shape.
+ghost use mathlib.Core.Bool.{true};
+ghost use mathlib.Core.List.{List, []};
+ghost use mathlib.Core.Path.{_≡_};
+ghost use Prim.Native.Nat.{ℕ, _+_, _≤_, _<_};
+ghost use lib.ListN.{length, getD};
+ghost use Rattle.lists.specs.Test.{allFrom};
+ghost use Rattle.shape.specs.Shape.{Shape};
+ghost use Rattle.cover.specs.Test.{embeds?};
+ghost use Rattle.layout.specs.Arrays.{shapeIn};
+ghost use Rattle.layout.specs.Entries.{locatedAt};
+ghost use Rattle.embedding.specs.Images.{Whole, imagesIn, Images, imageIn, once, varFitsIn, pathFits};
+ghost use Rattle.embedding.specs.Marks.{markIn, Marks, Walking, Followed, Linking};
+
+// Marks by the code of a place: where a path may pass, where it ends, where one has passed.
+const FREE: u8 = 0;
+
+const STOP: u8 = 1;
+
+const USED: u8 = 2;
+
+const NO_MARKS: [u8; 17] = [
+    STOP,
+    STOP,
+    STOP,
+    FREE,
+    FREE,
+    FREE,
+    FREE,
+    FREE,
+    FREE,
+    FREE,
+    FREE,
+    FREE,
+    FREE,
+    FREE,
+    FREE,
+    FREE,
+    FREE,
+];
+
+pub(crate) fn wide(byte: u8) -> usize
+    ensures { λ r. ⌜ (r ≡ byte) × (r < 256) ⌝ }
+{
+    byte as usize
+}
+
+// The image of a place; that of a cell which the member lacks is cell 0.
+fn image_of(images: &[u8; 15], p: usize) -> u8
+    ensures { λ r. ⌜ r ≡ imageIn (now (images .entry)) p ⌝ }
+{
+    if p < 15 {
+        return images[p];
+    }
+    3
+}
+
+// Marks the images as stops. False where two are the same.
+fn mark_images(images: &[u8; 15], count: usize, marks: &mut [u8; 17]) -> bool
+    requires { ⌜ Images count 14 (now images) × Marks [] [] (now marks) ⌝ }
+    ensures { λ r. ⌜ (r ≡ once (imagesIn count (now (images .entry)))) × (r ≡ true → Marks (imagesIn count (now (images .entry))) [] (now (marks .exit))) ⌝ }
+{
+    let mut i = 0;
+    while i < count {
+        let p = wide(images[i + 3]);
+        if marks[p] != FREE {
+            return false;
+        }
+        marks[p] = STOP;
+        i += 1;
+    }
+    true
+}
+
+// Whether each variable that the member places stands at the image of that place.
+fn vars_fit(cert: &[u8], first: usize, count: usize, images: &[u8; 15], vars: &[u8; 10]) -> bool
+    requires { ⌜ (first + count ≤ length (now cert)) × (count ≤ 9) ⌝ }
+    ensures { λ r. ⌜ r ≡ allFrom count 0 (varFitsIn (now (cert .entry)) first (now (images .entry)) (now (vars .entry))) ⌝ }
+{
+    let mut i = 0;
+    while i < count {
+        let p = wide(cert[first + i]);
+        if p != 0 {
+            if image_of(images, p) != vars[i + 1] {
+                return false;
+            }
+        }
+        i += 1;
+    }
+    true
+}
+
+// The mark of a place; one past the shape's cells counts as used.
+fn mark_at(marks: &[u8; 17], n: usize, p: usize) -> u8
+    requires { ⌜ n ≤ 14 ⌝ }
+    ensures { λ r. ⌜ r ≡ markIn n (now (marks .entry)) p ⌝ }
+{
+    if p < n + 3 {
+        return marks[p];
+    }
+    USED
+}
+
+// Follows links from a cell to the first stop and uses the cells between; nowhere where it meets a used one.
+fn walk(n: usize, links: &[u8; 14], marks: &mut [u8; 17], from: usize) -> usize
+    requires { ⌜ ((shape : List ℕ) × (images : List ℕ) × (used : List ℕ) × Walking shape images used (now links) (now marks) n from) ⌝ }
+    ensures { λ r. ⌜ ((shape images used : List ℕ) → Walking shape images used (now (links .entry)) (now (marks .entry)) n from → Followed shape images used from r (now (marks .exit))) ⌝ }
+{
+    let mut p = wide(links[from - 3]);
+    while mark_at(marks, n, p) == FREE {
+        marks[p] = USED;
+        p = wide(links[p - 3]);
+    }
+    if mark_at(marks, n, p) == USED {
+        return 0;
+    }
+    p
+}
+
+// Whether the paths of the member's links end where they should and share no cell.
+fn links_fit(
+    cert: &[u8],
+    first: usize,
+    count: usize,
+    images: &[u8; 15],
+    marks: &mut [u8; 17],
+    n: usize,
+    links: &[u8; 14],
+) -> bool
+    requires { ⌜ ((member : Shape) × (covered : Shape) × Linking member covered (now cert) first count (now images) (now marks) n (now links)) ⌝ }
+    ensures { λ r. ⌜ ((member covered : Shape) → Linking member covered (now (cert .entry)) first count (now (images .entry)) (now (marks .entry)) n (now (links .entry)) → r ≡ allFrom count 0 (pathFits member covered (imagesIn count (now (images .entry))))) ⌝ }
+{
+    let mut i = 0;
+    while i < count {
+        let p = wide(cert[first + i]);
+        if p != 0 {
+            let from = wide(images[i + 3]);
+            let end = wide(image_of(images, p));
+            if walk(n, links, marks, from) != end {
+                return false;
+            }
+        }
+        i += 1;
+    }
+    true
+}
+
+// Whether the images embed the member that starts at a place in a shape.
+pub(crate) fn embeds(
+    cert: &[u8],
+    start: usize,
+    variables: usize,
+    images: &[u8; 15],
+    n: usize,
+    vars: &[u8; 10],
+    links: &[u8; 14],
+) -> bool
+    requires { ⌜ (Whole (now cert) variables start) × (length (now links) ≡ 14) × (n ≤ 14) × (Images (getD (now cert) (start + 1) 0) n (now images)) ⌝ }
+    ensures { λ r. ⌜ r ≡ embeds? (locatedAt (now (cert .entry)) variables start .shape) (shapeIn variables n (now (vars .entry)) (now (links .entry))) (imagesIn (getD (now (cert .entry)) (start + 1) 0) (now (images .entry))) ⌝ }
+{
+    let cells = wide(cert[start + 1]);
+    let mut marks = NO_MARKS;
+    if !mark_images(images, cells, &mut marks) {
+        return false;
+    }
+    if !vars_fit(cert, start + 2, variables, images, vars) {
+        return false;
+    }
+    links_fit(
+        cert,
+        start + 2 + variables,
+        cells,
+        images,
+        &mut marks,
+        n,
+        links,
+    )
+}
