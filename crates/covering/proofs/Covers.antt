@@ -37,6 +37,7 @@ module _ (cert : List ℕ) (variables : ℕ) (starts : List ℕ) (at n : ℕ) (c
   cover-unreadable place e =
       record {
         reads = λ covered s z. rw (read-unreadable cert (getElem? (membersFrom cert variables starts)) at place e) refl;
+        member = λ m next y. let x : _≡_ {A = ℕ} 0 1 = cc in absurd (omega arith);
         whole = λ m next y. let x : _≡_ {A = ℕ} 0 1 = cc in absurd (omega arith);
         images = λ m next y. let x : _≡_ {A = ℕ} 0 1 = cc in absurd (omega arith);
       }
@@ -49,13 +50,17 @@ module _ (cert : List ℕ) (variables : ℕ) (starts : List ℕ) (at n : ℕ) (c
           reads = λ covered s z.
               rw (read-outside (certificateBuffer cert) (getElem? (membersFrom cert variables starts)) at m next e
               (no-element (memberAt cert variables) starts m b)) refl;
+          member = λ m next y. let x : _≡_ {A = ℕ} 0 1 = cc in absurd (omega arith);
           whole = λ m next y. let x : _≡_ {A = ℕ} 0 1 = cc in absurd (omega arith);
           images = λ m next y. let x : _≡_ {A = ℕ} 0 1 = cc in absurd (omega arith);
         }
 
-    module _ (b : m < length starts) (start : ℕ) (is : start ≡ getD starts m 0) where
+    module _ (b : m < length starts) where
+      abbrev start : ℕ
+      start = getD starts m 0
+
       member-some : getElem? (membersFrom cert variables starts) m ≡ some (memberAt cert variables start)
-      member-some = rw is (element (memberAt cert variables) starts m b)
+      member-some = element (memberAt cert variables) starts m b
 
       pub cover-absent : isWhole cert variables start ≡ false → Is (NotRead CoverFails at)
       unfolding readCover many
@@ -68,6 +73,7 @@ module _ (cert : List ℕ) (variables : ℕ) (starts : List ℕ) (at n : ℕ) (c
                   o,
                   ne-eqb 256 (covered .state) other,
                 ) refl;
+            member = λ m next y. let x : _≡_ {A = ℕ} 0 1 = cc in absurd (omega arith);
             whole = λ m next y. let x : _≡_ {A = ℕ} 0 1 = cc in absurd (omega arith);
             images = λ m next y. let x : _≡_ {A = ℕ} 0 1 = cc in absurd (omega arith);
           }
@@ -95,11 +101,12 @@ module _ (cert : List ℕ) (variables : ℕ) (starts : List ℕ) (at n : ℕ) (c
                     ← i .reads,
                     y,
                   ) refl;
+              member = λ m next y. let x : _≡_ {A = ℕ} 0 1 = cc in absurd (omega arith);
               whole = λ m next y. let x : _≡_ {A = ℕ} 0 1 = cc in absurd (omega arith);
               images = λ m next y. let x : _≡_ {A = ℕ} 0 1 = cc in absurd (omega arith);
             }
 
-        pub cover-taken : (end : ℕ) → q ≡ At end → Is (Taken start end)
+        pub cover-taken : (end : ℕ) → q ≡ At end → Is (Taken m end)
         unfolding readCover
         cover-taken end y =
             record {
@@ -112,6 +119,7 @@ module _ (cert : List ℕ) (variables : ℕ) (starts : List ℕ) (at n : ℕ) (c
                     y,
                     size-is,
                   ) refl;
-              whole = λ start′ next′ y. let x : start ≡ start′ = cc in rw (← x) (whole cert variables start w);
-              images = λ start′ next′ z. let x : start ≡ start′ = cc in rw (← x, ← size-is) (i .images end y);
+              member = λ m′ next′ y. let x : m ≡ m′ = cc in omega arith;
+              whole = λ m′ next′ y. let x : m ≡ m′ = cc in rw (← x) (whole cert variables start w);
+              images = λ m′ next′ z. let x : m ≡ m′ = cc in rw (← x, ← size-is) (i .images end y);
             }

@@ -3,7 +3,7 @@
 use mathlib.Core.List.{List}
 use mathlib.Core.Path.{_≡_}
 use Prim.Native.Nat.{ℕ, _+_, _<_}
-use lib.ListN.{getD}
+use lib.ListN.{length, getD}
 use Rattle.shape.specs.Shape.{size}
 use Rattle.run.specs.Run.{Located}
 use Rattle.cover.specs.Cover.{holds?}
@@ -28,15 +28,25 @@ pub record ImagesRead (cert : List ℕ) (first n count : ℕ) (r : Reached) (cod
   pub reads : imagesOf r (imagesIn count codes) ≡ many count (ranged (certificateBuffer cert) 0 n) first
   pub images : (next : ℕ) → r ≡ At next → Images count n codes
 
-module _ (cert : List ℕ) (variables : ℕ) where
+-- where the reading of a cover ended
+abbrev pub withoutMember : CoverRead → Reached
+withoutMember (Taken m next) = At next
+withoutMember (NotRead r place) = Refused r place
+
+module _ (cert : List ℕ) (variables : ℕ) (starts : List ℕ) where
+  -- how many cells member m has
+  abbrev pub cellsAt : ℕ → ℕ
+  cellsAt m = getD cert (getD starts m 0 + 1) 0
+
   -- what becomes of the cover at a place, once it is read: it is refused, or judged
   abbrev pub coverOf : ℕ → Located → CoverRead → List ℕ → Parsed (Unit {0})
-  coverOf at covered (Taken start next) codes =
-      require (holds? (locatedAt cert variables start) (imagesIn (getD cert (start + 1) 0) codes) covered) 9 at next
+  coverOf at covered (Taken m next) codes =
+      require (holds? (locatedAt cert variables (getD starts m 0)) (imagesIn (cellsAt m) codes) covered) 9 at next
   coverOf at covered (NotRead r place) codes = fault (refusalNumber r) place
 
-  pub record CoverIs (starts : List ℕ) (at n : ℕ) (r : CoverRead) (codes : List ℕ) : Type 0 where
+  pub record CoverIs (at n : ℕ) (r : CoverRead) (codes : List ℕ) : Type 0 where
     pub reads : (covered : Located) → covered .state < 256 → size (covered .shape) ≡ n
         → coverOf at covered r codes ≡ readCover (certificateBuffer cert) (membersFrom cert variables starts) covered at
-    pub whole : (start next : ℕ) → r ≡ Taken start next → Whole cert variables start
-    pub images : (start next : ℕ) → r ≡ Taken start next → Images (getD cert (start + 1) 0) n codes
+    pub member : (m next : ℕ) → r ≡ Taken m next → m < length starts
+    pub whole : (m next : ℕ) → r ≡ Taken m next → Whole cert variables (getD starts m 0)
+    pub images : (m next : ℕ) → r ≡ Taken m next → Images (cellsAt m) n codes

@@ -12,6 +12,7 @@ ghost use Rattle.format.specs.Parser.{certificateBuffer};
 ghost use Rattle.verdict.specs.Verdict.{reachedOf};
 ghost use Rattle.layout.specs.Arrays.{shapeIn};
 ghost use Rattle.covering.specs.Members.{membersFrom};
+ghost use Rattle.covering.specs.Reading.{withoutMember};
 
 mod fitting;
 mod reading;
@@ -30,6 +31,16 @@ fn cells_held(links: &[u8; 14], n: usize) -> usize
 // No image is read yet: nowhere, # and * are their own images, and every cell's is cell 0.
 const NO_IMAGES: [u8; 15] = [0, 1, 2, 3, 3, 3, 3, 3, 3, 3, 3, 3, 3, 3, 3];
 
+// The place after a cover, or its refusal.
+fn refused(read: CoverRead) -> Reached
+    ensures { λ r. ⌜ r ≡ withoutMember read ⌝ }
+{
+    match read {
+        CoverRead::Taken(_, next) => Reached::At(next),
+        CoverRead::Refused(refusal, place) => Reached::Refused(refusal, place),
+    }
+}
+
 // Takes the cover at a place, of a shape at a state: the place after it, or a refusal.
 pub fn take_cover(
     cert: &[u8],
@@ -46,16 +57,15 @@ pub fn take_cover(
     let mut images = NO_IMAGES;
     let cells = cells_held(links, n);
     let r = read_cover(cert, starts, variables, at, cells, &mut images);
-    match r {
-        CoverRead::Refused(refusal, place) => Reached::Refused(refusal, place),
-        CoverRead::Taken(start, next) => {
-            if cert[start] != state {
-                return Reached::Refused(Refusal::CoverFails, at);
-            }
-            if !embeds(cert, start, variables, &images, cells, vars, links) {
-                return Reached::Refused(Refusal::CoverFails, at);
-            }
-            Reached::At(next)
-        }
+    let CoverRead::Taken(m, next) = r else {
+        return refused(r);
+    };
+    let start = starts[m] as usize;
+    if cert[start] != state {
+        return Reached::Refused(Refusal::CoverFails, at);
     }
+    if !embeds(cert, start, variables, &images, cells, vars, links) {
+        return Reached::Refused(Refusal::CoverFails, at);
+    }
+    Reached::At(next)
 }

@@ -10,7 +10,7 @@ ghost use Rattle.embedding.specs.Images.{Images};
 ghost use Rattle.covering.specs.Members.{isWhole};
 ghost use Rattle.covering.specs.Reading.{ImagesRead, CoverIs};
 
-// A cover as read: where its member starts and the next place, with its images in an array beside; or a refusal and its place.
+// A cover as read: its member's number and the next place, with its images in an array beside; or a refusal and its place.
 pub(crate) enum CoverRead {
     Taken(usize, usize),
     Refused(Refusal, usize),
@@ -82,7 +82,7 @@ pub(crate) fn read_cover(
     }
     let r = read_images(cert, next, n, wide(cert[start + 1]), images);
     match r {
-        Reached::At(end) => CoverRead::Taken(start, end),
+        Reached::At(end) => CoverRead::Taken(m, end),
         Reached::Refused(refusal, place) => CoverRead::Refused(refusal, place),
     }
 }

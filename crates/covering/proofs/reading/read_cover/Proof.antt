@@ -1,4 +1,4 @@
-use mathlib.Core.Path.{_∙_, refl, sym}
+use mathlib.Core.Path.{_∙_, sym}
 use native.Mathlib.Omega.{arith}
 use lib.ListN.{getD}
 use borrow.Author.Tests.{not-true, not-false}
@@ -37,7 +37,7 @@ is-whole-requires : tie.Need-is-whole-requires
 is-whole-requires c κs = omega (arith, c .shared-slice-known3 .given (c .before .before .before .r .given .0 .0))
 
 returns-3 : tie.Need-returns-3
-returns-3 c = cover-absent _ _ _ _ _ _ _ _ (sym (c .before .before .before .before .before .before .before .read-number .ensures) ∙ c .before .before .before .before .before .r .given .1) (omega arith) _ refl (sym (c .before .is-whole .ensures) ∙ not-true _ (c .if2 .taken))
+returns-3 c = cover-absent _ _ _ _ _ _ _ _ (sym (c .before .before .before .before .before .before .before .read-number .ensures) ∙ c .before .before .before .before .before .r .given .1) (omega arith) (sym (c .before .is-whole .ensures) ∙ not-true _ (c .if2 .taken))
 
 -- the member stands whole
 stands : (c : tie.Else2) → Whole (c .before .before .before .before .before .before .before .before .before .before .args .cert .now) (c .before .before .before .before .before .before .before .before .before .before .args .variables) (getD (c .before .before .before .before .before .before .before .before .before .before .args .starts .now) (c .before .before .before .before .before .r .given .0 .0) 0)
@@ -63,12 +63,12 @@ enum-known-r-3 c = search needs
 
 returns-4 : tie.Need-returns-4
 returns-4 c =
-    cover-taken _ _ _ _ _ _ _ _ (sym (c .before .before .before .before .before .before .before .before .before .before .before .before .before .before .read-number .ensures) ∙ c .before .before .before .before .before .before .before .before .before .before .before .before .r .given .1) (omega arith) _ refl
+    cover-taken _ _ _ _ _ _ _ _ (sym (c .before .before .before .before .before .before .before .before .before .before .before .before .before .before .read-number .ensures) ∙ c .before .before .before .before .before .before .before .before .before .before .before .before .r .given .1) (omega arith)
     (sym (c .before .before .before .before .before .before .before .before .is-whole .ensures) ∙ not-false _ (c .before .before .before .before .before .before .before .if2 .left)) _ (c .before .before .before .before .before .wide .ensures .0) _ (c .before .before .before .read-images .ensures) _ (c .before .r2 .given .1)
 
 returns-5 : tie.Need-returns-5
 returns-5 c =
-    cover-refused _ _ _ _ _ _ _ _ (sym (c .before .before .before .before .before .before .before .before .before .before .before .before .before .before .read-number .ensures) ∙ c .before .before .before .before .before .before .before .before .before .before .before .before .r .given .1) (omega arith) _ refl
+    cover-refused _ _ _ _ _ _ _ _ (sym (c .before .before .before .before .before .before .before .before .before .before .before .before .before .before .read-number .ensures) ∙ c .before .before .before .before .before .before .before .before .before .before .before .before .r .given .1) (omega arith)
     (sym (c .before .before .before .before .before .before .before .before .is-whole .ensures) ∙ not-false _ (c .before .before .before .before .before .before .before .if2 .left)) _ (c .before .before .before .before .before .wide .ensures .0) _ (c .before .before .before .read-images .ensures) _ _ (c .before .r3 .given .1)
 
 pub read-cover-spec : {M : Type 1} → statement M
