@@ -1,5 +1,4 @@
 pub mod Taking
 pub mod Covering
 pub mod Placing
-pub mod Loading
 pub mod Jobs

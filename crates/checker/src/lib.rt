@@ -25,7 +25,6 @@ ghost use Rattle.verdict.specs.declared.Verdict.the-variants.{Accepted};
 mod choice;
 mod covering;
 mod going;
-mod load;
 mod one;
 mod placing;
 mod removal;
