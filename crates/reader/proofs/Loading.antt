@@ -14,6 +14,7 @@ use Rattle.reader.specs.Loading.{fitsArrays}
 
 -- ---- the test
 
+-- tests of facts that follow from each other
 same-test : {P Q : Type 0} {a b : Bool} → Reflect P a → Reflect Q b → (P → Q) → (Q → P) → a ≡ b
 same-test {a = true} {b = b} r s f g = sym (is-true b (s .tests (f (r .holds tt))))
 same-test {a = false} {b = b} r s f g = sym (is-false b (λ t. r .tests (g (s .holds t))))
