@@ -6,7 +6,6 @@ pub mod Takes
 pub mod Trying
 pub mod Places
 pub mod Operands
-pub mod Made
 pub mod Loading
 pub mod Chain
 pub mod Verdicts

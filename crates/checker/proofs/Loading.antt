@@ -1,23 +1,24 @@
--- The loops that load a shape, and what the arrays then hold.
+-- What cleared arrays hold once a shape is loaded.
 use mathlib.Core.List.{List, _∷_, _++_}
 use mathlib.Core.Path.{_≡_, refl, ap, ap₂, _∙_}
 use Prim.Native.Nat.{ℕ, zero, suc, _+_, _-_, _≤_, _<_}
 use native.Mathlib.Decide.{decLt}
-use native.Mathlib.Numerals.{add-one}
 use native.Mathlib.Omega.{arith}
-use lib.ListN.{length, getD, take, drop, set, length-append, length-drop, replicate, getD-replicate, List·getD-append, List·getD-eq-default}
-use lib.Seq.{length-take-le, take-at, getD-append-add, getD-drop, paste, paste-suc}
+use lib.ListN.{length, getD, take, drop, length-append, length-drop, replicate, getD-replicate, List·getD-append, List·getD-eq-default}
+use lib.Seq.{length-take-le, take-at, getD-append-add, getD-drop}
 use Rattle.lists.proofs.List.{getD-mem}
 use Rattle.heap.specs.Place.{cell}
 use Rattle.shape.specs.Shape.{Shape, AllBelow}
-use Rattle.layout.specs.Entries.{Entry}
-use Rattle.checker.specs.Loading.{Loaded}
+use Rattle.layout.specs.Arrays.{shapeIn, Hold}
+use Rattle.layout.specs.Entries.{Entry, locatedAt}
+use Rattle.reader.proofs.Loading.{fits}
+use Rattle.reader.specs.Loading.{loadedCells, loadedVars, loadedLinks}
 
--- i bytes have been copied, and one more is
-pub copied-more : (d : List ℕ) (at : ℕ) (bytes : List ℕ) (first i k : ℕ) (l : List ℕ) → k ≡ at + i → at + i < length d → first + i < length bytes
-    → l ≡ paste d at (drop first bytes) i → set l k (getD bytes (first + i) 0) ≡ paste d at (drop first bytes) (i + 1)
-copied-more d at bytes first i k l e h b inv =
-    rw (inv, e, ← getD-drop first bytes i 0, add-one i) (paste-suc d at (drop first bytes) i 0 h (omega (arith, length-drop first bytes)))
+-- the arrays hold the shape of the entry at a place, of n cells
+pub record Loaded (bytes : List ℕ) (variables at n : ℕ) (vars links : List ℕ) : Type 0 where
+  pub cells : n ≤ 12
+  pub hold : Hold variables n vars links
+  pub shape : shapeIn variables n vars links ≡ locatedAt bytes variables at .shape
 
 -- what is below k throughout is so at each index, and 0 past the end
 below-at : (k : ℕ) (l : List ℕ) → AllBelow k l → (i : ℕ) → i < length l → getD l i 0 < k
@@ -98,15 +99,17 @@ module _ (bytes : List ℕ) (variables at : ℕ) (entry : Entry bytes variables 
             (take-at (take n places) (drop n links₀) n cells);
       }
 
--- the arrays as the loops leave them
-pub loaded : (bytes : List ℕ) (variables at : ℕ) (vars₀ links₀ vars links : List ℕ) → Entry bytes variables at → variables ≤ 8
-    → vars₀ ≡ replicate 10 0 → links₀ ≡ replicate 14 0 → vars ≡ paste (set vars₀ 0 1) 1 (drop (at + 2) bytes) variables
-    → links ≡ paste links₀ 0 (drop (at + 2 + variables) bytes) (getD bytes (at + 1) 0) → Loaded bytes variables at (getD bytes (at + 1) 0) vars links
-loaded bytes variables at vars₀ links₀ vars links entry few vars-clear links-clear vars-is links-is =
-    let n = getD bytes (at + 1) 0 in
+-- cleared arrays, once the entry is loaded
+pub loaded : (bytes : List ℕ) (variables at n : ℕ) (vars links : List ℕ) → Entry bytes variables at → variables ≤ 8 → n ≡ loadedCells bytes variables at
+    → vars ≡ loadedVars bytes variables at (replicate 10 0) → links ≡ loadedLinks bytes variables at (replicate 14 0)
+    → Loaded bytes variables at n vars links
+loaded bytes variables at n vars links entry few n-is vars-is links-is =
     let one-more : 1 + variables ≡ suc variables = omega arith in
-    let all : 0 + n ≡ n = omega arith in
-    rw (vars-is, links-is, vars-clear, links-clear, one-more, all)
+    let all : 0 + getD bytes (at + 1) 0 ≡ getD bytes (at + 1) 0 = omega arith in
+    let fit =
+    fits bytes variables at
+    (record { variables-fit = omega arith; cells-fit = omega (arith, entry .cells); inside = entry .inside }) in
+    rw (n-is, vars-is, links-is, fit, one-more, all)
     (load-in bytes variables at entry few (replicate 9 0) (replicate 14 0) refl refl clear)
   where
     clear : (i : ℕ) → getD {A = ℕ} (replicate 9 0) i 0 ≡ 0

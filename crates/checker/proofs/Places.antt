@@ -5,16 +5,13 @@ use Prim.Native.Nat.{ℕ, _+_, _≤_, _<_}
 use native.Mathlib.Decide.{ℕ-discrete}
 use native.Mathlib.Numerals.{add-one}
 use native.Mathlib.Omega.{arith}
-use borrow.Author.Tests.{lt-ltb, eq-eqb, ne-eqb}
-use Rattle.heap.specs.Place.{cell}
+use borrow.Author.Tests.{eq-eqb, ne-eqb}
 use Rattle.place.specs.Place.{cellPlace}
 use Rattle.place.specs.declared.Place.{Place}
 use Rattle.choices.specs.Choice.{chosen}
-use Rattle.checker.specs.Placing.{secondOperand}
 use Rattle.choices.proofs.Opening.{chosen-cell, chosen-fresh}
-
-pub cell-code : (p : Place) (i : ℕ) → p ≡ cellPlace i → i < 253 → p .code ≡ cell i
-cell-code p i e h = rw e (simp (lt-ltb i 253 h) (omega arith))
+use Rattle.places.proofs.Made.{cell-code}
+use Rattle.checker.specs.Placing.{secondOperand}
 
 pub placed-cell : (n k : ℕ) (p : Place) → p ≡ cellPlace k → n ≤ 14 → k < n → p .code ≡ chosen n k
 placed-cell n k p e h l = cell-code p k e (omega arith) ∙ sym (chosen-cell n k l)

@@ -1,4 +1,3 @@
 pub mod Taking
 pub mod Placing
-pub mod Loading
 pub mod Jobs

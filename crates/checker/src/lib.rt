@@ -24,7 +24,6 @@ ghost use Rattle.verdict.specs.declared.Verdict.the-variants.{Accepted};
 
 mod choice;
 mod going;
-mod load;
 mod one;
 mod placing;
 mod removal;

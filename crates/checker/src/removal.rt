@@ -2,11 +2,8 @@
 use crate::going::Going;
 use crate::going::Taken;
 use crate::one::take_one;
-use place::Place;
-use places::close_up;
-use places::forget_all;
-use places::is_free;
-use places::lower_all;
+use places::revive;
+use places::take_out;
 ghost use mathlib.Core.List.{[], _∷_, _++_};
 ghost use Prim.Native.Nat.{_-_, _≤_, _<_};
 ghost use Rattle.lists.specs.List.{concatMap};
@@ -34,17 +31,11 @@ fn take_cell(
     requires { ⌜ (Table (now cert) variables (now starts) members) × (Hold variables n (now vars) (now links)) × (k < n) × (Within (now cert) t) ⌝ }
     ensures { λ r. ⌜ Takes (now (cert .entry)) (membersAt (now (cert .entry)) variables (now (starts .entry)) members) state (without (shapeIn variables n (now (vars .entry)) (now (links .entry))) k) t r ⌝ }
 {
-    let p = Place::cell(k);
-    let codes = &vars[..];
-    let places = &links[..];
-    if !is_free(&codes[1..1 + variables], &places[..n as usize], p) {
-        return Going::On(t);
-    }
     let mut v = *vars;
     let mut l = *links;
-    close_up(&mut l[..n as usize], k as usize);
-    lower_all(&mut v, p.code);
-    lower_all(&mut l, p.code);
+    if !take_out(variables, n, &mut v, &mut l, k) {
+        return Going::On(t);
+    }
     take_one(
         cert,
         starts,
@@ -206,20 +197,16 @@ pub(crate) fn take_delete(
     if 2 < x {
         return Going::On(t);
     }
-    let p = Place::cell(n);
     let mut v = *vars;
     let mut l = *links;
-    forget_all(&mut v);
-    forget_all(&mut l);
-    l[n as usize] = 0;
-    v[a as usize] = p.code;
+    let cells = revive(n, &mut v, &mut l, a);
     take_one(
         cert,
         starts,
         variables,
         members,
         state,
-        (n + 1) as usize,
+        cells as usize,
         &v,
         &l,
         t,

@@ -1,12 +1,12 @@
 // Takes the covers in their order: those of the forbidden shapes; then for each member, each transition into its state.
 use crate::going::Going;
 use crate::going::Taken;
-use crate::load::load_shape;
 use crate::one::take_one;
 use crate::placing::take_placed;
 use crate::removal::take_delete;
 use crate::removal::take_new;
 use reader::Header;
+use reader::load::load_shape;
 ghost use mathlib.Core.Bool.{true};
 ghost use mathlib.Core.List.{[], _∷_};
 ghost use mathlib.Core.Path.{_≡_};

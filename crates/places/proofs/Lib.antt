@@ -1,3 +1,4 @@
 pub mod Loops
 pub mod Moves
 pub mod Free
+pub mod Made

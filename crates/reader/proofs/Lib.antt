@@ -8,3 +8,4 @@ pub mod Standing
 pub mod WholeJob
 pub mod Testing
 pub mod Noting
+pub mod Loading

@@ -1,3 +1,4 @@
 pub mod Number
 pub mod Job
 pub mod Members
+pub mod Loading

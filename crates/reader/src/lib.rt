@@ -19,6 +19,7 @@ ghost use Rattle.reader.specs.Job.{readCounts, readFront, frontOf, RestA
 ghost use Rattle.reader.specs.Members.{NotedBy, MembersAnswered};
 ghost use Rattle.reader.specs.Number.{bufferOf, rangedOf, forget};
 
+pub mod load;
 mod start;
 
 // Which buffer is read: it decides the refusals.

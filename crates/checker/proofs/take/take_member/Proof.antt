@@ -1,10 +1,11 @@
 use Rattle.layout.specs.Entries.{locatedAt}
-use mathlib.Core.Path.{refl}
 use native.Mathlib.Omega.{arith}
 use lib.ListN.{getD}
 use Rattle.order.proofs.Index.{linked-head}
 use Rattle.checker.specs.Jobs.{toState}
 use Rattle.checker.proofs.Chain.{chain-begin, chain-end}
+use Rattle.checker.proofs.Loading.{Loaded, loaded}
+use borrow.Author.Needs.{needs}
 use Rattle.checker.proofs.take.take_member.Statement.{statement}
 use Rattle.checker.proofs.take.take_member.Tie as tie
 
@@ -48,21 +49,28 @@ returns c =
     chain-end {job = a .job .now} {h = a .h} {m = m} (chain-begin (linked-head (toState (a .job .now) (a .h)) (a .h .transitions) (a .heads .now) (a .nexts .now) (p .1) (m .state) (e .state)) (p .4)) (omega arith)
 
 load-shape-requires : tie.Need-load-shape-requires
-load-shape-requires c κs =
-    let p = c .before .before .before .before .before .before .before .before .pre in
-    let e = c .before .before .before .before .before .before .before .before .pre .2 .entry (c .before .before .before .before .before .before .before .before .args .m) (c .before .before .before .before .before .before .before .before .pre .3) in
-    (e, p .2 .variables-most, refl, refl)
+load-shape-requires c κs = search needs
+
+-- what was loaded
+here : (c : tie.After-load-shape)
+    → let a = c .before .before .before .before .before .before .before .before .before .args in
+    Loaded (a .cert .now) (a .h .variables) (getD (a .starts .now) (a .m) 0) (c .load-shape .result) (c .load-shape .last .1 .1 .1 .0) (c .load-shape .last .1 .1 .1 .1 .0)
+here c =
+    let a = c .before .before .before .before .before .before .before .before .before .args in
+    let p = c .before .before .before .before .before .before .before .before .before .pre in
+    let e = c .load-shape .ensures in
+    loaded (a .cert .now) (a .h .variables) (getD (a .starts .now) (a .m) 0) _ _ _ (p .2 .entry (a .m) (p .3)) (p .2 .variables-most) (e .0) (e .1 .0) (e .1 .1)
 
 take-transitions-requires : tie.Need-take-transitions-requires
 take-transitions-requires c κs =
     let a = c .before .before .before .before .before .before .before .before .before .before .before .args in
     let p = c .before .before .before .before .before .before .before .before .before .before .before .pre in
     let e = c .before .before .before .before .before .before .before .before .before .before .before .pre .2 .entry (c .before .before .before .before .before .before .before .before .before .before .before .args .m) (c .before .before .before .before .before .before .before .before .before .before .before .pre .3) in
-    let l = c .before .before .load-shape .ensures in
+    let l = here (c .before .before) in
     (p .0, p .1 .next, linked-head (toState (a .job .now) (a .h)) (a .h .transitions) (a .heads .now) (a .nexts .now) (p .1) (getD (a .cert .now) (getD (a .starts .now) (a .m) 0) 0) (e .state), p .2, l .hold, l .cells, p .4)
 
 returns-2 : tie.Need-returns-2
-returns-2 c = (rw (c .before .before .before .load-shape .ensures .shape) at (c .take-transitions .ensures .0), c .take-transitions .ensures .1)
+returns-2 c = (rw (here (c .before .before .before) .shape) at (c .take-transitions .ensures .0), c .take-transitions .ensures .1)
 
 pub take-member-spec : {M : Type 1} → statement M
 take-member-spec =
