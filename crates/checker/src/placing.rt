@@ -23,7 +23,7 @@ ghost use Rattle.layout.specs.Transitions.{opOf};
 ghost use Rattle.choices.specs.Choice.{put as putBy};
 ghost use Rattle.choices.specs.Held.{Held, working, Working, Placed, Undoable, Undoes};
 ghost use Rattle.choices.specs.Retained.{changed, seconds, firsts};
-ghost use Rattle.choosing.specs.Chosen.{wantedA, wantedB, secondOf, firstOf};
+ghost use Rattle.choosing.specs.Chosen.{wantedA, wantedB, firstOf};
 ghost use Rattle.choosing.specs.Wanted.{fitsIn};
 ghost use Rattle.checker.specs.Placing.{takeShapes, secondOperand};
 ghost use Rattle.checker.specs.Taking.{takeAll, goingOf, Within, StaysWithin, located};
@@ -78,43 +78,6 @@ pub(crate) fn make_second(
     m
 }
 
-// The cover of choice k of b, if it is wanted.
-pub(crate) fn take_second(
-    cert: &[u8],
-    starts: &[u16; 512],
-    variables: usize,
-    members: usize,
-    state: u8,
-    op: Op,
-    wanted: Wanted,
-    n: u8,
-    vars: &[u8; 10],
-    links: &[u8; 14],
-    k: u8,
-    t: Taken,
-) -> Going
-    requires { ⌜ (Table (now cert) variables (now starts) members) × (Placed variables (op .kind) (op .a) (op .b) n (now vars) (now links)) × (k < n + (2 + n)) × (wanted ≡ wantedB (op .kind) (op .a) (op .b) n (now vars) (now links)) × (Within (now cert) t) ⌝ }
-    ensures { λ r. ⌜ goingOf r ≡ takeShapes (now (cert .entry)) variables (now (starts .entry)) members state (secondOf variables (op .kind) (op .a) (op .b) (shapeIn (working variables (op .b)) n (now (vars .entry)) (now (links .entry))) k) t ⌝ }
-{
-    if !is_wanted_here(n, links, wanted, k) {
-        return Going::On(t);
-    }
-    let mut v = *vars;
-    let mut l = *links;
-    let m = make_second(variables, op, n, &mut v, &mut l, k);
-    take_one(
-        cert,
-        starts,
-        variables,
-        members,
-        state,
-        m as usize,
-        &v,
-        &l,
-        t,
-    )
-}
-
 // Covers of the predecessors that share a first choice: a is placed.
 pub(crate) fn take_seconds(
     cert: &[u8],
@@ -136,25 +99,28 @@ pub(crate) fn take_seconds(
     let mut t = from;
     let mut k = c.from;
     while k < c.to {
-        let g = take_second(
-            cert,
-            starts,
-            variables,
-            members,
-            state,
-            op,
-            wanted,
-            n,
-            vars,
-            links,
-            k as u8,
-            t,
-        );
-        let Going::On(u) = g else {
-            return g;
-        };
-        t = u;
+        let j = k as u8;
         k += c.step;
+        if is_wanted_here(n, links, wanted, j) {
+            let mut v = *vars;
+            let mut l = *links;
+            let m = make_second(variables, op, n, &mut v, &mut l, j);
+            let g = take_one(
+                cert,
+                starts,
+                variables,
+                members,
+                state,
+                m as usize,
+                &v,
+                &l,
+                t,
+            );
+            let Going::On(u) = g else {
+                return g;
+            };
+            t = u;
+        }
     }
     Going::On(t)
 }
