@@ -7,7 +7,6 @@ use crate::wanting::Op;
 use crate::wanting::is_wanted_here;
 use crate::wanting::wanted_of_a;
 use crate::wanting::wanted_of_b;
-use choosing::Wanted;
 use choosing::choices_of;
 ghost use mathlib.Core.Bool.{true};
 ghost use mathlib.Core.List.{map};
@@ -23,7 +22,7 @@ ghost use Rattle.layout.specs.Transitions.{opOf};
 ghost use Rattle.choices.specs.Choice.{put as putBy};
 ghost use Rattle.choices.specs.Held.{Held, working, Working, Placed, Undoable, Undoes};
 ghost use Rattle.choices.specs.Retained.{changed, seconds, firsts};
-ghost use Rattle.choosing.specs.Chosen.{wantedA, wantedB, firstOf};
+ghost use Rattle.choosing.specs.Chosen.{wantedB};
 ghost use Rattle.choosing.specs.Wanted.{fitsIn};
 ghost use Rattle.checker.specs.Placing.{takeShapes, secondOperand};
 ghost use Rattle.checker.specs.Taking.{takeAll, goingOf, Within, StaysWithin, located};
@@ -125,33 +124,6 @@ pub(crate) fn take_seconds(
     Going::On(t)
 }
 
-// Covers of the predecessors of choice k of a, if it is wanted.
-pub(crate) fn take_first(
-    cert: &[u8],
-    starts: &[u16; 512],
-    variables: usize,
-    members: usize,
-    state: u8,
-    op: Op,
-    wanted: Wanted,
-    n: u8,
-    vars: &[u8; 10],
-    links: &[u8; 14],
-    k: u8,
-    t: Taken,
-) -> Going
-    requires { ⌜ (Table (now cert) variables (now starts) members) × (Working 12 variables (op .kind) (op .a) (op .b) n (now vars) (now links)) × (k < n + (2 + n)) × (wanted ≡ wantedA (op .kind) (op .a) (op .b) n (now vars) (now links)) × (Within (now cert) t) ⌝ }
-    ensures { λ r. ⌜ goingOf r ≡ takeShapes (now (cert .entry)) variables (now (starts .entry)) members state (firstOf variables (op .kind) (op .a) (op .b) (shapeIn (working variables (op .b)) n (now (vars .entry)) (now (links .entry))) k) t ⌝ }
-{
-    if !is_wanted_here(n, links, wanted, k) {
-        return Going::On(t);
-    }
-    let mut v = *vars;
-    let mut l = *links;
-    let m = put(n, &mut v, &mut l, op.a, k);
-    take_seconds(cert, starts, variables, members, state, op, m, &v, &l, t)
-}
-
 // Covers of all choices of a and b.
 pub(crate) fn take_firsts(
     cert: &[u8],
@@ -173,25 +145,18 @@ pub(crate) fn take_firsts(
     let mut t = from;
     let mut k = c.from;
     while k < c.to {
-        let g = take_first(
-            cert,
-            starts,
-            variables,
-            members,
-            state,
-            op,
-            wanted,
-            n,
-            vars,
-            links,
-            k as u8,
-            t,
-        );
-        let Going::On(u) = g else {
-            return g;
-        };
-        t = u;
+        let j = k as u8;
         k += c.step;
+        if is_wanted_here(n, links, wanted, j) {
+            let mut v = *vars;
+            let mut l = *links;
+            let m = put(n, &mut v, &mut l, op.a, j);
+            let g = take_seconds(cert, starts, variables, members, state, op, m, &v, &l, t);
+            let Going::On(u) = g else {
+                return g;
+            };
+            t = u;
+        }
     }
     Going::On(t)
 }

@@ -1,11 +1,14 @@
+use mathlib.Core.Bool.{true}
 use mathlib.Core.List.{[]}
 use mathlib.Core.Path.{_≡_, _∙_, sym}
 use Prim.Native.Nat.{_+_, _-_}
 use native.Mathlib.Omega.{arith}
+use lib.ListN.{take}
 use Rattle.layout.specs.Arrays.{shapeIn}
 use Rattle.layout.specs.Entries.{membersAt}
 use Rattle.choices.specs.Held.{working}
-use Rattle.choosing.specs.Chosen.{secondOf}
+use Rattle.choosing.specs.Chosen.{wantedB, secondOf}
+use Rattle.choosing.specs.Wanted.{fitsIn}
 use Rattle.choosing.proofs.Ranges.{Covers, step-most}
 use Rattle.choosing.proofs.Steps.{second-covers, second-range, second-none, second-one}
 use Rattle.checker.specs.Placing.{takeShapes}
@@ -51,12 +54,17 @@ add-k c =
 is-wanted-here-requires : tie.Need-is-wanted-here-requires Inv-loop μ-loop
 is-wanted-here-requires c κs = search needs
 
+-- this choice is wanted
+fits : (c : tie.Then2 Inv-loop μ-loop)
+    → let l = c .before .before .before .before .before in
+    let a = l .before .before .before .before .args in
+    fitsIn (take (a .n) (a .links .now)) (wantedB (a .op .kind) (a .op .a) (a .op .b) (a .n) (a .vars .now) (a .links .now)) (l .loop .k) ≡ true
+fits c = rw (← c .before .before .before .before .before .before .before .wanted-of-b .ensures) (sym (c .before .is-wanted-here .ensures) ∙ c .if2 .taken)
+
 make-second-requires : tie.Need-make-second-requires Inv-loop μ-loop
 make-second-requires c κs =
-    let i = c .before .before .before .before .before in
-    let l = i .before .before .before .before in
-    let p = l .before .before .before .before .pre .1 in
-    (p, omega (arith, covers (l .before) .most, i .before .before .if1 .taken), rw (← l .before .before .wanted-of-b .ensures) (sym (i .is-wanted-here .ensures) ∙ c .before .before .before .before .if2 .taken))
+    let l = c .before .before .before .before .before .before .before .before .before in
+    (l .before .before .before .before .pre .1, omega (arith, covers (l .before) .most, c .before .before .before .before .before .before .before .if1 .taken), fits (c .before .before .before .before))
 
 cast-take-one : tie.Need-cast-take-one Inv-loop μ-loop
 cast-take-one c = search needs
@@ -70,10 +78,8 @@ taken : (c : tie.After-take-one Inv-loop μ-loop)
     let a = l .before .before .before .before .args in
     goingOf (c .take-one .result) ≡ takeShapes (a .cert .now) (a .variables) (a .starts .now) (a .members) (a .state) (secondOf (a .variables) (a .op .kind) (a .op .a) (a .op .b) (shapeIn (working (a .variables) (a .op .b)) (a .n) (a .vars .now) (a .links .now)) (l .loop .k)) (l .loop .t)
 taken c =
-    let i = c .before .before .before .before .before .before .before .before .before in
-    let l = i .before .before .before .before in
-    rw (second-one (l .before .before .before .before .pre .1) (l .loop .k) (rw (← l .before .before .wanted-of-b .ensures) (sym (i .is-wanted-here .ensures) ∙ c .before .before .before .before .before .before .before .before .if2 .taken)), ← c .before .before .before .make-second .ensures .same)
-    (c .take-one .ensures .0)
+    let l = c .before .before .before .before .before .before .before .before .before .before .before .before .before in
+    rw (second-one (l .before .before .before .before .pre .1) (l .loop .k) (fits (c .before .before .before .before .before .before .before .before)), ← c .before .before .before .make-second .ensures .same) (c .take-one .ensures .0)
 
 enum-known-g : tie.Need-enum-known-g Inv-loop μ-loop
 enum-known-g c = search needs
