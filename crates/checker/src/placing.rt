@@ -9,23 +9,18 @@ use crate::wanting::wanted_of_a;
 use crate::wanting::wanted_of_b;
 use choosing::choices_of;
 ghost use mathlib.Core.Bool.{true};
-ghost use mathlib.Core.List.{map};
 ghost use mathlib.Core.Path.{_≡_};
 ghost use Prim.Native.Nat.{_+_, _≤_, _<_};
 ghost use lib.ListN.{take};
-ghost use Rattle.heap.specs.Operation.{kindOf};
-ghost use Rattle.backward.specs.Predecessors.{predecessors};
-ghost use Rattle.kinds.specs.Kinds.{allowed};
-ghost use Rattle.layout.specs.Arrays.{shapeIn, Hold};
-ghost use Rattle.layout.specs.Entries.{membersAt, Table};
-ghost use Rattle.layout.specs.Transitions.{opOf};
+ghost use Rattle.layout.specs.Arrays.{shapeIn};
+ghost use Rattle.layout.specs.Entries.{Table};
 ghost use Rattle.choices.specs.Choice.{put as putBy};
 ghost use Rattle.choices.specs.Held.{Held, working, Working, Placed, Undoable, Undoes};
 ghost use Rattle.choices.specs.Retained.{changed, seconds, firsts};
 ghost use Rattle.choosing.specs.Chosen.{wantedB};
 ghost use Rattle.choosing.specs.Wanted.{fitsIn};
 ghost use Rattle.checker.specs.Placing.{takeShapes, secondOperand};
-ghost use Rattle.checker.specs.Taking.{takeAll, goingOf, Within, StaysWithin, located};
+ghost use Rattle.checker.specs.Taking.{goingOf, Within};
 
 // What the operation changes is put back.
 pub(crate) fn undo(variables: usize, op: Op, vars: &mut [u8; 10], links: &mut [u8; 14])
@@ -176,37 +171,4 @@ pub(crate) fn placed_op(variables: usize, kind: u8, a: u8, b: u8) -> Op
         }
     }
     Op { kind, a, b }
-}
-
-// Covers of the predecessors of a shape under an operation of kinds 1 to 5.
-pub(crate) fn take_placed(
-    cert: &[u8],
-    starts: &[u16; 512],
-    variables: usize,
-    members: usize,
-    state: u8,
-    kind: u8,
-    a: u8,
-    b: u8,
-    n: u8,
-    vars: &[u8; 10],
-    links: &[u8; 14],
-    t: Taken,
-) -> Going
-    requires { ⌜ (Table (now cert) variables (now starts) members) × (Hold variables n (now vars) (now links)) × (n ≤ 12) × (kind ≤ 5) × (allowed variables kind a b ≡ true) × (Within (now cert) t) ⌝ }
-    ensures { λ r. ⌜ (goingOf r ≡ takeAll (now (cert .entry)) (membersAt (now (cert .entry)) variables (now (starts .entry)) members) (map (located state) (predecessors (opOf (kindOf kind) a b) (shapeIn variables n (now (vars .entry)) (now (links .entry))))) (t .covers) (t .at)) × (StaysWithin (now (cert .entry)) r) ⌝ }
-{
-    let op = placed_op(variables, kind, a, b);
-    take_firsts(
-        cert,
-        starts,
-        variables,
-        members,
-        state,
-        op,
-        n,
-        vars,
-        links,
-        t,
-    )
 }
