@@ -91,6 +91,14 @@ module _ {cert : List ℕ} {ms : List Located} {state : ℕ} {f : ℕ → List S
     takes : (g : Going) → goingOf g ≡ takeAll cert ms here (t .covers) (t .at) → TakesAll cert ms here t g
     takes g taken = (taken, stays cert ms here t (now .progress .within) g taken)
 
+    -- a choice that gives nothing is passed
+    pub trying-past : k < c .to → f k ≡ [] → Trying cert ms state f c start past t₀ (k + c .step) t
+    trying-past inside none =
+        record {
+          progress = rw (rest-on state f past k none ∙ skipped h k inside state (now .among)) at (now .progress);
+          among = still h k inside (now .among) (ℕ-discrete (c .step) 1);
+        }
+
     module _ (inside : k < c .to) {g : Going} (taken : goingOf g ≡ takeAll cert ms here (t .covers) (t .at)) where
       pub trying-more : {u : Taken} → g ≡ On u → Trying cert ms state f c start past t₀ (k + c .step) u
       trying-more e =

@@ -7,26 +7,20 @@ use crate::wanting::Op;
 use crate::wanting::is_wanted_here;
 use crate::wanting::wanted_of_a;
 use crate::wanting::wanted_of_b;
-use choosing::Wanted;
 use choosing::choices_of;
 ghost use mathlib.Core.Bool.{true};
-ghost use mathlib.Core.List.{map};
 ghost use mathlib.Core.Path.{_≡_};
 ghost use Prim.Native.Nat.{_+_, _≤_, _<_};
 ghost use lib.ListN.{take};
-ghost use Rattle.heap.specs.Operation.{kindOf};
-ghost use Rattle.backward.specs.Predecessors.{predecessors};
-ghost use Rattle.kinds.specs.Kinds.{allowed};
-ghost use Rattle.layout.specs.Arrays.{shapeIn, Hold};
-ghost use Rattle.layout.specs.Entries.{membersAt, Table};
-ghost use Rattle.layout.specs.Transitions.{opOf};
+ghost use Rattle.layout.specs.Arrays.{shapeIn};
+ghost use Rattle.layout.specs.Entries.{Table};
 ghost use Rattle.choices.specs.Choice.{put as putBy};
 ghost use Rattle.choices.specs.Held.{Held, working, Working, Placed, Undoable, Undoes};
 ghost use Rattle.choices.specs.Retained.{changed, seconds, firsts};
-ghost use Rattle.choosing.specs.Chosen.{wantedA, wantedB, secondOf, firstOf};
+ghost use Rattle.choosing.specs.Chosen.{wantedB};
 ghost use Rattle.choosing.specs.Wanted.{fitsIn};
 ghost use Rattle.checker.specs.Placing.{takeShapes, secondOperand};
-ghost use Rattle.checker.specs.Taking.{takeAll, goingOf, Within, StaysWithin, located};
+ghost use Rattle.checker.specs.Taking.{goingOf, Within};
 
 // What the operation changes is put back.
 pub(crate) fn undo(variables: usize, op: Op, vars: &mut [u8; 10], links: &mut [u8; 14])
@@ -78,43 +72,6 @@ pub(crate) fn make_second(
     m
 }
 
-// The cover of choice k of b, if it is wanted.
-pub(crate) fn take_second(
-    cert: &[u8],
-    starts: &[u16; 512],
-    variables: usize,
-    members: usize,
-    state: u8,
-    op: Op,
-    wanted: Wanted,
-    n: u8,
-    vars: &[u8; 10],
-    links: &[u8; 14],
-    k: u8,
-    t: Taken,
-) -> Going
-    requires { ⌜ (Table (now cert) variables (now starts) members) × (Placed variables (op .kind) (op .a) (op .b) n (now vars) (now links)) × (k < n + (2 + n)) × (wanted ≡ wantedB (op .kind) (op .a) (op .b) n (now vars) (now links)) × (Within (now cert) t) ⌝ }
-    ensures { λ r. ⌜ goingOf r ≡ takeShapes (now (cert .entry)) variables (now (starts .entry)) members state (secondOf variables (op .kind) (op .a) (op .b) (shapeIn (working variables (op .b)) n (now (vars .entry)) (now (links .entry))) k) t ⌝ }
-{
-    if !is_wanted_here(n, links, wanted, k) {
-        return Going::On(t);
-    }
-    let mut v = *vars;
-    let mut l = *links;
-    let m = make_second(variables, op, n, &mut v, &mut l, k);
-    take_one(
-        cert,
-        starts,
-        variables,
-        members,
-        state,
-        m as usize,
-        &v,
-        &l,
-        t,
-    )
-}
-
 // Covers of the predecessors that share a first choice: a is placed.
 pub(crate) fn take_seconds(
     cert: &[u8],
@@ -136,54 +93,30 @@ pub(crate) fn take_seconds(
     let mut t = from;
     let mut k = c.from;
     while k < c.to {
-        let g = take_second(
-            cert,
-            starts,
-            variables,
-            members,
-            state,
-            op,
-            wanted,
-            n,
-            vars,
-            links,
-            k as u8,
-            t,
-        );
-        let Going::On(u) = g else {
-            return g;
-        };
-        t = u;
+        let j = k as u8;
         k += c.step;
+        if is_wanted_here(n, links, wanted, j) {
+            let mut v = *vars;
+            let mut l = *links;
+            let m = make_second(variables, op, n, &mut v, &mut l, j);
+            let g = take_one(
+                cert,
+                starts,
+                variables,
+                members,
+                state,
+                m as usize,
+                &v,
+                &l,
+                t,
+            );
+            let Going::On(u) = g else {
+                return g;
+            };
+            t = u;
+        }
     }
     Going::On(t)
-}
-
-// Covers of the predecessors of choice k of a, if it is wanted.
-pub(crate) fn take_first(
-    cert: &[u8],
-    starts: &[u16; 512],
-    variables: usize,
-    members: usize,
-    state: u8,
-    op: Op,
-    wanted: Wanted,
-    n: u8,
-    vars: &[u8; 10],
-    links: &[u8; 14],
-    k: u8,
-    t: Taken,
-) -> Going
-    requires { ⌜ (Table (now cert) variables (now starts) members) × (Working 12 variables (op .kind) (op .a) (op .b) n (now vars) (now links)) × (k < n + (2 + n)) × (wanted ≡ wantedA (op .kind) (op .a) (op .b) n (now vars) (now links)) × (Within (now cert) t) ⌝ }
-    ensures { λ r. ⌜ goingOf r ≡ takeShapes (now (cert .entry)) variables (now (starts .entry)) members state (firstOf variables (op .kind) (op .a) (op .b) (shapeIn (working variables (op .b)) n (now (vars .entry)) (now (links .entry))) k) t ⌝ }
-{
-    if !is_wanted_here(n, links, wanted, k) {
-        return Going::On(t);
-    }
-    let mut v = *vars;
-    let mut l = *links;
-    let m = put(n, &mut v, &mut l, op.a, k);
-    take_seconds(cert, starts, variables, members, state, op, m, &v, &l, t)
 }
 
 // Covers of all choices of a and b.
@@ -207,25 +140,18 @@ pub(crate) fn take_firsts(
     let mut t = from;
     let mut k = c.from;
     while k < c.to {
-        let g = take_first(
-            cert,
-            starts,
-            variables,
-            members,
-            state,
-            op,
-            wanted,
-            n,
-            vars,
-            links,
-            k as u8,
-            t,
-        );
-        let Going::On(u) = g else {
-            return g;
-        };
-        t = u;
+        let j = k as u8;
         k += c.step;
+        if is_wanted_here(n, links, wanted, j) {
+            let mut v = *vars;
+            let mut l = *links;
+            let m = put(n, &mut v, &mut l, op.a, j);
+            let g = take_seconds(cert, starts, variables, members, state, op, m, &v, &l, t);
+            let Going::On(u) = g else {
+                return g;
+            };
+            t = u;
+        }
     }
     Going::On(t)
 }
@@ -245,37 +171,4 @@ pub(crate) fn placed_op(variables: usize, kind: u8, a: u8, b: u8) -> Op
         }
     }
     Op { kind, a, b }
-}
-
-// Covers of the predecessors of a shape under an operation of kinds 1 to 5.
-pub(crate) fn take_placed(
-    cert: &[u8],
-    starts: &[u16; 512],
-    variables: usize,
-    members: usize,
-    state: u8,
-    kind: u8,
-    a: u8,
-    b: u8,
-    n: u8,
-    vars: &[u8; 10],
-    links: &[u8; 14],
-    t: Taken,
-) -> Going
-    requires { ⌜ (Table (now cert) variables (now starts) members) × (Hold variables n (now vars) (now links)) × (n ≤ 12) × (kind ≤ 5) × (allowed variables kind a b ≡ true) × (Within (now cert) t) ⌝ }
-    ensures { λ r. ⌜ (goingOf r ≡ takeAll (now (cert .entry)) (membersAt (now (cert .entry)) variables (now (starts .entry)) members) (map (located state) (predecessors (opOf (kindOf kind) a b) (shapeIn variables n (now (vars .entry)) (now (links .entry))))) (t .covers) (t .at)) × (StaysWithin (now (cert .entry)) r) ⌝ }
-{
-    let op = placed_op(variables, kind, a, b);
-    take_firsts(
-        cert,
-        starts,
-        variables,
-        members,
-        state,
-        op,
-        n,
-        vars,
-        links,
-        t,
-    )
 }

@@ -2,7 +2,8 @@
 use crate::going::Going;
 use crate::going::Taken;
 use crate::one::take_one;
-use crate::placing::take_placed;
+use crate::placing::placed_op;
+use crate::placing::take_firsts;
 use crate::removal::take_delete;
 use crate::removal::take_new;
 use reader::Header;
@@ -13,7 +14,6 @@ ghost use mathlib.Core.Path.{_≡_};
 ghost use Prim.Native.Nat.{_+_, _≤_, _<_};
 ghost use lib.ListN.{length, getD, replicate};
 ghost use Rattle.lists.specs.List.{concatMap};
-ghost use Rattle.heap.specs.Operation.{kindOf};
 ghost use Rattle.backward.specs.Predecessors.{predecessors};
 ghost use Rattle.cover.specs.Cover.{owed};
 ghost use Rattle.checker.specs.Jobs.{toState, fileIn, owedBy};
@@ -21,7 +21,7 @@ ghost use Rattle.checker.specs.Taking.{takeAll, goingOf, Within, located
 ghost use Rattle.kinds.specs.Kinds.{allowed};
 ghost use Rattle.layout.specs.Arrays.{shapeIn, Hold};
 ghost use Rattle.layout.specs.Entries.{Entry, entryEnd, locatedAt, entriesAt, EntriesIn, membersAt, Table};
-ghost use Rattle.layout.specs.Transitions.{opOf, transitionAt};
+ghost use Rattle.layout.specs.Transitions.{transitionAt};
 ghost use Rattle.order.specs.Index.{nextInto, Follows, Linked};
 ghost use Rattle.reader.specs.Job.{JobRead};
 
@@ -91,24 +91,25 @@ pub(crate) fn take_bads(
     Going::On(t)
 }
 
-// Covers of the predecessors of a shape by one operation.
-fn take_op(
+// Covers of the predecessors of a shape by the transition at a place of the job.
+fn take_transition(
+    job: &[u8],
+    at: usize,
     cert: &[u8],
     starts: &[u16; 512],
     variables: usize,
     members: usize,
-    state: u8,
-    kind: u8,
-    a: u8,
-    b: u8,
     n: u8,
     vars: &[u8; 10],
     links: &[u8; 14],
     t: Taken,
 ) -> Going
-    requires { ⌜ (Table (now cert) variables (now starts) members) × (Hold variables n (now vars) (now links)) × (n ≤ 12) × (allowed variables kind a b ≡ true) × (Within (now cert) t) ⌝ }
-    ensures { λ r. ⌜ Takes (now (cert .entry)) (membersAt (now (cert .entry)) variables (now (starts .entry)) members) state (predecessors (opOf (kindOf kind) a b) (shapeIn variables n (now (vars .entry)) (now (links .entry)))) t r ⌝ }
+    requires { ⌜ (at + 5 ≤ length (now job)) × (allowed variables (getD (now job) (at + 1) 0) (getD (now job) (at + 2) 0) (getD (now job) (at + 3) 0) ≡ true) × (Table (now cert) variables (now starts) members) × (Hold variables n (now vars) (now links)) × (n ≤ 12) × (Within (now cert) t) ⌝ }
+    ensures { λ r. ⌜ Takes (now (cert .entry)) (membersAt (now (cert .entry)) variables (now (starts .entry)) members) (transitionAt (now (job .entry)) at .from) (predecessors (transitionAt (now (job .entry)) at .op) (shapeIn variables n (now (vars .entry)) (now (links .entry)))) t r ⌝ }
 {
+    let state = job[at];
+    let kind = job[at + 1];
+    let a = job[at + 2];
     if kind == 7 {
         return take_delete(
             cert,
@@ -137,51 +138,14 @@ fn take_op(
             t,
         );
     }
-    take_placed(
+    let op = placed_op(variables, kind, a, job[at + 3]);
+    take_firsts(
         cert,
         starts,
         variables,
         members,
         state,
-        kind,
-        a,
-        b,
-        n,
-        vars,
-        links,
-        t,
-    )
-}
-
-// Covers of the predecessors of a shape by the transition at a place of the job.
-fn take_transition(
-    job: &[u8],
-    at: usize,
-    cert: &[u8],
-    starts: &[u16; 512],
-    variables: usize,
-    members: usize,
-    n: u8,
-    vars: &[u8; 10],
-    links: &[u8; 14],
-    t: Taken,
-) -> Going
-    requires { ⌜ (at + 5 ≤ length (now job)) × (allowed variables (getD (now job) (at + 1) 0) (getD (now job) (at + 2) 0) (getD (now job) (at + 3) 0) ≡ true) × (Table (now cert) variables (now starts) members) × (Hold variables n (now vars) (now links)) × (n ≤ 12) × (Within (now cert) t) ⌝ }
-    ensures { λ r. ⌜ Takes (now (cert .entry)) (membersAt (now (cert .entry)) variables (now (starts .entry)) members) (transitionAt (now (job .entry)) at .from) (predecessors (transitionAt (now (job .entry)) at .op) (shapeIn variables n (now (vars .entry)) (now (links .entry)))) t r ⌝ }
-{
-    let state = job[at];
-    let kind = job[at + 1];
-    let a = job[at + 2];
-    let b = job[at + 3];
-    take_op(
-        cert,
-        starts,
-        variables,
-        members,
-        state,
-        kind,
-        a,
-        b,
+        op,
         n,
         vars,
         links,
