@@ -101,10 +101,6 @@ unfolding entriesAt
 entries-number bytes variables at zero = refl
 entries-number bytes variables at (suc n) = ap suc (entries-number bytes variables (entryEnd bytes variables at) n)
 
-pub range-number : {A : Type 0} (f : ℕ → A) (k n : ℕ) → n ≡ length (map f (range k n))
-range-number f k zero = refl
-range-number f k (suc n) = ap suc (range-number f (suc k) n)
-
 -- ---- the certificate
 
 pub bounds : (job cert : List ℕ) (h : Header) → JobRead job h → length cert ≤ 65536 → Bounds cert (h .variables) (h .states)

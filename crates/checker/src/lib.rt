@@ -41,18 +41,11 @@ fn fits(len: usize) -> bool
 }
 
 // Takes the covers and sees that nothing is left after them.
-fn check_covers(
-    job: &[u8],
-    h: Header,
-    cert: &[u8],
-    starts: &[u16; 512],
-    members: usize,
-    at: usize,
-) -> Verdict
-    requires { ⌜ (JobRead (now job) h) × (Table (now cert) (h .variables) (now starts) members) × (at ≤ length (now cert)) × (length (now cert) ≤ 65536) ⌝ }
-    ensures { λ r. ⌜ verdictOf r ≡ answer (readCovers (now (cert .entry)) (fileIn (now (job .entry)) h .job) (membersAt (now (cert .entry)) (h .variables) (now (starts .entry)) members) at) ⌝ }
+fn check_covers(job: &[u8], h: Header, cert: &[u8], starts: &[u16], at: usize) -> Verdict
+    requires { ⌜ (JobRead (now job) h) × (Table (now cert) (h .variables) (now starts)) × (at ≤ length (now cert)) × (length (now cert) ≤ 65536) ⌝ }
+    ensures { λ r. ⌜ verdictOf r ≡ answer (readCovers (now (cert .entry)) (fileIn (now (job .entry)) h .job) (membersAt (now (cert .entry)) (h .variables) (now (starts .entry))) at) ⌝ }
 {
-    let g = take_covers(job, h, cert, starts, members, at);
+    let g = take_covers(job, h, cert, starts, at);
     match g {
         Going::Refused(why, place) => Verdict::Refused(why, place),
         Going::On(t) => {
@@ -61,7 +54,7 @@ fn check_covers(
             }
             Verdict::Accepted(Counts {
                 bads: h.bads as u32,
-                members: members as u32,
+                members: starts.len() as u32,
                 covers: t.covers,
             })
         }
@@ -77,7 +70,10 @@ fn check_certificate(job: &[u8], h: Header, cert: &[u8]) -> Verdict
     let r = read_members(cert, h.variables, h.states, h.start, &mut starts);
     match r {
         MembersAnswer::Refused(why, place) => Verdict::Refused(why, place),
-        MembersAnswer::Members(members, at) => check_covers(job, h, cert, &starts, members, at),
+        MembersAnswer::Members(members, at) => {
+            let all = &starts[..];
+            check_covers(job, h, cert, &all[..members], at)
+        }
     }
 }
 

@@ -75,9 +75,8 @@ pub(crate) fn make_second(
 // Covers of the predecessors that share a first choice: a is placed.
 pub(crate) fn take_seconds(
     cert: &[u8],
-    starts: &[u16; 512],
+    starts: &[u16],
     variables: usize,
-    members: usize,
     state: u8,
     op: Op,
     n: u8,
@@ -85,8 +84,8 @@ pub(crate) fn take_seconds(
     links: &[u8; 14],
     from: Taken,
 ) -> Going
-    requires { ⌜ (Table (now cert) variables (now starts) members) × (Placed variables (op .kind) (op .a) (op .b) n (now vars) (now links)) × (Within (now cert) from) ⌝ }
-    ensures { λ r. ⌜ goingOf r ≡ takeShapes (now (cert .entry)) variables (now (starts .entry)) members state (seconds variables (op .kind) (op .a) (op .b) (shapeIn (working variables (op .b)) n (now (vars .entry)) (now (links .entry)))) from ⌝ }
+    requires { ⌜ (Placed variables (op .kind) (op .a) (op .b) n (now vars) (now links)) × (Within (now cert) from) ⌝ }
+    ensures { λ r. ⌜ goingOf r ≡ takeShapes (now (cert .entry)) variables (now (starts .entry)) state (seconds variables (op .kind) (op .a) (op .b) (shapeIn (working variables (op .b)) n (now (vars .entry)) (now (links .entry)))) from ⌝ }
 {
     let wanted = wanted_of_b(op, n, vars, links);
     let c = choices_of(n, wanted);
@@ -99,17 +98,7 @@ pub(crate) fn take_seconds(
             let mut v = *vars;
             let mut l = *links;
             let m = make_second(variables, op, n, &mut v, &mut l, j);
-            let g = take_one(
-                cert,
-                starts,
-                variables,
-                members,
-                state,
-                m as usize,
-                &v,
-                &l,
-                t,
-            );
+            let g = take_one(cert, starts, variables, state, m as usize, &v, &l, t);
             let Going::On(u) = g else {
                 return g;
             };
@@ -122,9 +111,8 @@ pub(crate) fn take_seconds(
 // Covers of all choices of a and b.
 pub(crate) fn take_firsts(
     cert: &[u8],
-    starts: &[u16; 512],
+    starts: &[u16],
     variables: usize,
-    members: usize,
     state: u8,
     op: Op,
     n: u8,
@@ -132,8 +120,8 @@ pub(crate) fn take_firsts(
     links: &[u8; 14],
     from: Taken,
 ) -> Going
-    requires { ⌜ (Table (now cert) variables (now starts) members) × (Working 12 variables (op .kind) (op .a) (op .b) n (now vars) (now links)) × (Within (now cert) from) ⌝ }
-    ensures { λ r. ⌜ goingOf r ≡ takeShapes (now (cert .entry)) variables (now (starts .entry)) members state (firsts variables (op .kind) (op .a) (op .b) (shapeIn (working variables (op .b)) n (now (vars .entry)) (now (links .entry)))) from ⌝ }
+    requires { ⌜ (Working 12 variables (op .kind) (op .a) (op .b) n (now vars) (now links)) × (Within (now cert) from) ⌝ }
+    ensures { λ r. ⌜ goingOf r ≡ takeShapes (now (cert .entry)) variables (now (starts .entry)) state (firsts variables (op .kind) (op .a) (op .b) (shapeIn (working variables (op .b)) n (now (vars .entry)) (now (links .entry)))) from ⌝ }
 {
     let wanted = wanted_of_a(op, n, vars, links);
     let c = choices_of(n, wanted);
@@ -146,7 +134,7 @@ pub(crate) fn take_firsts(
             let mut v = *vars;
             let mut l = *links;
             let m = put(n, &mut v, &mut l, op.a, j);
-            let g = take_seconds(cert, starts, variables, members, state, op, m, &v, &l, t);
+            let g = take_seconds(cert, starts, variables, state, op, m, &v, &l, t);
             let Going::On(u) = g else {
                 return g;
             };

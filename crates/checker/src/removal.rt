@@ -12,15 +12,14 @@ ghost use Rattle.heap.specs.Operation.{new, delete};
 ghost use Rattle.backward.specs.Predecessors.{predecessors};
 ghost use Rattle.checker.specs.Taking.{Within, Takes};
 ghost use Rattle.layout.specs.Arrays.{shapeIn, Hold};
-ghost use Rattle.layout.specs.Entries.{membersAt, Table};
+ghost use Rattle.covering.specs.Members.{membersFrom};
 ghost use Rattle.removing.specs.Without.{without};
 
 // Cell k taken out, if it is free.
 fn take_cell(
     cert: &[u8],
-    starts: &[u16; 512],
+    starts: &[u16],
     variables: usize,
-    members: usize,
     state: u8,
     n: u8,
     vars: &[u8; 10],
@@ -28,33 +27,22 @@ fn take_cell(
     k: u8,
     t: Taken,
 ) -> Going
-    requires { ⌜ (Table (now cert) variables (now starts) members) × (Hold variables n (now vars) (now links)) × (k < n) × (Within (now cert) t) ⌝ }
-    ensures { λ r. ⌜ Takes (now (cert .entry)) (membersAt (now (cert .entry)) variables (now (starts .entry)) members) state (without (shapeIn variables n (now (vars .entry)) (now (links .entry))) k) t r ⌝ }
+    requires { ⌜ (Hold variables n (now vars) (now links)) × (k < n) × (Within (now cert) t) ⌝ }
+    ensures { λ r. ⌜ Takes (now (cert .entry)) (membersFrom (now (cert .entry)) variables (now (starts .entry))) state (without (shapeIn variables n (now (vars .entry)) (now (links .entry))) k) t r ⌝ }
 {
     let mut v = *vars;
     let mut l = *links;
     if !take_out(variables, n, &mut v, &mut l, k) {
         return Going::On(t);
     }
-    take_one(
-        cert,
-        starts,
-        variables,
-        members,
-        state,
-        (n - 1) as usize,
-        &v,
-        &l,
-        t,
-    )
+    take_one(cert, starts, variables, state, (n - 1) as usize, &v, &l, t)
 }
 
 // Each of the cells from `first` on, below `end`, taken out in turn.
 fn take_cells(
     cert: &[u8],
-    starts: &[u16; 512],
+    starts: &[u16],
     variables: usize,
-    members: usize,
     state: u8,
     n: u8,
     vars: &[u8; 10],
@@ -63,24 +51,13 @@ fn take_cells(
     end: u8,
     from: Taken,
 ) -> Going
-    requires { ⌜ (Table (now cert) variables (now starts) members) × (Hold variables n (now vars) (now links)) × (first ≤ end) × (end ≤ n) × (Within (now cert) from) ⌝ }
-    ensures { λ r. ⌜ Takes (now (cert .entry)) (membersAt (now (cert .entry)) variables (now (starts .entry)) members) state (concatMap (without (shapeIn variables n (now (vars .entry)) (now (links .entry)))) (range first (end - first))) from r ⌝ }
+    requires { ⌜ (Hold variables n (now vars) (now links)) × (first ≤ end) × (end ≤ n) × (Within (now cert) from) ⌝ }
+    ensures { λ r. ⌜ Takes (now (cert .entry)) (membersFrom (now (cert .entry)) variables (now (starts .entry))) state (concatMap (without (shapeIn variables n (now (vars .entry)) (now (links .entry)))) (range first (end - first))) from r ⌝ }
 {
     let mut t = from;
     let mut k = first;
     while k < end {
-        let g = take_cell(
-            cert,
-            starts,
-            variables,
-            members,
-            state,
-            n,
-            vars,
-            links,
-            k,
-            t,
-        );
+        let g = take_cell(cert, starts, variables, state, n, vars, links, k, t);
         let Going::On(u) = g else {
             return g;
         };
@@ -93,53 +70,29 @@ fn take_cells(
 // Kind 6 where a is nowhere: each cell taken out in turn, and then a fresh one, which leaves the shape.
 fn take_unplaced(
     cert: &[u8],
-    starts: &[u16; 512],
+    starts: &[u16],
     variables: usize,
-    members: usize,
     state: u8,
     n: u8,
     vars: &[u8; 10],
     links: &[u8; 14],
     t: Taken,
 ) -> Going
-    requires { ⌜ (Table (now cert) variables (now starts) members) × (Hold variables n (now vars) (now links)) × (Within (now cert) t) ⌝ }
-    ensures { λ r. ⌜ Takes (now (cert .entry)) (membersAt (now (cert .entry)) variables (now (starts .entry)) members) state (concatMap (without (shapeIn variables n (now (vars .entry)) (now (links .entry)))) (range 0 n) ++ (shapeIn variables n (now (vars .entry)) (now (links .entry)) ∷ [])) t r ⌝ }
+    requires { ⌜ (Hold variables n (now vars) (now links)) × (Within (now cert) t) ⌝ }
+    ensures { λ r. ⌜ Takes (now (cert .entry)) (membersFrom (now (cert .entry)) variables (now (starts .entry))) state (concatMap (without (shapeIn variables n (now (vars .entry)) (now (links .entry)))) (range 0 n) ++ (shapeIn variables n (now (vars .entry)) (now (links .entry)) ∷ [])) t r ⌝ }
 {
-    let g = take_cells(
-        cert,
-        starts,
-        variables,
-        members,
-        state,
-        n,
-        vars,
-        links,
-        0,
-        n,
-        t,
-    );
+    let g = take_cells(cert, starts, variables, state, n, vars, links, 0, n, t);
     let Going::On(u) = g else {
         return g;
     };
-    take_one(
-        cert,
-        starts,
-        variables,
-        members,
-        state,
-        n as usize,
-        vars,
-        links,
-        u,
-    )
+    take_one(cert, starts, variables, state, n as usize, vars, links, u)
 }
 
 // Kind 6: a's cell taken out, or each cell in turn.
 pub(crate) fn take_new(
     cert: &[u8],
-    starts: &[u16; 512],
+    starts: &[u16],
     variables: usize,
-    members: usize,
     state: u8,
     a: u8,
     n: u8,
@@ -147,12 +100,12 @@ pub(crate) fn take_new(
     links: &[u8; 14],
     t: Taken,
 ) -> Going
-    requires { ⌜ (Table (now cert) variables (now starts) members) × (Hold variables n (now vars) (now links)) × (n ≤ 12) × (1 ≤ a) × (a ≤ variables) × (Within (now cert) t) ⌝ }
-    ensures { λ r. ⌜ Takes (now (cert .entry)) (membersAt (now (cert .entry)) variables (now (starts .entry)) members) state (predecessors (new a) (shapeIn variables n (now (vars .entry)) (now (links .entry)))) t r ⌝ }
+    requires { ⌜ (Hold variables n (now vars) (now links)) × (n ≤ 12) × (1 ≤ a) × (a ≤ variables) × (Within (now cert) t) ⌝ }
+    ensures { λ r. ⌜ Takes (now (cert .entry)) (membersFrom (now (cert .entry)) variables (now (starts .entry))) state (predecessors (new a) (shapeIn variables n (now (vars .entry)) (now (links .entry)))) t r ⌝ }
 {
     let x = vars[a as usize];
     if x == 0 {
-        return take_unplaced(cert, starts, variables, members, state, n, vars, links, t);
+        return take_unplaced(cert, starts, variables, state, n, vars, links, t);
     }
     if x < 3 {
         return Going::On(t);
@@ -163,7 +116,6 @@ pub(crate) fn take_new(
         cert,
         starts,
         variables,
-        members,
         state,
         n,
         &v,
@@ -177,9 +129,8 @@ pub(crate) fn take_new(
 // Kind 7: a, being nowhere or at *, at a fresh cell, and nothing at *.
 pub(crate) fn take_delete(
     cert: &[u8],
-    starts: &[u16; 512],
+    starts: &[u16],
     variables: usize,
-    members: usize,
     state: u8,
     a: u8,
     n: u8,
@@ -187,8 +138,8 @@ pub(crate) fn take_delete(
     links: &[u8; 14],
     t: Taken,
 ) -> Going
-    requires { ⌜ (Table (now cert) variables (now starts) members) × (Hold variables n (now vars) (now links)) × (n ≤ 12) × (1 ≤ a) × (a ≤ variables) × (Within (now cert) t) ⌝ }
-    ensures { λ r. ⌜ Takes (now (cert .entry)) (membersAt (now (cert .entry)) variables (now (starts .entry)) members) state (predecessors (delete a) (shapeIn variables n (now (vars .entry)) (now (links .entry)))) t r ⌝ }
+    requires { ⌜ (Hold variables n (now vars) (now links)) × (n ≤ 12) × (1 ≤ a) × (a ≤ variables) × (Within (now cert) t) ⌝ }
+    ensures { λ r. ⌜ Takes (now (cert .entry)) (membersFrom (now (cert .entry)) variables (now (starts .entry))) state (predecessors (delete a) (shapeIn variables n (now (vars .entry)) (now (links .entry)))) t r ⌝ }
 {
     let x = vars[a as usize];
     if x == 1 {
@@ -200,15 +151,5 @@ pub(crate) fn take_delete(
     let mut v = *vars;
     let mut l = *links;
     let cells = revive(n, &mut v, &mut l, a);
-    take_one(
-        cert,
-        starts,
-        variables,
-        members,
-        state,
-        cells as usize,
-        &v,
-        &l,
-        t,
-    )
+    take_one(cert, starts, variables, state, cells as usize, &v, &l, t)
 }

@@ -18,6 +18,7 @@ ghost use Rattle.backward.specs.Predecessors.{predecessors};
 ghost use Rattle.cover.specs.Cover.{owed};
 ghost use Rattle.checker.specs.Jobs.{toState, fileIn, owedBy};
 ghost use Rattle.checker.specs.Taking.{takeAll, goingOf, Within, located, TakesAll, Takes};
+ghost use Rattle.covering.specs.Members.{membersFrom};
 ghost use Rattle.kinds.specs.Kinds.{allowed};
 ghost use Rattle.layout.specs.Arrays.{shapeIn, Hold};
 ghost use Rattle.layout.specs.Entries.{Entry, entryEnd, locatedAt, entriesAt, EntriesIn, membersAt, Table};
@@ -26,17 +27,9 @@ ghost use Rattle.order.specs.Index.{nextInto, Follows, Linked};
 ghost use Rattle.reader.specs.Job.{JobRead};
 
 // The cover of the forbidden shape at a place of the job.
-fn take_bad(
-    job: &[u8],
-    at: usize,
-    cert: &[u8],
-    starts: &[u16; 512],
-    variables: usize,
-    members: usize,
-    t: Taken,
-) -> Going
-    requires { ⌜ (Entry (now job) variables at) × (Table (now cert) variables (now starts) members) × (Within (now cert) t) ⌝ }
-    ensures { λ r. ⌜ TakesAll (now (cert .entry)) (membersAt (now (cert .entry)) variables (now (starts .entry)) members) (locatedAt (now (job .entry)) variables at ∷ []) t r ⌝ }
+fn take_bad(job: &[u8], at: usize, cert: &[u8], starts: &[u16], variables: usize, t: Taken) -> Going
+    requires { ⌜ (Entry (now job) variables at) × (variables ≤ 8) × (Within (now cert) t) ⌝ }
+    ensures { λ r. ⌜ TakesAll (now (cert .entry)) (membersFrom (now (cert .entry)) variables (now (starts .entry))) (locatedAt (now (job .entry)) variables at ∷ []) t r ⌝ }
 {
     let mut vars = [0u8; 10];
     let mut links = [0u8; 14];
@@ -45,7 +38,6 @@ fn take_bad(
         cert,
         starts,
         variables,
-        members,
         job[at],
         n as usize,
         &vars,
@@ -68,19 +60,18 @@ pub(crate) fn take_bads(
     first: usize,
     bads: usize,
     cert: &[u8],
-    starts: &[u16; 512],
+    starts: &[u16],
     variables: usize,
-    members: usize,
     from: Taken,
 ) -> Going
-    requires { ⌜ (EntriesIn (now job) variables first bads) × (Table (now cert) variables (now starts) members) × (Within (now cert) from) ⌝ }
-    ensures { λ r. ⌜ TakesAll (now (cert .entry)) (membersAt (now (cert .entry)) variables (now (starts .entry)) members) (entriesAt (now (job .entry)) variables first bads) from r ⌝ }
+    requires { ⌜ (EntriesIn (now job) variables first bads) × (variables ≤ 8) × (Within (now cert) from) ⌝ }
+    ensures { λ r. ⌜ TakesAll (now (cert .entry)) (membersFrom (now (cert .entry)) variables (now (starts .entry))) (entriesAt (now (job .entry)) variables first bads) from r ⌝ }
 {
     let mut at = first;
     let mut t = from;
     let mut i = 0;
     while i < bads {
-        let g = take_bad(job, at, cert, starts, variables, members, t);
+        let g = take_bad(job, at, cert, starts, variables, t);
         let Going::On(u) = g else {
             return g;
         };
@@ -96,61 +87,27 @@ fn take_transition(
     job: &[u8],
     at: usize,
     cert: &[u8],
-    starts: &[u16; 512],
+    starts: &[u16],
     variables: usize,
-    members: usize,
     n: u8,
     vars: &[u8; 10],
     links: &[u8; 14],
     t: Taken,
 ) -> Going
-    requires { ⌜ (at + 5 ≤ length (now job)) × (allowed variables (getD (now job) (at + 1) 0) (getD (now job) (at + 2) 0) (getD (now job) (at + 3) 0) ≡ true) × (Table (now cert) variables (now starts) members) × (Hold variables n (now vars) (now links)) × (n ≤ 12) × (Within (now cert) t) ⌝ }
-    ensures { λ r. ⌜ Takes (now (cert .entry)) (membersAt (now (cert .entry)) variables (now (starts .entry)) members) (transitionAt (now (job .entry)) at .from) (predecessors (transitionAt (now (job .entry)) at .op) (shapeIn variables n (now (vars .entry)) (now (links .entry)))) t r ⌝ }
+    requires { ⌜ (at + 5 ≤ length (now job)) × (allowed variables (getD (now job) (at + 1) 0) (getD (now job) (at + 2) 0) (getD (now job) (at + 3) 0) ≡ true) × (variables ≤ 8) × (Hold variables n (now vars) (now links)) × (n ≤ 12) × (Within (now cert) t) ⌝ }
+    ensures { λ r. ⌜ Takes (now (cert .entry)) (membersFrom (now (cert .entry)) variables (now (starts .entry))) (transitionAt (now (job .entry)) at .from) (predecessors (transitionAt (now (job .entry)) at .op) (shapeIn variables n (now (vars .entry)) (now (links .entry)))) t r ⌝ }
 {
     let state = job[at];
     let kind = job[at + 1];
     let a = job[at + 2];
     if kind == 7 {
-        return take_delete(
-            cert,
-            starts,
-            variables,
-            members,
-            state,
-            a,
-            n,
-            vars,
-            links,
-            t,
-        );
+        return take_delete(cert, starts, variables, state, a, n, vars, links, t);
     }
     if kind == 6 {
-        return take_new(
-            cert,
-            starts,
-            variables,
-            members,
-            state,
-            a,
-            n,
-            vars,
-            links,
-            t,
-        );
+        return take_new(cert, starts, variables, state, a, n, vars, links, t);
     }
     let op = placed_op(variables, kind, a, job[at + 3]);
-    take_firsts(
-        cert,
-        starts,
-        variables,
-        members,
-        state,
-        op,
-        n,
-        vars,
-        links,
-        t,
-    )
+    take_firsts(cert, starts, variables, state, op, n, vars, links, t)
 }
 
 // Links the transitions into each state, first to last: `heads[state]` and `nexts[transition]` are one more than a transition's number, 0 for
@@ -180,34 +137,22 @@ fn take_transitions(
     head: u16,
     nexts: &[u16; 256],
     cert: &[u8],
-    starts: &[u16; 512],
-    members: usize,
+    starts: &[u16],
     state: u8,
     n: u8,
     vars: &[u8; 10],
     links: &[u8; 14],
     from: Taken,
 ) -> Going
-    requires { ⌜ (JobRead (now job) h) × (Follows (toState (now job) h) (h .transitions) 0 (now nexts)) × (head ≡ nextInto (toState (now job) h) state (h .transitions) 0) × (Table (now cert) (h .variables) (now starts) members) × (Hold (h .variables) n (now vars) (now links)) × (n ≤ 12) × (Within (now cert) from) ⌝ }
-    ensures { λ r. ⌜ TakesAll (now (cert .entry)) (membersAt (now (cert .entry)) (h .variables) (now (starts .entry)) members) (owedBy (now (job .entry)) h (located state (shapeIn (h .variables) n (now (vars .entry)) (now (links .entry))))) from r ⌝ }
+    requires { ⌜ (JobRead (now job) h) × (Follows (toState (now job) h) (h .transitions) 0 (now nexts)) × (head ≡ nextInto (toState (now job) h) state (h .transitions) 0) × (Hold (h .variables) n (now vars) (now links)) × (n ≤ 12) × (Within (now cert) from) ⌝ }
+    ensures { λ r. ⌜ TakesAll (now (cert .entry)) (membersFrom (now (cert .entry)) (h .variables) (now (starts .entry))) (owedBy (now (job .entry)) h (located state (shapeIn (h .variables) n (now (vars .entry)) (now (links .entry))))) from r ⌝ }
 {
     let mut t = from;
     let mut k = head;
     while 0 < k {
         let i = (k - 1) as usize;
         let at = h.transitions_at + 5 * i;
-        let g = take_transition(
-            job,
-            at,
-            cert,
-            starts,
-            h.variables,
-            members,
-            n,
-            vars,
-            links,
-            t,
-        );
+        let g = take_transition(job, at, cert, starts, h.variables, n, vars, links, t);
         let Going::On(u) = g else {
             return g;
         };
@@ -224,13 +169,12 @@ fn take_member(
     heads: &[u16; 64],
     nexts: &[u16; 256],
     cert: &[u8],
-    starts: &[u16; 512],
-    members: usize,
+    starts: &[u16],
     m: usize,
     t: Taken,
 ) -> Going
-    requires { ⌜ (JobRead (now job) h) × (Linked (toState (now job) h) (h .transitions) 0 (now heads) (now nexts)) × (Table (now cert) (h .variables) (now starts) members) × (m < members) × (Within (now cert) t) ⌝ }
-    ensures { λ r. ⌜ TakesAll (now (cert .entry)) (membersAt (now (cert .entry)) (h .variables) (now (starts .entry)) members) (owedBy (now (job .entry)) h (locatedAt (now (cert .entry)) (h .variables) (getD (now (starts .entry)) m 0))) t r ⌝ }
+    requires { ⌜ (JobRead (now job) h) × (Linked (toState (now job) h) (h .transitions) 0 (now heads) (now nexts)) × (Table (now cert) (h .variables) (now starts)) × (m < length (now starts)) × (Within (now cert) t) ⌝ }
+    ensures { λ r. ⌜ TakesAll (now (cert .entry)) (membersFrom (now (cert .entry)) (h .variables) (now (starts .entry))) (owedBy (now (job .entry)) h (locatedAt (now (cert .entry)) (h .variables) (getD (now (starts .entry)) m 0))) t r ⌝ }
 {
     let at = starts[m] as usize;
     let state = cert[at];
@@ -248,7 +192,6 @@ fn take_member(
         nexts,
         cert,
         starts,
-        members,
         state,
         n,
         &vars,
@@ -264,17 +207,16 @@ pub(crate) fn take_members(
     heads: &[u16; 64],
     nexts: &[u16; 256],
     cert: &[u8],
-    starts: &[u16; 512],
-    members: usize,
+    starts: &[u16],
     from: Taken,
 ) -> Going
-    requires { ⌜ (JobRead (now job) h) × (Linked (toState (now job) h) (h .transitions) 0 (now heads) (now nexts)) × (Table (now cert) (h .variables) (now starts) members) × (Within (now cert) from) ⌝ }
-    ensures { λ r. ⌜ TakesAll (now (cert .entry)) (membersAt (now (cert .entry)) (h .variables) (now (starts .entry)) members) (concatMap (owedBy (now (job .entry)) h) (membersAt (now (cert .entry)) (h .variables) (now (starts .entry)) members)) from r ⌝ }
+    requires { ⌜ (JobRead (now job) h) × (Linked (toState (now job) h) (h .transitions) 0 (now heads) (now nexts)) × (Table (now cert) (h .variables) (now starts)) × (Within (now cert) from) ⌝ }
+    ensures { λ r. ⌜ TakesAll (now (cert .entry)) (membersFrom (now (cert .entry)) (h .variables) (now (starts .entry))) (concatMap (owedBy (now (job .entry)) h) (membersAt (now (cert .entry)) (h .variables) (now (starts .entry)))) from r ⌝ }
 {
     let mut t = from;
     let mut m = 0;
-    while m < members {
-        let g = take_member(job, h, heads, nexts, cert, starts, members, m, t);
+    while m < starts.len() {
+        let g = take_member(job, h, heads, nexts, cert, starts, m, t);
         let Going::On(u) = g else {
             return g;
         };
@@ -285,33 +227,17 @@ pub(crate) fn take_members(
 }
 
 // Covers of all that is owed, from a place of the certificate on.
-pub(crate) fn take_covers(
-    job: &[u8],
-    h: Header,
-    cert: &[u8],
-    starts: &[u16; 512],
-    members: usize,
-    at: usize,
-) -> Going
-    requires { ⌜ (JobRead (now job) h) × (Table (now cert) (h .variables) (now starts) members) × (at ≤ length (now cert)) × (length (now cert) ≤ 65536) ⌝ }
-    ensures { λ r. ⌜ goingOf r ≡ takeAll (now (cert .entry)) (membersAt (now (cert .entry)) (h .variables) (now (starts .entry)) members) (owed (fileIn (now (job .entry)) h .job) (membersAt (now (cert .entry)) (h .variables) (now (starts .entry)) members)) 0 at ⌝ }
+pub(crate) fn take_covers(job: &[u8], h: Header, cert: &[u8], starts: &[u16], at: usize) -> Going
+    requires { ⌜ (JobRead (now job) h) × (Table (now cert) (h .variables) (now starts)) × (at ≤ length (now cert)) × (length (now cert) ≤ 65536) ⌝ }
+    ensures { λ r. ⌜ goingOf r ≡ takeAll (now (cert .entry)) (membersAt (now (cert .entry)) (h .variables) (now (starts .entry))) (owed (fileIn (now (job .entry)) h .job) (membersAt (now (cert .entry)) (h .variables) (now (starts .entry)))) 0 at ⌝ }
 {
     let mut heads = [0u16; 64];
     let mut nexts = [0u16; 256];
     index_transitions(job, h, &mut heads, &mut nexts);
     let from = Taken { at, covers: 0 };
-    let g = take_bads(
-        job,
-        h.bads_at,
-        h.bads,
-        cert,
-        starts,
-        h.variables,
-        members,
-        from,
-    );
+    let g = take_bads(job, h.bads_at, h.bads, cert, starts, h.variables, from);
     let Going::On(t) = g else {
         return g;
     };
-    take_members(job, h, &heads, &nexts, cert, starts, members, t)
+    take_members(job, h, &heads, &nexts, cert, starts, t)
 }

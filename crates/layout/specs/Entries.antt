@@ -3,7 +3,6 @@ use mathlib.Core.List.{List, [], _∷_, map}
 use mathlib.Core.Path.{_≡_}
 use Prim.Native.Nat.{ℕ, zero, suc, _+_, _≤_, _<_}
 use lib.ListN.{length, getD, take, drop}
-use Rattle.lists.specs.Range.{range}
 use Rattle.shape.specs.Shape.{InRange}
 use Rattle.run.specs.Run.{Located}
 
@@ -42,13 +41,12 @@ EntriesIn bytes variables at zero = at ≤ length bytes
 EntriesIn bytes variables at (suc left) = Entry bytes variables at × EntriesIn bytes variables (entryEnd bytes variables at) left
 
 -- the members of a certificate, by the table of their first places
-abbrev pub membersAt : List ℕ → ℕ → List ℕ → ℕ → List Located
-membersAt bytes variables starts count = map (λ i. locatedAt bytes variables (getD starts i 0)) (range 0 count)
+abbrev pub membersAt : List ℕ → ℕ → List ℕ → List Located
+membersAt bytes variables starts = map (locatedAt bytes variables) starts
 
--- the table is that of so many members in range
-pub record Table (bytes : List ℕ) (variables : ℕ) (starts : List ℕ) (count : ℕ) : Type 0 where
-  pub size : length starts ≡ 512
+-- the table is that of members in range
+pub record Table (bytes : List ℕ) (variables : ℕ) (starts : List ℕ) : Type 0 where
   pub variables-some : 1 ≤ variables
   pub variables-most : variables ≤ 8
-  pub count-most : count ≤ 512
-  pub entry : (i : ℕ) → i < count → Entry bytes variables (getD starts i 0)
+  pub count-most : length starts ≤ 512
+  pub entry : (i : ℕ) → i < length starts → Entry bytes variables (getD starts i 0)

@@ -5,10 +5,8 @@ use Prim.Native.Nat.{ℕ, zero, suc, _+_, _-_, _%_, _≤_, _<_}
 use native.Mathlib.Nat.{mod-eq-of-lt}
 use native.Mathlib.Numerals.{add-one}
 use native.Mathlib.Omega.{arith}
-use lib.ListN.{length, getD, take, drop, set, length-set, length-map, List·getD-map}
-use lib.Seq.{length-take-le, take-suc-set, drop-set-lt, drop-drop, getD-take}
-use Rattle.lists.specs.Range.{range}
-use Rattle.lists.proofs.Range.{tabled}
+use lib.ListN.{length, getD, take, drop, set, length-set}
+use lib.Seq.{length-take-le, take-suc-set, drop-set-lt, drop-drop}
 use Rattle.run.specs.Run.{Located}
 use Rattle.format.specs.Certificate.{Member, readMember, readMembers}
 use Rattle.format.specs.Job.{readLocated}
@@ -23,12 +21,6 @@ use Rattle.reader.proofs.Bytes.{reads-inside, number-inside}
 use Rattle.reader.proofs.Many.{remembered, forget-fault, forget-made, many-length, Left, left-none, left-more}
 use Rattle.reader.proofs.Standing.{entry-read, members-read}
 use Rattle.reader.proofs.Testing.{tested-place, tested-same}
-
--- the values of f at the first elements, by their index
-map-take : {B : Type 0} (f : ℕ → B) (n : ℕ) (l : List ℕ) → n ≤ length l → map f (take n l) ≡ map (λ i. f (getD l i 0)) (range 0 n)
-map-take f n l h =
-    tabled (λ i. f (getD l i 0)) (f 0) n (map f (take n l)) (length-map (take n l) f ∙ length-take-le n l h)
-    (λ i b. List·getD-map f (take n l) i 0 ∙ ap f (getD-take n l i 0 b))
 
 entry-of : (bytes : List ℕ) (variables k at i : ℕ) → EntriesIn bytes variables at k → i < k → Entry bytes variables (getD (placesAt bytes variables at k) i 0)
 unfolding EntriesIn placesAt
@@ -157,16 +149,16 @@ module _ (cert : List ℕ) (variables states : ℕ) where
               places-are = λ b. members-read s variables states (b .states-most) count first ms end first-inside g .places ∙ sym (n .places b);
               members-are = λ b.
                   members-read s variables states (b .states-most) count first ms end first-inside g .located
-                  ∙ ap (map (locatedAt cert variables)) (sym (n .places b)) ∙ map-take (locatedAt cert variables) count after room;
+                  ∙ ap (map (locatedAt cert variables)) (sym (n .places b));
               table = λ b.
                   record {
-                    size = n .size ∙ full;
                     variables-some = b .variables-range .0;
                     variables-most = b .variables-range .1;
-                    count-most = omega arith;
+                    count-most = omega (arith, length-take-le count after room);
                     entry = λ i h.
-                        subst (Entry cert variables) (ap (λ l. getD l i 0) (sym (n .places b)) ∙ getD-take count after i 0 h)
-                        (entry-of cert variables count first i (members-read s variables states (b .states-most) count first ms end first-inside g .entries) h);
+                        subst (Entry cert variables) (ap (λ l. getD l i 0) (sym (n .places b)))
+                        (entry-of cert variables count first i (members-read s variables states (b .states-most) count first ms end first-inside g .entries)
+                        (omega (arith, length-take-le count after room)));
                   };
               rest = n .rest;
             }

@@ -51,8 +51,8 @@ pub record MembersRead (cert : List ℕ) (variables states start : ℕ) (before 
   pub inside : next ≤ length cert
   pub size : length after ≡ length before
   pub places-are : Bounds cert variables states → map (λ m. m .first) members ≡ take count after
-  pub members-are : Bounds cert variables states → withoutPlaces members ≡ membersAt cert variables after count
-  pub table : Bounds cert variables states → Table cert variables after count
+  pub members-are : Bounds cert variables states → withoutPlaces members ≡ membersAt cert variables (take count after)
+  pub table : Bounds cert variables states → Table cert variables (take count after)
   pub rest : drop count after ≡ drop count before
 
 -- After a refusal what the table holds is the program's choice; its length is the same.

@@ -1,4 +1,6 @@
 use mathlib.Core.Path.{ap, _∙_, sym}
+use native.Mathlib.Omega.{arith}
+use lib.Seq.{length-take-le}
 use Rattle.format.specs.Verdict.{answer}
 use Rattle.checker.specs.Jobs.{fileIn, readCovers}
 use Rattle.checker.proofs.Verdicts.{bounds, certificate-refused, certificate-members}
@@ -15,13 +17,20 @@ enum-known-r c = search needs
 enum-known-r-2 : tie.Need-enum-known-r-2
 enum-known-r-2 c = search needs
 
+slice-aggregate-all : tie.Need-slice-aggregate-all
+slice-aggregate-all c = sym ((rw (c .before .before .r2 .given .1) at (c .before .before .before .before .read-members .ensures)) .size)
+
+slice-aggregate-check-covers : tie.Need-slice-aggregate-check-covers
+slice-aggregate-check-covers c =
+    let m = rw (c .before .before .before .r2 .given .1) at (c .before .before .before .before .before .read-members .ensures) in
+    sym (length-take-le _ _ (omega (arith, m .size, m .number-range .1)))
+
 check-covers-requires : tie.Need-check-covers-requires
 check-covers-requires c κs =
-    let a = c .before .before .before .before .before .before .before .before .args in
-    let p = c .before .before .before .before .before .before .before .before .pre in
-    let m = rw (c .before .before .r2 .given .1) at (c .before .before .before .before .read-members .ensures) in
-    let b = bounds (a .job .now) (a .cert .now) (a .h) (p .0) (p .1) in
-    (p .0, m .table b, m .inside, p .1)
+    let a = c .before .before .before .before .before .before .before .before .before .args in
+    let p = c .before .before .before .before .before .before .before .before .before .pre in
+    let m = rw (c .before .before .before .r2 .given .1) at (c .before .before .before .before .before .read-members .ensures) in
+    (p .0, m .table (bounds (a .job .now) (a .cert .now) (a .h) (p .0) (p .1)), m .inside, p .1)
 
 returns : tie.Need-returns
 returns c =
@@ -31,10 +40,10 @@ returns c =
 
 returns-2 : tie.Need-returns-2
 returns-2 c =
-    let a = c .before .before .before .before .before .before .before .before .before .args in
-    let p = c .before .before .before .before .before .before .before .before .before .pre in
-    let v = c .before .before .before .r2 .given in
-    let m = rw (v .1) at (c .before .before .before .before .before .read-members .ensures) in
+    let a = c .before .before .before .before .before .before .before .before .before .before .args in
+    let p = c .before .before .before .before .before .before .before .before .before .before .pre in
+    let v = c .before .before .before .before .r2 .given in
+    let m = rw (v .1) at (c .before .before .before .before .before .before .read-members .ensures) in
     let b = bounds (a .job .now) (a .cert .now) (a .h) (p .0) (p .1) in
     let f = fileIn (a .job .now) (a .h) in
     c .check-covers .ensures
@@ -47,6 +56,8 @@ check-certificate-spec =
     read-members-requires
     enum-known-r
     enum-known-r-2
+    slice-aggregate-all
+    slice-aggregate-check-covers
     check-covers-requires
     returns
     returns-2)

@@ -1,13 +1,15 @@
 use native.Mathlib.Omega.{arith}
-use Rattle.layout.specs.Entries.{membersAt}
+use mathlib.Core.Path.{sym}
+use lib.ListN.{length-map}
+use Rattle.layout.specs.Entries.{locatedAt, membersAt}
 use Rattle.checker.specs.Jobs.{fileIn}
-use Rattle.checker.proofs.Verdicts.{covers-refused, covers-left, covers-taken, entries-number, range-number}
+use Rattle.checker.proofs.Verdicts.{covers-refused, covers-left, covers-taken, entries-number}
 use borrow.Author.Needs.{needs}
 use Rattle.checker.proofs.check_covers.Statement.{statement}
 use Rattle.checker.proofs.check_covers.Tie as tie
 
 take-covers-requires : tie.Need-take-covers-requires
-take-covers-requires c κs = c .before .before .pre
+take-covers-requires c κs = c .before .before .before .pre
 
 enum-known-g : tie.Need-enum-known-g
 enum-known-g c = search needs
@@ -17,27 +19,27 @@ enum-known-g-2 c = search needs
 
 returns : tie.Need-returns
 returns c =
-    let a = c .before .before .before .before .before .before .before .before .args in
+    let a = c .before .before .before .before .before .before .before .before .before .args in
     let v = c .before .before .before .g2 .given in
-    covers-left (a .cert .now) (fileIn (a .job .now) (a .h) .job) (membersAt (a .cert .now) (a .h .variables) (a .starts .now) (a .members)) (a .at) _ (c .before .before .before .before .before .take-covers .ensures) (v .0 .0) (v .1) (omega arith)
+    covers-left (a .cert .now) (fileIn (a .job .now) (a .h) .job) (membersAt (a .cert .now) (a .h .variables) (a .starts .now)) (a .at) _ (c .before .before .before .before .before .take-covers .ensures) (v .0 .0) (v .1) (omega arith)
+
+cast-t14 : tie.Need-cast-t14
+cast-t14 c = omega (arith, c .before .before .before .before .before .before .before .before .before .before .pre .0 .bads-number)
 
 cast-t15 : tie.Need-cast-t15
-cast-t15 c = omega (arith, c .before .before .before .before .before .before .before .before .before .pre .0 .bads-number)
-
-cast-t16 : tie.Need-cast-t16
-cast-t16 c = omega (arith, c .before .before .before .before .before .before .before .before .before .pre .1 .count-most)
+cast-t15 c = omega (arith, c .before .before .before .before .before .before .before .before .before .before .pre .1 .count-most)
 
 returns-2 : tie.Need-returns-2
 returns-2 c =
-    let a = c .before .before .before .before .before .before .args in
+    let a = c .before .before .before .before .before .before .before .args in
     let v = c .before .g .given in
-    covers-refused (a .cert .now) (fileIn (a .job .now) (a .h) .job) (membersAt (a .cert .now) (a .h .variables) (a .starts .now) (a .members)) (a .at) _ (c .before .before .before .take-covers .ensures) (v .0 .0) (v .0 .1 .0) (v .1)
+    covers-refused (a .cert .now) (fileIn (a .job .now) (a .h) .job) (membersAt (a .cert .now) (a .h .variables) (a .starts .now)) (a .at) _ (c .before .before .before .take-covers .ensures) (v .0 .0) (v .0 .1 .0) (v .1)
 
 returns-3 : tie.Need-returns-3
 returns-3 c =
-    let a = c .before .before .before .before .before .before .before .before .before .args in
+    let a = c .before .before .before .before .before .before .before .before .before .before .args in
     let v = c .before .before .before .before .g2 .given in
-    covers-taken (a .cert .now) (fileIn (a .job .now) (a .h) .job) (membersAt (a .cert .now) (a .h .variables) (a .starts .now) (a .members)) (a .at) _ (c .before .before .before .before .before .before .take-covers .ensures) (v .0 .0) (v .1) (a .h .bads) (a .members) (omega arith) (entries-number (a .job .now) (a .h .variables) (a .h .«bads_at») (a .h .bads)) (range-number _ 0 (a .members))
+    covers-taken (a .cert .now) (fileIn (a .job .now) (a .h) .job) (membersAt (a .cert .now) (a .h .variables) (a .starts .now)) (a .at) _ (c .before .before .before .before .before .before .take-covers .ensures) (v .0 .0) (v .1) (a .h .bads) _ (omega arith) (entries-number (a .job .now) (a .h .variables) (a .h .«bads_at») (a .h .bads)) (sym (length-map (a .starts .now) (locatedAt (a .cert .now) (a .h .variables))))
 
 pub check-covers-spec : {M : Type 1} → statement M
 check-covers-spec =
@@ -47,7 +49,7 @@ check-covers-spec =
     enum-known-g
     enum-known-g-2
     returns
+    cast-t14
     cast-t15
-    cast-t16
     returns-2
     returns-3)

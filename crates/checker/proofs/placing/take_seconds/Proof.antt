@@ -5,7 +5,7 @@ use Prim.Native.Nat.{_+_, _-_}
 use native.Mathlib.Omega.{arith}
 use lib.ListN.{take}
 use Rattle.layout.specs.Arrays.{shapeIn}
-use Rattle.layout.specs.Entries.{membersAt}
+use Rattle.covering.specs.Members.{membersFrom}
 use Rattle.choices.specs.Held.{working}
 use Rattle.choosing.specs.Chosen.{wantedB, secondOf}
 use Rattle.choosing.specs.Wanted.{fitsIn}
@@ -19,37 +19,37 @@ use Rattle.checker.proofs.placing.take_seconds.Statement.{statement}
 use Rattle.checker.proofs.placing.take_seconds.Tie as tie
 
 abbrev Inv-loop : tie.InvT-loop
-Inv-loop cert starts variables members state op n vars links wanted c t₀ k₀ t k = Trying cert (membersAt cert variables starts members) state (secondOf variables (op .kind) (op .a) (op .b) (shapeIn (working variables (op .b)) n vars links)) c 0 (n + (2 + n)) t₀ k t
+Inv-loop cert starts variables state op n vars links wanted c t₀ k₀ t k = Trying cert (membersFrom cert variables starts) state (secondOf variables (op .kind) (op .a) (op .b) (shapeIn (working variables (op .b)) n vars links)) c 0 (n + (2 + n)) t₀ k t
 
 abbrev μ-loop : tie.MeasureT-loop
-μ-loop cert starts variables members state op n vars links wanted c t₀ k₀ t k = c .to - k
+μ-loop cert starts variables state op n vars links wanted c t₀ k₀ t k = c .to - k
 
 wanted-of-b-requires : tie.Need-wanted-of-b-requires Inv-loop μ-loop
 wanted-of-b-requires c κs =
-    let o = c .before .pre .1 .work .operands in
-    (omega arith, omega arith, omega (arith, c .before .pre .1 .work .cells), c .before .pre .1 .work .hold .room)
+    let o = c .before .before .pre .0 .work .operands in
+    (omega arith, omega arith, omega (arith, c .before .before .pre .0 .work .cells), c .before .before .pre .0 .work .hold .room)
 
 choices-of-requires : tie.Need-choices-of-requires Inv-loop μ-loop
 choices-of-requires c κs = tt
 
 -- the choices to try leave none out
 covers : (c : tie.After-choices-of Inv-loop μ-loop)
-    → let a = c .before .before .before .args in
+    → let a = c .before .before .before .before .args in
     Covers (c .choices-of .result) (λ j. secondOf (a .variables) (a .op .kind) (a .op .a) (a .op .b) (shapeIn (working (a .variables) (a .op .b)) (a .n) (a .vars .now) (a .links .now)) j ≡ []) 0 (a .n + (2 + a .n))
-covers c = second-covers (c .before .before .before .pre .1) (c .before .wanted-of-b .ensures) (c .choices-of .ensures)
+covers c = second-covers (c .before .before .before .before .pre .0) (c .before .wanted-of-b .ensures) (c .choices-of .ensures)
 
 loop-holds : tie.Need-loop-holds Inv-loop μ-loop
-loop-holds c = trying-none (covers c) (c .before .before .before .pre .2)
+loop-holds c = trying-none (covers c) (c .before .before .before .before .pre .1)
 
 cast-j : tie.Need-cast-j Inv-loop μ-loop
 cast-j c =
     let l = c .before .before in
-    omega (arith, covers (l .before) .most, l .before .before .before .before .pre .1 .work .cells)
+    omega (arith, covers (l .before) .most, l .before .before .before .before .before .pre .0 .work .cells)
 
 add-k : tie.Need-add-k Inv-loop μ-loop
 add-k c =
     let l = c .before .before .before in
-    omega (arith, step-most (covers (l .before)), covers (l .before) .most, l .before .before .before .before .pre .1 .work .cells)
+    omega (arith, step-most (covers (l .before)), covers (l .before) .most, l .before .before .before .before .before .pre .0 .work .cells)
 
 is-wanted-here-requires : tie.Need-is-wanted-here-requires Inv-loop μ-loop
 is-wanted-here-requires c κs = search needs
@@ -57,14 +57,14 @@ is-wanted-here-requires c κs = search needs
 -- this choice is wanted
 fits : (c : tie.Then2 Inv-loop μ-loop)
     → let l = c .before .before .before .before .before in
-    let a = l .before .before .before .before .args in
+    let a = l .before .before .before .before .before .args in
     fitsIn (take (a .n) (a .links .now)) (wantedB (a .op .kind) (a .op .a) (a .op .b) (a .n) (a .vars .now) (a .links .now)) (l .loop .k) ≡ true
 fits c = rw (← c .before .before .before .before .before .before .before .wanted-of-b .ensures) (sym (c .before .is-wanted-here .ensures) ∙ c .if2 .taken)
 
 make-second-requires : tie.Need-make-second-requires Inv-loop μ-loop
 make-second-requires c κs =
     let l = c .before .before .before .before .before .before .before .before .before in
-    (l .before .before .before .before .pre .1, omega (arith, covers (l .before) .most, c .before .before .before .before .before .before .before .if1 .taken), fits (c .before .before .before .before))
+    (l .before .before .before .before .before .pre .0, omega (arith, covers (l .before) .most, c .before .before .before .before .before .before .before .if1 .taken), fits (c .before .before .before .before))
 
 cast-take-one : tie.Need-cast-take-one Inv-loop μ-loop
 cast-take-one c = search needs
@@ -75,11 +75,11 @@ take-one-requires c κs = search needs
 -- the cover of this choice
 taken : (c : tie.After-take-one Inv-loop μ-loop)
     → let l = c .before .before .before .before .before .before .before .before .before .before .before .before .before in
-    let a = l .before .before .before .before .args in
-    goingOf (c .take-one .result) ≡ takeShapes (a .cert .now) (a .variables) (a .starts .now) (a .members) (a .state) (secondOf (a .variables) (a .op .kind) (a .op .a) (a .op .b) (shapeIn (working (a .variables) (a .op .b)) (a .n) (a .vars .now) (a .links .now)) (l .loop .k)) (l .loop .t)
+    let a = l .before .before .before .before .before .args in
+    goingOf (c .take-one .result) ≡ takeShapes (a .cert .now) (a .variables) (a .starts .now) (a .state) (secondOf (a .variables) (a .op .kind) (a .op .a) (a .op .b) (shapeIn (working (a .variables) (a .op .b)) (a .n) (a .vars .now) (a .links .now)) (l .loop .k)) (l .loop .t)
 taken c =
     let l = c .before .before .before .before .before .before .before .before .before .before .before .before .before in
-    rw (second-one (l .before .before .before .before .pre .1) (l .loop .k) (fits (c .before .before .before .before .before .before .before .before)), ← c .before .before .before .make-second .ensures .same) (c .take-one .ensures .0)
+    rw (second-one (l .before .before .before .before .before .pre .0) (l .loop .k) (fits (c .before .before .before .before .before .before .before .before)), ← c .before .before .before .make-second .ensures .same) (c .take-one .ensures .0)
 
 enum-known-g : tie.Need-enum-known-g Inv-loop μ-loop
 enum-known-g c = search needs
@@ -91,7 +91,7 @@ returns : tie.Need-returns Inv-loop μ-loop
 returns c =
     let o = c .before .before in
     let l = o .before .before .before .before .before .before .before .before .before .before .before .before .before in
-    trying-stop (covers (l .before)) (l .loop .inv) (o .before .before .before .before .before .before .before .before .before .before .before .if1 .taken) (taken o) (c .enum-told .given .1) (second-range (l .before .before .before .before .pre .1)) .0
+    trying-stop (covers (l .before)) (l .loop .inv) (o .before .before .before .before .before .before .before .before .before .before .before .if1 .taken) (taken o) (c .enum-told .given .1) (second-range (l .before .before .before .before .before .pre .0)) .0
 
 loop-less : tie.Need-loop-less Inv-loop μ-loop
 loop-less c =
@@ -114,12 +114,12 @@ loop-again-2 c =
     let i = c .before in
     let l = i .before .before .before .before in
     trying-past (covers (l .before)) (l .loop .inv) (i .before .before .if1 .taken)
-    (second-none (l .before .before .before .before .pre .1) (l .loop .k) (rw (← l .before .before .wanted-of-b .ensures) (sym (i .is-wanted-here .ensures) ∙ c .if2 .left)))
+    (second-none (l .before .before .before .before .before .pre .0) (l .loop .k) (rw (← l .before .before .wanted-of-b .ensures) (sym (i .is-wanted-here .ensures) ∙ c .if2 .left)))
 
 returns-2 : tie.Need-returns-2 Inv-loop μ-loop
 returns-2 c =
     let l = c .before .before in
-    trying-all (covers (l .before)) (l .loop .inv) (c .if1 .left) (second-range (l .before .before .before .before .pre .1)) .0
+    trying-all (covers (l .before)) (l .loop .inv) (c .if1 .left) (second-range (l .before .before .before .before .before .pre .0)) .0
 
 pub take-seconds-spec : {M : Type 1} → statement M
 take-seconds-spec =

@@ -2,7 +2,7 @@ use mathlib.Core.Path.{refl}
 use Prim.Native.Nat.{_-_}
 use native.Mathlib.Omega.{arith}
 use Rattle.layout.specs.Arrays.{shapeIn}
-use Rattle.layout.specs.Entries.{membersAt}
+use Rattle.covering.specs.Members.{membersFrom}
 use Rattle.removing.specs.Without.{without}
 use Rattle.choosing.specs.Wanted.{oneByOne}
 use Rattle.choosing.proofs.Ranges.{covers-stretch}
@@ -12,16 +12,16 @@ use Rattle.checker.proofs.removal.take_cells.Statement.{statement}
 use Rattle.checker.proofs.removal.take_cells.Tie as tie
 
 abbrev Inv-loop : tie.InvT-loop
-Inv-loop cert starts variables members state n vars links first end t₀ k₀ t k = Trying cert (membersAt cert variables starts members) state (without (shapeIn variables n vars links)) (oneByOne first end) first end t₀ k t
+Inv-loop cert starts variables state n vars links first end t₀ k₀ t k = Trying cert (membersFrom cert variables starts) state (without (shapeIn variables n vars links)) (oneByOne first end) first end t₀ k t
 
 abbrev μ-loop : tie.MeasureT-loop
-μ-loop cert starts variables members state n vars links first end t₀ k₀ t k = end - k
+μ-loop cert starts variables state n vars links first end t₀ k₀ t k = end - k
 
 loop-holds : tie.Need-loop-holds Inv-loop μ-loop
-loop-holds c = trying-none (covers-stretch _ _ _) (c .before .pre .4)
+loop-holds c = trying-none (covers-stretch _ _ _) (c .before .before .pre .3)
 
 take-cell-requires : tie.Need-take-cell-requires Inv-loop μ-loop
-take-cell-requires c κs = (c .before .before .before .pre .0, c .before .before .before .pre .1, omega arith, c .before .loop .inv .progress .within)
+take-cell-requires c κs = (c .before .before .before .before .pre .0, omega arith, c .before .loop .inv .progress .within)
 
 enum-known-g : tie.Need-enum-known-g Inv-loop μ-loop
 enum-known-g c = search needs

@@ -8,7 +8,7 @@ use Rattle.lists.specs.Range.{range}
 use Rattle.heap.specs.Operation.{new}
 use Rattle.backward.specs.Predecessors.{predecessors}
 use Rattle.layout.specs.Arrays.{shapeIn}
-use Rattle.layout.specs.Entries.{membersAt}
+use Rattle.covering.specs.Members.{membersFrom}
 use Rattle.removing.specs.Without.{without}
 use Rattle.removing.proofs.Arrays.{hold-set, new-nowhere, new-none, new-cell}
 use Rattle.checker.proofs.Takes.{take-none, take-same}
@@ -23,10 +23,10 @@ take-unplaced-requires : tie.Need-take-unplaced-requires
 take-unplaced-requires c κs = search needs
 
 returns : tie.Need-returns
-returns c = let a = c .before .before .before .before .args in let p = c .before .before .before .before .pre in let s = (shapeIn (a .variables) (a .n) (a .vars .now) (a .links .now)) in take-same (a .cert .now) (membersAt (a .cert .now) (a .variables) (a .starts .now) (a .members)) (a .state) (predecessors (new (a .a)) s) (concatMap (without s) (range 0 (a .n)) ++ (s ∷ [])) (a .t) (c .take-unplaced .result) (new-nowhere (a .variables) (a .n) (a .vars .now) (a .links .now) (p .1) (a .a) (p .3) (p .4) (c .before .if1 .taken)) (c .take-unplaced .ensures)
+returns c = let a = c .before .before .before .before .before .args in let p = c .before .before .before .before .before .pre in let s = (shapeIn (a .variables) (a .n) (a .vars .now) (a .links .now)) in take-same (a .cert .now) (membersFrom (a .cert .now) (a .variables) (a .starts .now)) (a .state) (predecessors (new (a .a)) s) (concatMap (without s) (range 0 (a .n)) ++ (s ∷ [])) (a .t) (c .take-unplaced .result) (new-nowhere (a .variables) (a .n) (a .vars .now) (a .links .now) (p .0) (a .a) (p .2) (p .3) (c .before .if1 .taken)) (c .take-unplaced .ensures)
 
 returns-2 : tie.Need-returns-2
-returns-2 c = let a = c .before .before .before .before .args in let p = c .before .before .before .before .pre in take-none (a .cert .now) (membersAt (a .cert .now) (a .variables) (a .starts .now) (a .members)) (a .state) (predecessors (new (a .a)) (shapeIn (a .variables) (a .n) (a .vars .now) (a .links .now))) (a .t) (new-none (a .variables) (a .n) (a .vars .now) (a .links .now) (p .1) (a .a) (p .3) (p .4) (c .before .if1 .left) (c .if2 .taken)) (p .5)
+returns-2 c = let a = c .before .before .before .before .before .args in let p = c .before .before .before .before .before .pre in take-none (a .cert .now) (membersFrom (a .cert .now) (a .variables) (a .starts .now)) (a .state) (predecessors (new (a .a)) (shapeIn (a .variables) (a .n) (a .vars .now) (a .links .now))) (a .t) (new-none (a .variables) (a .n) (a .vars .now) (a .links .now) (p .0) (a .a) (p .2) (p .3) (c .before .if1 .left) (c .if2 .taken)) (p .4)
 
 array-write-v : tie.Need-array-write-v
 array-write-v c = search needs
@@ -35,10 +35,10 @@ sub-take-cells : tie.Need-sub-take-cells
 sub-take-cells c = search needs
 
 take-cells-requires : tie.Need-take-cells-requires
-take-cells-requires c κs = let a = c .before .before .before .before .before .before .args in let p = c .before .before .before .before .before .before .pre in (p .0, hold-set (a .variables) (a .n) (a .vars .now) (a .links .now) (a .a) (p .3) (p .4) (p .1) 0 (omega arith), omega arith, omega (arith, p .1 .vars-range (a .a)), p .5)
+take-cells-requires c κs = let a = c .before .before .before .before .before .before .before .args in let p = c .before .before .before .before .before .before .before .pre in (hold-set (a .variables) (a .n) (a .vars .now) (a .links .now) (a .a) (p .2) (p .3) (p .0) 0 (omega arith), omega arith, omega (arith, p .0 .vars-range (a .a)), p .4)
 
 returns-3 : tie.Need-returns-3
-returns-3 c = let a = c .before .before .before .before .before .before .before .args in let p = c .before .before .before .before .before .before .before .pre in let x = getD (a .vars .now) (a .a) 0 in take-same (a .cert .now) (membersAt (a .cert .now) (a .variables) (a .starts .now) (a .members)) (a .state) (predecessors (new (a .a)) (shapeIn (a .variables) (a .n) (a .vars .now) (a .links .now))) (concatMap (without (shapeIn (a .variables) (a .n) (set (a .vars .now) (a .a) 0) (a .links .now))) (range (x - 3) (x - 2 - (x - 3)))) (a .t) (c .take-cells .result) (new-cell (a .variables) (a .n) (a .vars .now) (a .links .now) (p .1) (a .a) (p .3) (p .4) x refl (c .before .before .before .if2 .left)) (c .take-cells .ensures)
+returns-3 c = let a = c .before .before .before .before .before .before .before .before .args in let p = c .before .before .before .before .before .before .before .before .pre in let x = getD (a .vars .now) (a .a) 0 in take-same (a .cert .now) (membersFrom (a .cert .now) (a .variables) (a .starts .now)) (a .state) (predecessors (new (a .a)) (shapeIn (a .variables) (a .n) (a .vars .now) (a .links .now))) (concatMap (without (shapeIn (a .variables) (a .n) (set (a .vars .now) (a .a) 0) (a .links .now))) (range (x - 3) (x - 2 - (x - 3)))) (a .t) (c .take-cells .result) (new-cell (a .variables) (a .n) (a .vars .now) (a .links .now) (p .0) (a .a) (p .2) (p .3) x refl (c .before .before .before .if2 .left)) (c .take-cells .ensures)
 
 pub take-new-spec : {M : Type 1} → statement M
 take-new-spec =

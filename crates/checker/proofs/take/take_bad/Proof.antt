@@ -8,13 +8,13 @@ load-shape-requires c κs = search needs
 
 -- what was loaded
 here : (c : tie.After-load-shape)
-    → let a = c .before .before .before .before .before .args in
+    → let a = c .before .before .before .before .before .before .args in
     Loaded (a .job .now) (a .variables) (a .at) (c .load-shape .result) (c .load-shape .last .1 .1 .1 .0) (c .load-shape .last .1 .1 .1 .1 .0)
 here c =
-    let a = c .before .before .before .before .before .args in
-    let p = c .before .before .before .before .before .pre in
+    let a = c .before .before .before .before .before .before .args in
+    let p = c .before .before .before .before .before .before .pre in
     let e = c .load-shape .ensures in
-    loaded (a .job .now) (a .variables) (a .at) _ _ _ (p .0) (p .1 .variables-most) (e .0) (e .1 .0) (e .1 .1)
+    loaded (a .job .now) (a .variables) (a .at) _ _ _ (p .0) (p .1) (e .0) (e .1 .0) (e .1 .1)
 
 shared-slice-read-take-one : tie.Need-shared-slice-read-take-one
 shared-slice-read-take-one c = search needs
@@ -24,8 +24,7 @@ cast-take-one c = search needs
 
 take-one-requires : tie.Need-take-one-requires
 take-one-requires c κs =
-    let p = c .before .before .before .before .before .before .before .before .pre in
-    (p .1, here (c .before .before .before) .hold, p .2)
+    c .before .before .before .before .before .before .before .before .before .pre .2
 
 returns : tie.Need-returns
 returns c = (rw (here (c .before .before .before .before) .shape) at (c .take-one .ensures .0), c .take-one .ensures .1)

@@ -10,40 +10,40 @@ use Rattle.checker.proofs.take.take_member.Statement.{statement}
 use Rattle.checker.proofs.take.take_member.Tie as tie
 
 mul-at : tie.Need-mul-at
-mul-at c = omega (arith, c .before .before .pre .2 .count-most)
+mul-at c = search needs
 
-element-copy-out-at : tie.Need-element-copy-out-at
-element-copy-out-at c = omega (arith, c .before .before .pre .2 .count-most)
+shared-slice-read-at : tie.Need-shared-slice-read-at
+shared-slice-read-at c = search needs
 
 cast-at : tie.Need-cast-at
 cast-at c =
-    let e = c .before .before .before .pre .2 .entry (c .before .before .before .args .m) (c .before .before .before .pre .3) in
+    let e = c .before .before .before .before .pre .2 .entry (c .before .before .before .before .args .m) (c .before .before .before .before .pre .3) in
     omega (arith, e .inside)
 
 shared-slice-read-state : tie.Need-shared-slice-read-state
 shared-slice-read-state c =
-    let e = c .before .before .before .before .pre .2 .entry (c .before .before .before .before .args .m) (c .before .before .before .before .pre .3) in
+    let e = c .before .before .before .before .before .pre .2 .entry (c .before .before .before .before .before .args .m) (c .before .before .before .before .before .pre .3) in
     omega (arith, e .inside)
 
 cast-head : tie.Need-cast-head
 cast-head c =
-    let e = c .before .before .before .before .pre .2 .entry (c .before .before .before .before .args .m) (c .before .before .before .before .pre .3) in
+    let e = c .before .before .before .before .before .pre .2 .entry (c .before .before .before .before .before .args .m) (c .before .before .before .before .before .pre .3) in
     omega (arith, e .state)
 
 mul-head : tie.Need-mul-head
 mul-head c =
-    let e = c .before .before .before .before .pre .2 .entry (c .before .before .before .before .args .m) (c .before .before .before .before .pre .3) in
+    let e = c .before .before .before .before .before .pre .2 .entry (c .before .before .before .before .before .args .m) (c .before .before .before .before .before .pre .3) in
     omega (arith, e .state)
 
 element-copy-out-head : tie.Need-element-copy-out-head
 element-copy-out-head c =
-    let e = c .before .before .before .before .pre .2 .entry (c .before .before .before .before .args .m) (c .before .before .before .before .pre .3) in
+    let e = c .before .before .before .before .before .pre .2 .entry (c .before .before .before .before .before .args .m) (c .before .before .before .before .before .pre .3) in
     omega (arith, e .state)
 
 returns : tie.Need-returns
 returns c =
-    let a = c .before .before .before .before .before .before .args in
-    let p = c .before .before .before .before .before .before .pre in
+    let a = c .before .before .before .before .before .before .before .args in
+    let p = c .before .before .before .before .before .before .before .pre in
     let e = p .2 .entry (a .m) (p .3) in
     let m = locatedAt (a .cert .now) (a .h .variables) (getD (a .starts .now) (a .m) 0) in
     chain-end {job = a .job .now} {h = a .h} {m = m} (chain-begin (linked-head (toState (a .job .now) (a .h)) (a .h .transitions) (a .heads .now) (a .nexts .now) (p .1) (m .state) (e .state)) (p .4)) (omega arith)
@@ -53,21 +53,21 @@ load-shape-requires c κs = search needs
 
 -- what was loaded
 here : (c : tie.After-load-shape)
-    → let a = c .before .before .before .before .before .before .before .before .before .args in
+    → let a = c .before .before .before .before .before .before .before .before .before .before .args in
     Loaded (a .cert .now) (a .h .variables) (getD (a .starts .now) (a .m) 0) (c .load-shape .result) (c .load-shape .last .1 .1 .1 .0) (c .load-shape .last .1 .1 .1 .1 .0)
 here c =
-    let a = c .before .before .before .before .before .before .before .before .before .args in
-    let p = c .before .before .before .before .before .before .before .before .before .pre in
+    let a = c .before .before .before .before .before .before .before .before .before .before .args in
+    let p = c .before .before .before .before .before .before .before .before .before .before .pre in
     let e = c .load-shape .ensures in
     loaded (a .cert .now) (a .h .variables) (getD (a .starts .now) (a .m) 0) _ _ _ (p .2 .entry (a .m) (p .3)) (p .2 .variables-most) (e .0) (e .1 .0) (e .1 .1)
 
 take-transitions-requires : tie.Need-take-transitions-requires
 take-transitions-requires c κs =
-    let a = c .before .before .before .before .before .before .before .before .before .before .before .args in
-    let p = c .before .before .before .before .before .before .before .before .before .before .before .pre in
-    let e = c .before .before .before .before .before .before .before .before .before .before .before .pre .2 .entry (c .before .before .before .before .before .before .before .before .before .before .before .args .m) (c .before .before .before .before .before .before .before .before .before .before .before .pre .3) in
+    let a = c .before .before .before .before .before .before .before .before .before .before .before .before .args in
+    let p = c .before .before .before .before .before .before .before .before .before .before .before .before .pre in
+    let e = c .before .before .before .before .before .before .before .before .before .before .before .before .pre .2 .entry (c .before .before .before .before .before .before .before .before .before .before .before .before .args .m) (c .before .before .before .before .before .before .before .before .before .before .before .before .pre .3) in
     let l = here (c .before .before) in
-    (p .0, p .1 .next, linked-head (toState (a .job .now) (a .h)) (a .h .transitions) (a .heads .now) (a .nexts .now) (p .1) (getD (a .cert .now) (getD (a .starts .now) (a .m) 0) 0) (e .state), p .2, l .hold, l .cells, p .4)
+    (p .0, p .1 .next, linked-head (toState (a .job .now) (a .h)) (a .h .transitions) (a .heads .now) (a .nexts .now) (p .1) (getD (a .cert .now) (getD (a .starts .now) (a .m) 0) 0) (e .state), l .hold, l .cells, p .4)
 
 returns-2 : tie.Need-returns-2
 returns-2 c = (rw (here (c .before .before .before) .shape) at (c .take-transitions .ensures .0), c .take-transitions .ensures .1)
@@ -77,7 +77,7 @@ take-member-spec =
     tie.close
     (tie.spec
     mul-at
-    element-copy-out-at
+    shared-slice-read-at
     cast-at
     shared-slice-read-state
     cast-head

@@ -6,7 +6,7 @@ use Rattle.heap.specs.Operation.{kindOf}
 use Rattle.backward.specs.Predecessors.{predecessors}
 use Rattle.kinds.proofs.Rows.{row-of, known}
 use Rattle.layout.specs.Arrays.{shapeIn}
-use Rattle.layout.specs.Entries.{membersAt}
+use Rattle.covering.specs.Members.{membersFrom}
 use Rattle.layout.specs.Transitions.{opOf}
 use Rattle.choices.specs.Held.{working, Working}
 use Rattle.choices.specs.Retained.{firsts}
@@ -33,29 +33,29 @@ shared-slice-read-a c = search needs
 
 take-delete-requires : tie.Need-take-delete-requires
 take-delete-requires c κs =
-    let a = c .before .before .before .before .before .before .args in
-    let p = c .before .before .before .before .before .before .pre in
+    let a = c .before .before .before .before .before .before .before .args in
+    let p = c .before .before .before .before .before .before .before .pre in
     let is : getD (a .job .now) (a .at + 1) 0 ≡ 7 = omega arith in
     let r = row-of (a .variables) _ _ _ _ (ap kindOf is) (p .1) .0 in
-    (p .2, p .3, p .4, r .least-a, r .most-a, p .5)
+    (p .3, p .4, r .least-a, r .most-a, p .5)
 
 returns : tie.Need-returns
 returns c =
-    let a = c .before .before .before .before .before .before .before .args in
+    let a = c .before .before .before .before .before .before .before .before .args in
     let is : getD (a .job .now) (a .at + 1) 0 ≡ 7 = omega arith in
     rw is (c .take-delete .ensures)
 
 take-new-requires : tie.Need-take-new-requires
 take-new-requires c κs =
-    let a = c .before .before .before .before .before .before .before .args in
-    let p = c .before .before .before .before .before .before .before .pre in
+    let a = c .before .before .before .before .before .before .before .before .args in
+    let p = c .before .before .before .before .before .before .before .before .pre in
     let is : getD (a .job .now) (a .at + 1) 0 ≡ 6 = omega arith in
     let r = row-of (a .variables) _ _ _ _ (ap kindOf is) (p .1) .0 in
-    (p .2, p .3, p .4, r .least-a, r .most-a, p .5)
+    (p .3, p .4, r .least-a, r .most-a, p .5)
 
 returns-2 : tie.Need-returns-2
 returns-2 c =
-    let a = c .before .before .before .before .before .before .before .before .args in
+    let a = c .before .before .before .before .before .before .before .before .before .args in
     let is : getD (a .job .now) (a .at + 1) 0 ≡ 6 = omega arith in
     rw is (c .take-new .ensures)
 
@@ -70,31 +70,31 @@ placed-op-requires c κs = search needs
 
 -- the shape to work on, and that its choices are the predecessors
 placed : (c : tie.After-placed-op)
-    → let a = c .before .before .before .before .before .before .before .before .before .args in
+    → let a = c .before .before .before .before .before .before .before .before .before .before .args in
     let job = a .job .now in
     let o = c .placed-op .result in
     Working 12 (a .variables) (o .kind) (o .a) (o .b) (a .n) (a .vars .now) (a .links .now)
     × (firsts (a .variables) (o .kind) (o .a) (o .b) (shapeIn (working (a .variables) (o .b)) (a .n) (a .vars .now) (a .links .now))
     ≡ predecessors (opOf (kindOf (getD job (a .at + 1) 0)) (getD job (a .at + 2) 0) (getD job (a .at + 3) 0)) (shapeIn (a .variables) (a .n) (a .vars .now) (a .links .now)))
 placed c =
-    let a = c .before .before .before .before .before .before .before .before .before .args in
-    let p = c .before .before .before .before .before .before .before .before .before .pre in
+    let a = c .before .before .before .before .before .before .before .before .before .before .args in
+    let p = c .before .before .before .before .before .before .before .before .before .before .pre in
     let e = c .placed-op .ensures in
     let kind = getD (a .job .now) (a .at + 1) 0 in
     let most : kind ≤ 5 = omega (arith, known (a .variables) kind _ _ (p .1), c .before .before .if2 .left, c .before .before .before .if1 .left) in
-    let w = plays (a .variables) kind _ _ most (p .1) (a .n) (a .vars .now) (a .links .now) (p .2 .variables-most) (p .4) (p .3) (c .placed-op .result .b) (e .2) in
+    let w = plays (a .variables) kind _ _ most (p .1) (a .n) (a .vars .now) (a .links .now) (p .2) (p .4) (p .3) (c .placed-op .result .b) (e .2) in
     (rw (e .0, e .1) (w .work), rw (e .0, e .1) (w .same))
 
 take-firsts-requires : tie.Need-take-firsts-requires
 take-firsts-requires c κs =
-    let p = c .before .before .before .before .before .before .before .before .before .pre in
-    (p .2, placed c .0, p .5)
+    let p = c .before .before .before .before .before .before .before .before .before .before .pre in
+    (placed c .0, p .5)
 
 returns-3 : tie.Need-returns-3
 returns-3 c =
-    let a = c .before .before .before .before .before .before .before .before .before .before .args in
+    let a = c .before .before .before .before .before .before .before .before .before .before .before .args in
     let taken = rw (placed (c .before) .1) at (c .take-firsts .ensures) in
-    (taken, stays (a .cert .now) (membersAt (a .cert .now) (a .variables) (a .starts .now) (a .members)) _ (a .t) (c .before .before .before .before .before .before .before .before .before .before .pre .5) (c .take-firsts .result) taken)
+    (taken, stays (a .cert .now) (membersFrom (a .cert .now) (a .variables) (a .starts .now)) _ (a .t) (c .before .before .before .before .before .before .before .before .before .before .before .pre .5) (c .take-firsts .result) taken)
 
 pub take-transition-spec : {M : Type 1} → statement M
 take-transition-spec =

@@ -1,7 +1,7 @@
 use Prim.Native.Nat.{_-_}
 use native.Mathlib.Omega.{arith}
 use Rattle.layout.specs.Arrays.{shapeIn}
-use Rattle.layout.specs.Entries.{membersAt}
+use Rattle.covering.specs.Members.{membersFrom}
 use Rattle.checker.specs.Taking.{located}
 use Rattle.checker.proofs.Chain.{leftFrom, Chain, chain-begin, chain-end, chain-below, chain-halt, chain-more, chain-less}
 use borrow.Author.Needs.{needs}
@@ -9,13 +9,13 @@ use Rattle.checker.proofs.take.take_transitions.Statement.{statement}
 use Rattle.checker.proofs.take.take_transitions.Tie as tie
 
 abbrev Inv-loop : tie.InvT-loop
-Inv-loop job h head nexts cert starts members state n vars links t₀ k₀ t k = Chain job h cert (membersAt cert (h .variables) starts members) (located state (shapeIn (h .variables) n vars links)) t₀ k t
+Inv-loop job h head nexts cert starts state n vars links t₀ k₀ t k = Chain job h cert (membersFrom cert (h .variables) starts) (located state (shapeIn (h .variables) n vars links)) t₀ k t
 
 abbrev μ-loop : tie.MeasureT-loop
-μ-loop job h head nexts cert starts members state n vars links t₀ k₀ t k = leftFrom (h .transitions) k
+μ-loop job h head nexts cert starts state n vars links t₀ k₀ t k = leftFrom (h .transitions) k
 
 loop-holds : tie.Need-loop-holds Inv-loop μ-loop
-loop-holds c = let p = c .before .before .pre in chain-begin (p .2) (p .6)
+loop-holds c = let p = c .before .before .before .pre in chain-begin (p .2) (p .5)
 
 sub-i : tie.Need-sub-i Inv-loop μ-loop
 sub-i c = search needs
@@ -23,24 +23,24 @@ sub-i c = search needs
 cast-i : tie.Need-cast-i Inv-loop μ-loop
 cast-i c =
     let b = chain-below (c .before .loop .inv) (omega arith) in
-    omega (arith, c .before .before .before .before .pre .0 .transitions-number)
+    omega (arith, c .before .before .before .before .before .pre .0 .transitions-number)
 
 mul-at : tie.Need-mul-at Inv-loop μ-loop
 mul-at c =
     let b = chain-below (c .before .loop .inv) (omega arith) in
-    omega (arith, c .before .before .before .before .pre .0 .transitions-number)
+    omega (arith, c .before .before .before .before .before .pre .0 .transitions-number)
 
 add-at : tie.Need-add-at Inv-loop μ-loop
 add-at c =
-    let b = c .before .before .before .before .before .pre .0 .transitions (c .before .before .loop .k - 1) (chain-below (c .before .before .loop .inv) (omega arith)) in
+    let b = c .before .before .before .before .before .before .pre .0 .transitions (c .before .before .loop .k - 1) (chain-below (c .before .before .loop .inv) (omega arith)) in
     omega arith
 
 take-transition-requires : tie.Need-take-transition-requires Inv-loop μ-loop
 take-transition-requires c κs =
     let l = c .before .before .loop in
-    let p = c .before .before .before .before .before .pre in
+    let p = c .before .before .before .before .before .before .pre in
     let b = p .0 .transitions (l .k - 1) (chain-below (l .inv) (omega arith)) in
-    (b .inside, b .operands, p .3, p .4, p .5, l .inv .progress .within)
+    (b .inside, b .operands, p .0 .variables .1, p .3, p .4, l .inv .progress .within)
 
 enum-known-g : tie.Need-enum-known-g Inv-loop μ-loop
 enum-known-g c = search needs
@@ -54,18 +54,18 @@ returns c = chain-halt (c .before .before .before .before .before .loop .inv) (o
 mul-k : tie.Need-mul-k Inv-loop μ-loop
 mul-k c =
     let b = chain-below (c .before .before .before .before .before .before .loop .inv) (omega arith) in
-    omega (arith, c .before .before .before .before .before .before .before .before .before .pre .0 .transitions-number)
+    omega (arith, c .before .before .before .before .before .before .before .before .before .before .pre .0 .transitions-number)
 
 element-copy-out-k : tie.Need-element-copy-out-k Inv-loop μ-loop
 element-copy-out-k c =
     let b = chain-below (c .before .before .before .before .before .before .loop .inv) (omega arith) in
-    omega (arith, c .before .before .before .before .before .before .before .before .before .pre .0 .transitions-number)
+    omega (arith, c .before .before .before .before .before .before .before .before .before .before .pre .0 .transitions-number)
 
 loop-less : tie.Need-loop-less Inv-loop μ-loop
-loop-less c = chain-less (c .before .before .before .before .before .before .before .loop .inv) (omega arith) (c .before .before .before .before .before .before .before .before .before .before .args .nexts .now) (c .before .before .before .before .before .before .before .before .before .before .pre .1)
+loop-less c = chain-less (c .before .before .before .before .before .before .before .loop .inv) (omega arith) (c .before .before .before .before .before .before .before .before .before .before .before .args .nexts .now) (c .before .before .before .before .before .before .before .before .before .before .before .pre .1)
 
 loop-again : tie.Need-loop-again Inv-loop μ-loop
-loop-again c = chain-more (c .before .before .before .before .before .before .before .loop .inv) (omega arith) (c .before .before .before .before .take-transition .ensures) (c .before .before .before .before .before .before .before .before .before .before .args .nexts .now) (c .before .before .before .before .before .before .before .before .before .before .pre .1) (c .before .before .g .given .1)
+loop-again c = chain-more (c .before .before .before .before .before .before .before .loop .inv) (omega arith) (c .before .before .before .before .take-transition .ensures) (c .before .before .before .before .before .before .before .before .before .before .before .args .nexts .now) (c .before .before .before .before .before .before .before .before .before .before .before .pre .1) (c .before .before .g .given .1)
 
 returns-2 : tie.Need-returns-2 Inv-loop μ-loop
 returns-2 c = chain-end (c .before .loop .inv) (omega arith)
