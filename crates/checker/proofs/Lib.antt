@@ -4,7 +4,7 @@ pub mod Lists
 pub mod Taking
 pub mod Takes
 pub mod Trying
-pub mod Places
+pub mod Helper
 pub mod Operands
 pub mod Loading
 pub mod Chain

@@ -19,7 +19,7 @@ use Rattle.choices.proofs.Arrays.{vars-in, hold-helper, with-helper}
 use Rattle.choices.proofs.Operations.{by-two, by-one}
 use Rattle.choices.proofs.Undoing.{working-more, working-same}
 use Rattle.checker.specs.Placing.{secondOperand}
-use Rattle.checker.proofs.Places.{second-helper, second-itself}
+use Rattle.checker.proofs.Helper.{second-helper, second-itself}
 
 module _ (variables kind a b : ℕ) (most : kind ≤ 5) (allows : allowed variables kind a b ≡ true) where
   least : 1 ≤ kind

@@ -22,7 +22,6 @@ ghost use Rattle.verdict.specs.Verdict.{verdictOf};
 ghost use Rattle.verdict.specs.declared.Counts.{Counts as CountsAnswer};
 ghost use Rattle.verdict.specs.declared.Verdict.the-variants.{Accepted};
 
-mod choice;
 mod going;
 mod one;
 mod placing;

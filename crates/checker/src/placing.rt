@@ -1,5 +1,4 @@
 // Covers of the predecessors under kinds 1 to 5: first choices, of a, and second choices, of b.
-use crate::choice::put;
 use crate::going::Going;
 use crate::going::Taken;
 use crate::one::take_one;
@@ -7,53 +6,21 @@ use crate::wanting::Op;
 use crate::wanting::is_wanted_here;
 use crate::wanting::wanted_of_a;
 use crate::wanting::wanted_of_b;
+use changing::put;
+use changing::undo;
 use choosing::choices_of;
 ghost use mathlib.Core.Bool.{true};
 ghost use mathlib.Core.Path.{_≡_};
 ghost use Prim.Native.Nat.{_+_, _≤_, _<_};
 ghost use lib.ListN.{take};
 ghost use Rattle.layout.specs.Arrays.{shapeIn};
-ghost use Rattle.layout.specs.Entries.{Table};
 ghost use Rattle.choices.specs.Choice.{put as putBy};
-ghost use Rattle.choices.specs.Held.{Held, working, Working, Placed, Undoable, Undoes};
+ghost use Rattle.choices.specs.Held.{Held, working, Working, Placed};
 ghost use Rattle.choices.specs.Retained.{changed, seconds, firsts};
 ghost use Rattle.choosing.specs.Chosen.{wantedB};
 ghost use Rattle.choosing.specs.Wanted.{fitsIn};
 ghost use Rattle.checker.specs.Placing.{takeShapes, secondOperand};
 ghost use Rattle.checker.specs.Taking.{goingOf, Within};
-
-// What the operation changes is put back.
-pub(crate) fn undo(variables: usize, op: Op, vars: &mut [u8; 10], links: &mut [u8; 14])
-    requires { ⌜ Undoable variables (op .kind) (op .a) (op .b) (now vars) ⌝ }
-    ensures { λ r. ⌜ Undoes variables (op .kind) (op .a) (op .b) (now (vars .entry)) (now (links .entry)) (now (vars .exit)) (now (links .exit)) ⌝ }
-{
-    let kind = op.kind;
-    let a = op.a as usize;
-    let b = op.b as usize;
-    if kind < 3 {
-        return;
-    }
-    if kind == 3 {
-        if a == b {
-            return;
-        }
-        vars[a] = 0;
-        return;
-    }
-    let x = vars[a];
-    if kind == 5 {
-        links[(x - 3) as usize] = 0;
-        return;
-    }
-    let y = vars[b];
-    links[(y - 3) as usize] = x;
-    if variables < b {
-        vars[a] = y;
-        vars[b] = 0;
-        return;
-    }
-    vars[a] = 0;
-}
 
 // The predecessor of choice k of b, which is wanted, in place. Its number of cells.
 pub(crate) fn make_second(
@@ -68,7 +35,7 @@ pub(crate) fn make_second(
     ensures { λ r. ⌜ Held variables r (now (vars .exit)) (now (links .exit)) (changed variables (op .kind) (op .a) (op .b) (putBy (op .b) (shapeIn (working variables (op .b)) n (now (vars .entry)) (now (links .entry))) k)) ⌝ }
 {
     let m = put(n, vars, links, op.b, k);
-    undo(variables, op, vars, links);
+    undo(variables, op.kind, op.a, op.b, vars, links);
     m
 }
 

@@ -1,6 +1,6 @@
 use mathlib.Core.Path.{refl}
 use native.Mathlib.Omega.{arith}
-use Rattle.checker.proofs.Places.{second-helper, second-itself}
+use Rattle.checker.proofs.Helper.{second-helper, second-itself}
 use borrow.Author.Needs.{needs}
 use Rattle.checker.proofs.placing.placed_op.Statement.{statement}
 use Rattle.checker.proofs.placing.placed_op.Tie as tie

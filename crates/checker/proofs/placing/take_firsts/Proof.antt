@@ -10,6 +10,8 @@ use Rattle.choices.specs.Held.{working}
 use Rattle.choosing.specs.Chosen.{wantedA, firstOf}
 use Rattle.choosing.specs.Wanted.{fitsIn}
 use Rattle.choosing.proofs.Ranges.{Covers, step-most}
+use Rattle.choices.specs.Held.{Puts}
+use Rattle.changing.proofs.Changes.{puts}
 use Rattle.choosing.proofs.Steps.{first-covers, first-range, first-none, first-some, first-same, first-placed}
 use Rattle.checker.specs.Placing.{takeShapes}
 use Rattle.checker.specs.Taking.{goingOf}
@@ -55,10 +57,7 @@ is-wanted-here-requires : tie.Need-is-wanted-here-requires Inv-loop μ-loop
 is-wanted-here-requires c κs = search needs
 
 put-requires : tie.Need-put-requires Inv-loop μ-loop
-put-requires c κs =
-    let l = c .before .before .before .before .before .before .before .before .before in
-    let p = l .before .before .before .before .before .pre .0 in
-    (p .hold .room, omega (arith, p .cells), omega (arith, covers (l .before) .most, c .before .before .before .before .before .before .before .if1 .taken), omega (arith, p .operands .a-most, p .operands .variables-most))
+put-requires c κs = search needs
 
 -- this choice is wanted
 fits : (c : tie.Then2 Inv-loop μ-loop)
@@ -67,12 +66,24 @@ fits : (c : tie.Then2 Inv-loop μ-loop)
     fitsIn (take (a .n) (a .links .now)) (wantedA (a .op .kind) (a .op .a) (a .op .b) (a .n) (a .vars .now) (a .links .now)) (l .loop .k) ≡ true
 fits c = rw (← c .before .before .before .before .before .before .before .wanted-of-a .ensures) (sym (c .before .is-wanted-here .ensures) ∙ c .if2 .taken)
 
+-- a is placed
+put-placed : (c : tie.After-put Inv-loop μ-loop)
+    → let l = c .before .before .before .before .before .before .before .before .before .before in
+    let a = l .before .before .before .before .before .args in
+    Puts (a .n) (a .vars .now) (a .links .now) (a .op .a) (l .loop .k) (c .put .result) (c .put .last .1 .0) (c .put .last .1 .1 .0)
+put-placed c =
+    let l = c .before .before .before .before .before .before .before .before .before .before in
+    let a = l .before .before .before .before .before .args in
+    let w = l .before .before .before .before .before .pre .0 in
+    puts (a .n) (a .vars .now) (a .links .now) (a .op .a) (l .loop .k) (w .hold .room) (omega (arith, w .cells))
+    (omega (arith, covers (l .before) .most, c .before .before .before .before .before .before .before .before .if1 .taken))
+    (omega (arith, w .operands .a-most, w .operands .variables-most)) _ _ _ (c .put .ensures)
+
 take-seconds-requires : tie.Need-take-seconds-requires Inv-loop μ-loop
 take-seconds-requires c κs =
     let l = c .before .before .before .before .before .before .before .before .before .before .before .before in
     let q = l .before .before .before .before .before .pre in
-    let p = c .before .before .put in
-    (first-placed (q .0) (l .loop .k) (p .result) _ _ (p .ensures) (fits (c .before .before .before .before .before .before .before)), l .loop .inv .progress .within)
+    (first-placed (q .0) (l .loop .k) (c .before .before .put .result) _ _ (put-placed (c .before .before)) (fits (c .before .before .before .before .before .before .before)), l .loop .inv .progress .within)
 
 -- the covers of this choice
 taken : (c : tie.After-take-seconds Inv-loop μ-loop)
@@ -82,8 +93,7 @@ taken : (c : tie.After-take-seconds Inv-loop μ-loop)
 taken c =
     let l = c .before .before .before .before .before .before .before .before .before .before .before .before .before in
     let q = l .before .before .before .before .before .pre .0 in
-    let p = c .before .before .before .put in
-    rw (first-some q (l .loop .k) (fits (c .before .before .before .before .before .before .before .before)) ∙ first-same q (l .loop .k) (p .result) _ _ (p .ensures)) (c .take-seconds .ensures)
+    rw (first-some q (l .loop .k) (fits (c .before .before .before .before .before .before .before .before)) ∙ first-same q (l .loop .k) (c .before .before .before .put .result) _ _ (put-placed (c .before .before .before))) (c .take-seconds .ensures)
 
 enum-known-g : tie.Need-enum-known-g Inv-loop μ-loop
 enum-known-g c = search needs
