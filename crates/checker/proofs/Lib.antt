@@ -9,3 +9,4 @@ pub mod Operands
 pub mod Loading
 pub mod Chain
 pub mod Verdicts
+pub mod Indexed

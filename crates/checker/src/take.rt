@@ -8,11 +8,13 @@ use crate::removal::take_delete;
 use crate::removal::take_new;
 use reader::Header;
 use reader::load::load_shape;
+use transitions::index_transitions;
+use transitions::transition_at;
 ghost use mathlib.Core.Bool.{true};
 ghost use mathlib.Core.List.{[], _∷_};
 ghost use mathlib.Core.Path.{_≡_};
 ghost use Prim.Native.Nat.{_+_, _≤_, _<_};
-ghost use lib.ListN.{length, getD, replicate};
+ghost use lib.ListN.{length, getD};
 ghost use Rattle.lists.specs.List.{concatMap};
 ghost use Rattle.backward.specs.Predecessors.{predecessors};
 ghost use Rattle.cover.specs.Cover.{owed};
@@ -97,37 +99,15 @@ fn take_transition(
     requires { ⌜ (at + 5 ≤ length (now job)) × (allowed variables (getD (now job) (at + 1) 0) (getD (now job) (at + 2) 0) (getD (now job) (at + 3) 0) ≡ true) × (variables ≤ 8) × (Hold variables n (now vars) (now links)) × (n ≤ 12) × (Within (now cert) t) ⌝ }
     ensures { λ r. ⌜ Takes (now (cert .entry)) (membersFrom (now (cert .entry)) variables (now (starts .entry))) (transitionAt (now (job .entry)) at .from) (predecessors (transitionAt (now (job .entry)) at .op) (shapeIn variables n (now (vars .entry)) (now (links .entry)))) t r ⌝ }
 {
-    let state = job[at];
-    let kind = job[at + 1];
-    let a = job[at + 2];
-    if kind == 7 {
-        return take_delete(cert, starts, variables, state, a, n, vars, links, t);
+    let by = transition_at(job, at);
+    if by.kind == 7 {
+        return take_delete(cert, starts, variables, by.from, by.a, n, vars, links, t);
     }
-    if kind == 6 {
-        return take_new(cert, starts, variables, state, a, n, vars, links, t);
+    if by.kind == 6 {
+        return take_new(cert, starts, variables, by.from, by.a, n, vars, links, t);
     }
-    let op = placed_op(variables, kind, a, job[at + 3]);
-    take_firsts(cert, starts, variables, state, op, n, vars, links, t)
-}
-
-// Links the transitions into each state, first to last: `heads[state]` and `nexts[transition]` are one more than a transition's number, 0 for
-// none.
-pub(crate) fn index_transitions(
-    job: &[u8],
-    h: Header,
-    heads: &mut [u16; 64],
-    nexts: &mut [u16; 256],
-)
-    requires { ⌜ (JobRead (now job) h) × (now heads ≡ replicate 64 0) × (now nexts ≡ replicate 256 0) ⌝ }
-    ensures { λ r. ⌜ Linked (toState (now (job .entry)) h) (h .transitions) 0 (now (heads .exit)) (now (nexts .exit)) ⌝ }
-{
-    let mut i = h.transitions;
-    while 0 < i {
-        i -= 1;
-        let to = job[h.transitions_at + 5 * i + 4] as usize;
-        nexts[i] = heads[to];
-        heads[to] = i as u16 + 1;
-    }
+    let op = placed_op(variables, by.kind, by.a, by.b);
+    take_firsts(cert, starts, variables, by.from, op, n, vars, links, t)
 }
 
 // Covers of a shape's predecessors by each transition into its state; `head` is the first of them.
@@ -233,7 +213,7 @@ pub(crate) fn take_covers(job: &[u8], h: Header, cert: &[u8], starts: &[u16], at
 {
     let mut heads = [0u16; 64];
     let mut nexts = [0u16; 256];
-    index_transitions(job, h, &mut heads, &mut nexts);
+    index_transitions(job, h.transitions_at, h.transitions, &mut heads, &mut nexts);
     let from = Taken { at, covers: 0 };
     let g = take_bads(job, h.bads_at, h.bads, cert, starts, h.variables, from);
     let Going::On(t) = g else {

@@ -1,8 +1,9 @@
-use mathlib.Core.Path.{refl, _∙_}
+use mathlib.Core.Path.{_∙_}
 use native.Mathlib.Omega.{arith}
 use Rattle.lists.specs.List.{concatMap}
 use Rattle.layout.specs.Entries.{entriesAt, membersAt}
 use Rattle.checker.specs.Jobs.{owedBy}
+use Rattle.checker.proofs.Indexed.{linked-job}
 use Rattle.checker.proofs.Members.{from-table}
 use Rattle.checker.proofs.Taking.{begin, advance, halt}
 use borrow.Author.Needs.{needs}
@@ -10,7 +11,7 @@ use Rattle.checker.proofs.take.take_covers.Statement.{statement}
 use Rattle.checker.proofs.take.take_covers.Tie as tie
 
 index-transitions-requires : tie.Need-index-transitions-requires
-index-transitions-requires c κs = (c .before .before .before .before .before .pre .0, refl, refl)
+index-transitions-requires c κs = search needs
 
 take-bads-requires : tie.Need-take-bads-requires
 take-bads-requires c κs =
@@ -34,7 +35,8 @@ take-members-requires : tie.Need-take-members-requires
 take-members-requires c κs =
     let p = c .before .before .before .before .before .before .before .before .before .before .before .before .pre in
     let v = c .before .before .before .g .given in
-    (p .0, c .before .before .before .before .before .before .index-transitions .ensures, p .1, rw (v .1) at (c .before .before .before .before .before .take-bads .ensures .1))
+    let e = c .before .before .before .before .before .before .index-transitions .ensures in
+    (p .0, rw (e .0, e .1) (linked-job (p .0)), p .1, rw (v .1) at (c .before .before .before .before .before .take-bads .ensures .1))
 
 returns-2 : tie.Need-returns-2
 returns-2 c =
