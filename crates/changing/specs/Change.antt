@@ -1,7 +1,7 @@
 -- A shape under work (layout/specs/Arrays.antt), changed in place.
 use mathlib.Core.Bool.{_||_, not, cond}
 use mathlib.Core.List.{List}
-use Prim.Native.Nat.{ℕ, suc, _+_, _-_}
+use Prim.Native.Nat.{ℕ, suc, _-_}
 use lib.Dec.{eqb, ltb}
 use lib.ListN.{getD, set}
 use Rattle.heap.specs.Place.{nowhere, null, cell}

@@ -6,7 +6,7 @@ use native.Mathlib.Omega.{arith}
 use lib.ListN.{length}
 use Rattle.run.specs.Run.{Located}
 use Rattle.format.specs.Certificate.{readCover}
-use Rattle.format.specs.Parser.{Parsed, parsed, fault, onward, many, each, within, certificateBuffer}
+use Rattle.format.specs.Parser.{Parsed, parsed, fault, onward, each, within, certificateBuffer}
 use Rattle.verdict.specs.declared.Refusal.{Refusal}
 use Rattle.format.proofs.Parsing.{then}
 use Rattle.checker.proofs.CoverPlace.{cover-place}

@@ -1,6 +1,6 @@
 -- From what the code answers to the verdict.
 use mathlib.Core.Bool.{true, false}
-use mathlib.Core.List.{List, [], map}
+use mathlib.Core.List.{List, []}
 use mathlib.Core.Path.{_≡_, refl, sym, ap, ap₂, _∙_}
 use Prim.Native.Nat.{ℕ, zero, suc, _+_, _≤_, _<_}
 use native.Mathlib.Omega.{arith}
@@ -8,7 +8,6 @@ use native.Mathlib.Decide.{decLe}
 use borrow.Author.Tests.{lt-leb, le-leb, lt-ltb, le-ltb, ltb-true}
 use lib.Dec.{leb, ltb}
 use lib.ListN.{length}
-use Rattle.lists.specs.Range.{range}
 use Rattle.lists.proofs.Test.{and-right}
 use Rattle.run.specs.Run.{Located, Job}
 use Rattle.cover.specs.Cover.{owed}

@@ -12,7 +12,7 @@ use lib.ListN.{getD, set, take, drop, length-set, length-take}
 use lib.Seq.{getD-set-same, getD-set-other, take-take, set-set, set-out}
 use Rattle.lists.proofs.Test.{and-left}
 use Rattle.heap.specs.Codes.{varIn}
-use Rattle.heap.specs.Place.{nowhere, cell}
+use Rattle.heap.specs.Place.{nowhere}
 use Rattle.shape.specs.Placing.{setVar}
 use Rattle.shape.specs.Shape.{Shape, varAt}
 use Rattle.shape.proofs.Laws.{var-set-other}

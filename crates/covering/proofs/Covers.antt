@@ -1,8 +1,8 @@
 -- One cover as it is read, case by case.
 use mathlib.Core.Bool.{true, false}
 use mathlib.Core.List.{List}
-use mathlib.Core.Option.{some, none}
-use mathlib.Core.Path.{_≡_, refl, ap, _∙_}
+use mathlib.Core.Option.{some}
+use mathlib.Core.Path.{_≡_, refl}
 use Prim.Native.Nat.{ℕ, _+_, _≤_, _<_}
 use native.Mathlib.Omega.{arith}
 use borrow.Author.Tests.{ne-eqb}
@@ -10,7 +10,6 @@ use lib.ListN.{length, getD, getElem?, drop, length-drop}
 use lib.Seq.{length-take-le}
 use Rattle.number.specs.Number.{numberAt}
 use Rattle.number.specs.declared.Read.the-variants.{Number, Unreadable}
-use Rattle.run.specs.Run.{Located}
 use Rattle.shape.specs.Shape.{size}
 use Rattle.format.specs.Certificate.{readCover}
 use Rattle.format.specs.Parser.{certificateBuffer, many}
@@ -20,7 +19,6 @@ use Rattle.verdict.specs.declared.Reached.the-variants.{At, Refused}
 use Rattle.verdict.specs.declared.Refusal.{Refusal}
 use Rattle.verdict.specs.declared.Refusal.the-variants.{CertificateUnreadable, CertificateRange, CoverFails}
 use Rattle.layout.specs.Entries.{locatedAt}
-use Rattle.embedding.specs.Images.{Whole}
 use Rattle.embedding.proofs.Reading.{read-unreadable}
 use Rattle.covering.specs.Members.{isWhole, memberAt, membersFrom}
 use Rattle.covering.specs.Reading.{ImagesRead, CoverIs}

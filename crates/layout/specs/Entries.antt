@@ -1,6 +1,5 @@
 -- Entries as they stand in a buffer that was read: in range, every number of them is one byte.
 use mathlib.Core.List.{List, [], _∷_, map}
-use mathlib.Core.Path.{_≡_}
 use Prim.Native.Nat.{ℕ, zero, suc, _+_, _≤_, _<_}
 use lib.ListN.{length, getD, take, drop}
 use Rattle.shape.specs.Shape.{InRange}

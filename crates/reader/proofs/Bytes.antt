@@ -10,9 +10,7 @@ use Rattle.number.specs.Number.{numberIn, numberAt}
 use Rattle.number.specs.declared.Read.{Read}
 use Rattle.number.specs.declared.Read.the-variants.{Number, Unreadable}
 use Rattle.shape.specs.Shape.{AllBelow}
-use Rattle.format.specs.Parser.{parsed, Buffer, ranged}
-use Rattle.format.proofs.Parsing.{ranged-exact}
-use Rattle.format.proofs.Sequence.{Reads, done, more, reads-one}
+use Rattle.format.proofs.Sequence.{Reads, done, more}
 
 -- a number stands inside the buffer, and one below 128 is its byte
 pub record Stands (at left a n next : ℕ) : Type 0 where
@@ -84,10 +82,3 @@ module _ {s : List ℕ} where
         ap₂ _∷_ (t .value) (same ∙ ap (λ m. take (length ns) (drop m s)) mid-is) ∙ ap (take (suc (length ns))) (sym here),
         omega arith,
       )
-
--- a number that is held below 128 is a byte
-pub ranged-byte : (s : Buffer) (low limit at n next : ℕ) → limit ≤ 128 → ranged s low limit at ≡ parsed n next
-    → Single (s .bytes) at n next × ((low ≤ n) × (n < limit))
-ranged-byte s low limit at n next small e =
-    let (r, (l, h)) = ranged-exact s low limit .sound at n next e in
-    (single (s .bytes) at n next (reads-one r) (omega arith), (l, h))

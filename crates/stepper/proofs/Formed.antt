@@ -8,7 +8,7 @@ use native.Mathlib.Omega.{arith}
 use borrow.Author.Tests.{leb-true, le-leb, lt-ltb, le-ltb, eq-eqb, ne-eqb, eqb-true}
 use lib.Dec.{eqb, leb, ltb}
 use lib.ListN.{getD}
-use Rattle.heap.specs.Place.{nowhere, cell}
+use Rattle.heap.specs.Place.{nowhere}
 use Rattle.lists.specs.Range.{range}
 use Rattle.lists.specs.Test.{allFrom}
 use Rattle.lists.proofs.Range.{tabled}

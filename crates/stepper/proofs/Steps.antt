@@ -7,7 +7,7 @@ use native.Mathlib.Omega.{arith}
 use borrow.Author.Tests.{leb-false}
 use lib.Dec.{leb}
 use Rattle.heap.specs.Codes.{varIn, linkIn}
-use Rattle.heap.specs.Operation.{Op, equal, different, assign, load, store, new, delete, Enabled, enabled?, after, operation}
+use Rattle.heap.specs.Operation.{Op, equal, different, assign, load, store, new, delete, Enabled, enabled?, operation}
 use Rattle.kinds.specs.Kinds.{isSome, allowed}
 use Rattle.kinds.proofs.Rows.{by-kind, known, row-of}
 use Rattle.place.specs.Place.{placeOf, cellPlace, codes}

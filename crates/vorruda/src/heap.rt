@@ -1,7 +1,6 @@
 use place::Place;
 use stepper::Heap64;
 use stepper::Outcome;
-use stepper::Stepped;
 ghost use mathlib.Core.Path.{_≡_};
 ghost use lib.ListN.{length};
 ghost use Rattle.vorruda.specs.HeapBytes.{readable, heapFrom, bytesOf, StepsBytes};

@@ -1,5 +1,4 @@
 use native.Mathlib.Omega.{arith}
-use lib.Seq.{length-take-le}
 use lib.ListN.{length-take}
 use Rattle.covering.proofs.cells_held.Statement.{statement}
 use Rattle.covering.proofs.cells_held.Tie as tie
