@@ -67,28 +67,7 @@ fn take_cells(
     Going::On(t)
 }
 
-// Kind 6 where a is nowhere: each cell taken out in turn, and then a fresh one, which leaves the shape.
-fn take_unplaced(
-    cert: &[u8],
-    starts: &[u16],
-    variables: usize,
-    state: u8,
-    n: u8,
-    vars: &[u8; 10],
-    links: &[u8; 14],
-    t: Taken,
-) -> Going
-    requires { ⌜ (Hold variables n (now vars) (now links)) × (Within (now cert) t) ⌝ }
-    ensures { λ r. ⌜ Takes (now (cert .entry)) (membersFrom (now (cert .entry)) variables (now (starts .entry))) state (concatMap (without (shapeIn variables n (now (vars .entry)) (now (links .entry)))) (range 0 n) ++ (shapeIn variables n (now (vars .entry)) (now (links .entry)) ∷ [])) t r ⌝ }
-{
-    let g = take_cells(cert, starts, variables, state, n, vars, links, 0, n, t);
-    let Going::On(u) = g else {
-        return g;
-    };
-    take_one(cert, starts, variables, state, n as usize, vars, links, u)
-}
-
-// Kind 6: a's cell taken out, or each cell in turn.
+// Kind 6: a's cell taken out; where a is nowhere, each cell in turn, and then a fresh one, which leaves the shape.
 pub(crate) fn take_new(
     cert: &[u8],
     starts: &[u16],
@@ -105,7 +84,11 @@ pub(crate) fn take_new(
 {
     let x = vars[a as usize];
     if x == 0 {
-        return take_unplaced(cert, starts, variables, state, n, vars, links, t);
+        let g = take_cells(cert, starts, variables, state, n, vars, links, 0, n, t);
+        let Going::On(u) = g else {
+            return g;
+        };
+        return take_one(cert, starts, variables, state, n as usize, vars, links, u);
     }
     if x < 3 {
         return Going::On(t);
