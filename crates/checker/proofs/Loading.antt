@@ -16,6 +16,7 @@ use Rattle.reader.specs.Loading.{loadedCells, loadedVars, loadedLinks}
 
 -- the arrays hold the shape of the entry at a place, of n cells
 pub record Loaded (bytes : List ℕ) (variables at n : ℕ) (vars links : List ℕ) : Type 0 where
+  pub count : n ≡ getD bytes (at + 1) 0
   pub cells : n ≤ 12
   pub hold : Hold variables n vars links
   pub shape : shapeIn variables n vars links ≡ locatedAt bytes variables at .shape
@@ -81,6 +82,7 @@ module _ (bytes : List ℕ) (variables at : ℕ) (entry : Entry bytes variables 
   load-in : Loaded bytes variables at n (1 ∷ (take variables codes ++ drop variables xs)) (take n places ++ drop n links₀)
   load-in =
       record {
+        count = refl;
         cells = entry .cells;
         hold =
             record {

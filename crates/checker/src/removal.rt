@@ -4,8 +4,7 @@ use crate::going::Taken;
 use crate::one::take_one;
 use places::revive;
 use places::take_out;
-ghost use mathlib.Core.List.{[], _∷_, _++_};
-ghost use Prim.Native.Nat.{_-_, _≤_, _<_};
+ghost use Prim.Native.Nat.{_-_, _≤_};
 ghost use Rattle.lists.specs.List.{concatMap};
 ghost use Rattle.lists.specs.Range.{range};
 ghost use Rattle.heap.specs.Operation.{new, delete};
@@ -15,30 +14,7 @@ ghost use Rattle.layout.specs.Arrays.{shapeIn, Hold};
 ghost use Rattle.covering.specs.Members.{membersFrom};
 ghost use Rattle.removing.specs.Without.{without};
 
-// Cell k taken out, if it is free.
-fn take_cell(
-    cert: &[u8],
-    starts: &[u16],
-    variables: usize,
-    state: u8,
-    n: u8,
-    vars: &[u8; 10],
-    links: &[u8; 14],
-    k: u8,
-    t: Taken,
-) -> Going
-    requires { ⌜ (Hold variables n (now vars) (now links)) × (k < n) × (Within (now cert) t) ⌝ }
-    ensures { λ r. ⌜ Takes (now (cert .entry)) (membersFrom (now (cert .entry)) variables (now (starts .entry))) state (without (shapeIn variables n (now (vars .entry)) (now (links .entry))) k) t r ⌝ }
-{
-    let mut v = *vars;
-    let mut l = *links;
-    if !take_out(variables, n, &mut v, &mut l, k) {
-        return Going::On(t);
-    }
-    take_one(cert, starts, variables, state, (n - 1) as usize, &v, &l, t)
-}
-
-// Each of the cells from `first` on, below `end`, taken out in turn.
+// Each of the cells from `first` on, below `end`, taken out in turn, if it is free.
 fn take_cells(
     cert: &[u8],
     starts: &[u16],
@@ -57,38 +33,22 @@ fn take_cells(
     let mut t = from;
     let mut k = first;
     while k < end {
-        let g = take_cell(cert, starts, variables, state, n, vars, links, k, t);
-        let Going::On(u) = g else {
-            return g;
-        };
-        t = u;
+        let mut v = *vars;
+        let mut l = *links;
+        let is_free = take_out(variables, n, &mut v, &mut l, k);
         k += 1;
+        if is_free {
+            let g = take_one(cert, starts, variables, state, (n - 1) as usize, &v, &l, t);
+            let Going::On(u) = g else {
+                return g;
+            };
+            t = u;
+        }
     }
     Going::On(t)
 }
 
-// Kind 6 where a is nowhere: each cell taken out in turn, and then a fresh one, which leaves the shape.
-fn take_unplaced(
-    cert: &[u8],
-    starts: &[u16],
-    variables: usize,
-    state: u8,
-    n: u8,
-    vars: &[u8; 10],
-    links: &[u8; 14],
-    t: Taken,
-) -> Going
-    requires { ⌜ (Hold variables n (now vars) (now links)) × (Within (now cert) t) ⌝ }
-    ensures { λ r. ⌜ Takes (now (cert .entry)) (membersFrom (now (cert .entry)) variables (now (starts .entry))) state (concatMap (without (shapeIn variables n (now (vars .entry)) (now (links .entry)))) (range 0 n) ++ (shapeIn variables n (now (vars .entry)) (now (links .entry)) ∷ [])) t r ⌝ }
-{
-    let g = take_cells(cert, starts, variables, state, n, vars, links, 0, n, t);
-    let Going::On(u) = g else {
-        return g;
-    };
-    take_one(cert, starts, variables, state, n as usize, vars, links, u)
-}
-
-// Kind 6: a's cell taken out, or each cell in turn.
+// Kind 6: a's cell taken out; where a is nowhere, each cell in turn, and then a fresh one, which leaves the shape.
 pub(crate) fn take_new(
     cert: &[u8],
     starts: &[u16],
@@ -105,7 +65,11 @@ pub(crate) fn take_new(
 {
     let x = vars[a as usize];
     if x == 0 {
-        return take_unplaced(cert, starts, variables, state, n, vars, links, t);
+        let g = take_cells(cert, starts, variables, state, n, vars, links, 0, n, t);
+        let Going::On(u) = g else {
+            return g;
+        };
+        return take_one(cert, starts, variables, state, n as usize, vars, links, u);
     }
     if x < 3 {
         return Going::On(t);

@@ -11,7 +11,6 @@ use reader::load::load_shape;
 use transitions::index_transitions;
 use transitions::transition_at;
 ghost use mathlib.Core.Bool.{true};
-ghost use mathlib.Core.List.{[], _∷_};
 ghost use mathlib.Core.Path.{_≡_};
 ghost use Prim.Native.Nat.{_+_, _≤_, _<_};
 ghost use lib.ListN.{length, getD};
@@ -23,38 +22,10 @@ ghost use Rattle.checker.specs.Taking.{takeAll, goingOf, Within, located
 ghost use Rattle.covering.specs.Members.{membersFrom};
 ghost use Rattle.kinds.specs.Kinds.{allowed};
 ghost use Rattle.layout.specs.Arrays.{shapeIn, Hold};
-ghost use Rattle.layout.specs.Entries.{Entry, entryEnd, locatedAt, entriesAt, EntriesIn, membersAt, Table};
+ghost use Rattle.layout.specs.Entries.{locatedAt, entriesAt, EntriesIn, membersAt, Table};
 ghost use Rattle.layout.specs.Transitions.{transitionAt};
 ghost use Rattle.order.specs.Index.{nextInto, Follows, Linked};
 ghost use Rattle.reader.specs.Job.{JobRead};
-
-// The cover of the forbidden shape at a place of the job.
-fn take_bad(job: &[u8], at: usize, cert: &[u8], starts: &[u16], variables: usize, t: Taken) -> Going
-    requires { ⌜ (Entry (now job) variables at) × (variables ≤ 8) × (Within (now cert) t) ⌝ }
-    ensures { λ r. ⌜ TakesAll (now (cert .entry)) (membersFrom (now (cert .entry)) variables (now (starts .entry))) (locatedAt (now (job .entry)) variables at ∷ []) t r ⌝ }
-{
-    let mut vars = [0u8; 10];
-    let mut links = [0u8; 14];
-    let n = load_shape(job, at, variables, &mut vars, &mut links);
-    take_one(
-        cert,
-        starts,
-        variables,
-        job[at],
-        n as usize,
-        &vars,
-        &links,
-        t,
-    )
-}
-
-// The place after the entry at a place of the job.
-fn entry_end(job: &[u8], at: usize, variables: usize) -> usize
-    requires { ⌜ Entry (now job) variables at ⌝ }
-    ensures { λ r. ⌜ r ≡ entryEnd (now (job .entry)) variables at ⌝ }
-{
-    at + 2 + variables + job[at + 1] as usize
-}
 
 // Covers of so many forbidden shapes, from a place of the job on.
 pub(crate) fn take_bads(
@@ -73,12 +44,15 @@ pub(crate) fn take_bads(
     let mut t = from;
     let mut i = 0;
     while i < bads {
-        let g = take_bad(job, at, cert, starts, variables, t);
+        let mut vars = [0u8; 10];
+        let mut links = [0u8; 14];
+        let n = load_shape(job, at, variables, &mut vars, &mut links) as usize;
+        let g = take_one(cert, starts, variables, job[at], n, &vars, &links, t);
         let Going::On(u) = g else {
             return g;
         };
         t = u;
-        at = entry_end(job, at, variables);
+        at += 2 + variables + n;
         i += 1;
     }
     Going::On(t)
