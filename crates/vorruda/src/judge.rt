@@ -12,7 +12,8 @@ pub extern "C" fn vorruda_check(job: &[u8], cert: &[u8]) -> u32
     ensures number { λ r. ⌜ r ≡ verdictOutcome (verdict (now (job .entry)) (now (cert .entry))) .code ⌝ }
     ensures safe { λ r. ⌜ (r ≡ 0 → SafeBytes (now (job .entry))) ⌝ }
 {
-    match checker::check(job, cert) {
+    let judged = checker::check(job, cert);
+    match judged {
         Verdict::Accepted(_) => 0,
         Verdict::Refused(refusal, _) => verdict::refusal_number(refusal),
     }

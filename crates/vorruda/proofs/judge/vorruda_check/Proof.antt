@@ -11,8 +11,8 @@ check-requires c κs = search needs
 enum-told : tie.Need-enum-told
 enum-told c = search needs
 
-enum-known-refusal : tie.Need-enum-known-refusal
-enum-known-refusal c = search needs
+enum-known-judged : tie.Need-enum-known-judged
+enum-known-judged c = search needs
 
 refusal-number-requires : tie.Need-refusal-number-requires
 refusal-number-requires c κs = search needs
@@ -26,9 +26,9 @@ returns c =
 returns-2 : tie.Need-returns-2
 returns-2 c =
     let k = c .before .before .before .before .check in
-    let r-is = c .before .before .refusal .given .1 in (
+    let r-is = c .before .before .judged .given .1 in (
       rw (← k .ensures .0, r-is) (c .refusal-number .ensures),
-      λ z. absurd (omega (arith, numbered (c .before .before .refusal .given .0 .0), c .refusal-number .ensures)),
+      λ z. absurd (omega (arith, numbered (c .before .before .judged .given .0 .0), c .refusal-number .ensures)),
     )
 
 pub vorruda-check-spec : {M : Type 1} → statement M
@@ -37,7 +37,7 @@ vorruda-check-spec =
     (tie.spec
     check-requires
     enum-told
-    enum-known-refusal
+    enum-known-judged
     refusal-number-requires
     returns
     returns-2)
