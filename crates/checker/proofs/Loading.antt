@@ -11,7 +11,7 @@ use Rattle.heap.specs.Place.{cell}
 use Rattle.shape.specs.Shape.{Shape, AllBelow}
 use Rattle.layout.specs.Arrays.{shapeIn, Hold}
 use Rattle.layout.specs.Entries.{Entry, locatedAt}
-use Rattle.reader.proofs.Loading.{fits}
+use Rattle.layout.proofs.Whole.{is-whole}
 use Rattle.reader.specs.Loading.{loadedCells, loadedVars, loadedLinks}
 
 -- the arrays hold the shape of the entry at a place, of n cells
@@ -109,8 +109,7 @@ loaded bytes variables at n vars links entry few n-is vars-is links-is =
     let one-more : 1 + variables ≡ suc variables = omega arith in
     let all : 0 + getD bytes (at + 1) 0 ≡ getD bytes (at + 1) 0 = omega arith in
     let fit =
-    fits bytes variables at
-    (record { variables-fit = omega arith; cells-fit = omega (arith, entry .cells); inside = entry .inside }) in
+    is-whole bytes variables at (record { variables-most = omega arith; cells = entry .cells; inside = entry .inside }) in
     rw (n-is, vars-is, links-is, fit, one-more, all)
     (load-in bytes variables at entry few (replicate 9 0) (replicate 14 0) refl refl clear)
   where

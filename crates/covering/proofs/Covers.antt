@@ -18,13 +18,14 @@ use Rattle.verdict.specs.declared.Reached.{Reached}
 use Rattle.verdict.specs.declared.Reached.the-variants.{At, Refused}
 use Rattle.verdict.specs.declared.Refusal.{Refusal}
 use Rattle.verdict.specs.declared.Refusal.the-variants.{CertificateUnreadable, CertificateRange, CoverFails}
-use Rattle.layout.specs.Entries.{locatedAt}
+use Rattle.layout.specs.Entries.{locatedAt, isWhole}
 use Rattle.embedding.proofs.Reading.{read-unreadable}
-use Rattle.covering.specs.Members.{isWhole, memberAt, membersFrom}
+use Rattle.covering.specs.Members.{memberAt, membersFrom}
 use Rattle.covering.specs.Reading.{ImagesRead, CoverIs}
 use Rattle.covering.specs.declared.reading.CoverRead.{CoverRead}
 use Rattle.covering.specs.declared.reading.CoverRead.the-variants.{Taken, Refused as NotRead}
-use Rattle.covering.proofs.Members.{whole, element, no-element}
+use Rattle.layout.proofs.Whole.{whole}
+use Rattle.covering.proofs.Elements.{element, no-element}
 
 module _ (cert : List ℕ) (variables : ℕ) (starts : List ℕ) (at n : ℕ) (codes : List ℕ) where
   abbrev Is : CoverRead → Type 0

@@ -1,3 +1,3 @@
-pub mod Members
+pub mod Elements
 pub mod Covers
 pub mod Taking

@@ -12,8 +12,8 @@ use Rattle.format.specs.Parser.{Parsed, parsed, fault, many, ranged, require, c
 use Rattle.verdict.specs.Verdict.{refusalNumber}
 use Rattle.verdict.specs.declared.Reached.{Reached}
 use Rattle.verdict.specs.declared.Reached.the-variants.{At, Refused}
-use Rattle.layout.specs.Entries.{locatedAt}
-use Rattle.embedding.specs.Images.{Whole, imagesIn, Images}
+use Rattle.layout.specs.Entries.{locatedAt, Whole}
+use Rattle.embedding.specs.Images.{imagesIn, Images}
 use Rattle.covering.specs.Members.{membersFrom}
 use Rattle.covering.specs.declared.reading.CoverRead.{CoverRead}
 use Rattle.covering.specs.declared.reading.CoverRead.the-variants.{Taken, Refused as NotRead}

@@ -8,8 +8,8 @@ ghost use Rattle.lists.specs.Test.{allFrom};
 ghost use Rattle.shape.specs.Shape.{Shape};
 ghost use Rattle.cover.specs.Test.{embeds?};
 ghost use Rattle.layout.specs.Arrays.{shapeIn};
-ghost use Rattle.layout.specs.Entries.{locatedAt};
-ghost use Rattle.embedding.specs.Images.{Whole, imagesIn, Images, imageIn, once, varFitsIn, pathFits};
+ghost use Rattle.layout.specs.Entries.{locatedAt, Whole};
+ghost use Rattle.embedding.specs.Images.{imagesIn, Images, imageIn, once, varFitsIn, pathFits};
 ghost use Rattle.embedding.specs.Marks.{markIn, Marks, Walking, Followed, Linking};
 
 // Marks by the code of a place: where a path may pass, where it ends, where one has passed.

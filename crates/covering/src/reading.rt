@@ -2,37 +2,17 @@
 use crate::fitting::wide;
 use number::Read;
 use number::read_number;
+use reader::load::is_whole;
 use verdict::Reached;
 use verdict::Refusal;
-ghost use mathlib.Core.Path.{_≡_};
-ghost use Prim.Native.Nat.{_≤_, _<_};
+ghost use Prim.Native.Nat.{_≤_};
 ghost use Rattle.embedding.specs.Images.{Images};
-ghost use Rattle.covering.specs.Members.{isWhole};
 ghost use Rattle.covering.specs.Reading.{ImagesRead, CoverIs};
 
 // A cover as read: its member's number and the next place, with its images in an array beside; or a refusal and its place.
 pub(crate) enum CoverRead {
     Taken(usize, usize),
     Refused(Refusal, usize),
-}
-
-// Whether a member of at most 12 cells stands whole from a place on.
-fn is_whole(cert: &[u8], start: usize, variables: usize) -> bool
-    requires { ⌜ start < 65536 ⌝ }
-    ensures { λ r. ⌜ r ≡ isWhole (now (cert .entry)) variables start ⌝ }
-{
-    if 9 < variables {
-        return false;
-    }
-    let links = start + 2 + variables;
-    if cert.len() < links {
-        return false;
-    }
-    let cells = wide(cert[start + 1]);
-    if 12 < cells {
-        return false;
-    }
-    links + cells <= cert.len()
 }
 
 // Reads images, each below n.

@@ -11,8 +11,8 @@ use Rattle.lists.specs.Test.{allFrom}
 use Rattle.shape.specs.Shape.{Shape, varAt, size}
 use Rattle.cover.specs.Test.{imageMap, varFits, linkMeets, pathUnshared, embeds?}
 use Rattle.layout.specs.Arrays.{shapeIn}
-use Rattle.layout.specs.Entries.{locatedAt}
-use Rattle.embedding.specs.Images.{Whole, imagesIn, Images, imageIn, once, varFitsIn, pathFits}
+use Rattle.layout.specs.Entries.{locatedAt, Whole}
+use Rattle.embedding.specs.Images.{imagesIn, Images, imageIn, once, varFitsIn, pathFits}
 use Rattle.embedding.specs.Marks.{Marks, Linked, Linking}
 use Rattle.embedding.proofs.Images.{images-length, image-of}
 

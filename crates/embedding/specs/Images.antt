@@ -10,13 +10,6 @@ use Rattle.heap.specs.Place.{nowhere, null, dangling, cell}
 use Rattle.shape.specs.Shape.{Shape}
 use Rattle.cover.specs.Test.{linkMeets, pathUnshared}
 
--- An entry of at most 12 cells stands whole from a place on, its variables no more than the array of a shape has room for. Its codes may be
--- out of range.
-pub record Whole (bytes : List ℕ) (variables start : ℕ) : Type 0 where
-  pub variables-most : variables ≤ 9
-  pub cells : getD bytes (start + 1) 0 ≤ 12
-  pub inside : start + 2 + variables + getD bytes (start + 1) 0 ≤ length bytes
-
 -- the images of so many cells, as numbers of cells
 abbrev pub imagesIn : ℕ → List ℕ → List ℕ
 imagesIn count codes = map (λ p. p - 3) (take count (drop 3 codes))

@@ -1,6 +1,8 @@
 -- Entries as they stand in a buffer that was read: in range, every number of them is one byte.
+use mathlib.Core.Bool.{Bool, _&&_}
 use mathlib.Core.List.{List, [], _∷_, map}
 use Prim.Native.Nat.{ℕ, zero, suc, _+_, _≤_, _<_}
+use lib.Dec.{leb}
 use lib.ListN.{length, getD, take, drop}
 use Rattle.shape.specs.Shape.{InRange}
 use Rattle.run.specs.Run.{Located}
@@ -23,6 +25,16 @@ pub record Entry (bytes : List ℕ) (variables at : ℕ) : Type 0 where
 -- the place after the entry at a place
 abbrev pub entryEnd : List ℕ → ℕ → ℕ → ℕ
 entryEnd bytes variables at = at + 2 + variables + getD bytes (at + 1) 0
+
+-- An entry of at most 12 cells stands whole at a place, its variables no more than the array of a shape has room for. Its codes may be out of
+-- range.
+unfoldable pub isWhole : List ℕ → ℕ → ℕ → Bool
+isWhole bytes variables at = leb variables 9 && (leb (getD bytes (at + 1) 0) 12 && leb (entryEnd bytes variables at) (length bytes))
+
+pub record Whole (bytes : List ℕ) (variables at : ℕ) : Type 0 where
+  pub variables-most : variables ≤ 9
+  pub cells : getD bytes (at + 1) 0 ≤ 12
+  pub inside : entryEnd bytes variables at ≤ length bytes
 
 -- so many entries, one after the other
 unfoldable pub entriesAt : List ℕ → ℕ → ℕ → ℕ → List Located

@@ -5,11 +5,12 @@ ghost use mathlib.Core.Path.{_≡_};
 ghost use Prim.Native.Nat.{_+_, _≤_, _<_};
 ghost use lib.ListN.{length, drop, set};
 ghost use lib.Seq.{paste};
-ghost use Rattle.reader.specs.Loading.{fitsArrays, loadedCells, loadedVars, loadedLinks};
+ghost use Rattle.layout.specs.Entries.{isWhole};
+ghost use Rattle.reader.specs.Loading.{loadedCells, loadedVars, loadedLinks};
 
-// Whether the entry at a place is whole and the arrays have room for it.
-fn fits_arrays(bytes: &[u8], at: usize, variables: usize) -> bool
-    ensures { λ r. ⌜ r ≡ fitsArrays (now (bytes .entry)) variables at ⌝ }
+// Whether an entry of at most 12 cells stands whole at a place, and an array has room for its variables.
+pub fn is_whole(bytes: &[u8], at: usize, variables: usize) -> bool
+    ensures { λ r. ⌜ r ≡ isWhole (now (bytes .entry)) variables at ⌝ }
 {
     if 9 < variables {
         return false;
@@ -22,7 +23,7 @@ fn fits_arrays(bytes: &[u8], at: usize, variables: usize) -> bool
         return false;
     }
     let n = bytes[at + 1] as usize;
-    if 14 < n {
+    if 12 < n {
         return false;
     }
     n <= last - at
@@ -54,8 +55,8 @@ fn load_links(bytes: &[u8], first: usize, count: usize, links: &mut [u8])
     }
 }
 
-// Loads the shape of the entry at a place and gives its number of cells; where it is not whole, or there is no room for it, 0, and the
-// arrays stay as they are.
+// Loads the shape of the entry at a place and gives its number of cells; where it is not whole, 0, and the arrays stay as they
+// are.
 pub fn load_shape(
     bytes: &[u8],
     at: usize,
@@ -67,7 +68,7 @@ pub fn load_shape(
     ensures vars { λ r. ⌜ now (vars .exit) ≡ loadedVars (now (bytes .entry)) variables at (now (vars .entry)) ⌝ }
     ensures links { λ r. ⌜ now (links .exit) ≡ loadedLinks (now (bytes .entry)) variables at (now (links .entry)) ⌝ }
 {
-    if !fits_arrays(bytes, at, variables) {
+    if !is_whole(bytes, at, variables) {
         return 0;
     }
     let n = bytes[at + 1];

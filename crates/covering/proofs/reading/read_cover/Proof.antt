@@ -2,8 +2,8 @@ use mathlib.Core.Path.{_∙_, sym}
 use native.Mathlib.Omega.{arith}
 use lib.ListN.{getD}
 use borrow.Author.Tests.{not-true, not-false}
-use Rattle.embedding.specs.Images.{Whole}
-use Rattle.covering.proofs.Members.{whole}
+use Rattle.layout.specs.Entries.{Whole}
+use Rattle.layout.proofs.Whole.{whole}
 use Rattle.covering.proofs.Covers.{cover-unreadable, cover-outside, cover-absent, cover-refused, cover-taken}
 use borrow.Author.Needs.{needs}
 use Rattle.covering.proofs.reading.read_cover.Statement.{statement}
@@ -34,7 +34,7 @@ cast-start : tie.Need-cast-start
 cast-start c = omega (arith, c .shared-slice-known3 .given (c .before .before .before .r .given .0 .0))
 
 is-whole-requires : tie.Need-is-whole-requires
-is-whole-requires c κs = omega (arith, c .shared-slice-known3 .given (c .before .before .before .r .given .0 .0))
+is-whole-requires c κs = search needs
 
 returns-3 : tie.Need-returns-3
 returns-3 c = cover-absent _ _ _ _ _ _ _ _ (sym (c .before .before .before .before .before .before .before .read-number .ensures) ∙ c .before .before .before .before .before .r .given .1) (omega arith) (sym (c .before .is-whole .ensures) ∙ not-true _ (c .if2 .taken))
