@@ -6,7 +6,7 @@ use Prim.Native.Nat.{ℕ, zero, suc, _+_, _*_, _≤_, _<_}
 use native.Mathlib.Numerals.{add-one}
 use native.Mathlib.Omega.{arith}
 use lib.ListN.{length, replicate}
-use Rattle.order.specs.Index.{Linked}
+use Rattle.order.specs.Index.{IndexedFrom}
 use Rattle.order.proofs.Index.{linked-none, linked-more}
 use Rattle.reader.specs.Job.{JobRead}
 use Rattle.reader.specs.declared.Header.{Header}
@@ -16,7 +16,7 @@ use Rattle.checker.specs.Jobs.{toState}
 
 -- the transitions before the i-th are put in front of those from it on
 linked-with : (to : ℕ → ℕ) (count : ℕ) → count ≤ 256 → ((j : ℕ) → j < count → to j < 64) → (i : ℕ) (heads nexts : List ℕ) → i ≤ count
-    → Linked to count i heads nexts → Linked to count 0 (headsWith to i heads) (nextsWith to i heads nexts)
+    → IndexedFrom to count i heads nexts → IndexedFrom to count 0 (headsWith to i heads) (nextsWith to i heads nexts)
 unfolding headsWith nextsWith
 linked-with to count most low zero heads nexts b l = l
 linked-with to count most low (suc i) heads nexts b l =
@@ -32,7 +32,7 @@ linked-all : (job : List ℕ) (first count : ℕ) → count ≤ 256 → ((i : �
     → ((i : ℕ) → i < count → toByte job first i < 64)
     → let heads : List ℕ = replicate 64 0 in
     let nexts : List ℕ = replicate 256 0 in
-    Linked (toByte job first) count 0 (indexedHeads job first count heads) (indexedNexts job first count heads nexts)
+    IndexedFrom (toByte job first) count 0 (indexedHeads job first count heads) (indexedNexts job first count heads nexts)
 unfolding headsWith nextsWith
 linked-all job first zero most inside low =
     let b = areThere job first 0 in
@@ -51,5 +51,5 @@ module _ {job : List ℕ} {h : Header} (r : JobRead job h) where
       let count = h .transitions in
       let heads : List ℕ = replicate 64 0 in
       let nexts : List ℕ = replicate 256 0 in
-      Linked (toState job h) count 0 (indexedHeads job first count heads) (indexedNexts job first count heads nexts)
+      IndexedFrom (toState job h) count 0 (indexedHeads job first count heads) (indexedNexts job first count heads nexts)
   linked-job = linked-all job (h .«transitions_at») (h .transitions) (r .transitions-number) (λ i b. r .transitions i b .inside) (λ i b. omega (arith, r .transitions i b .to, r .states .1))

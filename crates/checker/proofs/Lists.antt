@@ -5,7 +5,7 @@ use Prim.Native.Nat.{ℕ, suc, _+_, _-_, _≤_, _<_}
 use native.Mathlib.Numerals.{add-one}
 use native.Mathlib.Omega.{arith}
 use Rattle.lists.specs.Range.{range}
-use Rattle.layout.specs.Entries.{locatedAt, Entry, entryEnd, entriesAt, EntriesIn}
+use Rattle.layout.specs.Entries.{locatedAt, EntryInRange, entryEnd, entriesAt, EntriesIn}
 
 -- i of n have been passed
 module _ (n i : ℕ) (h : i < n) where
@@ -20,7 +20,7 @@ module _ (n i : ℕ) (h : i < n) where
     unfolding entriesAt
     entries-next = rw left refl
 
-    pub entry-next : EntriesIn bytes variables at (n - i) → Entry bytes variables at × EntriesIn bytes variables (entryEnd bytes variables at) (n - (i + 1))
+    pub entry-next : EntriesIn bytes variables at (n - i) → EntryInRange bytes variables at × EntriesIn bytes variables (entryEnd bytes variables at) (n - (i + 1))
     unfolding EntriesIn
     entry-next e = rw left at e
 

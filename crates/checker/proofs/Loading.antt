@@ -10,7 +10,7 @@ use Rattle.lists.proofs.List.{getD-mem}
 use Rattle.heap.specs.Place.{cell}
 use Rattle.shape.specs.Shape.{Shape, AllBelow}
 use Rattle.layout.specs.Arrays.{shapeIn, Hold}
-use Rattle.layout.specs.Entries.{Entry, locatedAt}
+use Rattle.layout.specs.Entries.{EntryInRange, locatedAt}
 use Rattle.layout.proofs.Whole.{is-whole}
 use Rattle.reader.specs.Loading.{loadedCells, loadedVars, loadedLinks}
 
@@ -37,7 +37,7 @@ module _ (count : ℕ) (s rest : List ℕ) (enough : count ≤ length s) where
       let e : i ≡ length (take count s) + (i - count) = omega (arith, front) in
       ap (λ (k : ℕ). getD (take count s ++ rest) k 0) e ∙ getD-append-add (take count s) rest (i - count) 0
 
-module _ (bytes : List ℕ) (variables at : ℕ) (entry : Entry bytes variables at) (few : variables ≤ 8) (xs links₀ : List ℕ)
+module _ (bytes : List ℕ) (variables at : ℕ) (entry : EntryInRange bytes variables at) (few : variables ≤ 8) (xs links₀ : List ℕ)
     (slots : length xs ≡ 9) (room : length links₀ ≡ 14) (clear : (i : ℕ) → getD xs i 0 ≡ 0) where
   abbrev n : ℕ
   n = getD bytes (at + 1) 0
@@ -102,7 +102,7 @@ module _ (bytes : List ℕ) (variables at : ℕ) (entry : Entry bytes variables 
       }
 
 -- cleared arrays, once the entry is loaded
-pub loaded : (bytes : List ℕ) (variables at n : ℕ) (vars links : List ℕ) → Entry bytes variables at → variables ≤ 8 → n ≡ loadedCells bytes variables at
+pub loaded : (bytes : List ℕ) (variables at n : ℕ) (vars links : List ℕ) → EntryInRange bytes variables at → variables ≤ 8 → n ≡ loadedCells bytes variables at
     → vars ≡ loadedVars bytes variables at (replicate 10 0) → links ≡ loadedLinks bytes variables at (replicate 14 0)
     → Loaded bytes variables at n vars links
 loaded bytes variables at n vars links entry few n-is vars-is links-is =

@@ -12,10 +12,12 @@ use Rattle.lists.proofs.Test.{and-right}
 use Rattle.run.specs.Run.{Located, Job}
 use Rattle.cover.specs.Cover.{owed}
 use Rattle.format.specs.Certificate.{Member, withoutPlaces, readMembers, testStart, readCover}
-use Rattle.format.specs.Conditions.{SafeBytes, countsOf}
-use Rattle.format.specs.Job.{JobFile, readWholeJob}
+use Rattle.format.specs.Conditions.{countsOf}
+use Rattle.format.specs.JobBytes.{SafeBytes}
+use Rattle.format.specs.Job.{readWholeJob}
+use Rattle.format.specs.JobNumbers.{JobFile}
 use Rattle.format.specs.Parser.{Parsed, parsed, fault, Parser, onward, each, certificateBuffer, jobBuffer, end}
-use Rattle.format.specs.Verdict.{Counts, accepted, refused, answer, readCertificate, fits, verdict, readBoth}
+use Rattle.format.specs.Verdict.{Counts, accepted, refused, conclude, readCertificate, fits, verdict, readBoth}
 use Rattle.format.proofs.Guarantee.{safe-bytes}
 use Rattle.layout.specs.Entries.{entryEnd, entriesAt}
 use Rattle.reader.specs.Job.{JobRead}
@@ -72,11 +74,11 @@ module _ (cert : List ℕ) (j : Job) (ms : List Located) (at : ℕ) (g : Going) 
     (λ t g-is. let z : _≡_ {A = ℕ} 0 1 = cc (ap goingOf g-is) in absurd (omega arith)),
   )
 
-  pub covers-refused : (why : Refusal) (place : ℕ) → g ≡ Refused why place → refused (refusalNumber why) place ≡ answer (readCovers cert j ms at)
+  pub covers-refused : (why : Refusal) (place : ℕ) → g ≡ Refused why place → refused (refusalNumber why) place ≡ conclude (readCovers cert j ms at)
   unfolding readCovers
   covers-refused why place g-is =
       let r = each (readCover (certificateBuffer cert) ms) (owed j ms) at in
-      sym (ap answer (by-each r (taken ∙ takeAll-each cert ms (owed j ms) 0 at) .0 why place g-is))
+      sym (ap conclude (by-each r (taken ∙ takeAll-each cert ms (owed j ms) 0 at) .0 why place g-is))
 
   module _ (t : Taken) (g-is : g ≡ On t) where
     -- all covers were taken
@@ -84,12 +86,12 @@ module _ (cert : List ℕ) (j : Job) (ms : List Located) (at : ℕ) (g : Going) 
     unfolding readCovers
     reached = by-each (each (readCover (certificateBuffer cert) ms) (owed j ms) at) (taken ∙ takeAll-each cert ms (owed j ms) 0 at) .1 t g-is
 
-    pub covers-left : t .at < length cert → refused 10 (t .at) ≡ answer (readCovers cert j ms at)
+    pub covers-left : t .at < length cert → refused 10 (t .at) ≡ conclude (readCovers cert j ms at)
     unfolding end
     covers-left h = rw (reached .1, lt-leb (length cert) (t .at) h) refl
 
     pub covers-taken : (bads members : ℕ) → length cert ≤ t .at → bads ≡ length (j .forbidden) → members ≡ length ms
-        → accepted (record { bads = bads; members = members; covers = t .covers }) ≡ answer (readCovers cert j ms at)
+        → accepted (record { bads = bads; members = members; covers = t .covers }) ≡ conclude (readCovers cert j ms at)
     unfolding end
     covers-taken bads members h bads-is members-is = rw (reached .1, le-leb (length cert) (t .at) h, bads-is, members-is, reached .0) refl
 
@@ -127,7 +129,7 @@ module _ (cert : List ℕ) (f : JobFile) where
 
   pub certificate-refused : (number place : ℕ)
       → readTested (certificateBuffer cert) (f .job .variables) (f .states) (f .job .start) 0 ≡ fault number place
-      → refused number place ≡ answer (readCertificate (certificateBuffer cert) f 0)
+      → refused number place ≡ conclude (readCertificate (certificateBuffer cert) f 0)
   certificate-refused number place e = rw (in-turn, e) refl
 
   pub certificate-members : (ms : List Member) (next : ℕ)
@@ -165,7 +167,7 @@ module _ (job cert : List ℕ) where
       unfolding verdict readBoth
       job-refused number place e = rw (job-fits, cert-fits, e) refl
 
-      pub job-read : (h : Header) → JobRead job h → answer (readCertificate (certificateBuffer cert) (fileIn job h) 0) ≡ verdict job cert
+      pub job-read : (h : Header) → JobRead job h → conclude (readCertificate (certificateBuffer cert) (fileIn job h) 0) ≡ verdict job cert
       unfolding verdict readBoth
       job-read h d = rw (job-fits, cert-fits, d .read, file-is job h d) refl
 

@@ -7,7 +7,7 @@ use Rattle.run.specs.Run.{Transition, Located, Job}
 use Rattle.cover.specs.Cover.{predecessorsBy, owed}
 use Rattle.format.specs.Certificate.{readCover}
 use Rattle.format.specs.Conditions.{countsOf}
-use Rattle.format.specs.Job.{JobFile}
+use Rattle.format.specs.JobNumbers.{JobFile}
 use Rattle.format.specs.Parser.{Parser, _>>_, return, each, certificateBuffer, end}
 use Rattle.format.specs.Verdict.{Counts}
 use Rattle.layout.specs.Entries.{entriesAt}

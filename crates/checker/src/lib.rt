@@ -13,9 +13,9 @@ ghost use mathlib.Core.Path.{_≡_};
 ghost use Prim.Native.Nat.{_≤_};
 ghost use lib.ListN.{length};
 ghost use Rattle.checker.specs.Jobs.{fileIn, readCovers};
-ghost use Rattle.format.specs.Conditions.{SafeBytes};
+ghost use Rattle.format.specs.JobBytes.{SafeBytes};
 ghost use Rattle.format.specs.Parser.{certificateBuffer, within};
-ghost use Rattle.format.specs.Verdict.{answer, readCertificate, verdict};
+ghost use Rattle.format.specs.Verdict.{conclude, readCertificate, verdict};
 ghost use Rattle.layout.specs.Entries.{membersAt, Table};
 ghost use Rattle.reader.specs.Job.{JobRead};
 ghost use Rattle.verdict.specs.Verdict.{verdictOf};
@@ -42,7 +42,7 @@ fn fits(len: usize) -> bool
 // Takes the covers and sees that nothing is left after them.
 fn check_covers(job: &[u8], h: Header, cert: &[u8], starts: &[u16], at: usize) -> Verdict
     requires { ⌜ (JobRead (now job) h) × (Table (now cert) (h .variables) (now starts)) × (at ≤ length (now cert)) × (length (now cert) ≤ 65536) ⌝ }
-    ensures { λ r. ⌜ verdictOf r ≡ answer (readCovers (now (cert .entry)) (fileIn (now (job .entry)) h .job) (membersAt (now (cert .entry)) (h .variables) (now (starts .entry))) at) ⌝ }
+    ensures { λ r. ⌜ verdictOf r ≡ conclude (readCovers (now (cert .entry)) (fileIn (now (job .entry)) h .job) (membersAt (now (cert .entry)) (h .variables) (now (starts .entry))) at) ⌝ }
 {
     let g = take_covers(job, h, cert, starts, at);
     match g {
@@ -63,7 +63,7 @@ fn check_covers(job: &[u8], h: Header, cert: &[u8], starts: &[u16], at: usize) -
 // Checks a certificate for a job that was read.
 fn check_certificate(job: &[u8], h: Header, cert: &[u8]) -> Verdict
     requires { ⌜ (JobRead (now job) h) × (length (now cert) ≤ 65536) ⌝ }
-    ensures { λ r. ⌜ verdictOf r ≡ answer (readCertificate (certificateBuffer (now (cert .entry))) (fileIn (now (job .entry)) h) 0) ⌝ }
+    ensures { λ r. ⌜ verdictOf r ≡ conclude (readCertificate (certificateBuffer (now (cert .entry))) (fileIn (now (job .entry)) h) 0) ⌝ }
 {
     let mut starts = [0u16; 512];
     let r = read_members(cert, h.variables, h.states, h.start, &mut starts);

@@ -24,7 +24,7 @@ ghost use Rattle.kinds.specs.Kinds.{allowed};
 ghost use Rattle.layout.specs.Arrays.{shapeIn, Hold};
 ghost use Rattle.layout.specs.Entries.{locatedAt, entriesAt, EntriesIn, membersAt, Table};
 ghost use Rattle.layout.specs.Transitions.{transitionAt};
-ghost use Rattle.order.specs.Index.{nextInto, Follows, Linked};
+ghost use Rattle.order.specs.Index.{nextInto, Follows, IndexedFrom};
 ghost use Rattle.reader.specs.Job.{JobRead};
 
 // Covers of so many forbidden shapes, from a place of the job on.
@@ -127,7 +127,7 @@ fn take_member(
     m: usize,
     t: Taken,
 ) -> Going
-    requires { ⌜ (JobRead (now job) h) × (Linked (toState (now job) h) (h .transitions) 0 (now heads) (now nexts)) × (Table (now cert) (h .variables) (now starts)) × (m < length (now starts)) × (Within (now cert) t) ⌝ }
+    requires { ⌜ (JobRead (now job) h) × (IndexedFrom (toState (now job) h) (h .transitions) 0 (now heads) (now nexts)) × (Table (now cert) (h .variables) (now starts)) × (m < length (now starts)) × (Within (now cert) t) ⌝ }
     ensures { λ r. ⌜ TakesAll (now (cert .entry)) (membersFrom (now (cert .entry)) (h .variables) (now (starts .entry))) (owedBy (now (job .entry)) h (locatedAt (now (cert .entry)) (h .variables) (getD (now (starts .entry)) m 0))) t r ⌝ }
 {
     let at = starts[m] as usize;
@@ -164,7 +164,7 @@ pub(crate) fn take_members(
     starts: &[u16],
     from: Taken,
 ) -> Going
-    requires { ⌜ (JobRead (now job) h) × (Linked (toState (now job) h) (h .transitions) 0 (now heads) (now nexts)) × (Table (now cert) (h .variables) (now starts)) × (Within (now cert) from) ⌝ }
+    requires { ⌜ (JobRead (now job) h) × (IndexedFrom (toState (now job) h) (h .transitions) 0 (now heads) (now nexts)) × (Table (now cert) (h .variables) (now starts)) × (Within (now cert) from) ⌝ }
     ensures { λ r. ⌜ TakesAll (now (cert .entry)) (membersFrom (now (cert .entry)) (h .variables) (now (starts .entry))) (concatMap (owedBy (now (job .entry)) h) (membersAt (now (cert .entry)) (h .variables) (now (starts .entry)))) from r ⌝ }
 {
     let mut t = from;

@@ -13,7 +13,7 @@ use Rattle.verdict.specs.Verdict.{refusalNumber}
 use Rattle.verdict.specs.declared.Reached.{Reached}
 use Rattle.verdict.specs.declared.Reached.the-variants.{At, Refused}
 use Rattle.layout.specs.Entries.{locatedAt, Whole}
-use Rattle.embedding.specs.Images.{imagesIn, Images}
+use Rattle.embedding.specs.Images.{imagesIn, ImageCodes}
 use Rattle.covering.specs.Members.{membersFrom}
 use Rattle.covering.specs.declared.reading.CoverRead.{CoverRead}
 use Rattle.covering.specs.declared.reading.CoverRead.the-variants.{Taken, Refused as NotRead}
@@ -26,7 +26,7 @@ imagesOf (Refused r place) images = fault (refusalNumber r) place
 -- so many images below n are read from a place on, into an array
 pub record ImagesRead (cert : List ℕ) (first n count : ℕ) (r : Reached) (codes : List ℕ) : Type 0 where
   pub reads : imagesOf r (imagesIn count codes) ≡ many count (ranged (certificateBuffer cert) 0 n) first
-  pub images : (next : ℕ) → r ≡ At next → Images count n codes
+  pub images : (next : ℕ) → r ≡ At next → ImageCodes count n codes
 
 -- where the reading of a cover ended
 abbrev pub withoutMember : CoverRead → Reached
@@ -49,4 +49,4 @@ module _ (cert : List ℕ) (variables : ℕ) (starts : List ℕ) where
         → coverOf at covered r codes ≡ readCover (certificateBuffer cert) (membersFrom cert variables starts) covered at
     pub member : (m next : ℕ) → r ≡ Taken m next → m < length starts
     pub whole : (m next : ℕ) → r ≡ Taken m next → Whole cert variables (getD starts m 0)
-    pub images : (m next : ℕ) → r ≡ Taken m next → Images (cellsAt m) n codes
+    pub images : (m next : ℕ) → r ≡ Taken m next → ImageCodes (cellsAt m) n codes

@@ -9,7 +9,7 @@ ghost use Rattle.shape.specs.Shape.{Shape};
 ghost use Rattle.cover.specs.Test.{embeds?};
 ghost use Rattle.layout.specs.Arrays.{shapeIn};
 ghost use Rattle.layout.specs.Entries.{locatedAt, Whole};
-ghost use Rattle.embedding.specs.Images.{imagesIn, Images, imageIn, once, varFitsIn, pathFits};
+ghost use Rattle.embedding.specs.Images.{imagesIn, ImageCodes, imageIn, once, varFitsIn, pathFits};
 ghost use Rattle.embedding.specs.Marks.{markIn, Marks, Walking, Followed, Linking};
 
 // Marks by the code of a place: where a path may pass, where it ends, where one has passed.
@@ -57,7 +57,7 @@ fn image_of(images: &[u8; 15], p: usize) -> u8
 
 // Marks the images as stops. False where two are the same.
 fn mark_images(images: &[u8; 15], count: usize, marks: &mut [u8; 17]) -> bool
-    requires { ⌜ Images count 14 (now images) × Marks [] [] (now marks) ⌝ }
+    requires { ⌜ ImageCodes count 14 (now images) × Marks [] [] (now marks) ⌝ }
     ensures { λ r. ⌜ (r ≡ once (imagesIn count (now (images .entry)))) × (r ≡ true → Marks (imagesIn count (now (images .entry))) [] (now (marks .exit))) ⌝ }
 {
     let mut i = 0;
@@ -155,7 +155,7 @@ pub(crate) fn embeds(
     vars: &[u8; 10],
     links: &[u8; 14],
 ) -> bool
-    requires { ⌜ (Whole (now cert) variables start) × (length (now links) ≡ 14) × (n ≤ 14) × (Images (getD (now cert) (start + 1) 0) n (now images)) ⌝ }
+    requires { ⌜ (Whole (now cert) variables start) × (length (now links) ≡ 14) × (n ≤ 14) × (ImageCodes (getD (now cert) (start + 1) 0) n (now images)) ⌝ }
     ensures { λ r. ⌜ r ≡ embeds? (locatedAt (now (cert .entry)) variables start .shape) (shapeIn variables n (now (vars .entry)) (now (links .entry))) (imagesIn (getD (now (cert .entry)) (start + 1) 0) (now (images .entry))) ⌝ }
 {
     let cells = wide(cert[start + 1]);

@@ -14,13 +14,13 @@ use Rattle.heap.specs.Codes.{linkIn}
 use Rattle.heap.specs.Place.{nowhere, cell}
 use Rattle.shape.proofs.Laws.{CellOf, by-number}
 use Rattle.cover.specs.Test.{stops}
-use Rattle.embedding.specs.Marks.{mark, markIn, Marks, Linked, Walking, Followed}
+use Rattle.embedding.specs.Marks.{mark, markIn, Marks, LinksIn, Walking, Followed}
 use Rattle.embedding.proofs.Marks.{mark-free, mark-used, mark-stop, marks-like, marks-use}
 use Rattle.embedding.proofs.Trail.{free-low, Trail, trail-none, trail-more, trail-past, trail-found, trail-lost}
 
 -- ---- links
 
-module _ (links codes : List ℕ) (l : Linked links codes) where
+module _ (links codes : List ℕ) (l : LinksIn links codes) where
   pub link-read : (p : ℕ) → CellOf (length links) p → getD codes (p - 3) 0 ≡ linkIn links p
   link-read p (a, b) = by-number (length links) (λ p. getD codes (p - 3) 0 ≡ linkIn links p) (λ i h. rw at-cell (l .same i h)) p (a, b)
     where

@@ -12,7 +12,7 @@ use lib.ListN.{length, getD, take, drop, length-map, length-take, length-drop, r
 use lib.Seq.{getD-take, getD-drop}
 use Rattle.heap.specs.Place.{nowhere, cell}
 use Rattle.cover.specs.Test.{imageMap}
-use Rattle.embedding.specs.Images.{imagesIn, Images, imageIn}
+use Rattle.embedding.specs.Images.{imagesIn, ImageCodes, imageIn}
 
 getD-sub : (l : List ℕ) (i : ℕ) → getD (map (λ p. p - 3) l) i 0 ≡ getD l i 0 - 3
 getD-sub [] i = refl
@@ -25,7 +25,7 @@ somewhere images (suc zero) n = n
 somewhere images (suc (suc zero)) n = n
 somewhere images (suc (suc (suc i))) n = omega arith
 
-module _ (count n : ℕ) (codes : List ℕ) (m : Images count n codes) where
+module _ (count n : ℕ) (codes : List ℕ) (m : ImageCodes count n codes) where
   pub images-length : length (imagesIn count codes) ≡ count
   images-length = simp (length-map, length-take, length-drop) (omega (arith, m .room, m .few))
 
@@ -64,7 +64,7 @@ pub image-past : (codes : List ℕ) (p : ℕ) → 15 ≤ p → imageIn codes p �
 unfolding imageIn
 image-past codes p b = rw (le-ltb p 15 b) refl
 
-pub images-none : (n : ℕ) → Images 0 n (0 ∷ 1 ∷ 2 ∷ replicate 12 3)
+pub images-none : (n : ℕ) → ImageCodes 0 n (0 ∷ 1 ∷ 2 ∷ replicate 12 3)
 images-none n =
     record {
       room = refl;

@@ -14,7 +14,7 @@ use Rattle.number.specs.Number.{numberAt}
 use Rattle.number.specs.declared.Read.the-variants.{Number, Unreadable}
 use Rattle.format.specs.Parser.{Parsed, parsed, fault, Parser, onward, return, many, certificateBuffer, within, such, meant, readAs, ranged}
 use Rattle.format.proofs.Parsing.{read-outside, read-complete}
-use Rattle.embedding.specs.Images.{imagesIn, Images}
+use Rattle.embedding.specs.Images.{imagesIn, ImageCodes}
 
 -- ---- one number
 
@@ -35,7 +35,7 @@ map-snoc : (f : ℕ → ℕ) (xs : List ℕ) (y : ℕ) → map f (xs ++ (y ∷ [
 map-snoc f [] y = refl
 map-snoc f (x ∷ xs) y = ap (λ (l : List ℕ). f x ∷ l) (map-snoc f xs y)
 
-module _ (n i : ℕ) (codes : List ℕ) (m : Images i n codes) (x : ℕ) (room : i < 12) where
+module _ (n i : ℕ) (codes : List ℕ) (m : ImageCodes i n codes) (x : ℕ) (room : i < 12) where
   images-snoc : imagesIn (i + 1) (set codes (i + 3) (x + 3)) ≡ imagesIn i codes ++ (x ∷ [])
   images-snoc =
       let swap : i + 3 ≡ 3 + i = omega arith in
@@ -44,7 +44,7 @@ module _ (n i : ℕ) (codes : List ℕ) (m : Images i n codes) (x : ℕ) (room :
       rw (add-one i, swap, drop-set-add 3 codes i (x + 3), take-suc-set (drop 3 codes) i (x + 3) inside)
       (map-snoc (λ p. p - 3) (take i (drop 3 codes)) (x + 3) ∙ ap (λ (y : ℕ). imagesIn i codes ++ (y ∷ [])) back)
 
-  images-more : x < n → Images (i + 1) n (set codes (i + 3) (x + 3))
+  images-more : x < n → ImageCodes (i + 1) n (set codes (i + 3) (x + 3))
   images-more b =
       record {
         room = length-set codes (i + 3) (x + 3) ∙ m .room;
@@ -77,14 +77,14 @@ module _ (cert : List ℕ) (first n count : ℕ) where
   -- the first i images are read, up to a place
   pub record Reading (codes : List ℕ) (at i : ℕ) : Type 0 where
     pub inside : i ≤ count
-    pub images : Images i n codes
+    pub images : ImageCodes i n codes
     pub whole : onward (many (count - i) image at) (λ xs. return (imagesIn i codes ++ xs)) ≡ many count image first
 
   return-all : (r : Parsed (List ℕ)) → onward r (λ xs. return xs) ≡ r
   return-all (parsed xs next) = refl
   return-all (fault number place) = refl
 
-  pub reading-none : (codes : List ℕ) → Images 0 n codes → Reading codes first 0
+  pub reading-none : (codes : List ℕ) → ImageCodes 0 n codes → Reading codes first 0
   reading-none codes m =
       record {
         inside = omega arith;
@@ -93,7 +93,7 @@ module _ (cert : List ℕ) (first n count : ℕ) where
       }
 
   module _ (codes : List ℕ) (at i : ℕ) (r : Reading codes at i) where
-    pub reading-all : count ≤ i → (parsed (imagesIn count codes) at ≡ many count image first) × Images count n codes
+    pub reading-all : count ≤ i → (parsed (imagesIn count codes) at ≡ many count image first) × ImageCodes count n codes
     unfolding many
     reading-all b =
         let e : i ≡ count = omega (arith, r .inside) in

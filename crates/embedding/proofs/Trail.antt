@@ -64,7 +64,7 @@ module _ (links images used : List ℕ) (from : ℕ) where
     pub cells : (x : ℕ) → x ∈ path → CellOf (length links) x
     pub free : (x : ℕ) → x ∈ path → stop x ≡ false
     pub unused : (x : ℕ) → x ∈ path → ¬ (x ∈ used)
-    pub onward : (x : ℕ) → x ∈ path → (link x ∈ path) ⊎ (link x ≡ q)
+    pub continues : (x : ℕ) → x ∈ path → (link x ∈ path) ⊎ (link x ≡ q)
     pub begins : (link from ∈ path) ⊎ (link from ≡ q)
 
   pub trail-none : Trail [] (link from)
@@ -78,7 +78,7 @@ module _ (links images used : List ℕ) (from : ℕ) where
         cells = λ x m. absurd (List·Memᴰ·not-nil m);
         free = λ x m. absurd (List·Memᴰ·not-nil m);
         unused = λ x m. absurd (List·Memᴰ·not-nil m);
-        onward = λ x m. absurd (List·Memᴰ·not-nil m);
+        continues = λ x m. absurd (List·Memᴰ·not-nil m);
         begins = inr refl;
       }
 
@@ -86,7 +86,7 @@ module _ (links images used : List ℕ) (from : ℕ) where
     -- a path round in a ring has no end
     ring : q ∈ path → (k x : ℕ) → x ∈ path → walkEnd link stop k x ≡ nowhere
     ring m zero x i = refl
-    ring m (suc k) x i = rw (t .free x i) (ring m k (link x) (next (t .onward x i)))
+    ring m (suc k) x i = rw (t .free x i) (ring m k (link x) (next (t .continues x i)))
       where
         next : (link x ∈ path) ⊎ (link x ≡ q) → link x ∈ path
         next (inl j) = j
@@ -136,8 +136,8 @@ module _ (links images used : List ℕ) (from : ℕ) where
                 cells = all-snoc (CellOf (length links)) path q (t .cells) (free-low images q e, b);
                 free = all-snoc (λ x. stop x ≡ false) path q (t .free) e;
                 unused = all-snoc (λ x. ¬ (x ∈ used)) path q (t .unused) u;
-                onward =
-                    all-snoc (λ x. (link x ∈ (path ++ (q ∷ []))) ⊎ (link x ≡ link q)) path q (λ x m. widen (link x) (t .onward x m)) (inr refl);
+                continues =
+                    all-snoc (λ x. (link x ∈ (path ++ (q ∷ []))) ⊎ (link x ≡ link q)) path q (λ x m. widen (link x) (t .continues x m)) (inr refl);
                 begins = widen (link from) (t .begins);
               }
 

@@ -12,8 +12,8 @@ use Rattle.shape.specs.Shape.{Shape, varAt, size}
 use Rattle.cover.specs.Test.{imageMap, varFits, linkMeets, pathUnshared, embeds?}
 use Rattle.layout.specs.Arrays.{shapeIn}
 use Rattle.layout.specs.Entries.{locatedAt, Whole}
-use Rattle.embedding.specs.Images.{imagesIn, Images, imageIn, once, varFitsIn, pathFits}
-use Rattle.embedding.specs.Marks.{Marks, Linked, Linking}
+use Rattle.embedding.specs.Images.{imagesIn, ImageCodes, imageIn, once, varFitsIn, pathFits}
+use Rattle.embedding.specs.Marks.{Marks, LinksIn, Linking}
 use Rattle.embedding.proofs.Images.{images-length, image-of}
 
 -- ---- tests over a run of numbers
@@ -40,11 +40,11 @@ module _ (variables n : ℕ) (vars links : List ℕ) (room : length links ≡ 14
   pub covered-size : size (shapeIn variables n vars links) ≡ n
   covered-size = length-take-le n links (omega arith)
 
-  covered-linked : Linked (take n links) links
+  covered-linked : LinksIn (take n links) links
   covered-linked =
       record { room = room; fit = omega (arith, covered-size); same = λ i b. sym (getD-take n links i 0 (omega (arith, covered-size))) }
 
-  module _ (cert : List ℕ) (start : ℕ) (e : Whole cert variables start) (codes : List ℕ) (im : Images (getD cert (start + 1) 0) n codes) where
+  module _ (cert : List ℕ) (start : ℕ) (e : Whole cert variables start) (codes : List ℕ) (im : ImageCodes (getD cert (start + 1) 0) n codes) where
     abbrev cells : ℕ
     cells = getD cert (start + 1) 0
 
@@ -102,7 +102,7 @@ module _ (variables n : ℕ) (vars links : List ℕ) (room : length links ≡ 14
     -- ---- the tests in turn, where the number of the member's cells has been read
 
     module _ (count : ℕ) (read : count ≡ cells) where
-      pub images-in : Images count 14 codes
+      pub images-in : ImageCodes count 14 codes
       images-in =
           rw read
           (record {

@@ -15,7 +15,7 @@ abbrev pub imagesIn : ℕ → List ℕ → List ℕ
 imagesIn count codes = map (λ p. p - 3) (take count (drop 3 codes))
 
 -- the array maps so many cells to cells below n: "# to # and * to *". What it has no image of it maps to cell 0, as `imageMap` does.
-pub record Images (count n : ℕ) (codes : List ℕ) : Type 0 where
+pub record ImageCodes (count n : ℕ) (codes : List ℕ) : Type 0 where
   pub room : length codes ≡ 15
   pub few : count ≤ 12
   pub nowhere-fixed : getD codes 0 0 ≡ nowhere

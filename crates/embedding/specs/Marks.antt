@@ -11,7 +11,7 @@ use Rattle.heap.specs.Codes.{linkIn}
 use Rattle.heap.specs.Place.{nowhere, cell}
 use Rattle.shape.specs.Shape.{Shape, size}
 use Rattle.cover.specs.Test.{stops, walkEnd, walked}
-use Rattle.embedding.specs.Images.{imagesIn, Images}
+use Rattle.embedding.specs.Images.{imagesIn, ImageCodes}
 
 -- the mark of a place at which a path ends or not, and that no path has used or one has: 0 is free, 1 a stop, 2 used
 abbrev pub mark : Bool → Bool → ℕ
@@ -29,7 +29,7 @@ unfoldable pub markIn : ℕ → List ℕ → ℕ → ℕ
 markIn n marks p = cond (ltb p (cell n)) (getD marks p 0) 2
 
 -- the links of a shape are the first in an array
-pub record Linked (links codes : List ℕ) : Type 0 where
+pub record LinksIn (links codes : List ℕ) : Type 0 where
   pub room : length codes ≡ 14
   pub fit : length links ≤ 14
   pub same : (i : ℕ) → i < length links → getD codes i 0 ≡ getD links i 0
@@ -37,7 +37,7 @@ pub record Linked (links codes : List ℕ) : Type 0 where
 -- a path may be followed from a cell that is an image, in a shape of n cells
 pub record Walking (links images used codes marks : List ℕ) (n from : ℕ) : Type 0 where
   pub cells : length links ≡ n
-  pub linked : Linked links codes
+  pub linked : LinksIn links codes
   pub marked : Marks images used marks
   pub low : cell 0 ≤ from
   pub high : from < cell (length links)
@@ -65,6 +65,6 @@ pub record Linking (member covered : Shape) (cert : List ℕ) (first count : ℕ
   pub cells : size member ≡ count
   pub same : (i : ℕ) → i < count → getD cert (first + i) 0 ≡ getD (member .links) i 0
   pub covered-cells : size covered ≡ n
-  pub images : Images count (size covered) codes
-  pub linked : Linked (covered .links) links
+  pub images : ImageCodes count (size covered) codes
+  pub linked : LinksIn (covered .links) links
   pub marked : Marks (imagesIn count codes) [] marks

@@ -23,7 +23,8 @@ use Rattle.format.specs.Parser.{parsed, many, each, Buffer, readAs, rang
 use Rattle.format.specs.Job.{readLocated}
 use Rattle.format.specs.Certificate.{Member, withoutPlaces, readMember, readMembers, atStart, testStart, readCover}
 use Rattle.format.specs.Numbers.{memberNumbers, coverNumbers}
-use Rattle.format.specs.Conditions.{Between, LocatedInRange, ImageForEach}
+use Rattle.format.specs.Conditions.{ImageForEach}
+use Rattle.format.specs.JobBytes.{Between, LocatedInRange}
 use Rattle.format.proofs.Sequence.{Reads, done, more, one, reads-none, reads-first, reads-append, reads-split}
 use Rattle.format.proofs.Parsing.{then, require-sound, require-complete, read-sound, read-complete, ranged-exact, many-exact, codes-exact}
 use Rattle.format.proofs.Files.{located-exact, version}

@@ -14,11 +14,13 @@ use Rattle.shape.specs.Shape.{Satisfies}
 use Rattle.run.specs.Run.{Located}
 use Rattle.cover.specs.Cover.{Cover, owed, AllHold}
 use Rattle.format.specs.Parser.{Parsed, parsed, fault, each, jobBuffer, certificateBuffer, end}
-use Rattle.format.specs.Job.{JobFile, readWholeJob}
+use Rattle.format.specs.Job.{readWholeJob}
+use Rattle.format.specs.JobNumbers.{JobFile, jobNumbers}
 use Rattle.format.specs.Certificate.{Member, withoutPlaces, readMembers, testStart, readCover}
-use Rattle.format.specs.Verdict.{Counts, accepted, refused, readCertificate, readBoth, answer, fits, verdict}
-use Rattle.format.specs.Numbers.{jobNumbers, memberNumbers, coverNumbers, certificateNumbers}
-use Rattle.format.specs.Conditions.{Between, LocatedInRange, IsJob, ImageForEach, countsOf, Conditions}
+use Rattle.format.specs.Verdict.{Counts, accepted, refused, readCertificate, readBoth, conclude, fits, verdict}
+use Rattle.format.specs.Numbers.{memberNumbers, coverNumbers, certificateNumbers}
+use Rattle.format.specs.Conditions.{ImageForEach, countsOf, Conditions}
+use Rattle.format.specs.JobBytes.{Between, LocatedInRange, IsJob}
 use Rattle.format.proofs.Sequence.{Reads, reads-append, reads-split, reads-decode, decode-reads}
 use Rattle.format.proofs.Parsing.{then}
 use Rattle.format.proofs.Files.{end-sound, end-complete, job-exact, whole-sound, whole-complete}
@@ -34,7 +36,7 @@ job-read job f i =
     (next, whole-complete (jobBuffer job) 0 f next (job-exact (jobBuffer job) .complete 0 f next g (i .in-range)) whole)
 
 module _ (job certificate : List ℕ) (counts : Counts) where
-  read-both : (r : Parsed Counts) → answer r ≡ accepted counts → (next : ℕ) × (r ≡ parsed counts next)
+  read-both : (r : Parsed Counts) → conclude r ≡ accepted counts → (next : ℕ) × (r ≡ parsed counts next)
   read-both (parsed c next) e = let c-is : c ≡ counts = cc in (next, ap (λ x. parsed x next) c-is)
   read-both (fault k p) e = let z : _≡_ {A = ℕ} 0 1 = cc in absurd (omega arith)
 
@@ -43,7 +45,7 @@ module _ (job certificate : List ℕ) (counts : Counts) where
   unfolding verdict
   accepted-both = by-fits (fits job) (fits certificate)
     where
-      by-fits : (a b : Bool) → cond a (cond b (answer (readBoth job certificate)) (refused 2 0)) (refused 1 0) ≡ accepted counts
+      by-fits : (a b : Bool) → cond a (cond b (conclude (readBoth job certificate)) (refused 2 0)) (refused 1 0) ≡ accepted counts
           → T a × T b × ((next : ℕ) × (readBoth job certificate ≡ parsed counts next))
       by-fits true true e = (tt, tt, read-both (readBoth job certificate) e)
       by-fits true false e = let z : _≡_ {A = ℕ} 0 1 = cc in absurd (omega arith)
@@ -115,9 +117,9 @@ module _ (job certificate : List ℕ) (counts : Counts) where
         members-complete (certificateBuffer certificate) (c .file .job .variables) (c .file .states) 0 (c .members) p₂ g₂ (c .members-range .number)
         (c .members-range .members) in
         let h = answers members same p₁ p₂ p₄ h₁ h₂ g₄ whole′ in
-        cond-true (fits job) (cond (fits certificate) (answer (readBoth job certificate)) (refused 2 0)) (refused 1 0) (r-fits job .tests (c .job-length))
-        ∙ cond-true (fits certificate) (answer (readBoth job certificate)) (refused 2 0) (r-fits certificate .tests (c .certificate-length))
-        ∙ ap answer h
+        cond-true (fits job) (cond (fits certificate) (conclude (readBoth job certificate)) (refused 2 0)) (refused 1 0) (r-fits job .tests (c .job-length))
+        ∙ cond-true (fits certificate) (conclude (readBoth job certificate)) (refused 2 0) (r-fits certificate .tests (c .certificate-length))
+        ∙ ap conclude h
 
 -- EXACT: the verdict is accepted with these counts if and only if every condition holds
 pub exact : (job certificate : List ℕ) (counts : Counts) → (verdict job certificate ≡ accepted counts) ↔ Conditions job certificate counts

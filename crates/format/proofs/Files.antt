@@ -15,9 +15,9 @@ use Rattle.heap.specs.Place.{cell}
 use Rattle.shape.specs.Shape.{Shape, size, InRange}
 use Rattle.run.specs.Run.{Transition, Located}
 use Rattle.format.specs.Parser.{parsed, fault, many, Buffer, such, readAs, ranged, end}
-use Rattle.format.specs.Job.{JobFile, readShape, readLocated, readTransition, readJob, readWholeJob}
-use Rattle.format.specs.Numbers.{opNumbers, transitionNumbers, shapeNumbers, locatedNumbers, jobNumbers}
-use Rattle.format.specs.Conditions.{LocatedInRange, TransitionInRange, JobInRange}
+use Rattle.format.specs.Job.{readShape, readLocated, readTransition, readJob, readWholeJob}
+use Rattle.format.specs.JobNumbers.{JobFile, opNumbers, transitionNumbers, shapeNumbers, locatedNumbers, jobNumbers}
+use Rattle.format.specs.JobBytes.{LocatedInRange, TransitionInRange, JobInRange}
 use Rattle.format.proofs.Sequence.{Reads, more, one, reads-first, reads-append, reads-split}
 use Rattle.format.proofs.Parsing.{then, require-sound, require-fault, require-complete, read-sound, read-complete}
 use Rattle.format.proofs.Parsing.{Exact, such-exact, ranged-exact, many-exact, codes-exact}

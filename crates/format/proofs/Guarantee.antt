@@ -8,10 +8,10 @@ use Rattle.number.proofs.RoundTrip.{encode-decode}
 use Rattle.cover.specs.Cover.{Certified}
 use Rattle.cover.proofs.Safe.{safe}
 use Rattle.format.specs.Parser.{Parsed, parsed}
-use Rattle.format.specs.Job.{JobFile}
-use Rattle.format.specs.Numbers.{jobNumbers}
+use Rattle.format.specs.JobNumbers.{JobFile, jobNumbers}
 use Rattle.format.specs.Verdict.{Counts, accepted, verdict}
-use Rattle.format.specs.Conditions.{Conditions, IsJob, SafeBytes}
+use Rattle.format.specs.Conditions.{Conditions}
+use Rattle.format.specs.JobBytes.{IsJob, SafeBytes}
 use Rattle.format.proofs.Exact.{job-read, exact}
 
 certified : (job certificate : List ℕ) (counts : Counts) (c : Conditions job certificate counts) → Certified (c .file .job) (c .members) (c .covers)

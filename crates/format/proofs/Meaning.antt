@@ -14,14 +14,14 @@ use Rattle.shape.specs.Shape.{InRange}
 use Rattle.run.specs.Run.{Located}
 use Rattle.cover.specs.Cover.{Cover, owed, AllHold}
 use Rattle.format.specs.Parser.{Parsed, parsed, fault, Parser, _>>=_, each, Buffer, jobBuffer, certificateBuffer, onward, end}
-use Rattle.format.specs.Job.{JobFile, readJob, readWholeJob}
+use Rattle.format.specs.Job.{readJob, readWholeJob}
+use Rattle.format.specs.JobNumbers.{JobFile, jobNumbers}
 use Rattle.format.specs.Certificate.{Member, withoutPlaces, readMembers, atStart, testStart, readCover}
-use Rattle.format.specs.Verdict.{Counts, refused, readCertificate, readBoth, answer, fits, verdict}
-use Rattle.format.specs.Conditions.{Between, MembersInRange, ImageForEach, countsOf, Conditions}
-use Rattle.format.specs.Numbers.{jobNumbers, memberNumbers, coverNumbers}
-use Rattle.format.specs.Meaning.{InJob, job-number, job-range, job-left, Covered}
-use Rattle.format.specs.Meaning.{InCertificate, certificate-number, certificate-range, member-satisfied, cover-fails, certificate-left}
-use Rattle.format.specs.Meaning.{Meaning, job-length, certificate-length, in-job, in-certificate}
+use Rattle.format.specs.Verdict.{Counts, refused, readCertificate, readBoth, conclude, fits, verdict}
+use Rattle.format.specs.Conditions.{MembersInRange, ImageForEach, countsOf, Conditions}
+use Rattle.format.specs.JobBytes.{Between}
+use Rattle.format.specs.Numbers.{memberNumbers, coverNumbers}
+use Rattle.format.specs.Meaning.{InJob, job-number, job-range, job-left, Covered, InCertificate, certificate-number, certificate-range, member-satisfied, cover-fails, certificate-left, Meaning, job-length, certificate-length, in-job, in-certificate}
 use Rattle.format.proofs.Sequence.{Reads, reads-append, reads-decode}
 use Rattle.format.proofs.Parsing.{not-fault, then-fault}
 use Rattle.format.proofs.Files.{end-fault, job-exact, whole-sound}
@@ -240,16 +240,16 @@ meaning job certificate number place = by-fits (fits job) (fits certificate) ref
         (certificate-meaning job certificate f next h₁ number place h₂))
         (λ h₁. in-job number place a b (job-meaning job number place h₁))
 
-    by-answer : Between 1 65536 (length job) → Between 1 65536 (length certificate) → (r : Parsed Counts) → readBoth job certificate ≡ r
-        → answer r ≡ refused number place → Meaning job certificate number place
-    by-answer a b (parsed c next) h e = let z : _≡_ {A = ℕ} 0 1 = cc in absurd (omega arith)
-    by-answer a b (fault k q) h e =
+    by-conclusion : Between 1 65536 (length job) → Between 1 65536 (length certificate) → (r : Parsed Counts) → readBoth job certificate ≡ r
+        → conclude r ≡ refused number place → Meaning job certificate number place
+    by-conclusion a b (parsed c next) h e = let z : _≡_ {A = ℕ} 0 1 = cc in absurd (omega arith)
+    by-conclusion a b (fault k q) h e =
         let k-is : k ≡ number = cc in
         let q-is : q ≡ place = cc in
         by-both a b (h ∙ ap₂ {A = ℕ} {B = ℕ} {C = Parsed Counts} fault k-is q-is)
 
     by-fits : (a b : Bool) → fits job ≡ a → fits certificate ≡ b
-        → cond a (cond b (answer (readBoth job certificate)) (refused 2 0)) (refused 1 0) ≡ refused number place → Meaning job certificate number place
-    by-fits true true x y e = by-answer (r-fits job .holds (rw x tt)) (r-fits certificate .holds (rw y tt)) (readBoth job certificate) refl e
+        → cond a (cond b (conclude (readBoth job certificate)) (refused 2 0)) (refused 1 0) ≡ refused number place → Meaning job certificate number place
+    by-fits true true x y e = by-conclusion (r-fits job .holds (rw x tt)) (r-fits certificate .holds (rw y tt)) (readBoth job certificate) refl e
     by-fits true false x y e = same 2 0 e (certificate-length (r-fits job .holds (rw x tt)) (λ k. rw y at (r-fits certificate .tests k)))
     by-fits false b x y e = same 1 0 e (job-length (λ k. rw x at (r-fits job .tests k)))

@@ -18,8 +18,10 @@ use Rattle.cover.specs.Cover.{Cover, Holds, holds?, AllHold}
 use Rattle.format.specs.Parser.{parsed, fault, Parser, many, each, Buffer, within, such, readAs, ranged}
 use Rattle.format.specs.Job.{readJob}
 use Rattle.format.specs.Certificate.{Member, withoutPlaces, readMember, readMembers, atStart, testStart, readCover}
-use Rattle.format.specs.Numbers.{locatedNumbers, coverNumbers}
-use Rattle.format.specs.Conditions.{LocatedInRange, ImageForEach}
+use Rattle.format.specs.Numbers.{coverNumbers}
+use Rattle.format.specs.JobNumbers.{locatedNumbers}
+use Rattle.format.specs.Conditions.{ImageForEach}
+use Rattle.format.specs.JobBytes.{LocatedInRange}
 use Rattle.format.proofs.Sequence.{Reads, done, more, reads-append}
 use Rattle.format.proofs.Parsing.{not-fault, then, then-fault, require-sound, require-fault, Faulty, read-sound, ranged-exact, many-exact, codes-exact}
 use Rattle.format.proofs.Local.{Local, local-read, local-many, local-members, local-job}

@@ -8,7 +8,7 @@ use borrow.Author.Tests.{lt-ltb, le-ltb}
 use lib.ListN.{length, getD}
 use Rattle.lists.proofs.Reflect.{r-le, r-lt, r-eq, cond-cases}
 use Rattle.number.specs.Number.{numberIn, numberAt}
-use Rattle.number.specs.NumberList.{Listed, numbers, refused, before, onward, decodeFrom, decode}
+use Rattle.number.specs.NumberList.{Listed, numbers, refused, before, followed, decodeFrom, decode}
 use Rattle.number.specs.declared.Read.{Read}
 use Rattle.number.specs.declared.Read.the-variants.{Number, Unreadable}
 
@@ -90,9 +90,9 @@ unreadable-at s at p =
     read e = let z : _≡_ {A = ℕ} 0 1 = cc in absurd (omega arith)
 
 module _ (s : List ℕ) where
-  decode-step : (turns at : ℕ) → at < length s → decodeFrom (suc turns) s at ≡ onward (decodeFrom turns s) (numberAt s at)
+  decode-step : (turns at : ℕ) → at < length s → decodeFrom (suc turns) s at ≡ followed (decodeFrom turns s) (numberAt s at)
   unfolding decodeFrom
-  decode-step turns at h = ap (λ b. cond b (onward (decodeFrom turns s) (numberAt s at)) (numbers [])) (lt-ltb at (length s) h)
+  decode-step turns at h = ap (λ b. cond b (followed (decodeFrom turns s) (numberAt s at)) (numbers [])) (lt-ltb at (length s) h)
 
   decode-end : (turns at : ℕ) → length s ≤ at → decodeFrom turns s at ≡ numbers []
   unfolding decodeFrom
@@ -108,7 +108,7 @@ module _ (s : List ℕ) where
   reads-from (suc turns) at (n ∷ ns) next r h t =
       let (mid, g, k) = reads-first r in
       let (some-left, on) = number-in at (length s - at) _ _ _ n mid g in
-      decode-step turns at (omega arith) ∙ ap (onward (decodeFrom turns s)) g ∙ ap (before n) (reads-from turns mid ns next k h (omega arith))
+      decode-step turns at (omega arith) ∙ ap (followed (decodeFrom turns s)) g ∙ ap (before n) (reads-from turns mid ns next k h (omega arith))
 
   -- what is read to the end is the list of numbers
   pub reads-decode : (ns : List ℕ) (next : ℕ) → Reads s 0 ns next → length s ≤ next → decode s ≡ numbers ns
@@ -137,7 +137,7 @@ module _ (s : List ℕ) where
           (next, rw (← ns-is) (more g r), l)
 
       by-number : (r : Read) → numberAt s at ≡ r → ((mid : ℕ) (ms : List ℕ) → decodeFrom turns s mid ≡ numbers ms → Done mid ms)
-          → onward (decodeFrom turns s) r ≡ numbers ns → Done at ns
+          → followed (decodeFrom turns s) r ≡ numbers ns → Done at ns
       by-number (Number n mid) g rest z = by-rest n mid g (decodeFrom turns s mid) refl (rest mid) z
       by-number (Unreadable p) g rest z = let q : _≡_ {A = ℕ} 0 1 = cc in absurd (omega arith)
 

@@ -23,10 +23,11 @@ use Rattle.run.proofs.Operands.{Allowed, allowed}
 use Rattle.backward.specs.Predecessors.{predecessors}
 use Rattle.cover.specs.Cover.{predecessorsBy, owed, Cover, AllHold}
 use Rattle.cover.proofs.InRange.{predecessors-range}
-use Rattle.format.specs.Job.{JobFile}
-use Rattle.format.specs.Numbers.{opNumbers, transitionNumbers, locatedNumbers, jobNumbers, coverNumbers, certificateNumbers}
+use Rattle.format.specs.JobNumbers.{JobFile, opNumbers, transitionNumbers, locatedNumbers, jobNumbers}
+use Rattle.format.specs.Numbers.{coverNumbers, certificateNumbers}
 use Rattle.format.specs.Verdict.{accepted, verdict}
-use Rattle.format.specs.Conditions.{LocatedInRange, TransitionInRange, JobInRange, IsJob, MembersInRange, ImageForEach, countsOf}
+use Rattle.format.specs.Conditions.{MembersInRange, ImageForEach, countsOf}
+use Rattle.format.specs.JobBytes.{LocatedInRange, TransitionInRange, JobInRange, IsJob}
 use Rattle.format.proofs.Covers.{images-below}
 use Rattle.format.proofs.Exact.{exact}
 

@@ -4,12 +4,8 @@ use Rattle.heap.specs.Operation.{kindOf, allowsA, allowsB}
 use Rattle.heap.specs.Place.{cell}
 use Rattle.shape.specs.Shape.{Shape}
 use Rattle.run.specs.Run.{Transition, Located, Job}
+use Rattle.format.specs.JobNumbers.{JobFile}
 use Rattle.format.specs.Parser.{Parser, _>>=_, _>>_, return, many, Buffer, such, readAs, ranged, end}
-
--- a job with the number of its states, S of document 01
-pub record JobFile : Type 0 where
-  pub states : ℕ
-  pub job : Job
 
 module _ (s : Buffer) (variables : ℕ) where
   -- "Shape: n; V places; n links; codes 0 to 2 + n." "A shape has n cells, 0 to 12".

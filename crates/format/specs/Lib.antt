@@ -1,4 +1,6 @@
 pub mod Parser
+pub mod JobNumbers
+pub mod JobBytes
 pub mod Job
 pub mod Certificate
 pub mod Verdict

@@ -12,10 +12,11 @@ use Rattle.heap.specs.Heap.{empty}
 use Rattle.shape.specs.Shape.{size, Satisfies, AllBelow}
 use Rattle.run.specs.Run.{Located}
 use Rattle.cover.specs.Cover.{Cover, owed, Holds, AllHold}
-use Rattle.format.specs.Job.{JobFile}
-use Rattle.format.specs.Numbers.{locatedNumbers, memberNumbers, certificateNumbers}
+use Rattle.format.specs.JobNumbers.{JobFile, locatedNumbers}
+use Rattle.format.specs.Numbers.{memberNumbers, certificateNumbers}
 use Rattle.format.specs.Verdict.{Counts}
-use Rattle.format.specs.Conditions.{Between, IsJob, MembersInRange, ImageForEach, Conditions}
+use Rattle.format.specs.Conditions.{MembersInRange, ImageForEach, Conditions}
+use Rattle.format.specs.JobBytes.{Between, IsJob}
 
 -- the bytes before the place are these numbers
 abbrev pub Before : List ℕ → ℕ → List ℕ → Type 0

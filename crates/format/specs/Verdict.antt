@@ -6,7 +6,8 @@ use lib.ListN.{length}
 use Rattle.run.specs.Run.{Located}
 use Rattle.cover.specs.Cover.{owed}
 use Rattle.format.specs.Parser.{Parsed, parsed, fault, onward, Parser, _>>=_, _>>_, return, each, Buffer, jobBuffer, certificateBuffer, within, end}
-use Rattle.format.specs.Job.{JobFile, readWholeJob}
+use Rattle.format.specs.Job.{readWholeJob}
+use Rattle.format.specs.JobNumbers.{JobFile}
 use Rattle.format.specs.Certificate.{withoutPlaces, readMembers, testStart, readCover}
 
 -- "The counts are B, N and the covers in the order above."
@@ -36,9 +37,9 @@ readCertificate s f = do
 unfoldable pub readBoth : List ℕ → List ℕ → Parsed Counts
 readBoth job certificate = onward (readWholeJob (jobBuffer job) 0) (λ f next. readCertificate (certificateBuffer certificate) f 0)
 
-abbrev pub answer : Parsed Counts → Verdict
-answer (parsed counts next) = accepted counts
-answer (fault number place) = refused number place
+abbrev pub conclude : Parsed Counts → Verdict
+conclude (parsed counts next) = accepted counts
+conclude (fault number place) = refused number place
 
 abbrev pub fits : List ℕ → Bool
 fits s = within 1 65537 (length s)
@@ -46,6 +47,6 @@ fits s = within 1 65537 (length s)
 -- "1. The job's length is 0 or above 65,536 (place 0). 2. The certificate's length is 0 or above 65,536 (place 0)."
 unfoldable pub verdict : List ℕ → List ℕ → Verdict
 verdict job certificate =
-    let read = answer (readBoth job certificate) in
+    let read = conclude (readBoth job certificate) in
     let sized = cond (fits certificate) read (refused 2 0) in
     cond (fits job) sized (refused 1 0)

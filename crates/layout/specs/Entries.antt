@@ -16,7 +16,7 @@ locatedAt bytes variables at =
     }
 
 -- the entry at a place is whole and in range
-pub record Entry (bytes : List ℕ) (variables at : ℕ) : Type 0 where
+pub record EntryInRange (bytes : List ℕ) (variables at : ℕ) : Type 0 where
   pub inside : at + 2 + variables + getD bytes (at + 1) 0 ≤ length bytes
   pub cells : getD bytes (at + 1) 0 ≤ 12
   pub state : getD bytes at 0 < 64
@@ -49,7 +49,7 @@ placesAt bytes variables at (suc left) = at ∷ placesAt bytes variables (entryE
 -- each of them is whole and in range
 unfoldable pub EntriesIn : List ℕ → ℕ → ℕ → ℕ → Type 0
 EntriesIn bytes variables at zero = at ≤ length bytes
-EntriesIn bytes variables at (suc left) = Entry bytes variables at × EntriesIn bytes variables (entryEnd bytes variables at) left
+EntriesIn bytes variables at (suc left) = EntryInRange bytes variables at × EntriesIn bytes variables (entryEnd bytes variables at) left
 
 -- the members of a certificate, by the table of their first places
 abbrev pub membersAt : List ℕ → ℕ → List ℕ → List Located
@@ -60,4 +60,4 @@ pub record Table (bytes : List ℕ) (variables : ℕ) (starts : List ℕ) : Type
   pub variables-some : 1 ≤ variables
   pub variables-most : variables ≤ 8
   pub count-most : length starts ≤ 512
-  pub entry : (i : ℕ) → i < length starts → Entry bytes variables (getD starts i 0)
+  pub entry : (i : ℕ) → i < length starts → EntryInRange bytes variables (getD starts i 0)

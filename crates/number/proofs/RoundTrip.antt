@@ -10,7 +10,7 @@ use borrow.Author.Tests.{lt-ltb, le-ltb}
 use lib.ListN.{length, getD, drop, length-append, length-drop, drop-of-length-le}
 use lib.Seq.{drop-cons, drop-drop, drop-at, getD-drop}
 use Rattle.number.specs.Number.{largest, bytesOf, numberAt}
-use Rattle.number.specs.NumberList.{encode, Listed, numbers, refused, before, onward, decodeFrom, decode}
+use Rattle.number.specs.NumberList.{encode, Listed, numbers, refused, before, followed, decodeFrom, decode}
 use Rattle.number.specs.Range.{AtMost, Stands}
 use Rattle.number.specs.declared.Read.{Read}
 use Rattle.number.specs.declared.Read.the-variants.{Number, Unreadable}
@@ -127,7 +127,7 @@ module _ (s : List ℕ) (at n next : ℕ) (e : numberAt s at ≡ Number n next) 
 
 -- ---- lists
 
-decode-more : (turns : ℕ) (s : List ℕ) (at : ℕ) → at < length s → decodeFrom (suc turns) s at ≡ onward (decodeFrom turns s) (numberAt s at)
+decode-more : (turns : ℕ) (s : List ℕ) (at : ℕ) → at < length s → decodeFrom (suc turns) s at ≡ followed (decodeFrom turns s) (numberAt s at)
 unfolding decodeFrom
 decode-more turns s at h = simp (lt-ltb at (length s) h)
 
@@ -184,7 +184,7 @@ encode-from (suc turns) s at ns limit e = by-end (decLt at (length s)) (encode-f
         let (small, same) = rest next ms limit d in
         rw (← z) ((st .small, small), ap (λ (l : List ℕ). bytesOf n ++ l) same ∙ sym (st .bytes))
 
-    by-read : (r : Read) → numberAt s at ≡ r → onward (decodeFrom turns s) r ≡ numbers ns → Rest → AtMost largest ns × (encode ns ≡ drop at s)
+    by-read : (r : Read) → numberAt s at ≡ r → followed (decodeFrom turns s) r ≡ numbers ns → Rest → AtMost largest ns × (encode ns ≡ drop at s)
     by-read (Number n next) g f rest = listed n next (stands s at n next g limit) (decodeFrom turns s next) refl f rest
     by-read (Unreadable p) g f rest = let z : _≡_ {A = ℕ} 0 1 = cc in absurd (omega arith)
 

@@ -1,4 +1,4 @@
-pub mod Outcome
+pub mod CallResult
 pub mod Number
 pub mod NumberList
 pub mod Range

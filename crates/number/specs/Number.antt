@@ -5,7 +5,7 @@ use mathlib.Core.List.{List, [], _∷_}
 use Prim.Native.Nat.{ℕ, _+_, _-_, _*_, _/_, _%_}
 use lib.Dec.{eqb, leb, ltb}
 use lib.ListN.{length, getD}
-use Rattle.number.specs.Outcome.{Outcome}
+use Rattle.number.specs.CallResult.{CallResult}
 use Rattle.number.specs.declared.Read.{Read}
 use Rattle.number.specs.declared.Read.the-variants.{Number, Unreadable}
 
@@ -35,6 +35,6 @@ abbrev pub numberAt : List ℕ → ℕ → Read
 numberAt s at = numberIn at (length s - at) (getD s at 0) (getD s (at + 1) 0) (getD s (at + 2) 0)
 
 -- 0 with the number and the next place, or refusal 3 with its place
-abbrev pub readOutcome : Read → Outcome
-readOutcome (Number n next) = record { code = 0; values = n ∷ next ∷ [] }
-readOutcome (Unreadable at) = record { code = 3; values = at ∷ 0 ∷ [] }
+abbrev pub readResult : Read → CallResult
+readResult (Number n next) = record { code = 0; values = n ∷ next ∷ [] }
+readResult (Unreadable at) = record { code = 3; values = at ∷ 0 ∷ [] }

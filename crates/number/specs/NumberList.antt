@@ -5,7 +5,7 @@ use Prim.Native.Nat.{ℕ, zero, suc, _+_}
 use lib.Dec.{ltb}
 use lib.ListN.{length, drop}
 use Rattle.number.specs.Number.{largest, bytesOf, numberAt}
-use Rattle.number.specs.Outcome.{Outcome}
+use Rattle.number.specs.CallResult.{CallResult}
 use Rattle.number.specs.declared.Read.{Read}
 use Rattle.number.specs.declared.Read.the-variants.{Number, Unreadable}
 use Rattle.number.specs.declared.Written.{Written}
@@ -26,15 +26,15 @@ before n (numbers ns) = numbers (n ∷ ns)
 before n (refused at) = refused at
 
 -- after one read: the number before what the rest reads as, or the refusal
-abbrev pub onward : (ℕ → Listed) → Read → Listed
-onward rest (Number n next) = before n (rest next)
-onward rest (Unreadable at) = refused at
+abbrev pub followed : (ℕ → Listed) → Read → Listed
+followed rest (Number n next) = before n (rest next)
+followed rest (Unreadable at) = refused at
 
 -- "Reading a list is reading number after number to the end." A number has at least one byte, so as many turns as there are bytes are
 -- enough.
 unfoldable pub decodeFrom : ℕ → List ℕ → ℕ → Listed
 decodeFrom zero s at = cond (ltb at (length s)) (refused at) (numbers [])
-decodeFrom (suc turns) s at = cond (ltb at (length s)) (onward (decodeFrom turns s) (numberAt s at)) (numbers [])
+decodeFrom (suc turns) s at = cond (ltb at (length s)) (followed (decodeFrom turns s) (numberAt s at)) (numbers [])
 
 abbrev pub decode : List ℕ → Listed
 decode s = decodeFrom (length s) s 0
@@ -58,7 +58,7 @@ output (TooLarge i) ns out = out
 output (TooShort k) ns out = out
 
 -- 0 with the bytes filled; 11 with the index; 12 with the length needed
-abbrev pub writeOutcome : Written → Outcome
-writeOutcome (Filled k) = record { code = 0; values = k ∷ [] }
-writeOutcome (TooLarge i) = record { code = 11; values = i ∷ [] }
-writeOutcome (TooShort k) = record { code = 12; values = k ∷ [] }
+abbrev pub writeResult : Written → CallResult
+writeResult (Filled k) = record { code = 0; values = k ∷ [] }
+writeResult (TooLarge i) = record { code = 11; values = i ∷ [] }
+writeResult (TooShort k) = record { code = 12; values = k ∷ [] }

@@ -8,7 +8,7 @@ use lib.Dec.{eqb}
 use lib.ListN.{length, getD, set, length-set, replicate, getD-replicate}
 use lib.Seq.{getD-set-same, getD-set-other}
 use Rattle.lists.proofs.Reflect.{cond-true, cond-false, r-eq}
-use Rattle.order.specs.Index.{nextInto, Linked}
+use Rattle.order.specs.Index.{nextInto, IndexedFrom}
 
 module _ (to : ℕ → ℕ) (state left i : ℕ) where
   pub into-here : to i ≡ state → nextInto to state (suc left) i ≡ suc i
@@ -24,7 +24,7 @@ unfolding nextInto
 into-none to state i = refl
 
 -- at first nothing is linked
-pub linked-none : (to : ℕ → ℕ) (count : ℕ) (heads nexts : List ℕ) → heads ≡ replicate 64 0 → nexts ≡ replicate 256 0 → Linked to count count heads nexts
+pub linked-none : (to : ℕ → ℕ) (count : ℕ) (heads nexts : List ℕ) → heads ≡ replicate 64 0 → nexts ≡ replicate 256 0 → IndexedFrom to count count heads nexts
 linked-none to count heads nexts heads-clear nexts-clear =
     let none : count - count ≡ 0 = omega arith in
     record {
@@ -35,8 +35,8 @@ linked-none to count heads nexts heads-clear nexts-clear =
     }
 
 -- one transition more, ahead of the others
-pub linked-more : (to : ℕ → ℕ) (count i : ℕ) (heads nexts : List ℕ) → i < count → count ≤ 256 → to i < 64 → Linked to count (i + 1) heads nexts
-    → Linked to count i (set heads (to i) (i + 1)) (set nexts i (getD heads (to i) 0))
+pub linked-more : (to : ℕ → ℕ) (count i : ℕ) (heads nexts : List ℕ) → i < count → count ≤ 256 → to i < 64 → IndexedFrom to count (i + 1) heads nexts
+    → IndexedFrom to count i (set heads (to i) (i + 1)) (set nexts i (getD heads (to i) 0))
 linked-more to count i heads nexts h most low l =
     record {
       slots = length-set heads (to i) (i + 1) ∙ l .slots;
@@ -64,6 +64,6 @@ linked-more to count i heads nexts h most low l =
     next j a b (no n) = getD-set-other nexts i j (getD heads (to i) 0) 0 n ∙ l .next j (omega arith) b
 
 -- the whole index
-pub linked-head : (to : ℕ → ℕ) (count : ℕ) (heads nexts : List ℕ) → Linked to count 0 heads nexts → (s : ℕ) → s < 64
+pub linked-head : (to : ℕ → ℕ) (count : ℕ) (heads nexts : List ℕ) → IndexedFrom to count 0 heads nexts → (s : ℕ) → s < 64
     → getD heads s 0 ≡ nextInto to s count 0
 linked-head to count heads nexts l s b = let all : count - 0 ≡ count = omega arith in rw all at (l .head s b)

@@ -16,7 +16,7 @@ abbrev pub Follows : (ℕ → ℕ) → ℕ → ℕ → List ℕ → Type 0
 Follows to count i nexts = (j : ℕ) → i ≤ j → j < count → getD nexts j 0 ≡ nextInto to (to j) (count - suc j) (suc j)
 
 -- the transitions from the i-th on are in the index: heads[s] is the first of them into s
-pub record Linked (to : ℕ → ℕ) (count i : ℕ) (heads nexts : List ℕ) : Type 0 where
+pub record IndexedFrom (to : ℕ → ℕ) (count i : ℕ) (heads nexts : List ℕ) : Type 0 where
   pub slots : length heads ≡ 64
   pub room : length nexts ≡ 256
   pub head : (s : ℕ) → s < 64 → getD heads s 0 ≡ nextInto to s (count - i) i

@@ -12,7 +12,7 @@ use Rattle.verdict.specs.Verdict.{refusalNumber, reachedOf}
 use Rattle.verdict.specs.declared.Reached.{Reached}
 use Rattle.verdict.specs.declared.Reached.the-variants.{At, Refused as ReachedRefused}
 use Rattle.verdict.specs.declared.Refusal.{Refusal}
-use Rattle.reader.specs.Number.{bufferOf, rangedOf, forget}
+use Rattle.reader.specs.Number.{bufferOf, rangedOf, withoutValue}
 use Rattle.reader.specs.declared.Ranged.{Ranged}
 use Rattle.reader.specs.declared.Ranged.the-variants.{Value, Refused}
 use Rattle.reader.specs.declared.Side.{Side}
@@ -28,9 +28,9 @@ module _ {r : Ranged} {x : Parsed ℕ} (h : rangedOf r ≡ x) where
   lost e = sym h ∙ ap rangedOf e
 
   -- the refusal, handed on
-  pub passed : {y : Parsed (Unit {0})} {why : Refusal} {place : ℕ} → y ≡ forget (rangedOf r) → r ≡ Refused why place
+  pub passed : {y : Parsed (Unit {0})} {why : Refusal} {place : ℕ} → y ≡ withoutValue (rangedOf r) → r ≡ Refused why place
       → y ≡ fault (refusalNumber why) place
-  passed k e = k ∙ ap (λ y. forget (rangedOf y)) e
+  passed k e = k ∙ ap (λ y. withoutValue (rangedOf y)) e
 
 -- ---- a place that was reached, or a refusal
 

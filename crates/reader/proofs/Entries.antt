@@ -8,16 +8,16 @@ use Rattle.shape.specs.Shape.{Shape}
 use Rattle.run.specs.Run.{Located}
 use Rattle.format.specs.Job.{readShape, readLocated}
 use Rattle.format.specs.Parser.{parsed, fault, onward, many, Buffer, ranged}
-use Rattle.reader.specs.Number.{forget}
-use Rattle.reader.proofs.Many.{remembered, forget-fault, forget-made}
+use Rattle.reader.specs.Number.{withoutValue}
+use Rattle.reader.proofs.Many.{remembered, without-value-fault, without-value-made}
 
 module _ (s : Buffer) (variables states at : ℕ) where
-  pub lost-state : {number place : ℕ} → ranged s 0 states at ≡ fault number place → fault number place ≡ forget (readLocated s variables states at)
+  pub lost-state : {number place : ℕ} → ranged s 0 states at ≡ fault number place → fault number place ≡ withoutValue (readLocated s variables states at)
   unfolding readLocated
   lost-state e = rw e refl
 
   module _ {state a : ℕ} (e₁ : ranged s 0 states at ≡ parsed state a) where
-    pub lost-size : {number place : ℕ} → ranged s 0 13 a ≡ fault number place → fault number place ≡ forget (readLocated s variables states at)
+    pub lost-size : {number place : ℕ} → ranged s 0 13 a ≡ fault number place → fault number place ≡ withoutValue (readLocated s variables states at)
     unfolding readLocated readShape
     lost-size e = rw (e₁, e) refl
 
@@ -25,17 +25,17 @@ module _ (s : Buffer) (variables states at : ℕ) where
       codes : (k at : ℕ) → many k (ranged s 0 (3 + n)) at ≡ many k (ranged s 0 (cell n)) at
       codes k at = let z : 3 + n ≡ cell n = omega arith in rw z refl
 
-      pub lost-vars : {number place : ℕ} → forget (many variables (ranged s 0 (3 + n)) b) ≡ fault number place
-          → fault number place ≡ forget (readLocated s variables states at)
+      pub lost-vars : {number place : ℕ} → withoutValue (many variables (ranged s 0 (3 + n)) b) ≡ fault number place
+          → fault number place ≡ withoutValue (readLocated s variables states at)
       unfolding readLocated readShape
-      lost-vars {number} {place} e = rw (e₁, e₂, forget-fault (many variables (ranged s 0 (cell n)) b) number place (sym (ap forget (codes variables b)) ∙ e)) refl
+      lost-vars {number} {place} e = rw (e₁, e₂, without-value-fault (many variables (ranged s 0 (cell n)) b) number place (sym (ap withoutValue (codes variables b)) ∙ e)) refl
 
-      pub links-last : {c : ℕ} → forget (many variables (ranged s 0 (3 + n)) b) ≡ parsed tt c
-          → forget (many n (ranged s 0 (3 + n)) c) ≡ forget (readLocated s variables states at)
+      pub links-last : {c : ℕ} → withoutValue (many variables (ranged s 0 (3 + n)) b) ≡ parsed tt c
+          → withoutValue (many n (ranged s 0 (3 + n)) c) ≡ withoutValue (readLocated s variables states at)
       unfolding readLocated readShape
       links-last {c} e =
-          let (vars, e₃) = remembered (many variables (ranged s 0 (cell n)) b) c (sym (ap forget (codes variables b)) ∙ e) in
+          let (vars, e₃) = remembered (many variables (ranged s 0 (cell n)) b) c (sym (ap withoutValue (codes variables b)) ∙ e) in
           let x = many n (ranged s 0 (cell n)) c in
           let shape : List ℕ → Shape = λ links. record { vars = vars; links = links } in
           let located : Shape → Located = λ shape. record { state = state; shape = shape } in
-          rw (e₁, e₂, e₃) (ap forget (codes n c) ∙ forget-made x shape ∙ forget-made (onward x (λ links next. parsed (shape links) next)) located)
+          rw (e₁, e₂, e₃) (ap withoutValue (codes n c) ∙ without-value-made x shape ∙ without-value-made (onward x (λ links next. parsed (shape links) next)) located)

@@ -9,10 +9,10 @@ use Rattle.format.specs.Job.{readLocated}
 use Rattle.format.specs.Parser.{parsed, fault, many, Buffer, jobBuffer, ranged, end}
 use Rattle.format.proofs.Parsing.{then}
 use Rattle.reader.specs.Job.{readCounts, readFront, readRest}
-use Rattle.reader.specs.Number.{forget}
+use Rattle.reader.specs.Number.{withoutValue}
 use Rattle.reader.specs.declared.Front.{Front}
 use Rattle.reader.proofs.Answers.{in-range}
-use Rattle.reader.proofs.Many.{remembered, forget-fault}
+use Rattle.reader.proofs.Many.{remembered, without-value-fault}
 
 -- ---- the numbers before the transitions
 
@@ -74,12 +74,12 @@ module _ (job : List ℕ) (f : Front) (at : ℕ) where
   lost-bads e = rw e refl
 
   module _ {bads p : ℕ} (e₁ : ranged s 1 65 at ≡ parsed bads p) where
-    pub lost-forbidden : {number place : ℕ} → forget (many bads (readLocated s (f .variables) (f .states)) p) ≡ fault number place
+    pub lost-forbidden : {number place : ℕ} → withoutValue (many bads (readLocated s (f .variables) (f .states)) p) ≡ fault number place
         → readRest job f at ≡ fault number place
     unfolding readRest
-    lost-forbidden {number} {place} e = rw (e₁, forget-fault (many bads (readLocated s (f .variables) (f .states)) p) number place e) refl
+    lost-forbidden {number} {place} e = rw (e₁, without-value-fault (many bads (readLocated s (f .variables) (f .states)) p) number place e) refl
 
-    module _ {last : ℕ} (e₂ : forget (many bads (readLocated s (f .variables) (f .states)) p) ≡ parsed tt last) where
+    module _ {last : ℕ} (e₂ : withoutValue (many bads (readLocated s (f .variables) (f .states)) p) ≡ parsed tt last) where
       pub left-over : last < length job → readRest job f at ≡ fault 5 last
       unfolding readRest end
       left-over h =

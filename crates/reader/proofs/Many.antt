@@ -6,40 +6,40 @@ use native.Mathlib.Omega.{arith}
 use lib.ListN.{length}
 use Rattle.format.specs.Parser.{Parsed, parsed, fault, Parser, onward, many}
 use Rattle.format.proofs.Parsing.{not-fault, then}
-use Rattle.reader.specs.Number.{forget}
+use Rattle.reader.specs.Number.{withoutValue}
 
 -- what was read, from where it ended
-pub remembered : {A : Type 0} (x : Parsed A) (next : ℕ) → forget x ≡ parsed tt next → (v : A) × (x ≡ parsed v next)
+pub remembered : {A : Type 0} (x : Parsed A) (next : ℕ) → withoutValue x ≡ parsed tt next → (v : A) × (x ≡ parsed v next)
 remembered (parsed v k) next e = let z : k ≡ next = cc in (v, ap (parsed v) z)
 remembered (fault number place) next e = absurd (not-fault tt next number place e)
 
-pub forget-fault : {A : Type 0} (x : Parsed A) (number place : ℕ) → forget x ≡ fault number place → x ≡ fault number place
-forget-fault (parsed v k) number place e = absurd (not-fault tt k number place (sym e))
-forget-fault (fault k q) number place e = let z : k ≡ number = cc in let y : q ≡ place = cc in cc
+pub without-value-fault : {A : Type 0} (x : Parsed A) (number place : ℕ) → withoutValue x ≡ fault number place → x ≡ fault number place
+without-value-fault (parsed v k) number place e = absurd (not-fault tt k number place (sym e))
+without-value-fault (fault k q) number place e = let z : k ≡ number = cc in let y : q ≡ place = cc in cc
 
 pub bind-assoc : {A B C : Type 0} (x : Parsed A) (k : A → Parser B) (l : B → Parser C) → onward (onward x k) l ≡ onward x (λ v at. onward (k v at) l)
 bind-assoc (parsed v next) k l = refl
 bind-assoc (fault number place) k l = refl
 
-pub forget-onward : {A B C : Type 0} (x : Parsed A) (k : A → Parser B) (l : A → Parser C) → ((v : A) (next : ℕ) → forget (k v next) ≡ forget (l v next))
-    → forget (onward x k) ≡ forget (onward x l)
-forget-onward (parsed v next) k l h = h v next
-forget-onward (fault number place) k l h = refl
+pub without-value-onward : {A B C : Type 0} (x : Parsed A) (k : A → Parser B) (l : A → Parser C) → ((v : A) (next : ℕ) → withoutValue (k v next) ≡ withoutValue (l v next))
+    → withoutValue (onward x k) ≡ withoutValue (onward x l)
+without-value-onward (parsed v next) k l h = h v next
+without-value-onward (fault number place) k l h = refl
 
 -- a value made of what was read
-pub forget-made : {A B : Type 0} (x : Parsed A) (f : A → B) → forget x ≡ forget (onward x (λ v next. parsed (f v) next))
-forget-made (parsed v next) f = refl
-forget-made (fault number place) f = refl
+pub without-value-made : {A B : Type 0} (x : Parsed A) (f : A → B) → withoutValue x ≡ withoutValue (onward x (λ v next. parsed (f v) next))
+without-value-made (parsed v next) f = refl
+without-value-made (fault number place) f = refl
 
 module _ {A : Type 0} (p : Parser A) where
   pub many-suc : (k at : ℕ) → many (suc k) p at ≡ onward (p at) (λ x mid. onward (many k p mid) (λ xs next. parsed (x ∷ xs) next))
   unfolding many
   many-suc k at = refl
 
-  more : (k at next : ℕ) → forget (p at) ≡ parsed tt next → forget (many (suc k) p at) ≡ forget (many k p next)
+  more : (k at next : ℕ) → withoutValue (p at) ≡ parsed tt next → withoutValue (many (suc k) p at) ≡ withoutValue (many k p next)
   more k at next e =
       let (x, g) = remembered (p at) next e in
-      rw (many-suc k at, g) (sym (forget-made (many k p next) (λ (xs : List A). x ∷ xs)))
+      rw (many-suc k at, g) (sym (without-value-made (many k p next) (λ (xs : List A). x ∷ xs)))
 
   pub many-length : (k at : ℕ) (xs : List A) (next : ℕ) → many k p at ≡ parsed xs next → length xs ≡ k
   unfolding many
@@ -55,27 +55,27 @@ module _ {A : Type 0} (p : Parser A) where
   -- ---- a loop that has read i of n from `first` on, and is at a place
 
   abbrev pub Left : ℕ → ℕ → ℕ → ℕ → Type 0
-  Left n first at i = (i ≤ n) × (forget (many (n - i) p at) ≡ forget (many n p first))
+  Left n first at i = (i ≤ n) × (withoutValue (many (n - i) p at) ≡ withoutValue (many n p first))
 
   pub left-none : (n first : ℕ) → Left n first first 0
   left-none n first = (omega arith, let all : n - 0 ≡ n = omega arith in rw all refl)
 
   module _ (n first at i : ℕ) (l : Left n first at i) where
-    pub left-more : (next : ℕ) → i < n → forget (p at) ≡ parsed tt next → Left n first next (i + 1)
+    pub left-more : (next : ℕ) → i < n → withoutValue (p at) ≡ parsed tt next → Left n first next (i + 1)
     left-more next h e =
         let left : n - i ≡ suc (n - (i + 1)) = omega arith in
-        (omega arith, sym (ap (λ k. forget (many k p at)) left ∙ more (n - (i + 1)) at next e) ∙ l .1)
+        (omega arith, sym (ap (λ k. withoutValue (many k p at)) left ∙ more (n - (i + 1)) at next e) ∙ l .1)
 
-    pub left-lost : (number place : ℕ) → i < n → forget (p at) ≡ fault number place → fault number place ≡ forget (many n p first)
+    pub left-lost : (number place : ℕ) → i < n → withoutValue (p at) ≡ fault number place → fault number place ≡ withoutValue (many n p first)
     left-lost number place h e =
         let left : n - i ≡ suc (n - (i + 1)) = omega arith in
-        let stopped : forget (many (n - i) p at) ≡ fault number place =
-        rw (left, many-suc (n - (i + 1)) at, forget-fault (p at) number place e) refl in
+        let stopped : withoutValue (many (n - i) p at) ≡ fault number place =
+        rw (left, many-suc (n - (i + 1)) at, without-value-fault (p at) number place e) refl in
         sym stopped ∙ l .1
 
-    pub left-all : n ≤ i → parsed tt at ≡ forget (many n p first)
+    pub left-all : n ≤ i → parsed tt at ≡ withoutValue (many n p first)
     unfolding many
     left-all h =
         let none : n - i ≡ 0 = omega arith in
-        let done : forget (many (n - i) p at) ≡ parsed tt at = rw none refl in
+        let done : withoutValue (many (n - i) p at) ≡ parsed tt at = rw none refl in
         sym done ∙ l .1

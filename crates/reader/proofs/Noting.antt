@@ -14,15 +14,15 @@ use Rattle.format.specs.Parser.{Parsed, parsed, fault, onward, Buffer, certific
 use Rattle.format.proofs.Covers.{members-sound}
 use Rattle.format.proofs.Parsing.{ranged-exact}
 use Rattle.format.proofs.Sequence.{reads-one}
-use Rattle.layout.specs.Entries.{locatedAt, Entry, entryEnd, placesAt, EntriesIn}
+use Rattle.layout.specs.Entries.{locatedAt, EntryInRange, entryEnd, placesAt, EntriesIn}
 use Rattle.reader.specs.Members.{Bounds, Noted, tested, readTested, MembersRead}
-use Rattle.reader.specs.Number.{forget}
+use Rattle.reader.specs.Number.{withoutValue}
 use Rattle.reader.proofs.Bytes.{reads-inside, number-inside}
-use Rattle.reader.proofs.Many.{remembered, forget-fault, forget-made, many-length, Left, left-none, left-more}
+use Rattle.reader.proofs.Many.{remembered, without-value-fault, without-value-made, many-length, Left, left-none, left-more}
 use Rattle.reader.proofs.Standing.{entry-read, members-read}
 use Rattle.reader.proofs.Testing.{tested-place, tested-same}
 
-entry-of : (bytes : List ℕ) (variables k at i : ℕ) → EntriesIn bytes variables at k → i < k → Entry bytes variables (getD (placesAt bytes variables at k) i 0)
+entry-of : (bytes : List ℕ) (variables k at i : ℕ) → EntriesIn bytes variables at k → i < k → EntryInRange bytes variables (getD (placesAt bytes variables at k) i 0)
 unfolding EntriesIn placesAt
 entry-of bytes variables zero at i es h = absurd (omega arith)
 entry-of bytes variables (suc k) at zero es h = es .0
@@ -33,9 +33,9 @@ module _ (cert : List ℕ) (variables states : ℕ) where
   s = certificateBuffer cert
 
   -- a member is read as its entry is
-  pub as-entry : (at : ℕ) → forget (readLocated s variables states at) ≡ forget (readMember s variables states at)
+  pub as-entry : (at : ℕ) → withoutValue (readLocated s variables states at) ≡ withoutValue (readMember s variables states at)
   unfolding readMember
-  as-entry at = let member : Located → Member = λ l. record { first = at; located = l } in forget-made (readLocated s variables states at) member
+  as-entry at = let member : Located → Member = λ l. record { first = at; located = l } in without-value-made (readLocated s variables states at) member
 
   -- ---- the table while members are read: i of them are, up to the place `at`
 
@@ -56,7 +56,7 @@ module _ (cert : List ℕ) (variables states : ℕ) where
         }
 
     module _ (table : List ℕ) (at i : ℕ) (n : Noting table at i) where
-      pub note-more : (next : ℕ) → i < count → count ≤ length before → forget (readLocated s variables states at) ≡ parsed tt next
+      pub note-more : (next : ℕ) → i < count → count ≤ length before → withoutValue (readLocated s variables states at) ≡ parsed tt next
           → Noting (set table i (at % 65536)) next (i + 1)
       unfolding placesAt
       note-more next h room e =
@@ -119,22 +119,22 @@ module _ (cert : List ℕ) (variables states : ℕ) where
         unfolding readTested
         testing-is = ap (λ x. onward x (tested start)) reading-is
 
-        pub lost-member : {number place : ℕ} → forget all ≡ fault number place → readTested s variables states start 0 ≡ fault number place
-        lost-member {number} {place} e = testing-is ∙ ap (λ x. onward x (tested start)) (forget-fault all number place e)
+        pub lost-member : {number place : ℕ} → withoutValue all ≡ fault number place → readTested s variables states start 0 ≡ fault number place
+        lost-member {number} {place} e = testing-is ∙ ap (λ x. onward x (tested start)) (without-value-fault all number place e)
 
-        pub lost-test : {number place : ℕ} → forget (onward all (tested start)) ≡ fault number place
+        pub lost-test : {number place : ℕ} → withoutValue (onward all (tested start)) ≡ fault number place
             → readTested s variables states start 0 ≡ fault number place
-        lost-test {number} {place} e = testing-is ∙ forget-fault (onward all (tested start)) number place e
+        lost-test {number} {place} e = testing-is ∙ without-value-fault (onward all (tested start)) number place e
 
-        pub members-made : (before after : List ℕ) (end next : ℕ) → forget all ≡ parsed tt end → Noted cert variables states first count before after
-            → forget (onward all (tested start)) ≡ parsed tt next → length before ≡ 512
+        pub members-made : (before after : List ℕ) (end next : ℕ) → withoutValue all ≡ parsed tt end → Noted cert variables states first count before after
+            → withoutValue (onward all (tested start)) ≡ parsed tt next → length before ≡ 512
             → MembersRead cert variables states start before after count next
         members-made before after end next e n t full =
             let (ms, g) = remembered all end e in
-            let end-is : end ≡ next = tested-place start ms end next (sym (ap (λ x. forget (onward x (tested start))) g) ∙ t) in
+            let end-is : end ≡ next = tested-place start ms end next (sym (ap (λ x. withoutValue (onward x (tested start))) g) ∙ t) in
             let read : readTested s variables states start 0 ≡ parsed ms next =
             testing-is ∙ ap (λ x. onward x (tested start)) g
-            ∙ tested-same start ms end next (sym (ap (λ x. forget (onward x (tested start))) g) ∙ t) in
+            ∙ tested-same start ms end next (sym (ap (λ x. withoutValue (onward x (tested start))) g) ∙ t) in
             let (number-read, (low, high)) = ranged-exact s 1 513 .sound a count first e₂ in
             let first-inside : first ≤ length cert = number-inside cert a count first (reads-one number-read) in
             let room : count ≤ length after = omega (arith, n .size) in
@@ -156,7 +156,7 @@ module _ (cert : List ℕ) (variables states : ℕ) where
                     variables-most = b .variables-range .1;
                     count-most = omega (arith, length-take-le count after room);
                     entry = λ i h.
-                        subst (Entry cert variables) (ap (λ l. getD l i 0) (sym (n .places b)))
+                        subst (EntryInRange cert variables) (ap (λ l. getD l i 0) (sym (n .places b)))
                         (entry-of cert variables count first i (members-read s variables states (b .states-most) count first ms end first-inside g .entries)
                         (omega (arith, length-take-le count after room)));
                   };

@@ -21,7 +21,7 @@ use Rattle.format.specs.Parser.{parsed, many, Buffer}
 use Rattle.format.proofs.Files.{in-table, op-numbers, located-exact, transition-exact}
 use Rattle.format.proofs.Parsing.{then}
 use Rattle.format.proofs.Sequence.{Reads, reads-first, reads-one, reads-split}
-use Rattle.layout.specs.Entries.{locatedAt, Entry, entryEnd, entriesAt, placesAt, EntriesIn}
+use Rattle.layout.specs.Entries.{locatedAt, EntryInRange, entryEnd, entriesAt, placesAt, EntriesIn}
 use Rattle.layout.specs.Transitions.{opOf, transitionAt}
 use Rattle.reader.specs.Job.{TransitionIn}
 use Rattle.reader.proofs.Bytes.{Single, single, reads-inside, reads-bytes}
@@ -75,7 +75,7 @@ module _ (s : Buffer) (variables states : ℕ) (few : states ≤ 64) where
   pub record EntryRead (at : ℕ) (m : Located) (next : ℕ) : Type 0 where
     pub same : m ≡ locatedAt (s .bytes) variables at
     pub after : next ≡ entryEnd (s .bytes) variables at
-    pub entry : Entry (s .bytes) variables at
+    pub entry : EntryInRange (s .bytes) variables at
 
   located-is : (at n : ℕ) (m : Located) (b c : ℕ) → m .state ≡ getD (s .bytes) at 0 → n ≡ getD (s .bytes) (at + 1) 0 → b ≡ at + 2 → c ≡ at + 2 + variables
       → m .shape .vars ≡ take variables (drop b (s .bytes)) → m .shape .links ≡ take n (drop c (s .bytes)) → m ≡ locatedAt (s .bytes) variables at

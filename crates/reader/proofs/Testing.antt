@@ -15,7 +15,7 @@ use Rattle.format.specs.Parser.{Parsed, parsed, fault, onward, require, many, e
 use Rattle.format.proofs.Parsing.{not-fault, then, require-sound, ranged-exact}
 use Rattle.format.proofs.Sequence.{reads-one}
 use Rattle.reader.specs.Members.{tested}
-use Rattle.reader.specs.Number.{forget}
+use Rattle.reader.specs.Number.{withoutValue}
 use Rattle.reader.proofs.Entries.{lost-state}
 use Rattle.reader.proofs.Many.{remembered, many-suc}
 use Rattle.reader.proofs.Standing.{EntryAfter, entry-after}
@@ -31,7 +31,7 @@ module _ (cert : List ℕ) (variables states start at : ℕ) (l : Located) (next
     member = record { first = at; located = l }
 
     pub state-read : {number place : ℕ} → ranged s 0 states at ≡ fault number place → ⊥
-    state-read {number} {place} e = not-fault tt next number place (lost-state s variables states at e ∙ ap forget h)
+    state-read {number} {place} e = not-fault tt next number place (lost-state s variables states at e ∙ ap withoutValue h)
 
     module _ (state a : ℕ) (e : ranged s 0 states at ≡ parsed state a) where
       pub stand : EntryAfter s variables states at a l next
@@ -83,7 +83,7 @@ each-place start (m ∷ ms) at us next e =
     let later = each-place start ms a vs b h₂ in
     cc)) e
 
-module _ (start : ℕ) (ms : List Member) (at next : ℕ) (e : forget (tested start ms at) ≡ parsed tt next) where
+module _ (start : ℕ) (ms : List Member) (at next : ℕ) (e : withoutValue (tested start ms at) ≡ parsed tt next) where
   all-passed : (at ≡ next) × (tested start ms at ≡ parsed ms next)
   all-passed =
       let (vs, g) = remembered (tested start ms at) next e in
@@ -103,7 +103,7 @@ module _ (start : ℕ) (ms : List Member) (at next : ℕ) (e : forget (tested st
 -- ---- one member more
 
 module _ (start : ℕ) (m : Member) (ms : List Member) (mid end : ℕ) where
-  pub first-refused : (number place : ℕ) → testStart start m mid ≡ fault number place → fault number place ≡ forget (tested start (m ∷ ms) end)
+  pub first-refused : (number place : ℕ) → testStart start m mid ≡ fault number place → fault number place ≡ withoutValue (tested start (m ∷ ms) end)
   unfolding each
   first-refused number place e = go (not (atStart start (m .located))) e
     where
@@ -111,27 +111,27 @@ module _ (start : ℕ) (m : Member) (ms : List Member) (mid end : ℕ) where
       one = tt
 
       go : (b : Bool) → require b 8 (m .first) mid ≡ fault number place
-          → fault number place ≡ forget (onward (onward (require b 8 (m .first) end) (λ u a. onward (each (testStart start) ms a) (λ us c. parsed (u ∷ us) c)))
+          → fault number place ≡ withoutValue (onward (onward (require b 8 (m .first) end) (λ u a. onward (each (testStart start) ms a) (λ us c. parsed (u ∷ us) c)))
           (λ us c. parsed (m ∷ ms) c))
       go true e = absurd (not-fault one mid number place (sym e))
-      go false e = ap forget {x = fault number place} {y = fault 8 (m .first)} (sym e)
+      go false e = ap withoutValue {x = fault number place} {y = fault 8 (m .first)} (sym e)
 
-  pub first-passed : (next : ℕ) → testStart start m mid ≡ parsed tt next → (mid ≡ next) × (forget (tested start (m ∷ ms) end) ≡ forget (tested start ms end))
+  pub first-passed : (next : ℕ) → testStart start m mid ≡ parsed tt next → (mid ≡ next) × (withoutValue (tested start (m ∷ ms) end) ≡ withoutValue (tested start ms end))
   unfolding each
   first-passed next e = go (not (atStart start (m .located))) e
     where
       one : Unit {0}
       one = tt
 
-      rest : (x : Parsed (List (Unit {0}))) → forget (onward (onward x (λ us c. parsed (one ∷ us) c)) (λ us c. parsed (m ∷ ms) c))
-          ≡ forget (onward x (λ us c. parsed ms c))
+      rest : (x : Parsed (List (Unit {0}))) → withoutValue (onward (onward x (λ us c. parsed (one ∷ us) c)) (λ us c. parsed (m ∷ ms) c))
+          ≡ withoutValue (onward x (λ us c. parsed ms c))
       rest (parsed us c) = refl
       rest (fault number place) = refl
 
       go : (b : Bool) → require b 8 (m .first) mid ≡ parsed one next
           → (mid ≡ next)
-          × (forget (onward (onward (require b 8 (m .first) end) (λ u a. onward (each (testStart start) ms a) (λ us c. parsed (u ∷ us) c)))
-          (λ us c. parsed (m ∷ ms) c)) ≡ forget (onward (each (testStart start) ms end) (λ us c. parsed ms c)))
+          × (withoutValue (onward (onward (require b 8 (m .first) end) (λ u a. onward (each (testStart start) ms a) (λ us c. parsed (u ∷ us) c)))
+          (λ us c. parsed (m ∷ ms) c)) ≡ withoutValue (onward (each (testStart start) ms end) (λ us c. parsed ms c)))
       go true e = (cc, rest (each (testStart start) ms end))
       go false e = absurd (not-fault one next 8 (m .first) e)
 
@@ -146,7 +146,7 @@ module _ (cert : List ℕ) (variables states start first count : ℕ) where
     pub left : List Member
     pub end : ℕ
     pub read : many (count - i) p at ≡ parsed left end
-    pub same : forget (tested start left end) ≡ forget (onward (many count p first) (tested start))
+    pub same : withoutValue (tested start left end) ≡ withoutValue (onward (many count p first) (tested start))
 
   pub test-none : (ms : List Member) (end : ℕ) → many count p first ≡ parsed ms end → Testing first 0
   test-none ms end e =
@@ -156,7 +156,7 @@ module _ (cert : List ℕ) (variables states start first count : ℕ) where
         left = ms;
         end = end;
         read = ap (λ k. many k p first) all ∙ e;
-        same = sym (ap (λ x. forget (onward x (tested start))) e);
+        same = sym (ap (λ x. withoutValue (onward x (tested start))) e);
       }
 
   -- the member at the place
@@ -197,10 +197,10 @@ module _ (cert : List ℕ) (variables states start first count : ℕ) where
       here = record { first = at; located = n .located }
 
       pub test-lost : (number place : ℕ) → testStart start here (n .mid) ≡ fault number place
-          → fault number place ≡ forget (onward (many count p first) (tested start))
+          → fault number place ≡ withoutValue (onward (many count p first) (tested start))
       test-lost number place e =
           first-refused start here (n .others) (n .mid) (w .end) number place e
-          ∙ ap (λ ms. forget (tested start ms (w .end))) (n .left-are) ∙ w .same
+          ∙ ap (λ ms. withoutValue (tested start ms (w .end))) (n .left-are) ∙ w .same
 
       pub test-more : (next : ℕ) → i < count → testStart start here (n .mid) ≡ parsed tt next → Testing next (i + 1)
       test-more next b e =
@@ -210,14 +210,14 @@ module _ (cert : List ℕ) (variables states start first count : ℕ) where
             left = n .others;
             end = w .end;
             read = ap (many (count - (i + 1)) p) (sym place-is) ∙ n .read-others;
-            same = sym rest ∙ ap (λ ms. forget (tested start ms (w .end))) (n .left-are) ∙ w .same;
+            same = sym rest ∙ ap (λ ms. withoutValue (tested start ms (w .end))) (n .left-are) ∙ w .same;
           }
 
-    pub test-all : count ≤ i → parsed tt at ≡ forget (onward (many count p first) (tested start))
+    pub test-all : count ≤ i → parsed tt at ≡ withoutValue (onward (many count p first) (tested start))
     unfolding many each
     test-all b =
         let none : count - i ≡ 0 = omega arith in
         let done : _≡_ {A = Parsed (List Member)} (parsed [] at) (parsed (w .left) (w .end)) = sym (ap (λ k. many k p at) none) ∙ w .read in
         let left-are : [] ≡ w .left = cc in
         let end-is : at ≡ w .end = cc in
-        ap (parsed tt) end-is ∙ ap (λ ms. forget (tested start ms (w .end))) left-are ∙ w .same
+        ap (parsed tt) end-is ∙ ap (λ ms. withoutValue (tested start ms (w .end))) left-are ∙ w .same

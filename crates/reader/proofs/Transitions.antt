@@ -17,8 +17,8 @@ use Rattle.format.specs.Job.{readTransition}
 use Rattle.format.specs.Parser.{parsed, fault, Buffer, within, such, meant, readAs, ranged}
 use Rattle.format.proofs.Parsing.{read-complete, read-outside, read-fault, Faulty, ranged-exact}
 use Rattle.format.proofs.Sequence.{reads-one}
-use Rattle.reader.specs.Number.{forget}
-use Rattle.reader.proofs.Many.{forget-made}
+use Rattle.reader.specs.Number.{withoutValue}
+use Rattle.reader.proofs.Many.{without-value-made}
 
 -- ---- a kind
 
@@ -81,18 +81,18 @@ module _ (s : Buffer) (n kind : ℕ) (row : Kind) (r : kindOf kind ≡ some row)
 -- ---- a transition
 
 module _ (s : Buffer) (variables states at : ℕ) where
-  pub lost-from : {number place : ℕ} → ranged s 0 states at ≡ fault number place → fault number place ≡ forget (readTransition s variables states at)
+  pub lost-from : {number place : ℕ} → ranged s 0 states at ≡ fault number place → fault number place ≡ withoutValue (readTransition s variables states at)
   unfolding readTransition
   lost-from e = rw e refl
 
   module _ {from p₁ : ℕ} (e₁ : ranged s 0 states at ≡ parsed from p₁) where
-    pub lost-kind : {number place : ℕ} → ranged s 1 8 p₁ ≡ fault number place → fault number place ≡ forget (readTransition s variables states at)
+    pub lost-kind : {number place : ℕ} → ranged s 1 8 p₁ ≡ fault number place → fault number place ≡ withoutValue (readTransition s variables states at)
     unfolding readTransition
     lost-kind {number} {place} e = rw (e₁, kind-lost s p₁ number place e) refl
 
     module _ {kind p₂ : ℕ} (e₂ : ranged s 1 8 p₁ ≡ parsed kind p₂) where
       pub lost-a : {number place : ℕ} → ranged s (leastA kind) (variables + 1) p₂ ≡ fault number place
-          → fault number place ≡ forget (readTransition s variables states at)
+          → fault number place ≡ withoutValue (readTransition s variables states at)
       unfolding readTransition
       lost-a e =
           let (row, r, k) = kind-got s p₁ kind p₂ e₂ in
@@ -100,16 +100,16 @@ module _ (s : Buffer) (variables states at : ℕ) where
 
       module _ {a p₃ : ℕ} (e₃ : ranged s (leastA kind) (variables + 1) p₂ ≡ parsed a p₃) where
         pub lost-b : {number place : ℕ} → ranged s (leastB kind) (mostB kind variables + 1) p₃ ≡ fault number place
-            → fault number place ≡ forget (readTransition s variables states at)
+            → fault number place ≡ withoutValue (readTransition s variables states at)
         unfolding readTransition
         lost-b e =
             let (row, r, k) = kind-got s p₁ kind p₂ e₂ in
             rw (e₁, k, sym (operand-a s variables kind row r p₂) ∙ e₃, sym (operand-b s variables kind row r p₃) ∙ e) refl
 
         pub to-last : {b p₄ : ℕ} → ranged s (leastB kind) (mostB kind variables + 1) p₃ ≡ parsed b p₄
-            → forget (ranged s 0 states p₄) ≡ forget (readTransition s variables states at)
+            → withoutValue (ranged s 0 states p₄) ≡ withoutValue (readTransition s variables states at)
         unfolding readTransition
         to-last {b} {p₄} e₄ =
             let (row, r, k) = kind-got s p₁ kind p₂ e₂ in
             let transition : ℕ → Transition = λ to. record { from = from; op = row .op a b; to = to } in
-            rw (e₁, k, sym (operand-a s variables kind row r p₂) ∙ e₃, sym (operand-b s variables kind row r p₃) ∙ e₄) (forget-made (ranged s 0 states p₄) transition)
+            rw (e₁, k, sym (operand-a s variables kind row r p₂) ∙ e₃, sym (operand-b s variables kind row r p₃) ∙ e₄) (without-value-made (ranged s 0 states p₄) transition)

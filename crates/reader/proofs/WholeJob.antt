@@ -5,19 +5,20 @@ use Prim.Native.Nat.{ℕ, _≤_}
 use native.Mathlib.Omega.{arith}
 use lib.ListN.{length}
 use Rattle.run.specs.Run.{Transition, Located}
-use Rattle.format.specs.Job.{JobFile, readLocated, readTransition, readJob, readWholeJob}
+use Rattle.format.specs.Job.{readLocated, readTransition, readJob, readWholeJob}
+use Rattle.format.specs.JobNumbers.{JobFile}
 use Rattle.format.specs.Parser.{Parsed, parsed, fault, Parser, onward, _>>=_, _>>_, return, many, jobBuffer, ranged, end}
 use Rattle.format.proofs.Files.{located-exact, transition-exact, job-exact, whole-sound, end-sound, end-complete}
 use Rattle.format.proofs.Parsing.{then, many-exact, ranged-exact}
 use Rattle.format.proofs.Sequence.{reads-one}
 use Rattle.reader.specs.Job.{readCounts, readFront, readRest, RestAnswered, JobRead, JobAnswered}
-use Rattle.reader.specs.Number.{forget}
+use Rattle.reader.specs.Number.{withoutValue}
 use Rattle.reader.specs.declared.Front.{Front}
 use Rattle.reader.specs.declared.Header.{Header}
 use Rattle.reader.specs.declared.JobAnswer.{JobAnswer}
 use Rattle.reader.specs.declared.JobAnswer.the-variants.{Job, Refused}
 use Rattle.reader.proofs.Bytes.{reads-inside, number-inside}
-use Rattle.reader.proofs.Many.{remembered, forget-fault, forget-onward, bind-assoc}
+use Rattle.reader.proofs.Many.{remembered, without-value-fault, without-value-onward, bind-assoc}
 use Rattle.reader.proofs.Standing.{entries-read, transitions-read}
 
 module _ (job : List ℕ) where
@@ -39,12 +40,12 @@ module _ (job : List ℕ) where
   parts = simp bind-assoc
 
   -- the rest is read alike, whatever is made of it
-  same-rest : (f : Front) (transitions : List Transition) (at : ℕ) → forget (readRest job f at) ≡ forget (fileRest f transitions at)
+  same-rest : (f : Front) (transitions : List Transition) (at : ℕ) → withoutValue (readRest job f at) ≡ withoutValue (fileRest f transitions at)
   unfolding readRest fileRest
   same-rest f transitions at =
-      forget-onward (ranged (jobBuffer job) 1 65 at) _ _
-      (λ bads p. forget-onward (many bads (readLocated (jobBuffer job) (f .variables) (f .states)) p) _ _
-      (λ ms q. forget-onward (end (jobBuffer job) q) _ _ (λ u last. refl)))
+      without-value-onward (ranged (jobBuffer job) 1 65 at) _ _
+      (λ bads p. without-value-onward (many bads (readLocated (jobBuffer job) (f .variables) (f .states)) p) _ _
+      (λ ms q. without-value-onward (end (jobBuffer job) q) _ _ (λ u last. refl)))
 
   -- ---- refusals
 
@@ -55,14 +56,14 @@ module _ (job : List ℕ) where
     abbrev steps : Parsed (List Transition)
     steps = many (f .transitions) (readTransition (jobBuffer job) (f .variables) (f .states)) (f .at)
 
-    pub transitions-lost : {number place : ℕ} → forget steps ≡ fault number place → readWholeJob (jobBuffer job) 0 ≡ fault number place
-    transitions-lost {number} {place} e = rw (parts, e₁, forget-fault steps number place e) refl
+    pub transitions-lost : {number place : ℕ} → withoutValue steps ≡ fault number place → readWholeJob (jobBuffer job) 0 ≡ fault number place
+    transitions-lost {number} {place} e = rw (parts, e₁, without-value-fault steps number place e) refl
 
-    module _ (at : ℕ) (e₂ : forget steps ≡ parsed tt at) where
+    module _ (at : ℕ) (e₂ : withoutValue steps ≡ parsed tt at) where
       pub rest-lost : {number place : ℕ} → readRest job f at ≡ fault number place → readWholeJob (jobBuffer job) 0 ≡ fault number place
       rest-lost {number} {place} e =
           let (ts, g) = remembered steps at e₂ in
-          rw (parts, e₁, g) (forget-fault (fileRest f ts at) number place (sym (same-rest f ts at) ∙ ap forget e))
+          rw (parts, e₁, g) (without-value-fault (fileRest f ts at) number place (sym (same-rest f ts at) ∙ ap withoutValue e))
 
       -- ---- a job that was read
 

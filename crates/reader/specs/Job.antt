@@ -5,8 +5,9 @@ use mathlib.Core.Path.{_≡_}
 use Prim.Native.Nat.{ℕ, _+_, _*_, _≤_, _<_}
 use lib.ListN.{length, getD}
 use Rattle.lists.specs.Range.{range}
-use Rattle.format.specs.Conditions.{Between}
-use Rattle.format.specs.Job.{JobFile, readLocated, readWholeJob}
+use Rattle.format.specs.JobBytes.{Between}
+use Rattle.format.specs.Job.{readLocated, readWholeJob}
+use Rattle.format.specs.JobNumbers.{JobFile}
 use Rattle.format.specs.Parser.{Parsed, parsed, fault, Parser, _>>=_, _>>_, return, here, many, Buffer, jobBuffer, ranged, end}
 use Rattle.kinds.specs.Kinds.{allowed}
 use Rattle.layout.specs.Entries.{entriesAt, EntriesIn}

@@ -4,7 +4,7 @@ use mathlib.Core.Path.{_≡_}
 use Prim.Native.Nat.{ℕ, _≤_}
 use lib.ListN.{length, take, drop}
 use Rattle.format.specs.Certificate.{Member, withoutPlaces, readMembers, testStart}
-use Rattle.format.specs.Conditions.{Between}
+use Rattle.format.specs.JobBytes.{Between}
 use Rattle.format.specs.Parser.{parsed, fault, Parser, _>>=_, _>>_, return, each, Buffer, certificateBuffer}
 use Rattle.layout.specs.Entries.{placesAt, membersAt, Table}
 use Rattle.verdict.specs.Verdict.{refusalNumber}

@@ -18,6 +18,6 @@ rangedOf (Value n next) = parsed n next
 rangedOf (Refused r place) = fault (refusalNumber r) place
 
 -- what a parser answers, without the value
-abbrev pub forget : {A : Type 0} → Parsed A → Parsed (Unit {0})
-forget (parsed x next) = parsed tt next
-forget (fault number place) = fault number place
+abbrev pub withoutValue : {A : Type 0} → Parsed A → Parsed (Unit {0})
+withoutValue (parsed x next) = parsed tt next
+withoutValue (fault number place) = fault number place

@@ -17,7 +17,7 @@ ghost use Rattle.number.specs.Number.{numberAt};
 ghost use Rattle.verdict.specs.Verdict.{refusalNumber, reachedOf};
 ghost use Rattle.reader.specs.Job.{readCounts, readFront, frontOf, RestAnswered, JobAnswered};
 ghost use Rattle.reader.specs.Members.{NotedBy, MembersAnswered};
-ghost use Rattle.reader.specs.Number.{bufferOf, rangedOf, forget};
+ghost use Rattle.reader.specs.Number.{bufferOf, rangedOf, withoutValue};
 
 pub mod load;
 mod start;
@@ -124,7 +124,7 @@ fn job_ranged(job: &[u8], at: usize, low: usize, limit: usize) -> Ranged
 
 // The place after a number, or the refusal that it ended in.
 fn reached(r: Ranged) -> Reached
-    ensures { λ q. ⌜ reachedOf q ≡ forget (rangedOf r) ⌝ }
+    ensures { λ q. ⌜ reachedOf q ≡ withoutValue (rangedOf r) ⌝ }
 {
     match r {
         Ranged::Value(_, next) => Reached::At(next),
@@ -134,7 +134,7 @@ fn reached(r: Ranged) -> Reached
 
 // So many numbers below a limit.
 fn read_codes(side: Side, bytes: &[u8], first: usize, count: usize, limit: usize) -> Reached
-    ensures { λ r. ⌜ reachedOf r ≡ forget (many count (ranged (bufferOf side (now (bytes .entry))) 0 limit) first) ⌝ }
+    ensures { λ r. ⌜ reachedOf r ≡ withoutValue (many count (ranged (bufferOf side (now (bytes .entry))) 0 limit) first) ⌝ }
 {
     let mut at = first;
     let mut i = 0;
@@ -151,7 +151,7 @@ fn read_codes(side: Side, bytes: &[u8], first: usize, count: usize, limit: usize
 
 // A state and a shape: state, n, the places of the variables, n links.
 fn read_entry(side: Side, bytes: &[u8], first: usize, variables: usize, states: usize) -> Reached
-    ensures { λ r. ⌜ reachedOf r ≡ forget (readLocated (bufferOf side (now (bytes .entry))) variables states first) ⌝ }
+    ensures { λ r. ⌜ reachedOf r ≡ withoutValue (readLocated (bufferOf side (now (bytes .entry))) variables states first) ⌝ }
 {
     let state = read_ranged(side, bytes, first, 0, states);
     let Ranged::Value(_, n_at) = state else {
@@ -171,7 +171,7 @@ fn read_entry(side: Side, bytes: &[u8], first: usize, variables: usize, states: 
 // One transition: from, kind, a, b, to.
 fn read_transition(job: &[u8], first: usize, variables: usize, states: usize) -> Reached
     requires { ⌜ variables ≤ 8 ⌝ }
-    ensures { λ r. ⌜ reachedOf r ≡ forget (readTransition (jobBuffer (now (job .entry))) variables states first) ⌝ }
+    ensures { λ r. ⌜ reachedOf r ≡ withoutValue (readTransition (jobBuffer (now (job .entry))) variables states first) ⌝ }
 {
     let from = read_ranged(Side::Job, job, first, 0, states);
     let Ranged::Value(_, kind_at) = from else {
@@ -202,7 +202,7 @@ fn read_transitions(
     states: usize,
 ) -> Reached
     requires { ⌜ variables ≤ 8 ⌝ }
-    ensures { λ r. ⌜ reachedOf r ≡ forget (many count (readTransition (jobBuffer (now (job .entry))) variables states) first) ⌝ }
+    ensures { λ r. ⌜ reachedOf r ≡ withoutValue (many count (readTransition (jobBuffer (now (job .entry))) variables states) first) ⌝ }
 {
     let mut at = first;
     let mut i = 0;
@@ -225,7 +225,7 @@ fn read_forbidden(
     variables: usize,
     states: usize,
 ) -> Reached
-    ensures { λ r. ⌜ reachedOf r ≡ forget (many count (readLocated (jobBuffer (now (job .entry))) variables states) first) ⌝ }
+    ensures { λ r. ⌜ reachedOf r ≡ withoutValue (many count (readLocated (jobBuffer (now (job .entry))) variables states) first) ⌝ }
 {
     let mut at = first;
     let mut i = 0;
@@ -349,7 +349,7 @@ fn note_members(
     starts: &mut [u16],
 ) -> Reached
     requires { ⌜ count ≤ length (now starts) ⌝ }
-    ensures { λ r. ⌜ (reachedOf r ≡ forget (many count (readMember (certificateBuffer (now (cert .entry))) variables states) first)) × NotedBy (now (cert .entry)) variables states first count (now (starts .entry)) (now (starts .exit)) r ⌝ }
+    ensures { λ r. ⌜ (reachedOf r ≡ withoutValue (many count (readMember (certificateBuffer (now (cert .entry))) variables states) first)) × NotedBy (now (cert .entry)) variables states first count (now (starts .entry)) (now (starts .exit)) r ⌝ }
 {
     let mut at = first;
     let mut i = 0;

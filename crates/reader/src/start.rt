@@ -16,7 +16,7 @@ ghost use Rattle.format.specs.Job.{readLocated};
 ghost use Rattle.format.specs.Parser.{parsed, onward, certificateBuffer, many};
 ghost use Rattle.verdict.specs.Verdict.{reachedOf};
 ghost use Rattle.reader.specs.Members.{tested};
-ghost use Rattle.reader.specs.Number.{forget};
+ghost use Rattle.reader.specs.Number.{withoutValue};
 
 // Tests the member at a place, which was read: refused if it is at the start state and has no cells and no variable at #.
 fn test_member(cert: &[u8], at: usize, variables: usize, states: usize, start: usize) -> Reached
@@ -53,7 +53,7 @@ pub(crate) fn test_members(
     start: usize,
 ) -> Reached
     requires { ⌜ ((ms : List Member) × (end : ℕ) × (many count (readMember (certificateBuffer (now cert)) variables states) first ≡ parsed ms end)) ⌝ }
-    ensures { λ r. ⌜ reachedOf r ≡ forget (onward (many count (readMember (certificateBuffer (now (cert .entry))) variables states) first) (tested start)) ⌝ }
+    ensures { λ r. ⌜ reachedOf r ≡ withoutValue (onward (many count (readMember (certificateBuffer (now (cert .entry))) variables states) first) (tested start)) ⌝ }
 {
     let mut at = first;
     let mut i = 0;

@@ -16,7 +16,7 @@ use Rattle.heap.specs.Operation.{Op, equal, different, store, new, delete, Enab
 use Rattle.heap.specs.Place.{nowhere, dangling, cell}
 use Rattle.place.specs.Place.{placeOf, cellPlace, codes}
 use Rattle.place.specs.declared.Place.{Place}
-use Rattle.stepper.specs.Step.{stays, lowestUnused, isNew, comparison, tableAfter, perform}
+use Rattle.stepper.specs.Step.{stays, lowestUnused, allocates, comparison, tableAfter, perform}
 use Rattle.stepper.specs.Table.{heapOf, tableOf, Sized, standing, dangleVars, dangleLinks}
 use Rattle.stepper.specs.declared.Heap64.{Heap64}
 use Rattle.stepper.specs.declared.Outcome.the-variants.{Moved, Blocked, Refused}
@@ -44,14 +44,14 @@ withoutPlace t y = cut (dangleLinks (dangleVars t y) y) y
 -- ---- moved, blocked and refused
 
 module _ (t : Heap64) (o : Op) where
-  pub blocked : isNew o && leb 64 (lowestUnused (t .used)) ≡ false → (Enabled o (lowestUnused (t .used)) (heapOf t) → ⊥) → stays t Blocked ≡ perform t o
+  pub blocked : allocates o && leb 64 (lowestUnused (t .used)) ≡ false → (Enabled o (lowestUnused (t .used)) (heapOf t) → ⊥) → stays t Blocked ≡ perform t o
   unfolding perform
   blocked n d = rw (n, if-neg (enabled? o (lowestUnused (t .used)) (heapOf t)) d (stays (tableAfter t o) Moved) (stays t Blocked)) refl
 
   -- t′ is the table after the operation, well formed again
   pub record Changes (t′ : Heap64) : Type 0 where
     pub enabled : Enabled o (lowestUnused (t .used)) (heapOf t)
-    pub room : isNew o && leb 64 (lowestUnused (t .used)) ≡ false
+    pub room : allocates o && leb 64 (lowestUnused (t .used)) ≡ false
     pub sized : Sized t′
     pub formed : Formed t′
     pub variables : t′ .variables ≡ t .variables
@@ -63,7 +63,7 @@ module _ (t : Heap64) (o : Op) where
       rw (c .room, if-pos (enabled? o (lowestUnused (t .used)) (heapOf t)) (c .enabled) (stays (tableAfter t o) Moved) (stays t Blocked))
       (ap (λ u. stays u Moved) (table-of t′ (c .sized) (c .formed) ∙ ap₂ tableOf (c .variables) (c .heap)))
 
-  pub full : isNew o && leb 64 (lowestUnused (t .used)) ≡ true → stays t (Refused Full) ≡ perform t o
+  pub full : allocates o && leb 64 (lowestUnused (t .used)) ≡ true → stays t (Refused Full) ≡ perform t o
   unfolding perform
   full n = rw n refl
 
@@ -76,18 +76,18 @@ module _ (t : Heap64) (s : Sized t) (f : Formed t) where
   operand-stands (suc v) h = var-stands t f v h
 
   -- what has a link is a used cell, and its link stands
-  pub record Linked (p : ℕ) : Type 0 where
+  pub record UsedCell (p : ℕ) : Type 0 where
     pub number : ℕ
     pub is-cell : p ≡ cell number
     pub inside : number < 64
     pub used : getD (t .used) number false ≡ true
 
-  pub linked : (p : ℕ) → linkIn (codes (t .links)) p ≢ nowhere → Linked p
+  pub linked : (p : ℕ) → linkIn (codes (t .links)) p ≢ nowhere → UsedCell p
   linked =
-      by-code (λ p. linkIn (codes (t .links)) p ≢ nowhere → Linked p) (λ n. absurd (n refl)) (λ n. absurd (n refl)) (λ n. absurd (n refl))
+      by-code (λ p. linkIn (codes (t .links)) p ≢ nowhere → UsedCell p) (λ n. absurd (n refl)) (λ n. absurd (n refl)) (λ n. absurd (n refl))
       (λ i n. at-cell i n (decLt i 64) (getD (t .used) i false) refl)
     where
-      at-cell : (i : ℕ) → getD (codes (t .links)) i nowhere ≢ nowhere → Dec (i < 64) → (u : Bool) → getD (t .used) i false ≡ u → Linked (cell i)
+      at-cell : (i : ℕ) → getD (codes (t .links)) i nowhere ≢ nowhere → Dec (i < 64) → (u : Bool) → getD (t .used) i false ≡ u → UsedCell (cell i)
       at-cell i n (yes h) true e = record { number = i; is-cell = refl; inside = h; used = e }
       at-cell i n (yes h) false e = absurd (n (link-empty t f i h e))
       at-cell i n (no h) u e =
@@ -100,7 +100,7 @@ module _ (t : Heap64) (s : Sized t) (f : Formed t) where
 
   -- ---- the operations
 
-  pub still : (o : Op) → isNew o ≡ false → Enabled o (lowestUnused (t .used)) (heapOf t) → heapOf t ≡ after o (lowestUnused (t .used)) (heapOf t) → Changes t o t
+  pub still : (o : Op) → allocates o ≡ false → Enabled o (lowestUnused (t .used)) (heapOf t) → heapOf t ≡ after o (lowestUnused (t .used)) (heapOf t) → Changes t o t
   still o n e h = record { enabled = e; room = rw n refl; sized = s; formed = f; variables = refl; heap = h }
 
   -- a comparison, by what stands where; `e` says which of the two it is
@@ -125,7 +125,7 @@ module _ (t : Heap64) (s : Sized t) (f : Formed t) where
       other-different z k = rw k (moved t (different a b) t (still (different a b) refl (na, nb, z) refl))
 
   -- variable a goes to p
-  pub put : (o : Op) (a : ℕ) (p : Place) → isNew o ≡ false → Enabled o (lowestUnused (t .used)) (heapOf t) → 1 ≤ a → a ≤ t .variables
+  pub put : (o : Op) (a : ℕ) (p : Place) → allocates o ≡ false → Enabled o (lowestUnused (t .used)) (heapOf t) → 1 ≤ a → a ≤ t .variables
       → standing (t .used) (p .code) ≡ true
       → record { link = heapOf t .link; var = update (heapOf t .var) a (p .code) } ≡ after o (lowestUnused (t .used)) (heapOf t)
       → Changes t o (withVar t (a - 1) p)
@@ -180,7 +180,7 @@ module _ (t : Heap64) (s : Sized t) (f : Formed t) where
   pub freed : (a y : ℕ) → y ≡ varIn (codes (t .vars)) a → linkIn (codes (t .links)) y ≢ nowhere → Changes t (delete a) (withoutPlace t y)
   freed a y e n = at-cell (linked y n)
     where
-      at-cell : Linked y → Changes t (delete a) (withoutPlace t y)
+      at-cell : UsedCell y → Changes t (delete a) (withoutPlace t y)
       at-cell l =
           let i = l .number in
           let i-is : cell i - 3 ≡ i = omega arith in

@@ -11,7 +11,7 @@ use Rattle.heap.specs.Operation.{Op, equal, different, assign, load, store, new
 use Rattle.kinds.specs.Kinds.{isSome, allowed}
 use Rattle.kinds.proofs.Rows.{by-kind, known, row-of}
 use Rattle.place.specs.Place.{placeOf, cellPlace, codes}
-use Rattle.stepper.specs.Step.{stays, lowestUnused, isNew, perform, performNamed, stepOf, Steps}
+use Rattle.stepper.specs.Step.{stays, lowestUnused, allocates, perform, performNamed, stepOf, Steps}
 use Rattle.stepper.specs.Table.{heapOf, Sized, wellFormed}
 use Rattle.stepper.specs.declared.Heap64.{Heap64}
 use Rattle.stepper.specs.declared.Outcome.{Outcome}
@@ -53,7 +53,7 @@ valid n kind a b o e =
 
 module _ (t : Heap64) (s : Sized t) (f : Formed t) where
   -- an enabled operation has a well formed table after it
-  changed : (o : Op) → Valid (t .variables) o → Enabled o (lowestUnused (t .used)) (heapOf t) → isNew o && leb 64 (lowestUnused (t .used)) ≡ false
+  changed : (o : Op) → Valid (t .variables) o → Enabled o (lowestUnused (t .used)) (heapOf t) → allocates o && leb 64 (lowestUnused (t .used)) ≡ false
       → (t′ : Heap64) × Changes t o t′
   changed (equal a b) v e r = (t, still t s f (equal a b) refl e refl)
   changed (different a b) v e r = (t, still t s f (different a b) refl e refl)
@@ -89,7 +89,7 @@ module _ (t : Heap64) (s : Sized t) (kind a b : ℕ) where
   promised r e p q d = subst (Steps t kind a b) (e ∙ sym d) p
 
   by-operation : Formed t → (o : Op) → operation (t .variables) kind a b ≡ some o → perform t o ≡ stepOf t kind a b → Promise
-  by-operation f o named e = by-room (isNew o && leb 64 x) refl (enabled? o x (heapOf t))
+  by-operation f o named e = by-room (allocates o && leb 64 x) refl (enabled? o x (heapOf t))
     where
       x : ℕ
       x = lowestUnused (t .used)
@@ -105,7 +105,7 @@ module _ (t : Heap64) (s : Sized t) (kind a b : ℕ) where
             formed = λ h. well-formed t′ (c .formed);
           })
 
-      by-room : (full? : Bool) → isNew o && leb 64 x ≡ full? → Dec (Enabled o x (heapOf t)) → Promise
+      by-room : (full? : Bool) → allocates o && leb 64 x ≡ full? → Dec (Enabled o x (heapOf t)) → Promise
       by-room true r d = let same = full t o r ∙ e in promised (stays t (Refused Full)) same (stayed t kind a b (Refused Full) (refused-stays Full) same)
       by-room false r (no n) = let same = blocked t o r n ∙ e in promised (stays t Blocked) same (stayed t kind a b Blocked blocked-stays same)
       by-room false r (yes d) = let c = changed t s f o (valid (t .variables) kind a b o named) d r in moves (c .0) (c .1)

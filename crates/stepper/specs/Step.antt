@@ -30,14 +30,14 @@ unfoldable pub lowestUnused : List Bool → ℕ
 lowestUnused [] = 0
 lowestUnused (u ∷ us) = cond u (suc (lowestUnused us)) 0
 
-abbrev pub isNew : Op → Bool
-isNew (equal a b) = false
-isNew (different a b) = false
-isNew (assign a b) = false
-isNew (load a b) = false
-isNew (store a b) = false
-isNew (new a) = true
-isNew (delete a) = false
+abbrev pub allocates : Op → Bool
+allocates (equal a b) = false
+allocates (different a b) = false
+allocates (assign a b) = false
+allocates (load a b) = false
+allocates (store a b) = false
+allocates (new a) = true
+allocates (delete a) = false
 
 -- a = b or a ≠ b
 abbrev pub comparison : Bool → ℕ → ℕ → Op
@@ -51,7 +51,7 @@ tableAfter t o = tableOf (t .variables) (after o (lowestUnused (t .used)) (heapO
 -- an operation on a well formed table: refusal 15, or the operation on the heap that the table stands for, or blocked
 unfoldable pub perform : Heap64 → Op → Stepped
 perform t o =
-    cond (isNew o && leb 64 (lowestUnused (t .used))) (stays t (Refused Full))
+    cond (allocates o && leb 64 (lowestUnused (t .used))) (stays t (Refused Full))
     (ite (enabled? o (lowestUnused (t .used)) (heapOf t)) (stays (tableAfter t o) Moved) (stays t Blocked))
 
 abbrev pub performNamed : Heap64 → Option Op → Stepped

@@ -9,7 +9,7 @@ use Rattle.graph.specs.Graph.{Embeds}
 use Rattle.shape.specs.Shape.{Shape, shapeGraph}
 use Rattle.backward.specs.Predecessors.{predecessors}
 use Rattle.cover.specs.Test.{imageMap}
-use Rattle.number.specs.Number.{numberAt, readOutcome}
+use Rattle.number.specs.Number.{numberAt, readResult}
 use Rattle.format.specs.Verdict.{verdict, accepted, refused}
 
 pub data Row : Type 0 where
@@ -56,7 +56,7 @@ Holds P8 = predecessorsOf 6 1 0 (shape (3 ∷ []) (3 ∷ [])) ≡ []
 Holds P9 = predecessorsOf 6 1 0 (shape (3 ∷ []) (2 ∷ [])) ≡ shape (0 ∷ []) [] ∷ []
 Holds P10 = ¬ Embeds (shapeGraph meeting) (shapeGraph four) (imageMap (0 ∷ 1 ∷ 3 ∷ []))
 Holds P11 = Embeds (shapeGraph pair) (shapeGraph four) (imageMap (0 ∷ 3 ∷ []))
-Holds P12 = readOutcome (numberAt (128 ∷ 0 ∷ []) 0) ≡ record { code = 3; values = 0 ∷ 0 ∷ [] }
+Holds P12 = readResult (numberAt (128 ∷ 0 ∷ []) 0) ≡ record { code = 3; values = 0 ∷ 0 ∷ [] }
 
 abbrev pub All : Type 0
 All = (row : Row) → Holds row

@@ -3,7 +3,7 @@ use mathlib.Core.List.{[], _∷_}
 use Prim.Native.Nat.{ℕ}
 use Rattle.format.specs.Parser.{Parsed, parsed, fault}
 use Rattle.format.specs.Verdict.{Verdict, accepted, refused}
-use Rattle.number.specs.Outcome.{Outcome}
+use Rattle.number.specs.CallResult.{CallResult}
 use Rattle.verdict.specs.declared.Reached.{Reached}
 use Rattle.verdict.specs.declared.Reached.the-variants.{At, Refused as ReachedRefused}
 use Rattle.verdict.specs.declared.Refusal.{Refusal}
@@ -35,6 +35,6 @@ reachedOf (At next) = parsed tt next
 reachedOf (ReachedRefused r place) = fault (refusalNumber r) place
 
 -- what a host is told: 0 with the three counts, or document 01's number with the place
-abbrev pub verdictOutcome : Verdict → Outcome
-verdictOutcome (accepted c) = record { code = 0; values = c .bads ∷ c .members ∷ c .covers ∷ [] }
-verdictOutcome (refused number place) = record { code = number; values = place ∷ 0 ∷ 0 ∷ [] }
+abbrev pub verdictResult : Verdict → CallResult
+verdictResult (accepted c) = record { code = 0; values = c .bads ∷ c .members ∷ c .covers ∷ [] }
+verdictResult (refused number place) = record { code = number; values = place ∷ 0 ∷ 0 ∷ [] }

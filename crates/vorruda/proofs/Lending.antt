@@ -7,7 +7,7 @@ use native.Mathlib.Omega.{arith}
 use borrow.Author.Tests.{le-leb, lt-leb}
 use lib.ListN.{length, getD, take, drop, set, length-set, take-append-drop}
 use lib.Seq.{take-suc, take-suc-set, drop-drop, drop-set-lt, take-all}
-use Rattle.number.specs.Outcome.{lent}
+use Rattle.number.specs.CallResult.{lent}
 
 -- i values are handed over
 pub record Lending (values out₀ out : List ℕ) (i : ℕ) : Type 0 where

@@ -33,12 +33,12 @@ byteOf t i =
     (cond (ltb i 9) (getD (t .vars) (i - 1) (placeOf 0) .code)
     (cond (ltb i 73) (cond (getD (t .used) (i - 9) false) 1 0) (getD (t .links) (i - 73) (placeOf 0) .code)))
 
-unfoldable pub bytesOf : Heap64 → List ℕ
-bytesOf t = map (byteOf t) (range 0 137)
+unfoldable pub heapBytes : Heap64 → List ℕ
+heapBytes t = map (byteOf t) (range 0 137)
 
 -- the bytes after a step: "Where it isn't 0 the bytes stay as they are."
 abbrev pub bytesAfter : Outcome → Heap64 → List ℕ → List ℕ
-bytesAfter Moved t bytes = bytesOf t
+bytesAfter Moved t bytes = heapBytes t
 bytesAfter Blocked t bytes = bytes
 bytesAfter (Refused r) t bytes = bytes
 

@@ -3,7 +3,7 @@ use stepper::Heap64;
 use stepper::Outcome;
 ghost use mathlib.Core.Path.{_≡_};
 ghost use lib.ListN.{length};
-ghost use Rattle.vorruda.specs.HeapBytes.{readable, heapFrom, bytesOf, StepsBytes};
+ghost use Rattle.vorruda.specs.HeapBytes.{readable, heapFrom, heapBytes, StepsBytes};
 
 // Whether bytes can be a heap's: 137 of them, the used marks 0 or 1.
 fn is_readable(bytes: &[u8]) -> bool
@@ -67,7 +67,7 @@ fn links_from(bytes: &[u8]) -> [Place; 64]
 
 fn put_heap(heap: Heap64, bytes: &mut [u8])
     requires { ⌜ length (now bytes) ≡ 137 ⌝ }
-    ensures { λ r. ⌜ now (bytes .exit) ≡ bytesOf heap ⌝ }
+    ensures { λ r. ⌜ now (bytes .exit) ≡ heapBytes heap ⌝ }
 {
     bytes[0] = heap.variables;
     let mut i: usize = 1;

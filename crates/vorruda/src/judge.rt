@@ -1,15 +1,15 @@
 use crate::lend::lend;
 use verdict::Verdict;
 ghost use mathlib.Core.Path.{_≡_};
-ghost use Rattle.format.specs.Conditions.{SafeBytes};
+ghost use Rattle.format.specs.JobBytes.{SafeBytes};
 ghost use Rattle.format.specs.Verdict.{verdict};
-ghost use Rattle.number.specs.Outcome.{lent};
-ghost use Rattle.verdict.specs.Verdict.{verdictOutcome};
+ghost use Rattle.number.specs.CallResult.{lent};
+ghost use Rattle.verdict.specs.Verdict.{verdictResult};
 
 // The verdict on a job and a certificate: 0 for accepted, or the refusal's number. 0 carries the run guarantee.
 #[no_mangle]
 pub extern "C" fn vorruda_check(job: &[u8], cert: &[u8]) -> u32
-    ensures number { λ r. ⌜ r ≡ verdictOutcome (verdict (now (job .entry)) (now (cert .entry))) .code ⌝ }
+    ensures number { λ r. ⌜ r ≡ verdictResult (verdict (now (job .entry)) (now (cert .entry))) .code ⌝ }
     ensures safe { λ r. ⌜ (r ≡ 0 → SafeBytes (now (job .entry))) ⌝ }
 {
     let judged = checker::check(job, cert);
@@ -22,8 +22,8 @@ pub extern "C" fn vorruda_check(job: &[u8], cert: &[u8]) -> u32
 // The same, with the three counts, or the place and two zeros, in an array that the host lends.
 #[no_mangle]
 pub extern "C" fn vorruda_verdict(job: &[u8], cert: &[u8], out: &mut [u64]) -> u32
-    ensures number { λ r. ⌜ r ≡ verdictOutcome (verdict (now (job .entry)) (now (cert .entry))) .code ⌝ }
-    ensures values { λ r. ⌜ now (out .exit) ≡ lent (verdictOutcome (verdict (now (job .entry)) (now (cert .entry))) .values) (now (out .entry)) ⌝ }
+    ensures number { λ r. ⌜ r ≡ verdictResult (verdict (now (job .entry)) (now (cert .entry))) .code ⌝ }
+    ensures values { λ r. ⌜ now (out .exit) ≡ lent (verdictResult (verdict (now (job .entry)) (now (cert .entry))) .values) (now (out .entry)) ⌝ }
     ensures safe { λ r. ⌜ (r ≡ 0 → SafeBytes (now (job .entry))) ⌝ }
 {
     match checker::check(job, cert) {

@@ -1,5 +1,5 @@
 ghost use mathlib.Core.Path.{_≡_};
-ghost use Rattle.number.specs.Outcome.{lent};
+ghost use Rattle.number.specs.CallResult.{lent};
 
 // Hands values to the host in an array that it lends; leaves an array that is too short as it is.
 pub(crate) fn lend(values: &[u64], out: &mut [u64])

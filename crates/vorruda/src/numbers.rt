@@ -3,15 +3,15 @@ use number::Read;
 use number::Written;
 ghost use mathlib.Core.Path.{_≡_};
 ghost use lib.ListN.{length};
-ghost use Rattle.number.specs.Number.{numberAt, readOutcome};
-ghost use Rattle.number.specs.NumberList.{answer, output, writeOutcome};
-ghost use Rattle.number.specs.Outcome.{lent};
+ghost use Rattle.number.specs.Number.{numberAt, readResult};
+ghost use Rattle.number.specs.NumberList.{answer, output, writeResult};
+ghost use Rattle.number.specs.CallResult.{lent};
 
 // One number at any place: 0, with the number and the next place, or 3, with the place.
 #[no_mangle]
 pub extern "C" fn vorruda_read_number(bytes: &[u8], at: usize, out: &mut [u64]) -> u32
-    ensures code { λ r. ⌜ r ≡ readOutcome (numberAt (now (bytes .entry)) at) .code ⌝ }
-    ensures values { λ r. ⌜ now (out .exit) ≡ lent (readOutcome (numberAt (now (bytes .entry)) at) .values) (now (out .entry)) ⌝ }
+    ensures code { λ r. ⌜ r ≡ readResult (numberAt (now (bytes .entry)) at) .code ⌝ }
+    ensures values { λ r. ⌜ now (out .exit) ≡ lent (readResult (numberAt (now (bytes .entry)) at) .values) (now (out .entry)) ⌝ }
 {
     match number::read_number(bytes, at) {
         Read::Number(n, next) => {
@@ -30,9 +30,9 @@ pub extern "C" fn vorruda_read_number(bytes: &[u8], at: usize, out: &mut [u64]) 
 // A list of numbers to the first bytes: 0, with how many it filled; 11, with the index; or 12, with the length needed.
 #[no_mangle]
 pub extern "C" fn vorruda_write_numbers(numbers: &[u64], bytes: &mut [u8], out: &mut [u64]) -> u32
-    ensures code { λ r. ⌜ r ≡ writeOutcome (answer (now (numbers .entry)) (length (now (bytes .entry)))) .code ⌝ }
+    ensures code { λ r. ⌜ r ≡ writeResult (answer (now (numbers .entry)) (length (now (bytes .entry)))) .code ⌝ }
     ensures bytes { λ r. ⌜ now (bytes .exit) ≡ output (answer (now (numbers .entry)) (length (now (bytes .entry)))) (now (numbers .entry)) (now (bytes .entry)) ⌝ }
-    ensures values { λ r. ⌜ now (out .exit) ≡ lent (writeOutcome (answer (now (numbers .entry)) (length (now (bytes .entry)))) .values) (now (out .entry)) ⌝ }
+    ensures values { λ r. ⌜ now (out .exit) ≡ lent (writeResult (answer (now (numbers .entry)) (length (now (bytes .entry)))) .values) (now (out .entry)) ⌝ }
 {
     match number::write_numbers(numbers, bytes) {
         Written::Filled(k) => {

@@ -1,7 +1,7 @@
 use mathlib.Core.Path.{ap, _∙_, sym}
 use native.Mathlib.Omega.{arith}
 use lib.Seq.{length-take-le}
-use Rattle.format.specs.Verdict.{answer}
+use Rattle.format.specs.Verdict.{conclude}
 use Rattle.checker.specs.Jobs.{fileIn, readCovers}
 use Rattle.checker.proofs.Verdicts.{bounds, certificate-refused, certificate-members}
 use borrow.Author.Needs.{needs}
@@ -47,7 +47,7 @@ returns-2 c =
     let b = bounds (a .job .now) (a .cert .now) (a .h) (p .0) (p .1) in
     let f = fileIn (a .job .now) (a .h) in
     c .check-covers .ensures
-    ∙ ap answer (ap (λ ms. readCovers (a .cert .now) (f .job) ms (v .0 .1 .0)) (sym (m .members-are b)) ∙ certificate-members (a .cert .now) f (m .members) (v .0 .1 .0) (m .read))
+    ∙ ap conclude (ap (λ ms. readCovers (a .cert .now) (f .job) ms (v .0 .1 .0)) (sym (m .members-are b)) ∙ certificate-members (a .cert .now) f (m .members) (v .0 .1 .0) (m .read))
 
 pub check-certificate-spec : {M : Type 1} → statement M
 check-certificate-spec =

@@ -2,7 +2,7 @@ use Prim.Native.Nat.{_-_}
 use mathlib.Core.Path.{ap, _∙_}
 use native.Mathlib.Omega.{arith}
 use Rattle.format.specs.Parser.{ranged}
-use Rattle.reader.specs.Number.{bufferOf, forget}
+use Rattle.reader.specs.Number.{bufferOf, withoutValue}
 use Rattle.reader.proofs.Answers.{got, lost, passed}
 use Rattle.reader.proofs.Many.{Left, left-none, left-more, left-lost, left-all}
 use borrow.Author.Needs.{needs}
@@ -38,7 +38,7 @@ returns c =
     ∙ left-lost (ranged (bufferOf (a .side) (a .bytes .now)) 0 (a .limit)) (a .count) (a .first)
     (c .before .before .before .before .before .loop .at) (c .before .before .before .before .before .loop .i)
     (c .before .before .before .before .before .loop .inv) _ _ (omega arith)
-    (ap forget (lost (c .before .before .before .read-ranged .ensures) e))
+    (ap withoutValue (lost (c .before .before .before .read-ranged .ensures) e))
 
 add-i : tie.Need-add-i Inv-loop μ-loop
 add-i c = search needs
@@ -52,7 +52,7 @@ loop-again c =
     left-more (ranged (bufferOf (a .side) (a .bytes .now)) 0 (a .limit)) (a .count) (a .first)
     (c .before .before .before .before .before .loop .at) (c .before .before .before .before .before .loop .i)
     (c .before .before .before .before .before .loop .inv) _ (omega arith)
-    (ap forget (got (c .before .before .before .read-ranged .ensures) (c .before .r .given .1)))
+    (ap withoutValue (got (c .before .before .before .read-ranged .ensures) (c .before .r .given .1)))
 
 returns-2 : tie.Need-returns-2 Inv-loop μ-loop
 returns-2 c =

@@ -2,7 +2,7 @@ use mathlib.Core.Path.{ap, _∙_}
 use native.Mathlib.Omega.{arith}
 use Rattle.format.specs.Parser.{jobBuffer}
 use Rattle.reader.proofs.Answers.{got, lost, passed}
-use Rattle.reader.specs.Number.{forget}
+use Rattle.reader.specs.Number.{withoutValue}
 use Rattle.reader.proofs.Transitions.{most-bound, lost-from, lost-kind, lost-a, lost-b, to-last}
 use borrow.Author.Needs.{needs}
 use Rattle.reader.proofs.read_transition.Statement.{statement}
@@ -121,7 +121,7 @@ returns-5 : tie.Need-returns-5
 returns-5 c =
     let a = c .before .before .before .before .before .before .before .before .before .before .before .before .before .before .before .before .before .before .before .before .before .before .args in
     c .reached5 .ensures
-    ∙ ap forget (c .before .read-ranged5 .ensures)
+    ∙ ap withoutValue (c .before .read-ranged5 .ensures)
     ∙ to-last (jobBuffer (a .job .now)) (a .variables) (a .states) (a .first)
     (got (c .before .before .before .before .before .before .before .before .before .before .before .before .before .before .before .before .before .before .before .before .read-ranged .ensures) (c .before .before .before .before .before .before .before .before .before .before .before .before .before .before .before .before .before .before .from .given .1))
     (got (c .before .before .before .before .before .before .before .before .before .before .before .before .before .before .before .before .read-ranged2 .ensures) (c .before .before .before .before .before .before .before .before .before .before .before .before .before .before .number .given .1))

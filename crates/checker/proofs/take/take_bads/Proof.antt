@@ -2,7 +2,7 @@ use Prim.Native.Nat.{_+_, _-_, _≤_}
 use mathlib.Core.Path.{_≡_}
 use native.Mathlib.Omega.{arith}
 use mathlib.Core.List.{[], _∷_}
-use Rattle.layout.specs.Entries.{Entry, entryEnd, locatedAt, entriesAt, EntriesIn}
+use Rattle.layout.specs.Entries.{EntryInRange, entryEnd, locatedAt, entriesAt, EntriesIn}
 use Rattle.covering.specs.Members.{membersFrom}
 use Rattle.checker.specs.Taking.{TakesAll}
 use Rattle.checker.proofs.Lists.{entries-next, entry-next, entries-end}
@@ -31,7 +31,7 @@ load-shape-requires c κs = tt
 entries : (c : tie.In-loop Inv-loop μ-loop)
     → let a = c .before .before .before .before .before .args in
     let l = c .before .loop in
-    Entry (a .job .now) (a .variables) (l .at) × EntriesIn (a .job .now) (a .variables) (entryEnd (a .job .now) (a .variables) (l .at)) (a .bads - (l .i + 1))
+    EntryInRange (a .job .now) (a .variables) (l .at) × EntriesIn (a .job .now) (a .variables) (entryEnd (a .job .now) (a .variables) (l .at)) (a .bads - (l .i + 1))
 entries c =
     let a = c .before .before .before .before .before .args in
     let l = c .before .loop in

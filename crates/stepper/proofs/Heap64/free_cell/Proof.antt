@@ -8,7 +8,7 @@ use Rattle.stepper.specs.declared.Heap64.{Heap64}
 use Rattle.stepper.specs.declared.Outcome.the-variants.{Moved}
 use Rattle.stepper.specs.Table.{dangleLinks}
 use Rattle.stepper.proofs.Formed.{formed}
-use Rattle.stepper.proofs.Perform.{moved, blocked, Linked, linked, cut, withoutPlace, freed}
+use Rattle.stepper.proofs.Perform.{moved, blocked, UsedCell, linked, cut, withoutPlace, freed}
 use borrow.Author.Needs.{needs}
 use Rattle.stepper.proofs.Heap64.free_cell.Statement.{statement}
 use Rattle.stepper.proofs.Heap64.free_cell.Tie as tie
@@ -26,7 +26,7 @@ returns c =
     (λ d. d (sym (c .before .before .link-of .ensures ∙ ap (linkIn (codes (t .links))) (c .before .before .before .place-of .ensures)) ∙ c .if1 .taken))
 
 -- a stands at a used cell
-at-cell : (c : tie.Else1) → Linked (c .before .before .before .before .args .self) (c .before .before .before .before .pre .0 .sized) (formed (c .before .before .before .before .args .self) (c .before .before .before .before .pre .0 .formed)) (c .before .before .before .place-of .result .code)
+at-cell : (c : tie.Else1) → UsedCell (c .before .before .before .before .args .self) (c .before .before .before .before .pre .0 .sized) (formed (c .before .before .before .before .args .self) (c .before .before .before .before .pre .0 .formed)) (c .before .before .before .place-of .result .code)
 at-cell c =
     linked (c .before .before .before .before .args .self) (c .before .before .before .before .pre .0 .sized) (formed (c .before .before .before .before .args .self) (c .before .before .before .before .pre .0 .formed)) (c .before .before .before .place-of .result .code)
     (λ z. c .if1 .left (c .before .before .link-of .ensures ∙ z))

@@ -7,7 +7,7 @@ use Rattle.stepper.proofs.Perform.{moved, blocked, linked, stored, take
 use Rattle.heap.specs.Codes.{varIn, linkIn}
 use Rattle.heap.specs.Operation.{store}
 use Rattle.place.specs.Place.{codes}
-use Rattle.stepper.proofs.Perform.{Linked}
+use Rattle.stepper.proofs.Perform.{UsedCell}
 use borrow.Author.Needs.{needs}
 use Rattle.stepper.proofs.Heap64.store.Statement.{statement}
 use Rattle.stepper.proofs.Heap64.store.Tie as tie
@@ -37,7 +37,7 @@ returns-2 c =
     refl (λ d. d .1 (sym (c .before .before .place-of2 .ensures) ∙ c .if2 .taken))
 
 -- a stands at a used cell
-at-cell : (c : tie.After-struct-known3) → Linked (c .before .before .before .before .before .before .before .before .args .self) (c .before .before .before .before .before .before .before .before .pre .0 .sized) (formed (c .before .before .before .before .before .before .before .before .args .self) (c .before .before .before .before .before .before .before .before .pre .0 .formed)) (c .before .before .before .before .before .before .before .place-of .result .code)
+at-cell : (c : tie.After-struct-known3) → UsedCell (c .before .before .before .before .before .before .before .before .args .self) (c .before .before .before .before .before .before .before .before .pre .0 .sized) (formed (c .before .before .before .before .before .before .before .before .args .self) (c .before .before .before .before .before .before .before .before .pre .0 .formed)) (c .before .before .before .before .before .before .before .place-of .result .code)
 at-cell c =
     linked (c .before .before .before .before .before .before .before .before .args .self) (c .before .before .before .before .before .before .before .before .pre .0 .sized) (formed (c .before .before .before .before .before .before .before .before .args .self) (c .before .before .before .before .before .before .before .before .pre .0 .formed)) (c .before .before .before .before .before .before .before .place-of .result .code)
     (λ z. c .before .before .before .before .if1 .left (c .before .before .before .before .before .before .link-of .ensures ∙ z))

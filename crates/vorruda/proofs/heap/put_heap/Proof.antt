@@ -2,7 +2,7 @@ use Prim.Native.Nat.{_-_, _≤_}
 use mathlib.Core.Path.{refl, _∙_, sym}
 use native.Mathlib.Omega.{arith}
 use Rattle.lists.proofs.Range.{Filled, fill-none, fill-more, fill-all}
-use Rattle.vorruda.specs.HeapBytes.{byteOf, bytesOf}
+use Rattle.vorruda.specs.HeapBytes.{byteOf, heapBytes}
 use Rattle.vorruda.proofs.Bytes.{count-byte, slot-byte, mark-byte, link-byte}
 use borrow.Author.Needs.{needs}
 use Rattle.vorruda.proofs.heap.put_heap.Statement.{statement}
@@ -108,7 +108,7 @@ same-length : tie.Need-same-length Inv-loop μ-loop Inv-loop2 μ-loop2 Inv-loop3
 same-length c = c .before .loop3 .inv .2 .size ∙ sym (c .before .before .before .before .before .before .pre)
 
 returns : tie.Need-returns Inv-loop μ-loop Inv-loop2 μ-loop2 Inv-loop3 μ-loop3
-unfolding bytesOf
+unfolding heapBytes
 returns c = fill-all _ _ _ _ _ (c .before .loop3 .inv .2) (omega arith)
 
 pub put-heap-spec : {M : Type 1} → statement M

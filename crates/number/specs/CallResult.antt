@@ -6,7 +6,7 @@ use lib.Dec.{leb}
 use lib.ListN.{length, drop}
 
 -- document 01's number, 0 if the call did what was asked, and the values beside it
-pub record Outcome : Type 0 where
+pub record CallResult : Type 0 where
   pub code : ℕ
   pub values : List ℕ
 
