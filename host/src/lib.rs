@@ -14,5 +14,6 @@ pub mod random;
 pub mod reference;
 pub mod routine;
 pub mod search;
+pub mod stack;
 pub mod sweep;
 pub mod verdict;
