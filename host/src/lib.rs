@@ -6,6 +6,7 @@ pub mod bench;
 pub mod check;
 pub mod compare;
 pub mod corpus;
+pub mod definitions;
 pub mod draw;
 pub mod extremes;
 pub mod library;

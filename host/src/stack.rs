@@ -63,8 +63,14 @@ mod tests {
 
     #[test]
     fn sees_what_a_call_takes() {
-        for (measured, taken) in [(depth(uses::<3_000>), 3_000), (depth(uses::<20_000>), 20_000)] {
-            assert!((taken..taken + 600).contains(&measured), "{measured} for {taken}");
+        for (measured, taken) in [
+            (depth(uses::<3_000>), 3_000),
+            (depth(uses::<20_000>), 20_000),
+        ] {
+            assert!(
+                (taken..taken + 600).contains(&measured),
+                "{measured} for {taken}"
+            );
         }
         assert_eq!(depth(|| ()), LEFT_OUT);
     }
