@@ -153,11 +153,8 @@ fn is_said(line: &str) -> bool {
 /// What a part of a file between two blank lines defines.
 fn block(part: &str) -> Option<Block> {
     let lines: Vec<&str> = part.lines().filter(|line| is_said(line)).collect();
-    let plain = |line: &&&str| {
-        !["module", "infix"]
-            .iter()
-            .any(|start| line.starts_with(start))
-    };
+    let heads = ["module", "infix"];
+    let plain = |line: &&&str| !heads.iter().any(|head| line.trim().starts_with(head));
     let head = lines.iter().find(plain)?;
     let is_word = |word: &&str| !["abbrev", "unfoldable", "pub", "record", "data"].contains(word);
     let mut names = vec![word(head.split_whitespace().find(is_word)?)];
