@@ -1,8 +1,10 @@
 /* vorruda.h - calls of the proved library libvorruda.a.
  *
- * A buffer is a pointer and a length. NULL with length 0 is an empty buffer. Buffers of one call
- * must not overlap. Nothing is allocated and nothing is kept between calls; calls on different
- * buffers may run at the same time.
+ * A buffer is a pointer and a length; NULL with length 0 is an empty buffer. What the caller owes:
+ * each pointer is valid for its length, and a buffer that a call may change overlaps no other buffer
+ * of the call. Buffers that are only read, as job and certificate, may overlap. There is no other
+ * condition. Nothing is allocated and nothing is kept between calls; calls on different buffers may
+ * run at the same time.
  *
  * Every call returns a number: 0 is success, 1 to 99 is a refusal, 100 and above is told at the
  * call. Results beside it go to the caller's array `out`. Where `out_len` is too short for them,
