@@ -78,8 +78,8 @@ uint32_t vorruda_write_numbers(const uint64_t *numbers, size_t count,
 #define VORRUDA_EQUAL     1 /* a = b        neither at *, same place;           a, b from 0 */
 #define VORRUDA_DIFFERENT 2 /* a != b       neither at *, different places;     a, b from 0 */
 #define VORRUDA_ASSIGN    3 /* a := b       b not at *;                         b from 0 */
-#define VORRUDA_FOLLOW    4 /* a := b.next  b at a cell whose link isn't *                  */
-#define VORRUDA_LINK      5 /* a.next := b  a at a cell, b not at *;            b from 0 */
+#define VORRUDA_LOAD      4 /* a := b.next  b at a cell whose link isn't *                  */
+#define VORRUDA_STORE     5 /* a.next := b  a at a cell, b not at *;            b from 0 */
 #define VORRUDA_NEW       6 /* new(a)       always; b is 0                                  */
 #define VORRUDA_DELETE    7 /* delete(a)    a at a cell; b is 0                             */
 
