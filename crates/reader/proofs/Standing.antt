@@ -14,7 +14,7 @@ use Rattle.run.specs.Run.{Transition, Located}
 use Rattle.number.specs.Number.{numberAt}
 use Rattle.number.specs.declared.Read.the-variants.{Number}
 use Rattle.kinds.specs.Kinds.{mostB, isSome, allowed}
-use Rattle.kinds.proofs.Rows.{known}
+use Rattle.kinds.proofs.Rows.{known, most-bound}
 use Rattle.format.specs.Certificate.{Member, readMember}
 use Rattle.format.specs.Job.{readLocated, readTransition}
 use Rattle.format.specs.Parser.{parsed, many, Buffer}
@@ -25,7 +25,6 @@ use Rattle.layout.specs.Entries.{locatedAt, EntryInRange, entryEnd, entriesAt, 
 use Rattle.layout.specs.Transitions.{opOf, transitionAt}
 use Rattle.reader.specs.Job.{TransitionIn}
 use Rattle.reader.proofs.Bytes.{Single, single, reads-inside, reads-bytes}
-use Rattle.reader.proofs.Transitions.{most-bound}
 
 -- ---- an entry by the place after its state
 

@@ -46,7 +46,7 @@ returns c =
     let r-is = c .before .before .before .before .before .before .before .before .before .counts .given .1 in (
       rw (← k .0, r-is) refl,
       told-values _ _ _ (k .0) (k .1 .0) (k .1 .1) _ _ _ (told-accepted _ _ _ (k .0) (k .1 .0) (k .1 .1) _ r-is)
-      (rw (← k .0, r-is) (c .before .before .lend .ensures)),
+          (rw (← k .0, r-is) (c .before .before .lend .ensures)),
     )
 
 same-length-2 : tie.Need-same-length-2
@@ -58,8 +58,8 @@ returns-2 c =
     let r-is = c .before .before .before .before .before .before .before .refusal .given .1 in (
       rw (← k .0, r-is) (c .refusal-number .ensures),
       told-values _ _ _ (k .0) (k .1 .0) (k .1 .1) _ _ _
-      (told-refused _ _ _ (k .0) (k .1 .0) (k .1 .1) _ _ _ r-is (c .refusal-number .ensures))
-      (rw (← k .0, r-is) (c .before .before .before .lend2 .ensures)),
+          (told-refused _ _ _ (k .0) (k .1 .0) (k .1 .1) _ _ _ r-is (c .refusal-number .ensures))
+          (rw (← k .0, r-is) (c .before .before .before .lend2 .ensures)),
     )
 
 pub vorruda-verdict-spec : {M : Type 1} → statement M
