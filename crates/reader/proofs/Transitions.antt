@@ -1,18 +1,20 @@
 -- Reading a transition, number after number, by the columns of the table of kinds.
 use mathlib.Core.Bool.{Bool, _&&_}
+use mathlib.Core.List.{List, [], _∷_}
 use mathlib.Core.Logic.{inl, inr}
 use mathlib.Core.Option.{none, some}
 use mathlib.Core.Path.{_≡_, refl, sym, ap, _∙_}
-use Prim.Native.Nat.{ℕ, _+_, _≤_, _<_}
+use Prim.Native.Nat.{ℕ, zero, suc, _+_, _≤_, _<_}
 use native.Mathlib.Decide.{decLe}
 use native.Mathlib.Omega.{arith}
 use borrow.Author.Tests.{le-leb, lt-leb, lt-ltb, le-ltb}
 use lib.Dec.{leb, ltb}
+use lib.ListN.{length, getElem?}
 use Rattle.lists.proofs.Reflect.{r-le, r-lt, r-and, cond-true}
-use Rattle.heap.specs.Operation.{Kind, kindOf, allowsA, allowsB}
+use Rattle.heap.specs.Operation.{Kind, kinds, kindOf, allowsA, allowsB}
 use Rattle.run.specs.Run.{Transition}
 use Rattle.kinds.specs.Kinds.{leastA, leastB, mostB}
-use Rattle.kinds.proofs.Rows.{by-kind, no-kind, most-b-all, most-b-none}
+use Rattle.kinds.proofs.Rows.{no-kind, most-b-all, most-b-none}
 use Rattle.format.specs.Job.{readTransition}
 use Rattle.format.specs.Parser.{parsed, fault, Buffer, within, such, meant, readAs, ranged}
 use Rattle.format.proofs.Parsing.{read-complete, read-outside, read-fault, Faulty, ranged-exact}
@@ -22,9 +24,15 @@ use Rattle.reader.proofs.Many.{without-value-made}
 
 -- ---- a kind
 
+-- a number below a list's length has an element
+element : {A : Type 0} (l : List A) (i : ℕ) → i < length l → (x : A) × (getElem? l i ≡ some x)
+element [] i h = absurd (omega arith)
+element (x ∷ l) zero h = (x, refl)
+element (x ∷ l) (suc i) h = element l i (omega arith)
+
 row-of : (k : ℕ) → 1 ≤ k → k < 8 → (row : Kind) × (kindOf k ≡ some row)
-row-of k l h =
-    by-kind (λ k. (row : Kind) × (kindOf k ≡ some row)) (_, refl) (_, refl) (_, refl) (_, refl) (_, refl) (_, refl) (_, refl) k l (omega arith)
+row-of zero l h = absurd (omega arith)
+row-of (suc k) l h = element kinds k (omega arith)
 
 module _ (s : Buffer) (at : ℕ) where
   pub kind-got : (kind next : ℕ) → ranged s 1 8 at ≡ parsed kind next → (row : Kind) × (kindOf kind ≡ some row) × (readAs s kindOf at ≡ parsed row next)
