@@ -14,9 +14,10 @@ use Rattle.lists.proofs.Reflect.{Reflect, r-le, r-lt, r-and, cond-true}
 use Rattle.number.specs.Number.{numberAt}
 use Rattle.number.specs.declared.Read.{Read}
 use Rattle.number.specs.declared.Read.the-variants.{Number, Unreadable}
+use Rattle.number.proofs.Reading.{unreadable-at}
 use Rattle.shape.specs.Shape.{AllBelow}
 use Rattle.format.specs.Parser.{Parsed, parsed, fault, Parser, onward, require, many, Buffer, within, such, meant, judged, readAs, ranged}
-use Rattle.format.proofs.Sequence.{unreadable-at, Reads, done, one, reads-none, reads-one, reads-append, reads-split}
+use Rattle.format.proofs.Sequence.{Reads, done, one, reads-none, reads-one, reads-append, reads-split}
 
 pub not-fault : {A : Type 0} (x : A) (next number place : ℕ) → fault number place ≡ parsed x next → ⊥
 not-fault x next number place e = let z : _≡_ {A = ℕ} 0 1 = cc in omega arith
@@ -91,7 +92,7 @@ module _ (s : Buffer) where
 
       by-read : (r : Read) → numberAt (s .bytes) at ≡ r → meant s meaning at r ≡ fault number place → Result
       by-read (Number n k) g e = by-meaning n k g (meaning n) refl e
-      by-read (Unreadable p) g e = (cc, inl (cc, g ∙ ap Unreadable (sym (unreadable-at (s .bytes) at p g))))
+      by-read (Unreadable p) g e = (cc, inl (cc, g ∙ ap Unreadable (sym (unreadable-at at _ _ _ _ p g))))
 
   pub read-outside : {A : Type 0} (meaning : ℕ → Option A) (at n next : ℕ) → numberAt (s .bytes) at ≡ Number n next → meaning n ≡ none
       → readAs s meaning at ≡ fault (s .outside) at

@@ -6,11 +6,12 @@ use Prim.Native.Nat.{ℕ, zero, suc, _+_, _-_, _≤_, _<_}
 use native.Mathlib.Omega.{arith}
 use borrow.Author.Tests.{lt-ltb, le-ltb}
 use lib.ListN.{length, getD}
-use Rattle.lists.proofs.Reflect.{r-le, r-lt, r-eq, cond-cases}
+use Rattle.lists.proofs.Reflect.{r-lt, cond-cases}
 use Rattle.number.specs.Number.{numberIn, numberAt}
 use Rattle.number.specs.NumberList.{Listed, numbers, refused, before, followed, decodeFrom, decode}
 use Rattle.number.specs.declared.Read.{Read}
 use Rattle.number.specs.declared.Read.the-variants.{Number, Unreadable}
+use Rattle.number.proofs.Reading.{taken}
 
 -- the numbers ns are read one after the other from a place to the next
 pub data Reads (s : List ℕ) : ℕ → List ℕ → ℕ → Type 0 where
@@ -43,51 +44,11 @@ module _ {s : List ℕ} where
 
 -- a number has a byte of the buffer, and the next place is further on
 pub number-in : (at left a b c n next : ℕ) → numberIn at left a b c ≡ Number n next → (0 < left) × (at < next)
-unfolding numberIn
-number-in at left a b c n next =
-    cond-cases Q (r-le left 0) (λ _. unread)
-    (λ l. cond-cases Q (r-lt a 128) (λ _ e. let z : at + 1 ≡ next = cc in (omega arith, omega arith))
-    (λ _. cond-cases Q (r-le left 1) (λ _. unread)
-    (λ _. cond-cases Q (r-eq b 0) (λ _. unread)
-    (λ _. cond-cases Q (r-lt b 128) (λ _ e. let z : at + 2 ≡ next = cc in (omega arith, omega arith))
-    (λ _. cond-cases Q (r-le left 2) (λ _. unread)
-    (λ _. cond-cases Q (r-eq c 0) (λ _. unread)
-    (λ _. cond-cases Q (r-lt c 4) (λ _ e. let z : at + 3 ≡ next = cc in (omega arith, omega arith)) (λ _. unread))))))))
-  where
-    Q : Read → Type 0
-    Q r = r ≡ Number n next → (0 < left) × (at < next)
-
-    unread : Q (Unreadable at)
-    unread e = let z : _≡_ {A = ℕ} 0 1 = cc in absurd (omega arith)
+number-in at left a b c n next e = let t = taken at left a b c n next e in (t .some, t .on)
 
 pub reads-on : {s : List ℕ} {at next : ℕ} {ns : List ℕ} → Reads s at ns next → at ≤ next
 reads-on done = omega arith
 reads-on (more {at = a} {n = n} {mid = k} g r) = let (_, b) = number-in a _ _ _ _ n k g in let c = reads-on r in omega arith
-
--- what can't be read is refused at the place asked for
-pub unreadable-at : (s : List ℕ) (at p : ℕ) → numberAt s at ≡ Unreadable p → at ≡ p
-unfolding numberIn
-unreadable-at s at p =
-    cond-cases Q (r-le left 0) (λ _. unread)
-    (λ _. cond-cases Q (r-lt (getD s at 0) 128) (λ _. read)
-    (λ _. cond-cases Q (r-le left 1) (λ _. unread)
-    (λ _. cond-cases Q (r-eq (getD s (at + 1) 0) 0) (λ _. unread)
-    (λ _. cond-cases Q (r-lt (getD s (at + 1) 0) 128) (λ _. read)
-    (λ _. cond-cases Q (r-le left 2) (λ _. unread)
-    (λ _. cond-cases Q (r-eq (getD s (at + 2) 0) 0) (λ _. unread)
-    (λ _. cond-cases Q (r-lt (getD s (at + 2) 0) 4) (λ _. read) (λ _. unread))))))))
-  where
-    left : ℕ
-    left = length s - at
-
-    Q : Read → Type 0
-    Q r = r ≡ Unreadable p → at ≡ p
-
-    unread : Q (Unreadable at)
-    unread e = cc
-
-    read : {n next : ℕ} → Q (Number n next)
-    read e = let z : _≡_ {A = ℕ} 0 1 = cc in absurd (omega arith)
 
 module _ (s : List ℕ) where
   decode-step : (turns at : ℕ) → at < length s → decodeFrom (suc turns) s at ≡ followed (decodeFrom turns s) (numberAt s at)

@@ -1,17 +1,21 @@
 -- Reading a job, part after part.
 use mathlib.Core.List.{List}
 use mathlib.Core.Path.{_≡_, refl}
-use Prim.Native.Nat.{ℕ, _≤_, _<_}
+use Prim.Native.Nat.{ℕ, _+_, _≤_, _<_}
 use native.Mathlib.Omega.{arith}
 use borrow.Author.Tests.{le-leb, lt-leb}
 use lib.ListN.{length}
 use Rattle.format.specs.Job.{readLocated}
 use Rattle.format.specs.Parser.{parsed, fault, many, Buffer, jobBuffer, ranged, end}
-use Rattle.format.proofs.Parsing.{then}
+use Rattle.format.proofs.Parsing.{then, ranged-exact}
+use Rattle.format.proofs.Sequence.{reads-one}
+use Rattle.number.specs.Number.{numberAt}
+use Rattle.number.specs.declared.Read.the-variants.{Number}
 use Rattle.reader.specs.Job.{readCounts, readFront, readRest}
 use Rattle.reader.specs.Number.{withoutValue}
 use Rattle.reader.specs.declared.Front.{Front}
 use Rattle.reader.proofs.Answers.{in-range}
+use Rattle.reader.proofs.Bytes.{single}
 use Rattle.reader.proofs.Many.{remembered, without-value-fault}
 
 -- ---- the numbers before the transitions
@@ -35,6 +39,12 @@ module _ (s : Buffer) (variables at : ℕ) where
           → parsed (record { variables = variables; states = states; start = start; transitions = count; at = p₃ }) p₃ ≡ readCounts s variables at
       unfolding readCounts
       counts-made e = rw (e₁, e₂, e) refl
+
+-- a number of a range below 128 is one byte
+one-byte : (s : Buffer) (low limit at n next : ℕ) → ranged s low limit at ≡ parsed n next → limit ≤ 128 → next ≡ at + 1
+one-byte s low limit at n next h small =
+    let (g, (l, b)) = ranged-exact s low limit .sound at n next h in
+    single (s .bytes) at n next (reads-one g) (omega arith) .after
 
 module _ (s : Buffer) (at : ℕ) where
   pub lost-version : {number place : ℕ} → ranged s 1 2 at ≡ fault number place → fault number place ≡ readFront s at
@@ -62,6 +72,27 @@ module _ (s : Buffer) (at : ℕ) where
       let (_, most) = in-range s 1 9 p₁ variables p₂ h₂ in
       let same : variables ≡ f .variables = cc in
       omega arith)))))
+
+  -- the numbers before that of the transitions are one byte each
+  pub front-place : (f : Front) (next : ℕ) → readFront s at ≡ parsed f next → numberAt (s .bytes) (at + 4) ≡ Number (f .transitions) (f .at)
+  unfolding readFront readCounts
+  front-place f next =
+      then (ranged s 1 2 at) _
+      (λ version p₁ h₁. then (ranged s 1 9 p₁) _
+      (λ variables p₂ h₂. then (ranged s 1 65 p₂) _
+      (λ states p₃ h₃. then (ranged s 0 states p₃) _
+      (λ start p₄ h₄. then (ranged s 0 257 p₄) _
+      (λ transitions p₅ h₅ r.
+      let (_, most) = in-range s 1 65 p₂ states p₃ h₃ in
+      let one₁ = one-byte s 1 2 at version p₁ h₁ (omega arith) in
+      let one₂ = one-byte s 1 9 p₁ variables p₂ h₂ (omega arith) in
+      let one₃ = one-byte s 1 65 p₂ states p₃ h₃ (omega arith) in
+      let one₄ = one-byte s 0 states p₃ start p₄ h₄ (omega arith) in
+      let number-is : transitions ≡ f .transitions = cc in
+      let place-is : p₅ ≡ f .at = cc in
+      let here : p₄ ≡ at + 4 = omega arith in
+      let g = reads-one (ranged-exact s 0 257 .sound p₄ transitions p₅ h₅ .0) in
+      rw (← here, ← number-is, ← place-is) g)))))
 
 -- ---- what follows the transitions
 

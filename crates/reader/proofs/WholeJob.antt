@@ -1,7 +1,7 @@
 -- A job is read by its parts.
 use mathlib.Core.List.{List}
 use mathlib.Core.Path.{_≡_, refl, sym, ap, _∙_}
-use Prim.Native.Nat.{ℕ, _≤_}
+use Prim.Native.Nat.{ℕ, _+_, _*_, _≤_}
 use native.Mathlib.Omega.{arith}
 use lib.ListN.{length}
 use Rattle.run.specs.Run.{Transition, Located}
@@ -18,6 +18,7 @@ use Rattle.reader.specs.declared.Header.{Header}
 use Rattle.reader.specs.declared.JobAnswer.{JobAnswer}
 use Rattle.reader.specs.declared.JobAnswer.the-variants.{Job, Refused}
 use Rattle.reader.proofs.Bytes.{reads-inside, number-inside}
+use Rattle.reader.proofs.Jobs.{front-place}
 use Rattle.reader.proofs.Many.{remembered, without-value-fault, without-value-onward, bind-assoc}
 use Rattle.reader.proofs.Standing.{entries-read, transitions-read}
 
@@ -91,9 +92,11 @@ module _ (job : List ℕ) where
           let last-is : last ≡ length job = omega (arith, reads-inside reads (omega arith)) in
           let (_, (count-is, _)) = many-exact s (transition-exact s (f .variables) (f .states)) (f .transitions) .sound (f .at) ts at g in
           let (_, (bads-are, _)) = many-exact s (located-exact s (f .variables) (f .states)) bads .sound p ms last h₂ in
-          let (ts-are, each) =
+          let (ts-are, each, ts-end) =
           transitions-read s (f .variables) (f .states) (ok .states .1) (ok .variables .1) (f .at) (f .transitions) 0 (f .at) ts at (omega arith) g in
-          let p-inside : p ≤ length job = number-inside job at bads p (reads-one (ranged-exact s 1 65 .sound at bads p h₁ .0)) in
+          let at-is : at ≡ f .at + 5 * f .transitions = omega arith in
+          let bads-read = reads-one (ranged-exact s 1 65 .sound at bads p h₁ .0) in
+          let p-inside : p ≤ length job = number-inside job at bads p bads-read in
           let es = entries-read s (f .variables) (f .states) (ok .states .1) bads p ms last p-inside h₂ in
           record {
             file = file;
@@ -107,8 +110,10 @@ module _ (job : List ℕ) where
             states = ok .states;
             start = ok .start;
             transitions-number = omega (arith, ok .transitions-number);
+            transitions-place = front-place s 0 f (f .at) e₁;
             transitions = λ i b. each i (omega arith) (omega arith);
             bads-number = rw bads-are at (ok .forbidden-number);
+            bads-place = rw at-is at bads-read;
             bads = es .entries;
           }
 

@@ -12,6 +12,8 @@ use Rattle.format.specs.Parser.{Parsed, parsed, fault, Parser, _>>=_, _>>_, ret
 use Rattle.kinds.specs.Kinds.{allowed}
 use Rattle.layout.specs.Entries.{entriesAt, EntriesIn}
 use Rattle.layout.specs.Transitions.{transitionAt}
+use Rattle.number.specs.Number.{numberAt}
+use Rattle.number.specs.declared.Read.the-variants.{Number}
 use Rattle.verdict.specs.Verdict.{refusalNumber}
 use Rattle.reader.specs.declared.Front.{Front}
 use Rattle.reader.specs.declared.FrontAnswer.{FrontAnswer}
@@ -61,8 +63,11 @@ pub record JobRead (job : List ℕ) (h : Header) : Type 0 where
   pub states : Between 1 64 (h .states)
   pub start : h .start < h .states
   pub transitions-number : h .transitions ≤ 256
+  -- version, V, S and the start state are one byte each, so the number of transitions stands at place 4, and they follow it
+  pub transitions-place : numberAt job 4 ≡ Number (h .transitions) (h .«transitions_at»)
   pub transitions : (i : ℕ) → i < h .transitions → TransitionIn job (h .variables) (h .states) (h .«transitions_at» + 5 * i)
   pub bads-number : Between 1 64 (h .bads)
+  pub bads-place : numberAt job (h .«transitions_at» + 5 * h .transitions) ≡ Number (h .bads) (h .«bads_at»)
   pub bads : EntriesIn job (h .variables) (h .«bads_at») (h .bads)
 
 -- what follows the transitions: the forbidden shapes, and nothing after them; with the numbers before, it makes a header

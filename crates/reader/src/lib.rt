@@ -16,7 +16,7 @@ ghost use Rattle.format.specs.Parser.{jobBuffer, certificateBuffer, many, range
 ghost use Rattle.number.specs.Number.{numberAt};
 ghost use Rattle.verdict.specs.Verdict.{refusalNumber, reachedOf};
 ghost use Rattle.reader.specs.Job.{readCounts, readFront, frontOf, RestAnswered, JobAnswered};
-ghost use Rattle.reader.specs.Members.{NotedBy, MembersAnswered};
+ghost use Rattle.reader.specs.Members.{placesRead, memberPlaces, noted, MembersAnswered};
 ghost use Rattle.reader.specs.Number.{bufferOf, rangedOf, withoutValue};
 
 pub mod load;
@@ -349,7 +349,8 @@ fn note_members(
     starts: &mut [u16],
 ) -> Reached
     requires { ⌜ count ≤ length (now starts) ⌝ }
-    ensures { λ r. ⌜ (reachedOf r ≡ withoutValue (many count (readMember (certificateBuffer (now (cert .entry))) variables states) first)) × NotedBy (now (cert .entry)) variables states first count (now (starts .entry)) (now (starts .exit)) r ⌝ }
+    ensures answer { λ r. ⌜ reachedOf r ≡ withoutValue (many count (readMember (certificateBuffer (now (cert .entry))) variables states) first) ⌝ }
+    ensures starts { λ r. ⌜ now (starts .exit) ≡ noted (placesRead count (readMember (certificateBuffer (now (cert .entry))) variables states) first) (now (starts .entry)) ⌝ }
 {
     let mut at = first;
     let mut i = 0;
@@ -374,7 +375,8 @@ pub fn read_members(
     start: usize,
     starts: &mut [u16; 512],
 ) -> MembersAnswer
-    ensures { λ r. ⌜ MembersAnswered (now (cert .entry)) variables states start (now (starts .entry)) (now (starts .exit)) r ⌝ }
+    ensures answer { λ r. ⌜ MembersAnswered (now (cert .entry)) variables states start (now (starts .exit)) r ⌝ }
+    ensures starts { λ r. ⌜ now (starts .exit) ≡ noted (memberPlaces (certificateBuffer (now (cert .entry))) variables states) (now (starts .entry)) ⌝ }
 {
     let version = read_ranged(Side::Certificate, cert, 0, 1, 2);
     let at = match version {
