@@ -6,5 +6,7 @@ pub mod Exact
 pub mod Guarantee
 pub mod Written
 pub mod Local
+pub mod Completing
+pub mod FirstFault
 pub mod Refusals
 pub mod Meaning

@@ -1,126 +1,105 @@
 -- Every refusal says what document 01 says of its number.
-use mathlib.Core.Bool.{Bool, true, false, cond, not}
+use mathlib.Core.Bool.{Bool, true, false, cond}
 use mathlib.Core.List.{List, [], _∷_, _++_, append-nil, map-append}
-use mathlib.Core.Logic.{_≢_, _⊎_, inl, inr}
+use mathlib.Core.Logic.{_⊎_, inl, inr}
 use mathlib.Core.Path.{_≡_, refl, sym, ap, ap₂, subst, subst₂, _∙_}
-use Prim.Native.Nat.{ℕ}
+use Prim.Native.Nat.{ℕ, _≤_}
 use native.Mathlib.Omega.{arith}
-use lib.ListN.{length, take}
+use lib.ListN.{length}
 use Rattle.lists.specs.List.{_∈_, concatMap}
 use Rattle.lists.proofs.List.{concatMap-append}
-use Rattle.number.specs.Number.{numberAt}
-use Rattle.number.specs.declared.Read.the-variants.{Number}
+use Rattle.number.specs.Number.{largest}
+use Rattle.number.specs.Range.{AtMost}
 use Rattle.shape.specs.Shape.{InRange}
 use Rattle.run.specs.Run.{Located}
 use Rattle.cover.specs.Cover.{Cover, owed, AllHold}
-use Rattle.format.specs.Parser.{Parsed, parsed, fault, Parser, _>>=_, each, Buffer, jobBuffer, certificateBuffer, onward, end}
+use Rattle.format.specs.Parser.{Parsed, parsed, fault, each, Buffer, jobBuffer, certificateBuffer, end}
 use Rattle.format.specs.Job.{readJob, readWholeJob}
 use Rattle.format.specs.JobNumbers.{JobFile, jobNumbers}
-use Rattle.format.specs.Certificate.{Member, withoutPlaces, readMembers, atStart, testStart, readCover}
+use Rattle.format.specs.Certificate.{Member, withoutPlaces, readMembers, testStart, readCover}
 use Rattle.format.specs.Verdict.{Counts, refused, readCertificate, readBoth, conclude, fits, verdict}
-use Rattle.format.specs.Conditions.{MembersInRange, ImageForEach, countsOf, Conditions}
-use Rattle.format.specs.JobBytes.{Between}
+use Rattle.format.specs.Conditions.{MembersInRange, ImageForEach, countsOf}
+use Rattle.format.specs.JobBytes.{Between, JobInRange}
 use Rattle.format.specs.Numbers.{memberNumbers, coverNumbers}
-use Rattle.format.specs.Meaning.{InJob, job-number, job-range, job-left, Covered, InCertificate, certificate-number, certificate-range, member-satisfied, cover-fails, certificate-left, Meaning, job-length, certificate-length, in-job, in-certificate}
+use Rattle.format.specs.Meaning.{OfJob, InJob, job-number, job-range, job-left, OfMembers, Covered, CoverRead, CoverDue, member-due, image-due}
+use Rattle.format.specs.Meaning.{InCertificate, member-unread, cover-unread, member-range, cover-range, member-satisfied, cover-fails, certificate-left}
+use Rattle.format.specs.Meaning.{Meaning, job-length, certificate-length, in-job, in-certificate}
 use Rattle.format.proofs.Sequence.{Reads, reads-append, reads-decode}
-use Rattle.format.proofs.Parsing.{not-fault, then-fault}
+use Rattle.format.proofs.Parsing.{not-fault, then-fault, Faulty}
 use Rattle.format.proofs.Files.{end-fault, job-exact, whole-sound}
-use Rattle.format.proofs.Covers.{members-sound, tests-sound, covers-sound}
-use Rattle.format.proofs.Exact.{r-fits, job-read, accepted-both, exact}
-use Rattle.format.proofs.Local.{reads-before, SameFault, Local, local-require, local-each, local-members, local-cover, local-job, fault-bind, quiet-end}
-use Rattle.format.proofs.Refusals.{NumberRefused, refused-number, plain-members, plain-job, member-first, tests-fault, Stopped, covers-fault, Fails, cover-fault}
+use Rattle.format.proofs.Covers.{members-sound, members-complete, tests-sound, covers-sound}
+use Rattle.format.proofs.Exact.{r-fits}
+use Rattle.format.proofs.Written.{small-job, small-members}
+use Rattle.format.proofs.Local.{reads-before, on}
+use Rattle.format.proofs.Completing.{completes-job, completes-members}
+use Rattle.format.proofs.FirstFault.{FirstFault, Accepts, first-fault}
+use Rattle.format.proofs.Refusals.{member-first, tests-fault, Stopped, covers-fault, Begun, Fails, Due, member-owed, image-owed, cover-fault}
 
 -- ---- the job
 
-module _ (job : List ℕ) where
-  -- a job that begins with the same bytes is refused in the same place
-  same-job : (bytes : List ℕ) (place n next : ℕ) → take next job ≡ take next bytes → numberAt job place ≡ Number n next
-      → readWholeJob (jobBuffer job) 0 ≡ fault 4 place → readWholeJob (jobBuffer bytes) 0 ≡ fault 4 place
-  unfolding readWholeJob
-  same-job bytes place n next agree g h =
-      fault-bind job bytes 3 4 5 next agree (λ k. ⊥) (λ k t. absurd t) (local-job job bytes 3 4 5 next agree (λ k. ⊥) (λ k t. absurd t))
-      (quiet-end job bytes 3 4 5 next agree (λ k. ⊥) (λ k t. absurd t) (omega arith)) .same-fault 0 place n next h g (omega arith)
+-- the parser of a job reads the numbers of jobs in range
+pub job-accepts : (u o l : ℕ) → Accepts OfJob (λ b. readJob (on u o l b))
+job-accepts u o l =
+    record {
+      sound = λ b f next h. let (g, ok) = job-exact (on u o l b) .sound 0 f next h in (jobNumbers f, (f, ok, refl), g);
+      complete = λ b ns next (f, ok, e) r. (f, job-exact (on u o l b) .complete 0 f next (rw (← e) at r) ok);
+      small = λ ns (f, ok, e). subst (AtMost largest) e (small-job f ok);
+    }
 
-  in-number : (number place : ℕ) → readWholeJob (jobBuffer job) 0 ≡ fault number place → NumberRefused (jobBuffer job) 0 number place → InJob job number place
-  in-number number place h (ns, r, inl (k, g)) = subst (λ (x : ℕ). InJob job x place) (sym k) (job-number ns place (reads-before job r) g)
-  in-number number place h (ns, r, inr (k, (n, next, g, _))) =
-      subst (λ (x : ℕ). InJob job x place) (sym k)
-      (job-range place next (record { earlier = ns; before = reads-before job r; number = n; reads = g })
-      (λ bytes f agree i.
-      let (last, z) = job-read bytes f i in
-      not-fault f last 4 place (sym (same-job bytes place n next (sym agree) g (rw k at h)) ∙ z)))
-
-  job-meaning : (number place : ℕ) → readWholeJob (jobBuffer job) 0 ≡ fault number place → InJob job number place
-  unfolding readWholeJob
-  job-meaning number place h =
-      then-fault (readJob (jobBuffer job) 0) _
-      (λ f mid h₁. then-fault (end (jobBuffer job) mid) _ (λ u a _ r. absurd (not-fault f a number place (sym r)))
-      (λ h₂.
-      let (g, ok) = job-exact (jobBuffer job) .sound 0 f mid h₁ in
-      let (k, q, more) = end-fault (jobBuffer job) mid h₂ in
-      subst₂ (InJob job) k q (job-left f mid (record { in-range = ok; reads = reads-before job g }) more)))
-      (λ h₁. in-number number place h (refused-number (jobBuffer job) (plain-job (jobBuffer job)) 0 number place h₁)) h
+job-meaning : (job : List ℕ) (number place : ℕ) → readWholeJob (jobBuffer job) 0 ≡ fault number place → InJob job number place
+unfolding readWholeJob
+job-meaning job number place h =
+    then-fault (readJob (jobBuffer job) 0) _
+    (λ f mid h₁. then-fault (end (jobBuffer job) mid) _ (λ u a _ r. absurd (not-fault f a number place (sym r)))
+    (λ h₂.
+    let (g, ok) = job-exact (jobBuffer job) .sound 0 f mid h₁ in
+    let (k, q, more) = end-fault (jobBuffer job) mid h₂ in
+    subst₂ (InJob job) k q (job-left f mid (record { in-range = ok; reads = reads-before job g .1 }) more)))
+    (λ h₁. by-fault (first-fault OfJob (job-accepts 3 4 5) 3 4 5 (completes-job 3 4 5) job number place h₁)) h
+  where
+    by-fault : FirstFault OfJob job 3 4 number place → InJob job number place
+    by-fault (inl (k, f)) = subst (λ (x : ℕ). InJob job x place) k (job-number place f)
+    by-fault (inr (k, f)) = subst (λ (x : ℕ). InJob job x place) k (job-range place f)
 
 -- ---- the certificate
 
-module _ (job certificate : List ℕ) (f : JobFile) (read : ℕ) (h₀ : readWholeJob (jobBuffer job) 0 ≡ parsed f read) where
+-- the parser of members reads the numbers of members in range
+pub members-accepts : (u o l : ℕ) (f : JobFile) → JobInRange f → Accepts (OfMembers f) (λ b. readMembers (on u o l b) (f .job .variables) (f .states))
+members-accepts u o l f ok =
+    record {
+      sound = λ b ms next h.
+          let (g, count, oks) = members-sound (on u o l b) (f .job .variables) (f .states) 0 ms next h in
+          (memberNumbers (withoutPlaces ms), (withoutPlaces ms, record { number = count; members = oks }, refl), g);
+      complete = λ b ns next (ms, oks, e) r.
+          let (x, _, h) = members-complete (on u o l b) (f .job .variables) (f .states) 0 ms next (rw (← e) at r) (oks .number) (oks .members) in
+          (x, h);
+      small = λ ns (ms, oks, e). subst (AtMost largest) e (small-members f ms ok oks);
+    }
+
+module _ (certificate : List ℕ) (f : JobFile) (ok : JobInRange f) where
   abbrev s : Buffer
   s = certificateBuffer certificate
 
-  Tests : ℕ → Type 0
-  Tests k = (8 ≡ k) ⊎ (9 ≡ k)
-
-  apart : (k : ℕ) → Tests k → k ≢ 7
-  unfolding Tests
-  apart k (inl t) = omega arith
-  apart k (inr t) = omega arith
-
-  -- a certificate that begins with the same bytes is refused in the same place
-  module _ (bytes : List ℕ) (next : ℕ) (agree : take next certificate ≡ take next bytes) where
-    abbrev Same : {A : Type 0} → Parser A → Parser A → Type 0
-    Same = SameFault certificate bytes 6 7 10 next agree Tests apart
-
-    bind : {A B : Type 0} {p p′ : Parser A} {r r′ : A → Parser B} → Local certificate bytes 6 7 10 next agree Tests apart p p′
-        → ((x : A) → Same (r x) (r′ x)) → Same (p >>= r) (p′ >>= r′)
-    bind = fault-bind certificate bytes 6 7 10 next agree Tests apart
-
-    same-certificate : Same (readCertificate s f) (readCertificate (certificateBuffer bytes) f)
-    unfolding readCertificate Tests
-    same-certificate =
-        bind (local-members certificate bytes 6 7 10 next agree Tests apart (f .job .variables) (f .states))
-        (λ members.
-        bind (local-each certificate bytes 6 7 10 next agree Tests apart
-        (λ m. local-require certificate bytes 6 7 10 next agree Tests apart (not (atStart (f .job .start) (m .located))) 8 (m .first) (inl refl)) members)
-        (λ us.
-        bind (local-each certificate bytes 6 7 10 next agree Tests apart
-        (λ o. local-cover certificate bytes 6 7 10 next agree Tests apart (withoutPlaces members) o (inr refl)) (owed (f .job) (withoutPlaces members)))
-        (λ vs. quiet-end certificate bytes 6 7 10 next agree Tests apart (omega arith) (countsOf (f .job) (withoutPlaces members)))))
-
-  never : (bytes : List ℕ) (counts : Counts) (place : ℕ) → readCertificate (certificateBuffer bytes) f 0 ≡ fault 7 place → ¬ Conditions job bytes counts
-  unfolding readBoth
-  never bytes counts place h c =
-      let (_, _, (last, z)) = accepted-both job bytes counts (exact job bytes counts .1 c) in
-      not-fault counts last 7 place (sym (ap (λ r. onward r (λ f next. readCertificate (certificateBuffer bytes) f 0)) h₀ ∙ h) ∙ z)
-
-  number-meaning : (number place : ℕ) → readCertificate s f 0 ≡ fault number place → NumberRefused s 0 number place → InCertificate job certificate f number place
-  number-meaning number place h (ns, r, inl (k, g)) =
-      subst (λ (x : ℕ). InCertificate job certificate f x place) (sym k) (certificate-number ns place (reads-before certificate r) g)
-  number-meaning number place h (ns, r, inr (k, (n, next, g, _))) =
-      subst (λ (x : ℕ). InCertificate job certificate f x place) (sym k)
-      (certificate-range place next (record { earlier = ns; before = reads-before certificate r; number = n; reads = g })
-      (λ bytes counts agree. never bytes counts place (same-certificate bytes next (sym agree) .same-fault 0 place n next (rw k at h) g (omega arith))))
+  members-meaning : (number place : ℕ) → readMembers s (f .job .variables) (f .states) 0 ≡ fault number place → InCertificate f certificate number place
+  members-meaning number place h =
+      by-fault
+      (first-fault (OfMembers f) (members-accepts 6 7 10 f ok) 6 7 10 (completes-members 6 7 10 (f .job .variables) (f .states) (ok .states .0)) certificate number place h)
+    where
+      by-fault : FirstFault (OfMembers f) certificate 6 7 number place → InCertificate f certificate number place
+      by-fault (inl (k, w)) = subst (λ (x : ℕ). InCertificate f certificate x place) k (member-unread place w)
+      by-fault (inr (k, w)) = subst (λ (x : ℕ). InCertificate f certificate x place) k (member-range place w)
 
   -- ---- once the members are read
 
   module _ (members : List Member) (p₂ : ℕ) (h₂ : readMembers s (f .job .variables) (f .states) 0 ≡ parsed members p₂) where
-    start-meaning : (number place : ℕ) → each (testStart (f .job .start)) members p₂ ≡ fault number place → InCertificate job certificate f number place
+    start-meaning : (number place : ℕ) → each (testStart (f .job .start)) members p₂ ≡ fault number place → InCertificate f certificate number place
     start-meaning number place h₃ =
         let (g₂, count, oks) = members-sound s (f .job .variables) (f .states) 0 members p₂ h₂ in
         let t = tests-fault (f .job .variables) (f .states) (f .job .start) members oks p₂ number place h₃ in
         let split : withoutPlaces (t .earlier ++ (t .member ∷ t .later)) ≡ withoutPlaces (t .earlier) ++ (t .member .located ∷ withoutPlaces (t .later)) =
         map-append (λ m. m .located) (t .earlier) (t .member ∷ t .later) in
         let all : withoutPlaces members ≡ withoutPlaces (t .earlier) ++ (t .member .located ∷ withoutPlaces (t .later)) = ap withoutPlaces (t .all) ∙ split in
-        subst₂ (InCertificate job certificate f) (t .number-is) (t .place-is)
+        subst₂ (InCertificate f certificate) (t .number-is) (t .place-is)
         (member-satisfied (t .member .first)
         (record {
           earlier = withoutPlaces (t .earlier);
@@ -168,49 +147,60 @@ module _ (job certificate : List ℕ) (f : JobFile) (read : ℕ) (h₀ : readWho
             hold = hold;
           }
 
-      covers-meaning : (number place : ℕ) → readCertificate s f 0 ≡ fault number place → each (readCover s ms) (owed (f .job) ms) p₃ ≡ fault number place
-          → InCertificate job certificate f number place
+      covers-meaning : (number place : ℕ) → each (readCover s ms) (owed (f .job) ms) p₃ ≡ fault number place → InCertificate f certificate number place
       unfolding so-far
-      covers-meaning number place h h₄ = by-cover (cover-fault s (f .job .variables) ms shapes (t .shape) (t .mid) number place (t .refused))
+      covers-meaning number place h₄ = by-cover (cover-fault s (f .job .variables) ms shapes (t .shape) (t .mid) number place (t .refused))
         where
           t : Stopped s (f .job .variables) ms shapes (owed (f .job) ms) p₃ number place
           t = covers-fault s (f .job .variables) ms shapes (owed (f .job) ms) p₃ number place h₄
 
-          by-cover : ((9 ≡ number) × (t .mid ≡ place) × Fails s (f .job .variables) ms shapes (t .shape) (t .mid)) ⊎ NumberRefused s (t .mid) number place
-              → InCertificate job certificate f number place
-          by-cover (inr (ns, r, w)) = number-meaning number place h (_, reads-append members-end (reads-append (t .reads) r), w)
-          by-cover (inl (k, q, w)) =
+          covered : Covered f certificate (t .mid) (t .shape ∷ t .later)
+          covered = so-far (t .covers) (t .mid) (t .done) (t .shape ∷ t .later) (t .reads) (t .all) (t .hold) (t .images)
+
+          read : (next : ℕ) → Begun s (f .job .variables) ms shapes (t .shape) (t .mid) next → CoverRead f certificate (t .mid) next
+          read next w =
               let one-more : concatMap coverNumbers (t .covers) ++ coverNumbers (w .cover) ≡ concatMap coverNumbers (t .covers ++ (w .cover ∷ [])) =
               ap (λ (l : List ℕ). concatMap coverNumbers (t .covers) ++ l) (sym (append-nil (coverNumbers (w .cover))))
               ∙ sym (concatMap-append coverNumbers (t .covers) (w .cover ∷ [])) in
-              subst₂ (InCertificate job certificate f) k q
-              (cover-fails (t .mid)
-              (record {
+              record {
                 shape = t .shape;
                 later = t .later;
-                so-far = so-far (t .covers) (t .mid) (t .done) (t .shape ∷ t .later) (t .reads) (t .all) (t .hold) (t .images);
+                so-far = covered;
                 cover = w .cover;
                 member = w .member;
                 numbered = w .numbered;
-                images = w .images;
                 below = w .below;
-                next = w .next;
                 reads =
                     reads-before certificate
-                    (reads-append members-end
-                    (subst (λ (l : List ℕ). Reads certificate p₃ l (w .next)) one-more (reads-append (t .reads) (w .reads))));
-                fails = w .fails;
-              }))
+                    (reads-append members-end (subst (λ (l : List ℕ). Reads certificate p₃ l next) one-more (reads-append (t .reads) (w .reads))));
+              }
+
+          due : (limit : ℕ) → Due s (f .job .variables) ms shapes (t .shape) (t .mid) place limit → CoverDue f certificate place limit
+          due limit (member-owed q e) = subst (λ (x : ℕ). CoverDue f certificate x limit) q (member-due (t .shape) (t .later) covered e)
+          due limit (image-owed w fewer e) = image-due (t .mid) (read place w) fewer e
+
+          by-number : (limit : ℕ) → CoverDue f certificate place limit → Faulty s (λ n. limit ≤ n) number place → InCertificate f certificate number place
+          by-number limit d (inl (k, g)) = subst (λ (x : ℕ). InCertificate f certificate x place) (sym k) (cover-unread place limit d g)
+          by-number limit d (inr (k, (n, next, g, above))) =
+              subst (λ (x : ℕ). InCertificate f certificate x place) (sym k) (cover-range place limit d n next g above)
+
+          by-cover : ((9 ≡ number) × (t .mid ≡ place) × Fails s (f .job .variables) ms shapes (t .shape) (t .mid))
+              ⊎ ((limit : ℕ) × Due s (f .job .variables) ms shapes (t .shape) (t .mid) place limit × Faulty s (λ n. limit ≤ n) number place)
+              → InCertificate f certificate number place
+          by-cover (inr (limit, d, w)) = by-number limit (due limit d) w
+          by-cover (inl (k, q, w)) =
+              subst₂ (InCertificate f certificate) k q
+              (cover-fails (t .mid) (record { next = w .next; cover = read (w .next) (w .begun); images = w .images; fails = w .fails }))
 
       left-meaning : (number place p₄ : ℕ) (vs : List (Unit {0})) → each (readCover s ms) (owed (f .job) ms) p₃ ≡ parsed vs p₄ → end s p₄ ≡ fault number place
-          → InCertificate job certificate f number place
+          → InCertificate f certificate number place
       left-meaning number place p₄ vs h₄ h₅ =
           let (cs, g, hold, images) = covers-sound s (f .job .variables) ms shapes (owed (f .job) ms) p₃ h₄ in
           let (k, q, more) = end-fault s p₄ h₅ in
-          subst₂ (InCertificate job certificate f) k q
+          subst₂ (InCertificate f certificate) k q
           (certificate-left p₄ (so-far cs p₄ (owed (f .job) ms) [] g (sym (append-nil (owed (f .job) ms))) hold images) more)
 
-  certificate-meaning : (number place : ℕ) → readCertificate s f 0 ≡ fault number place → InCertificate job certificate f number place
+  certificate-meaning : (number place : ℕ) → readCertificate s f 0 ≡ fault number place → InCertificate f certificate number place
   unfolding ms readCertificate
   certificate-meaning number place h =
       then-fault (readMembers s (f .job .variables) (f .states) 0) _
@@ -218,9 +208,9 @@ module _ (job certificate : List ℕ) (f : JobFile) (read : ℕ) (h₀ : readWho
       (λ us p₃ h₃. then-fault (each (readCover s (withoutPlaces members)) (owed (f .job) (withoutPlaces members)) p₃) _
       (λ vs p₄ h₄. then-fault (end s p₄) _ (λ u p₅ h₅ r. absurd (not-fault (countsOf (f .job) (withoutPlaces members)) p₅ number place (sym r)))
       (left-meaning members p₂ h₂ us p₃ h₃ number place p₄ vs h₄))
-      (covers-meaning members p₂ h₂ us p₃ h₃ number place h))
+      (covers-meaning members p₂ h₂ us p₃ h₃ number place))
       (start-meaning members p₂ h₂ number place))
-      (λ h₂. number-meaning number place h (refused-number s (plain-members s (f .job .variables) (f .states)) 0 number place h₂)) h
+      (members-meaning number place) h
 
 -- MEANING: every refusal says what document 01 says of its number
 pub meaning : (job certificate : List ℕ) (number place : ℕ) → verdict job certificate ≡ refused number place → Meaning job certificate number place
@@ -237,7 +227,7 @@ meaning job certificate number place = by-fits (fits job) (fits certificate) ref
         let (h₀, whole) = whole-sound (jobBuffer job) 0 f next h₁ in
         let (g, ok) = job-exact (jobBuffer job) .sound 0 f next h₀ in
         in-certificate number place a b f (record { in-range = ok; reads = reads-decode job (jobNumbers f) next g whole })
-        (certificate-meaning job certificate f next h₁ number place h₂))
+        (certificate-meaning certificate f ok number place h₂))
         (λ h₁. in-job number place a b (job-meaning job number place h₁))
 
     by-conclusion : Between 1 65536 (length job) → Between 1 65536 (length certificate) → (r : Parsed Counts) → readBoth job certificate ≡ r

@@ -77,6 +77,10 @@ module _ (s : Buffer) where
       ((number ≡ s .unreadable) × (numberAt (s .bytes) place ≡ Unreadable place))
       ⊎ ((number ≡ s .outside) × ((n : ℕ) × (next : ℕ) × (numberAt (s .bytes) place ≡ Number n next) × P n))
 
+  pub faulty-map : {P Q : ℕ → Type 0} {number place : ℕ} → ((n : ℕ) → P n → Q n) → Faulty P number place → Faulty Q number place
+  faulty-map to (inl f) = inl f
+  faulty-map to (inr (k, (n, next, g, h))) = inr (k, (n, next, g, to n h))
+
   pub read-fault : {A : Type 0} (meaning : ℕ → Option A) (at number place : ℕ) → readAs s meaning at ≡ fault number place
       → (at ≡ place) × Faulty (λ n. meaning n ≡ none) number at
   unfolding readAs
@@ -173,11 +177,43 @@ module _ (s : Buffer) where
     pub many-exact : (k : ℕ) → Exact (many k p) (concatMap numbers) (λ xs. (length xs ≡ k) × ((x : A) → x ∈ xs → Ok x))
     many-exact k = record { sound = many-sound k; complete = λ at xs next g (long, oks). many-complete k at xs next g long oks }
 
-  -- so many numbers below a limit
+    -- some are read, and the next is refused
+    many-fault : (k at number place : ℕ) → many k p at ≡ fault number place
+        → (xs : List A) × (mid : ℕ) × Reads (s .bytes) at (concatMap numbers xs) mid × (length xs < k) × ((x : A) → x ∈ xs → Ok x) × (p mid ≡ fault number place)
+    unfolding many
+    many-fault zero at number place h = absurd (not-fault [] at number place (sym h))
+    many-fault (suc k) at number place h =
+        then-fault (p at) _
+        (λ x a h₁. then-fault (many k p a) _ (λ xs b _ r. absurd (not-fault (x ∷ xs) b number place (sym r)))
+        (λ h₂.
+        let (g, ok) = e .sound at x a h₁ in
+        let (xs, mid, r, fewer, oks, f) = many-fault k a number place h₂ in
+        (x ∷ xs, mid, reads-append g r, omega arith, all-cons Ok ok oks, f)))
+        (λ h₁. ([], at, done, omega arith, (λ x i. absurd (List·Memᴰ·not-nil i)), h₁)) h
+
+  -- ---- so many numbers below a limit
+
+  singles : (xs : List ℕ) → concatMap (λ x. x ∷ []) xs ≡ xs
+  singles [] = refl
+  singles (x ∷ xs) = ap (λ (l : List ℕ). x ∷ l) (singles xs)
+
   pub codes-exact : (k limit : ℕ) → Exact (many k (ranged s 0 limit)) (λ xs. xs) (λ xs. (length xs ≡ k) × AllBelow limit xs)
   codes-exact k limit =
       exact-iff singles (λ xs (long, oks). (long, λ x i. oks x i .1)) (λ xs (long, oks). (long, λ x i. (omega arith, oks x i))) (many-exact (ranged-exact 0 limit) k)
+
+  -- some are read, and the next can't be read or is not below the limit
+  pub codes-fault : (k limit at number place : ℕ) → many k (ranged s 0 limit) at ≡ fault number place
+      → (xs : List ℕ) × Reads (s .bytes) at xs place × (length xs < k) × AllBelow limit xs × Faulty (λ n. limit ≤ n) number place
+  codes-fault k limit at number place h =
+      let (xs, mid, r, fewer, oks, f) = many-fault (ranged-exact 0 limit) k at number place h in
+      let (mid-is, w) = read-fault (such (within 0 limit)) mid number place f in (
+        xs,
+        subst (Reads (s .bytes) at xs) mid-is (subst (λ (l : List ℕ). Reads (s .bytes) at l mid) (singles xs) r),
+        fewer,
+        (λ x i. oks x i .1),
+        subst (Faulty (λ n. limit ≤ n) number) mid-is (faulty-map (λ n. above n (within 0 limit n) refl) w),
+      )
     where
-      singles : (xs : List ℕ) → concatMap (λ x. x ∷ []) xs ≡ xs
-      singles [] = refl
-      singles (x ∷ xs) = ap (λ (l : List ℕ). x ∷ l) (singles xs)
+      above : (n : ℕ) (b : Bool) → within 0 limit n ≡ b → cond b (some n) none ≡ none → limit ≤ n
+      above n true h e = let z : _≡_ {A = ℕ} 0 1 = cc in absurd (omega arith)
+      above n false h e = let k : ¬ (n < limit) = λ q. rw h at (r-and (r-le 0 n) (r-lt n limit) .tests (omega arith, q)) in omega arith
