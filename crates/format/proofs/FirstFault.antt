@@ -1,24 +1,24 @@
--- The first faulty number: what a parser refuses at a number, and that there is one such place at most.
+-- The first faulty number: there is one at most, none where what is read is whole, and it is what a parser refuses.
 use mathlib.Core.List.{List, [], _∷_, _++_, append-nil, append-assoc}
-use mathlib.Core.Logic.{_⊎_, inl, inr}
-use mathlib.Core.Path.{_≡_, refl, sym, ap, subst, _∙_}
+use mathlib.Core.Logic.{_↔_, _⊎_, inl, inr}
+use mathlib.Core.Path.{_≡_, refl, sym, ap, ap₂, subst, _∙_}
 use Prim.Native.Nat.{ℕ, _≤_, _<_}
 use native.Mathlib.Decide.{decLt}
 use native.Mathlib.Omega.{arith}
 use lib.ListN.{length, take, length-append}
 use lib.Seq.{take-at, length-take-le}
 use Rattle.number.specs.Number.{largest, numberAt}
-use Rattle.number.specs.NumberList.{numbers, encode, decode}
+use Rattle.number.specs.NumberList.{encode}
 use Rattle.number.specs.Range.{AtMost}
-use Rattle.number.specs.declared.Read.the-variants.{Number, Unreadable}
+use Rattle.number.specs.declared.Read.the-variants.{Number}
 use Rattle.format.specs.Parser.{Parsed, parsed, fault, Parser}
-use Rattle.format.specs.Meaning.{Before, NumberDue, Unread, OutOfRange}
-use Rattle.format.proofs.Sequence.{Reads, done, more, number-in, reads-first, reads-on, reads-append, reads-split, reads-inside, reads-further}
+use Rattle.format.specs.Meaning.{NumberDue, Unread, OutOfRange}
+use Rattle.format.proofs.Sequence.{Reads, more, number-in, reads-first, reads-on, reads-append, reads-split, reads-inside, reads-further}
 use Rattle.format.proofs.Parsing.{not-fault, Faulty}
 use Rattle.format.proofs.Local.{number-local, reads-local, written-reads, reads-before, before-reads, on, Refused, Completes}
 
 -- what is read up to a place is one list
-pub reads-same : (s : List ℕ) {place : ℕ} {ns ms : List ℕ} → Reads s 0 ns place → Reads s 0 ms place → ns ≡ ms
+reads-same : (s : List ℕ) {place : ℕ} {ns ms : List ℕ} → Reads s 0 ns place → Reads s 0 ms place → ns ≡ ms
 reads-same s r q = let e = sym (reads-before s r .1) ∙ reads-before s q .1 in cc
 
 -- what is read up to a place begins what is read up to a later one
@@ -67,7 +67,7 @@ module _ (L : List ℕ → Type 0) where
       let d = due-at g in
       not-beyond s u o number place q (d .earlier) (d .number ∷ d .later) f (due-reads d) b (d .goes-on)
 
-  pub one-fault : (s : List ℕ) (u o number place k q : ℕ) → FirstFault s u o number place → FirstFault s u o k q → (number ≡ k) × (place ≡ q)
+  one-fault : (s : List ℕ) (u o number place k q : ℕ) → FirstFault s u o number place → FirstFault s u o k q → (number ≡ k) × (place ≡ q)
   one-fault s u o number place k q f g =
       let a = not-earlier f g in
       let b = not-earlier g f in
@@ -117,7 +117,7 @@ module _ (L : List ℕ → Type 0) where
           not-fault x (length b′) number place (sym (f .again n next g b′ agree) ∙ z)
 
       -- what p refuses is the first faulty number
-      pub first-fault : p b 0 ≡ fault number place → FirstFault b u o number place
+      first-fault : p b 0 ≡ fault number place → FirstFault b u o number place
       unfolding due
       first-fault h = by-fault (f .faulty)
         where
@@ -129,7 +129,7 @@ module _ (L : List ℕ → Type 0) where
           by-fault (inr (k, (n, next, g, _))) = inr (sym k, record { due = due f; number = n; next = next; reads = g; none = none f n next g })
 
     -- a list of which L holds begins no other
-    pub whole : (ns rest : List ℕ) → L ns → L (ns ++ rest) → rest ≡ []
+    whole : (ns rest : List ℕ) → L ns → L (ns ++ rest) → rest ≡ []
     whole ns [] h k = refl
     whole ns (n ∷ rest) h k =
         let b = encode (ns ++ (n ∷ rest)) in
@@ -145,7 +145,7 @@ module _ (L : List ℕ → Type 0) where
         absurd (omega arith)
 
     -- there is no fault where what is read is whole
-    pub no-fault : (s : List ℕ) (u o number place q : ℕ) (ns : List ℕ) → L ns → Reads s 0 ns q → ¬ FirstFault s u o number place
+    no-fault : (s : List ℕ) (u o number place q : ℕ) (ns : List ℕ) → L ns → Reads s 0 ns q → ¬ FirstFault s u o number place
     no-fault s u o number place q ns holds r f = by-place (decLt place q)
       where
         by-place : Dec (place < q) → ⊥
@@ -157,3 +157,14 @@ module _ (L : List ℕ → Type 0) where
             ap (λ (l : List ℕ). l ++ (d .number ∷ d .later)) e ∙ append-assoc ns later (d .number ∷ d .later) in
             let z = ap length (whole ns (later ++ (d .number ∷ d .later)) holds (subst L longer (d .goes-on))) in
             omega (arith, length-append later (d .number ∷ d .later))
+
+    -- p refuses the first faulty number, and no other
+    pub faults : (u o l : ℕ) {P : A → Type 0} → Completes u o l P p → (s : List ℕ) (number place : ℕ)
+        → (p s 0 ≡ fault number place) ↔ FirstFault s u o number place
+    faults u o l c s number place = (first-fault u o l c s number place, λ f. by-result f (p s 0) refl)
+      where
+        by-result : FirstFault s u o number place → (r : Parsed A) → p s 0 ≡ r → r ≡ fault number place
+        by-result f (parsed x next) h = let (ns, holds, g) = a .sound s x next h in absurd (no-fault s u o number place next ns holds g f)
+        by-result f (fault k q) h =
+            let (k-is, q-is) = one-fault s u o k q number place (first-fault u o l c s k q h) f in
+            ap₂ {A = ℕ} {B = ℕ} {C = Parsed A} fault k-is q-is

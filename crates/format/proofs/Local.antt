@@ -1,7 +1,7 @@
 -- Parsers look no further than they read, and what they have read without refusal goes on: on a buffer with the same bytes so far a parser
 -- does the same, and before a number that is refused stands what begins something that the parser reads.
 use mathlib.Core.List.{List, [], _∷_, _++_, append-nil, append-assoc}
-use mathlib.Core.Logic.{_⊎_, inl, inr}
+use mathlib.Core.Logic.{inl, inr}
 use mathlib.Core.Option.{Option, none, some}
 use mathlib.Core.Path.{_≡_, refl, sym, ap, subst, _∙_}
 use Prim.Native.Nat.{ℕ, zero, suc, _+_, _-_, _≤_, _<_, min}
@@ -10,14 +10,14 @@ use lib.ListN.{length, getD, take, drop, length-take, length-append}
 use lib.Seq.{getD-take, take-take, take-length, take-at, length-take-le, drop-append-seam}
 use Rattle.lists.proofs.Reflect.{r-le, r-lt, r-eq, cond-cases}
 use Rattle.number.specs.Number.{largest, bytesOf, numberIn, numberAt}
-use Rattle.number.specs.NumberList.{numbers, encode, decode}
+use Rattle.number.specs.NumberList.{encode}
 use Rattle.number.specs.Range.{AtMost}
 use Rattle.number.specs.declared.Read.{Read}
 use Rattle.number.specs.declared.Read.the-variants.{Number, Unreadable}
 use Rattle.number.proofs.Reading.{one-byte, two-bytes, three-bytes}
 use Rattle.number.proofs.RoundTrip.{reads}
 use Rattle.number.proofs.Writing.{some-bytes}
-use Rattle.format.specs.Parser.{Parsed, parsed, fault, Parser, onward, _>>=_, return, here, many, Buffer, readAs}
+use Rattle.format.specs.Parser.{parsed, fault, Parser, onward, _>>=_, return, here, many, Buffer, readAs}
 use Rattle.format.specs.Meaning.{Before}
 use Rattle.format.proofs.Sequence.{Reads, done, more, one, reads-on, reads-inside, reads-append, number-in, reads-decode, decode-reads}
 use Rattle.format.proofs.Parsing.{not-fault, then, then-fault, read-sound, read-complete, read-outside, Faulty, faulty-map, read-fault}

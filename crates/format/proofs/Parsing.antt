@@ -50,6 +50,10 @@ require-fault false number place at e = (cc, cc, λ t. t)
 pub require-complete : (test : Bool) (number place at : ℕ) → T test → require test number place at ≡ parsed tt at
 require-complete test number place at t = cond-true test (parsed tt at) (fault number place) t
 
+pub require-refuses : (test : Bool) (number place at : ℕ) → ¬ T test → require test number place at ≡ fault number place
+require-refuses true number place at n = absurd (n tt)
+require-refuses false number place at n = refl
+
 module _ (s : Buffer) where
   -- ---- one number
 
@@ -101,6 +105,11 @@ module _ (s : Buffer) where
       → readAs s meaning at ≡ fault (s .outside) at
   unfolding readAs
   read-outside meaning at n next g h = ap (meant s meaning at) g ∙ ap (judged s at next) h
+
+  pub read-refuses : {A : Type 0} (meaning : ℕ → Option A) (at number : ℕ) → Faulty (λ n. meaning n ≡ none) number at → readAs s meaning at ≡ fault number at
+  unfolding readAs
+  read-refuses meaning at number (inl (k, g)) = rw (k, g)
+  read-refuses meaning at number (inr (k, (n, next, g, h))) = rw k (read-outside meaning at n next g h)
 
   pub read-complete : {A : Type 0} (meaning : ℕ → Option A) (at n next : ℕ) (x : A) → numberAt (s .bytes) at ≡ Number n next → meaning n ≡ some x
       → readAs s meaning at ≡ parsed x next
@@ -191,6 +200,18 @@ module _ (s : Buffer) where
         (x ∷ xs, mid, reads-append g r, omega arith, all-cons Ok ok oks, f)))
         (λ h₁. ([], at, done, omega arith, (λ x i. absurd (List·Memᴰ·not-nil i)), h₁)) h
 
+    many-refuses : (k at : ℕ) (xs : List A) (mid number place : ℕ) → Reads (s .bytes) at (concatMap numbers xs) mid → length xs < k
+        → ((x : A) → x ∈ xs → Ok x) → p mid ≡ fault number place → many k p at ≡ fault number place
+    unfolding many
+    many-refuses zero at xs mid number place g fewer oks h = absurd (omega arith)
+    many-refuses (suc k) at [] mid number place g fewer oks h = rw (reads-none g, h)
+    many-refuses (suc k) at (x ∷ xs) mid number place g fewer oks h =
+        let (a, g₁, g₂) = reads-split (numbers x) g in
+        rw (
+          e .complete at x a g₁ (oks x (List·Memᴰ·head refl)),
+          many-refuses k a xs mid number place g₂ (omega arith) (λ y i. oks y (List·Memᴰ·tail i)) h,
+        )
+
   -- ---- so many numbers below a limit
 
   singles : (xs : List ℕ) → concatMap (λ x. x ∷ []) xs ≡ xs
@@ -217,3 +238,9 @@ module _ (s : Buffer) where
       above : (n : ℕ) (b : Bool) → within 0 limit n ≡ b → cond b (some n) none ≡ none → limit ≤ n
       above n true h e = let z : _≡_ {A = ℕ} 0 1 = cc in absurd (omega arith)
       above n false h e = let k : ¬ (n < limit) = λ q. rw h at (r-and (r-le 0 n) (r-lt n limit) .tests (omega arith, q)) in omega arith
+
+  pub codes-refuses : (k limit at : ℕ) (xs : List ℕ) (mid number place : ℕ) → Reads (s .bytes) at xs mid → length xs < k → AllBelow limit xs
+      → ranged s 0 limit mid ≡ fault number place → many k (ranged s 0 limit) at ≡ fault number place
+  codes-refuses k limit at xs mid number place g fewer below h =
+      many-refuses (ranged-exact 0 limit) k at xs mid number place (subst (λ (l : List ℕ). Reads (s .bytes) at l mid) (sym (singles xs)) g) fewer
+      (λ x i. (omega arith, below x i)) h

@@ -69,6 +69,14 @@ pub reads-inside : {s : List ℕ} {at next : ℕ} {ns : List ℕ} → Reads s at
 reads-inside done i = i
 reads-inside (more {at = a} {n = n} {mid = k} g r) i = let (_, _, b) = number-in a _ _ _ _ n k g in reads-inside r (omega arith)
 
+-- the same numbers from one place end at one place
+pub reads-place : {s : List ℕ} {at p q : ℕ} {ns : List ℕ} → Reads s at ns p → Reads s at ns q → p ≡ q
+reads-place done r = reads-none r
+reads-place (more {mid = k} g r) q =
+    let (k′, g′, q′) = reads-first q in
+    let k-is : k′ ≡ k = cc in
+    reads-place r (rw k-is at q′)
+
 -- of two readings from one place, the one that goes further goes on where the other ends
 pub reads-further : {s : List ℕ} {at p q : ℕ} {ns ms : List ℕ} → Reads s at ns p → Reads s at ms q → p < q
     → (n : ℕ) × (later : List ℕ) × (next : ℕ) × (ms ≡ ns ++ (n ∷ later)) × (numberAt s p ≡ Number n next)
