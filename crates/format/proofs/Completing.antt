@@ -26,18 +26,18 @@ use Rattle.format.proofs.Local.{on, Completes, completes-weaken, comple
 use Rattle.format.proofs.FirstFault.{FirstFault, Accepts, faults}
 
 -- every row of the table of kinds allows variable 1 as a, and its least b
-pub record Operands (variables : ℕ) (row : Kind) : Type 0 where
+pub record AllowsSome (variables : ℕ) (row : Kind) : Type 0 where
   pub first : row .least-a ≤ 1
   pub second : row .least-b ≤ 1
   pub room : row .least-b ≤ row .most-b variables
 
-operands : (variables kind : ℕ) (row : Kind) → 1 ≤ variables → kindOf kind ≡ some row → Operands variables row
-operands variables kind row h = by-kind kind
+allows-some : (variables kind : ℕ) (row : Kind) → 1 ≤ variables → kindOf kind ≡ some row → AllowsSome variables row
+allows-some variables kind row h = by-kind kind
   where
-    is : (k : Kind) → k .least-a ≤ 1 → k .least-b ≤ 1 → k .least-b ≤ k .most-b variables → some k ≡ some row → Operands variables row
-    is k a b c e = let z : k ≡ row = cc in subst (Operands variables) z (record { first = a; second = b; room = c })
+    is : (k : Kind) → k .least-a ≤ 1 → k .least-b ≤ 1 → k .least-b ≤ k .most-b variables → some k ≡ some row → AllowsSome variables row
+    is k a b c e = let z : k ≡ row = cc in subst (AllowsSome variables) z (record { first = a; second = b; room = c })
 
-    by-kind : (kind : ℕ) → kindOf kind ≡ some row → Operands variables row
+    by-kind : (kind : ℕ) → kindOf kind ≡ some row → AllowsSome variables row
     by-kind zero e = let z : _≡_ {A = ℕ} 0 1 = cc in absurd (omega arith)
     by-kind (suc zero) e = is _ (omega arith) (omega arith) (omega arith) e
     by-kind (suc (suc zero)) e = is _ (omega arith) (omega arith) (omega arith) e
@@ -85,7 +85,7 @@ module _ (u o l : ℕ) where
           completes-bind u o l (completes-ranged 0 states (omega arith) (omega arith))
           (λ from _. completes-bind u o l (completes-read u o l kindOf 1 _ (omega arith) refl)
           (λ row (kind, found).
-          let w = operands variables kind row some-variable found in
+          let w = allows-some variables kind row some-variable found in
           completes-bind u o l (completes-such (allowsA variables row) 1 (omega arith) (r-and (r-le (row .least-a) 1) (r-le 1 variables) .tests (w .first, some-variable)))
           (λ a _. completes-bind u o l
           (completes-such (allowsB variables row) (row .least-b) (omega (arith, w .second))

@@ -23,7 +23,7 @@ use Rattle.format.specs.Verdict.{Counts, refused, readCertificate, readB
 use Rattle.format.specs.Conditions.{MembersInRange, countsOf}
 use Rattle.format.specs.JobBytes.{LocatedInRange, JobInRange}
 use Rattle.format.specs.Numbers.{memberNumbers, coverNumbers}
-use Rattle.format.specs.Meaning.{InJob, job-number, job-range, job-left, StartSatisfied, Covered, CoverRead, CoverDue, member-due, image-due}
+use Rattle.format.specs.Meaning.{InJob, job-number, job-range, job-left, StartSatisfied, Covered, CoverBegun, CoverDue, member-due, image-due}
 use Rattle.format.specs.Meaning.{InCertificate, member-unread, cover-unread, member-range, cover-range, member-satisfied, cover-fails, certificate-left}
 use Rattle.format.specs.Meaning.{Meaning, job-length, certificate-length, in-job, in-certificate}
 use Rattle.format.proofs.Sequence.{Reads, reads-first, reads-append, reads-split, reads-place}
@@ -64,6 +64,7 @@ job-refused job number place (job-left f at i more) =
 
 -- ---- the certificate
 
+-- members with their places, split as those without
 split-places : (l : List Member) (xs : List Located) (y : Located) (ys : List Located) → withoutPlaces l ≡ xs ++ (y ∷ ys)
     → (a : List Member) × (b : Member) × (c : List Member) × (l ≡ a ++ (b ∷ c)) × (withoutPlaces a ≡ xs) × (b .located ≡ y)
 split-places [] [] y ys e = let z : _≡_ {A = ℕ} 0 1 = cc in absurd (omega arith)
@@ -75,6 +76,7 @@ split-places (m ∷ l) (x ∷ xs) y ys e =
     let (a, b, c, i, j, k) = split-places l xs y ys e₂ in
     (m ∷ a, b, c, ap (λ t. m ∷ t) {y = a ++ (b ∷ c)} i, ap₂ {A = Located} {B = List Located} {C = List Located} (λ h t. h ∷ t) e₁ j, k)
 
+-- past the last member there is none
 past-last : (l : List Located) (n : ℕ) → length l ≤ n → getElem? l n ≡ none
 past-last [] n h = refl
 past-last (x ∷ l) zero h = absurd (omega arith)
@@ -129,7 +131,7 @@ module _ (certificate : List ℕ) (f : JobFile) (ok : JobInRange f) where
   member-refused members shape first number h = rw h
 
   -- a cover that is read up to a place
-  module _ {first next : ℕ} (c : CoverRead f certificate first next) where
+  module _ {first next : ℕ} (c : CoverBegun f certificate first next) where
     abbrev ms : List Located
     ms = c .so-far .members
 
@@ -249,6 +251,8 @@ module _ (certificate : List ℕ) (f : JobFile) (ok : JobInRange f) where
   certificate-refused number place (cover-fails at w) =
       cover-refused (w .cover .so-far) 9 at (holds-refused (w .cover) (w .images) (w .fails))
   certificate-refused number place (certificate-left at c more) = left-refused at c more
+
+-- ---- the verdict
 
 pub decided : (job certificate : List ℕ) (number place : ℕ) → Meaning job certificate number place → verdict job certificate ≡ refused number place
 unfolding verdict readBoth

@@ -15,7 +15,7 @@ use Rattle.format.specs.Parser.{Parsed, parsed, fault, Parser}
 use Rattle.format.specs.Meaning.{NumberDue, Unread, OutOfRange}
 use Rattle.format.proofs.Sequence.{Reads, more, number-in, reads-first, reads-on, reads-append, reads-split, reads-inside, reads-further}
 use Rattle.format.proofs.Parsing.{not-fault, Faulty}
-use Rattle.format.proofs.Local.{number-local, reads-local, written-reads, reads-before, before-reads, on, Refused, Completes}
+use Rattle.format.proofs.Local.{number-local, reads-local, written-reads, reads-before, before-reads, on, NumberFault, Completes}
 
 -- what is read up to a place is one list
 reads-same : (s : List ℕ) {place : ℕ} {ns ms : List ℕ} → Reads s 0 ns place → Reads s 0 ms place → ns ≡ ms
@@ -96,14 +96,14 @@ module _ (L : List ℕ → Type 0) where
 
   module _ {A : Type 0} {p : List ℕ → Parser A} (a : Accepts p) where
     module _ (u o l : ℕ) {P : A → Type 0} (c : Completes u o l P p) (b : List ℕ) (number place : ℕ) where
-      due : Refused u o l p b 0 number place → NumberDue L b place
+      due : NumberFault u o l p b 0 number place → NumberDue L b place
       due f =
           let (ns, holds, g) = a .sound (f .other) (f .value) (length (f .other)) (f .parses) in
           let (n, later, _, e, _) = reads-further (reads-local b (f .other) place (f .same) (f .before) (omega arith)) g (f .longer) in
           record { earlier = f .earlier; before = reads-before b (f .before); number = n; later = later; goes-on = subst L e holds }
 
       -- a list that has the refused number there would be read from a buffer that begins with the same bytes
-      none : (f : Refused u o l p b 0 number place) (n next : ℕ) → numberAt b place ≡ Number n next → (later : List ℕ) → ¬ L (f .earlier ++ (n ∷ later))
+      none : (f : NumberFault u o l p b 0 number place) (n next : ℕ) → numberAt b place ≡ Number n next → (later : List ℕ) → ¬ L (f .earlier ++ (n ∷ later))
       none f n next g later holds =
           let (_, further, end) = number-in place _ _ _ _ n next g in
           let inside = reads-inside (f .before) (omega arith) in
@@ -121,7 +121,7 @@ module _ (L : List ℕ → Type 0) where
       unfolding due
       first-fault h = by-fault (f .faulty)
         where
-          f : Refused u o l p b 0 number place
+          f : NumberFault u o l p b 0 number place
           f = c .refused b 0 number place (omega arith) h
 
           by-fault : Faulty (on u o l b) (λ n. Unit {0}) number place → FirstFault b u o number place
@@ -141,7 +141,7 @@ module _ (L : List ℕ → Type 0) where
         let mid-is : mid ≡ length b = cc in
         let (m, g, q) = reads-first r₂ in
         let (_, further, _) = number-in mid _ _ _ _ n m g in
-        let on = reads-on q in
+        let end = reads-on q in
         absurd (omega arith)
 
     -- there is no fault where what is read is whole

@@ -96,11 +96,12 @@ module _ (s : List ℕ) where
   -- what is read before a place
   pub reads-before : {place : ℕ} {ns : List ℕ} → Reads s 0 ns place → Before s place ns
   reads-before {place} {ns} r = (
-    reads-inside r (omega arith),
+    let inside = reads-inside r (omega arith) in omega arith,
     reads-decode (take place s) ns place (reads-local s (take place s) place (sym (take-take place place s (omega arith))) r (omega arith))
         (rw length-take (omega arith)),
   )
 
+  -- and the other way round
   pub before-reads : {place : ℕ} {ns : List ℕ} → Before s place ns → Reads s 0 ns place
   before-reads {place} {ns} (inside, e) =
       let (next, r, whole) = decode-reads (take place s) ns e in
@@ -125,7 +126,7 @@ module _ (u o l : ℕ) where
 
   -- A number at the place, after others, is refused; one that breaks its range is so on every buffer with the same bytes up to its end. p
   -- reads another buffer, which has the same bytes before the place and goes on there, to its end.
-  pub record Refused {A : Type 0} (p : List ℕ → Parser A) (b : List ℕ) (at number place : ℕ) : Type 0 where
+  pub record NumberFault {A : Type 0} (p : List ℕ → Parser A) (b : List ℕ) (at number place : ℕ) : Type 0 where
     pub earlier : List ℕ
     pub before : Reads b at earlier place
     pub faulty : Faulty (on b) (λ n. Unit {0}) number place
@@ -142,7 +143,7 @@ module _ (u o l : ℕ) where
     pub ok : (b : List ℕ) (at : ℕ) (x : A) (next : ℕ) → p b at ≡ parsed x next → P x
     pub same : (b b′ : List ℕ) (at : ℕ) (x : A) (next : ℕ) → take next b ≡ take next b′ → p b at ≡ parsed x next → p b′ at ≡ parsed x next
     pub grows : (b : List ℕ) → Grown p b
-    pub refused : (b : List ℕ) (at number place : ℕ) → at ≤ length b → p b at ≡ fault number place → Refused p b at number place
+    pub refused : (b : List ℕ) (at number place : ℕ) → at ≤ length b → p b at ≡ fault number place → NumberFault p b at number place
 
   pub completes-weaken : {A : Type 0} {P Q : A → Type 0} {p : List ℕ → Parser A} → ((x : A) → P x → Q x) → Completes P p → Completes Q p
   completes-weaken to c =
@@ -175,9 +176,9 @@ module _ (u o l : ℕ) where
         (reads (b ++ bytesOf n) (length b) n [] small e ∙ ap (Number n) (sym (length-append b (bytesOf n)))) allowed
 
     read-refused : (b : List ℕ) (at number place : ℕ) → at ≤ length b → (at ≡ place) × Faulty (on b) (λ n. meaning n ≡ none) number at
-        → Refused (λ b. readAs (on b) meaning) b at number place
+        → NumberFault (λ b. readAs (on b) meaning) b at number place
     read-refused b at number place inside (at-is, f) =
-        subst (Refused (λ b. readAs (on b) meaning) b at number) at-is
+        subst (NumberFault (λ b. readAs (on b) meaning) b at number) at-is
         (record {
           earlier = [];
           before = done;
@@ -239,7 +240,7 @@ module _ (u o l : ℕ) where
         }
 
     -- the first refuses: what it reads on another buffer, the second takes further
-    first-refused : (b : List ℕ) (at number place : ℕ) → Refused p b at number place → Refused both b at number place
+    first-refused : (b : List ℕ) (at number place : ℕ) → NumberFault p b at number place → NumberFault both b at number place
     first-refused b at number place f =
         let k = rest (f .value) (first .ok (f .other) at (f .value) (length (f .other)) (f .parses)) .grows (f .other) in
         let longer = f .longer in
@@ -257,8 +258,8 @@ module _ (u o l : ℕ) where
               after (f .other) (k .other) at (f .value) (length (f .other)) (f .parses) (take-length (f .other) ∙ sym (k .begins)) ∙ k .parses;
         }
 
-    rest-refused : (b : List ℕ) (at number place : ℕ) (x : A) (mid : ℕ) → p b at ≡ parsed x mid → Refused (r x) b mid number place
-        → Refused both b at number place
+    rest-refused : (b : List ℕ) (at number place : ℕ) (x : A) (mid : ℕ) → p b at ≡ parsed x mid → NumberFault (r x) b mid number place
+        → NumberFault both b at number place
     rest-refused b at number place x mid h f =
         let (ns, g) = first .reads b at x mid h in
         let l = reads-on (f .before) in

@@ -19,7 +19,7 @@ use Rattle.format.specs.Verdict.{Counts, refused, readCertificate, readB
 use Rattle.format.specs.Conditions.{MembersInRange, ImageForEach, countsOf}
 use Rattle.format.specs.JobBytes.{Between, JobInRange}
 use Rattle.format.specs.Numbers.{memberNumbers, coverNumbers}
-use Rattle.format.specs.Meaning.{OfJob, InJob, job-number, job-range, job-left, OfMembers, Covered, CoverRead, CoverDue, member-due, image-due}
+use Rattle.format.specs.Meaning.{OfJob, InJob, job-number, job-range, job-left, OfMembers, Covered, CoverBegun, CoverDue, member-due, image-due}
 use Rattle.format.specs.Meaning.{InCertificate, member-unread, cover-unread, member-range, cover-range, member-satisfied, cover-fails, certificate-left}
 use Rattle.format.specs.Meaning.{Meaning, job-length, certificate-length, in-job, in-certificate}
 use Rattle.format.proofs.Sequence.{Reads, reads-append, reads-decode}
@@ -130,7 +130,7 @@ module _ (certificate : List ℕ) (f : JobFile) (ok : JobInRange f) where
           covered : Covered f certificate (t .mid) (t .shape ∷ t .later)
           covered = so-far (t .covers) (t .mid) (t .done) (t .shape ∷ t .later) (t .reads) (t .all) (t .hold) (t .images)
 
-          read : (next : ℕ) → Begun s (f .job .variables) ms shapes (t .shape) (t .mid) next → CoverRead f certificate (t .mid) next
+          read : (next : ℕ) → Begun s (f .job .variables) ms shapes (t .shape) (t .mid) next → CoverBegun f certificate (t .mid) next
           read next w =
               let one-more : concatMap coverNumbers (t .covers) ++ coverNumbers (w .cover) ≡ concatMap coverNumbers (t .covers ++ (w .cover ∷ [])) =
               ap (λ (l : List ℕ). concatMap coverNumbers (t .covers) ++ l) (sym (append-nil (coverNumbers (w .cover))))
@@ -184,6 +184,8 @@ module _ (certificate : List ℕ) (f : JobFile) (ok : JobInRange f) where
       (covers-meaning members p₂ h₂ us p₃ h₃ number place))
       (start-meaning members p₂ h₂ number place))
       (members-meaning number place) h
+
+-- ---- the verdict
 
 pub means : (job certificate : List ℕ) (number place : ℕ) → verdict job certificate ≡ refused number place → Meaning job certificate number place
 unfolding verdict readBoth

@@ -1,4 +1,5 @@
--- What each refusal says. Document 01, "Refusals, in checking order".
+-- What each refusal says, without the parsers. Document 01, "Refusals, in checking order". `meaning` of the proofs says that the verdict is a
+-- refusal with a number at a place exactly if this holds of them.
 use mathlib.Core.List.{List, [], _∷_, _++_}
 use mathlib.Core.Option.{some}
 use mathlib.Core.Path.{_≡_}
@@ -21,9 +22,9 @@ use Rattle.format.specs.JobBytes.{Between, JobInRange, IsJob}
 abbrev pub Before : List ℕ → ℕ → List ℕ → Type 0
 Before s place ns = (place ≤ length s) × (decode (take place s) ≡ numbers ns)
 
--- "the first faulty number", where the numbers that may stand are those of which L holds
+-- "the first faulty number", where L holds of the lists of numbers that may stand
 module _ (L : List ℕ → Type 0) (s : List ℕ) (place : ℕ) where
-  -- all is well before the place, where a number is due: a list of which L holds begins so and goes on
+  -- before the place all is well, and at the place a number is due: a list of which L holds begins with these numbers and goes on
   pub record NumberDue : Type 0 where
     pub earlier : List ℕ
     pub before : Before s place earlier
@@ -86,9 +87,9 @@ module _ (f : JobFile) (certificate : List ℕ) (place : ℕ) where
     pub owed-is : owed (f .job) members ≡ done ++ left
     pub hold : AllHold members covers done
 
-  -- the cover at the place is read up to `next`: "a member number below N and one image for each of its cells, below the number of cells of
+  -- the cover at the place begins, up to `next`: "a member number below N and one image for each of its cells, below the number of cells of
   -- the covered shape", though images may still be owed
-  pub record CoverRead (next : ℕ) : Type 0 where
+  pub record CoverBegun (next : ℕ) : Type 0 where
     pub shape : Located
     pub later : List Located
     pub so-far : Covered (shape ∷ later)
@@ -101,17 +102,18 @@ module _ (f : JobFile) (certificate : List ℕ) (place : ℕ) where
   -- the cover at the place reads and does not hold
   pub record CoverFails : Type 0 where
     pub next : ℕ
-    pub cover : CoverRead next
+    pub cover : CoverBegun next
     pub images : length (cover .cover .images) ≡ size (cover .member .shape)
     pub fails : ¬ Holds (cover .so-far .members) (cover .cover) (cover .shape)
 
--- the number at the place is due in a cover, and has to be below the limit
+-- "then cover by cover 6, 7, 9": at the place a number of the next cover is due, which has to be below the limit. (No cover need begin so and
+-- go on: where the covered shape has no cells, an image that is due has no number to be.)
 pub data CoverDue (f : JobFile) (certificate : List ℕ) (place limit : ℕ) : Type 0 where
   -- "a member number below N"
   member-due : (shape : Located) (later : List Located) (c : Covered f certificate place (shape ∷ later)) → limit ≡ length (c .members)
       → CoverDue f certificate place limit
   -- "one image for each of its cells, below the number of cells of the covered shape"
-  image-due : (first : ℕ) (c : CoverRead f certificate first place) → length (c .cover .images) < size (c .member .shape)
+  image-due : (first : ℕ) (c : CoverBegun f certificate first place) → length (c .cover .images) < size (c .member .shape)
       → limit ≡ size (c .shape .shape) → CoverDue f certificate place limit
 
 pub data InCertificate (f : JobFile) (certificate : List ℕ) : ℕ → ℕ → Type 0 where
