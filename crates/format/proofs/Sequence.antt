@@ -5,7 +5,7 @@ use mathlib.Core.Path.{_≡_, refl, ap, ap₂, _∙_}
 use Prim.Native.Nat.{ℕ, zero, suc, _+_, _-_, _≤_, _<_}
 use native.Mathlib.Omega.{arith}
 use borrow.Author.Tests.{lt-ltb, le-ltb}
-use lib.ListN.{length, getD}
+use lib.ListN.{length}
 use Rattle.lists.proofs.Reflect.{r-lt, cond-cases}
 use Rattle.number.specs.Number.{numberIn, numberAt}
 use Rattle.number.specs.NumberList.{Listed, numbers, refused, before, followed, decodeFrom, decode}
