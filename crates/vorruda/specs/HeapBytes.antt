@@ -14,7 +14,7 @@ use Rattle.stepper.specs.declared.Outcome.{Outcome}
 use Rattle.stepper.specs.declared.Outcome.the-variants.{Moved, Blocked, Refused}
 use Rattle.stepper.specs.declared.Stepped.{Stepped}
 
--- "Any other length or mark is 13."
+-- 137 bytes, each used mark 0 or 1
 unfoldable pub readable : List ℕ → Bool
 readable bytes = eqb (length bytes) 137 && allFrom 64 0 (λ i. ltb (getD bytes (9 + i) 0) 2)
 
@@ -36,7 +36,7 @@ byteOf t i =
 unfoldable pub heapBytes : Heap64 → List ℕ
 heapBytes t = map (byteOf t) (range 0 137)
 
--- the bytes after a step: "Where it isn't 0 the bytes stay as they are."
+-- the bytes after a step. The header (include/vorruda.h): "Where it isn't 0, the bytes stay as they are."
 abbrev pub bytesAfter : Outcome → Heap64 → List ℕ → List ℕ
 bytesAfter Moved t bytes = heapBytes t
 bytesAfter Blocked t bytes = bytes
