@@ -1,5 +1,5 @@
 -- Demand 3 can fail: a job that is not safe. By its one transition, variable 1 gets to #, which is forbidden there.
-use mathlib.Core.List.{[], _∷_, List·Memᴰ·head, List·Memᴰ·tail}
+use mathlib.Core.List.{List, [], _∷_, List·Memᴰ·head, List·Memᴰ·tail}
 use mathlib.Core.Logic.{_≢_, Dec·and, if-pos}
 use mathlib.Core.Path.{_≡_, refl, sym}
 use Prim.Native.Nat.{ℕ, zero, suc}
@@ -34,8 +34,11 @@ second = record { state = 1; heap = after (assign 1 0) 0 empty }
 fires : second ≡ fire assigning 0 first
 fires = sym (if-pos (Dec·and (ℕ-discrete 0 0) (enabled? (assign 1 0) 0 empty)) (refl, null-enabled 0) second first)
 
+abbrev entries : List Entry
+entries = record { transition = 0; choice = 0 } ∷ []
+
 -- the one entry leads there
-reached : second ∈ run assignNull (record { transition = 0; choice = 0 } ∷ [])
+reached : second ∈ run assignNull entries
 reached = List·Memᴰ·tail (List·Memᴰ·head fires)
 
 stands : (v : ℕ) → varAt (atNull .shape) v ≢ nowhere → second .heap .var v ≡ varAt (atNull .shape) v
@@ -45,5 +48,4 @@ stands (suc zero) z = null-assigned 0
 stands (suc (suc v)) z = absurd (z refl)
 
 pub not-safe : ¬ Safe assignNull
-not-safe safe =
-    safe (record { transition = 0; choice = 0 } ∷ []) second reached atNull (List·Memᴰ·head refl) refl (no-cells (second .heap) (atNull .shape) refl stands)
+not-safe safe = safe entries second reached atNull (List·Memᴰ·head refl) refl (no-cells (second .heap) (atNull .shape) refl stands)

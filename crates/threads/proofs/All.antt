@@ -40,14 +40,14 @@ images-below k images t i b = below k images t (getD images i 0) (getD-mem image
 P10-holds : P10
 unfolding allFrom
 P10-holds =
-    embeds-reflects twoLinks fourCells (0 ∷ 1 ∷ 3 ∷ []) (closed 3 (5 ∷ 5 ∷ 0 ∷ []) refl (omega arith)) refl (images-below 3 (0 ∷ 1 ∷ 3 ∷ []) (omega arith))
-    .tests
+    embeds-reflects twoLinks fourCells (0 ∷ 1 ∷ 3 ∷ []) (closed 3 (5 ∷ 5 ∷ 0 ∷ []) refl (omega arith)) refl
+    (images-below 3 (0 ∷ 1 ∷ 3 ∷ []) (omega arith)) .tests
 
 P11-holds : P11
 unfolding allFrom
 P11-holds =
-    embeds-reflects oneLink fourCells (0 ∷ 3 ∷ []) (closed 2 (4 ∷ 0 ∷ []) refl (omega arith)) refl (images-below 3 (0 ∷ 3 ∷ []) (omega arith))
-    .holds tt
+    embeds-reflects oneLink fourCells (0 ∷ 3 ∷ []) (closed 2 (4 ∷ 0 ∷ []) refl (omega arith)) refl
+    (images-below 3 (0 ∷ 3 ∷ []) (omega arith)) .holds tt
 
 -- the twelve rows
 pub all-rows : Conjunction rows

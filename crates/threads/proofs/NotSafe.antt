@@ -1,6 +1,6 @@
 -- Demand 3 can fail: the job of P3 and P4 is not safe.
 use mathlib.Core.Path.{_≡_, refl, sym, _∙_, subst}
-use Rattle.run.specs.Run.{Job, Safe}
+use Rattle.run.specs.Run.{Safe}
 use Rattle.run.proofs.NotSafe.{assignNull, not-safe}
 use Rattle.number.specs.Number.{numberIn}
 use Rattle.format.specs.Parser.{Parsed, parsed, jobBuffer, many, readAs, end}

@@ -1,9 +1,10 @@
+// A heap as bytes, and a step on them.
 use place::Place;
 use stepper::Heap64;
 use stepper::Outcome;
 ghost use mathlib.Core.Path.{_≡_};
 ghost use lib.ListN.{length};
-ghost use Rattle.vorruda.specs.HeapBytes.{readable, heapFrom, heapBytes, StepsBytes};
+ghost use Rattle.heapbytes.specs.HeapBytes.{readable, heapFrom, heapBytes, StepsBytes};
 
 // Whether bytes can be a heap's: 137 of them, the used marks 0 or 1.
 fn is_readable(bytes: &[u8]) -> bool
@@ -24,6 +25,7 @@ fn is_readable(bytes: &[u8]) -> bool
     largest < 2
 }
 
+// Where the variables stand.
 fn slots_from(bytes: &[u8]) -> [Place; 8]
     requires { ⌜ length (now bytes) ≡ 137 ⌝ }
     ensures { λ r. ⌜ r ≡ heapFrom (now (bytes .entry)) .vars ⌝ }
@@ -37,6 +39,7 @@ fn slots_from(bytes: &[u8]) -> [Place; 8]
     vars
 }
 
+// Which cells are used.
 fn marks_from(bytes: &[u8]) -> [bool; 64]
     requires { ⌜ length (now bytes) ≡ 137 ⌝ }
     ensures { λ r. ⌜ r ≡ heapFrom (now (bytes .entry)) .used ⌝ }
@@ -50,6 +53,7 @@ fn marks_from(bytes: &[u8]) -> [bool; 64]
     used
 }
 
+// Where the links stand.
 fn links_from(bytes: &[u8]) -> [Place; 64]
     requires { ⌜ length (now bytes) ≡ 137 ⌝ }
     ensures { λ r. ⌜ r ≡ heapFrom (now (bytes .entry)) .links ⌝ }
@@ -65,6 +69,7 @@ fn links_from(bytes: &[u8]) -> [Place; 64]
     links
 }
 
+// Writes the bytes of a heap.
 fn put_heap(heap: Heap64, bytes: &mut [u8])
     requires { ⌜ length (now bytes) ≡ 137 ⌝ }
     ensures { λ r. ⌜ now (bytes .exit) ≡ heapBytes heap ⌝ }
@@ -86,8 +91,7 @@ fn put_heap(heap: Heap64, bytes: &mut [u8])
 }
 
 // One operation on a heap of 137 bytes: 0 for moved, 100 for blocked, or 13, 14, 15.
-#[no_mangle]
-pub extern "C" fn vorruda_step(heap: &mut [u8], kind: u32, a: u32, b: u32) -> u32
+pub fn step_bytes(heap: &mut [u8], kind: u32, a: u32, b: u32) -> u32
     ensures { λ r. ⌜ StepsBytes (now (heap .entry)) kind a b r (now (heap .exit)) ⌝ }
 {
     if !is_readable(heap) {

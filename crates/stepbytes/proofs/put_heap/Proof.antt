@@ -2,11 +2,11 @@ use Prim.Native.Nat.{_-_, _≤_}
 use mathlib.Core.Path.{refl, _∙_, sym}
 use native.Mathlib.Omega.{arith}
 use Rattle.lists.proofs.Range.{Filled, fill-none, fill-more, fill-all}
-use Rattle.vorruda.specs.HeapBytes.{byteOf, heapBytes}
-use Rattle.vorruda.proofs.Bytes.{count-byte, slot-byte, mark-byte, link-byte}
+use Rattle.heapbytes.specs.HeapBytes.{byteOf, heapBytes}
+use Rattle.heapbytes.proofs.Bytes.{count-byte, slot-byte, mark-byte, link-byte}
 use borrow.Author.Needs.{needs}
-use Rattle.vorruda.proofs.heap.put_heap.Statement.{statement}
-use Rattle.vorruda.proofs.heap.put_heap.Tie as tie
+use Rattle.stepbytes.proofs.put_heap.Statement.{statement}
+use Rattle.stepbytes.proofs.put_heap.Tie as tie
 
 abbrev Inv-loop : tie.InvT-loop
 Inv-loop bytes₀ heap i₀ bytes i = (1 ≤ i) × (i ≤ 9) × Filled (byteOf heap) 0 137 bytes i

@@ -4,10 +4,10 @@ use native.Mathlib.Omega.{arith}
 use lib.ListN.{getD}
 use Rattle.lists.proofs.Range.{Filled, fill-none, fill-more, fill-all}
 use Rattle.place.specs.Place.{placeOf}
-use Rattle.vorruda.specs.HeapBytes.{heapFrom}
+use Rattle.heapbytes.specs.HeapBytes.{heapFrom}
 use borrow.Author.Needs.{needs}
-use Rattle.vorruda.proofs.heap.slots_from.Statement.{statement}
-use Rattle.vorruda.proofs.heap.slots_from.Tie as tie
+use Rattle.stepbytes.proofs.slots_from.Statement.{statement}
+use Rattle.stepbytes.proofs.slots_from.Tie as tie
 
 abbrev Inv-loop : tie.InvT-loop
 Inv-loop bytes vars₀ i₀ vars i = Filled (λ i. placeOf (getD bytes (1 + i) 0)) (placeOf 0) 8 vars i

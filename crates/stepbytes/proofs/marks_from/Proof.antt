@@ -5,10 +5,10 @@ use lib.ListN.{getD}
 use lib.Dec.{eqb}
 use mathlib.Core.Bool.{false}
 use Rattle.lists.proofs.Range.{Filled, fill-none, fill-more, fill-all}
-use Rattle.vorruda.specs.HeapBytes.{heapFrom}
+use Rattle.heapbytes.specs.HeapBytes.{heapFrom}
 use borrow.Author.Needs.{needs}
-use Rattle.vorruda.proofs.heap.marks_from.Statement.{statement}
-use Rattle.vorruda.proofs.heap.marks_from.Tie as tie
+use Rattle.stepbytes.proofs.marks_from.Statement.{statement}
+use Rattle.stepbytes.proofs.marks_from.Tie as tie
 
 abbrev Inv-loop : tie.InvT-loop
 Inv-loop bytes used₀ i₀ used i = Filled (λ i. eqb (getD bytes (9 + i) 0) 1) (false) 64 used i

@@ -18,6 +18,7 @@ use Rattle.stepper.specs.declared.Stepped.{Stepped}
 unfoldable pub readable : List ℕ → Bool
 readable bytes = eqb (length bytes) 137 && allFrom 64 0 (λ i. ltb (getD bytes (9 + i) 0) 2)
 
+-- the heap that readable bytes are
 unfoldable pub heapFrom : List ℕ → Heap64
 heapFrom bytes =
     record {
@@ -27,6 +28,7 @@ heapFrom bytes =
       links = map (λ i. placeOf (getD bytes (73 + i) 0)) (range 0 64);
     }
 
+-- byte i of a heap
 unfoldable pub byteOf : Heap64 → ℕ → ℕ
 byteOf t i =
     cond (ltb i 1) (t .variables)

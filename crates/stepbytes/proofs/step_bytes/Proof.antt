@@ -4,11 +4,11 @@ use lib.ListN.{length, getD}
 use mathlib.Core.Bool.{true}
 use borrow.Author.Tests.{not-true, not-false}
 use Rattle.stepper.specs.declared.Heap64.{Heap64}
-use Rattle.vorruda.specs.HeapBytes.{readable, heapFrom}
-use Rattle.vorruda.proofs.Bytes.{readable-length, unread, done, left}
+use Rattle.heapbytes.specs.HeapBytes.{readable, heapFrom}
+use Rattle.stepbytes.proofs.Bytes.{readable-length, unread, done, left}
 use borrow.Author.Needs.{needs}
-use Rattle.vorruda.proofs.heap.vorruda_step.Statement.{statement}
-use Rattle.vorruda.proofs.heap.vorruda_step.Tie as tie
+use Rattle.stepbytes.proofs.step_bytes.Statement.{statement}
+use Rattle.stepbytes.proofs.step_bytes.Tie as tie
 
 -- where the bytes are a heap's
 reads-well : (c : tie.Else1) → readable (c .before .before .before .before .args .heap .now) ≡ true
@@ -92,8 +92,8 @@ returns-3 c =
     (rw (c .before .before .before .before .before .enum-told .given .1) refl)
     (rw (c .before .before .before .before .before .enum-told .given .1) (c .before .before .put-heap .ensures))
 
-pub vorruda-step-spec : {M : Type 1} → statement M
-vorruda-step-spec =
+pub step-bytes-spec : {M : Type 1} → statement M
+step-bytes-spec =
     tie.close
     (tie.spec
     is-readable-requires

@@ -1,4 +1,4 @@
--- The bytes of a heap, by their places.
+-- What the code reads and writes of a heap's bytes, and the call's promise by its outcome.
 use mathlib.Core.Bool.{Bool, true, false, _&&_}
 use mathlib.Core.List.{List, [], _∷_}
 use mathlib.Core.Logic.{⊎-elim}
@@ -15,31 +15,12 @@ use types.Run.{OneOf}
 use Rattle.stepper.proofs.Outcome.{the-type}
 use Rattle.lists.specs.Test.{allFrom}
 use Rattle.lists.proofs.Test.{and-left, all-done}
-use Rattle.place.specs.Place.{placeOf}
 use Rattle.stepper.specs.Step.{outcomeCode, Steps}
 use Rattle.stepper.specs.declared.Heap64.{Heap64}
 use Rattle.stepper.specs.declared.Outcome.{Outcome}
 use Rattle.stepper.specs.declared.Outcome.the-variants.{Moved, Blocked, Refused}
 use Rattle.stepper.specs.declared.Stepped.{Stepped}
-use Rattle.vorruda.specs.HeapBytes.{readable, heapFrom, byteOf, bytesAfter, StepsBytes}
-
-module _ (t : Heap64) (i : ℕ) where
-  pub count-byte : i < 1 → t .variables ≡ byteOf t i
-  unfolding byteOf
-  count-byte h = simp (lt-ltb i 1 h)
-
-  pub slot-byte : 1 ≤ i → i < 9 → getD (t .vars) (i - 1) (placeOf 0) .code ≡ byteOf t i
-  unfolding byteOf
-  slot-byte l h = simp (le-ltb i 1 l, lt-ltb i 9 h)
-
-  pub mark-byte : 9 ≤ i → i < 73 → (u : Bool) → getD (t .used) (i - 9) false ≡ u → (n : ℕ) → (u ≡ true → n ≡ 1) → (u ≡ false → n ≡ 0) → n ≡ byteOf t i
-  unfolding byteOf
-  mark-byte l h true e n p q = simp (le-ltb i 1 (omega arith), le-ltb i 9 l, lt-ltb i 73 h, e) (p refl)
-  mark-byte l h false e n p q = simp (le-ltb i 1 (omega arith), le-ltb i 9 l, lt-ltb i 73 h, e) (q refl)
-
-  pub link-byte : 73 ≤ i → getD (t .links) (i - 73) (placeOf 0) .code ≡ byteOf t i
-  unfolding byteOf
-  link-byte l = simp (le-ltb i 1 (omega arith), le-ltb i 9 (omega arith), le-ltb i 73 l)
+use Rattle.heapbytes.specs.HeapBytes.{readable, heapFrom, bytesAfter, StepsBytes}
 
 -- ---- the marks, tested so far
 
