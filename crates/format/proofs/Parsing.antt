@@ -148,7 +148,7 @@ module _ (s : Buffer) where
       complete : (at x next : ℕ) → Reads (s .bytes) at (x ∷ []) next → P x → readAs s (such test) at ≡ parsed x next
       complete at x next g h = read-complete (such test) at x next x (reads-one g) (cond-true (test x) (some x) none (r x .tests h))
 
-  -- "a number from `low` on and below `limit`"
+  -- a number from `low` on and below `limit`
   pub ranged-exact : (low limit : ℕ) → Exact (ranged s low limit) (λ n. n ∷ []) (λ n. (low ≤ n) × (n < limit))
   ranged-exact low limit = such-exact (within low limit) (λ n. (low ≤ n) × (n < limit)) (λ n. r-and (r-le low n) (r-lt n limit))
 
