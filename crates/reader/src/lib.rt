@@ -11,12 +11,13 @@ use verdict::Refusal;
 ghost use mathlib.Core.Bool.{cond};
 ghost use mathlib.Core.List.{List, []};
 ghost use mathlib.Core.Path.{_≡_};
-ghost use Prim.Native.Nat.{ℕ, _≤_};
-ghost use lib.Dec.{eqb};
-ghost use lib.ListN.{length};
+ghost use Prim.Native.Nat.{ℕ, _-_, _≤_};
+ghost use lib.Dec.{eqb, ltb};
+ghost use lib.ListN.{length, getD};
+ghost use Rattle.lists.specs.Test.{allFrom};
 ghost use Rattle.format.specs.Certificate.{readMember};
 ghost use Rattle.format.specs.Job.{readLocated, readTransition};
-ghost use Rattle.format.specs.Parser.{jobBuffer, certificateBuffer, many, ranged};
+ghost use Rattle.format.specs.Parser.{parsed, jobBuffer, certificateBuffer, many, ranged};
 ghost use Rattle.number.specs.Number.{numberAt};
 ghost use Rattle.verdict.specs.Verdict.{refusalNumber, reachedOf};
 ghost use Rattle.reader.specs.Job.{RestAnswered, JobAnswered};
@@ -296,6 +297,68 @@ pub fn read_job(job: &[u8]) -> JobAnswer
     }
 }
 
+// Whether all bytes from a place up to another are below a limit.
+fn all_below(bytes: &[u8], first: usize, end: usize, limit: u8) -> bool
+    requires { ⌜ end ≤ length (now bytes) ⌝ }
+    ensures { λ r. ⌜ r ≡ allFrom (end - first) first (λ i. ltb (getD (now (bytes .entry)) i 0) limit) ⌝ }
+{
+    let mut i = first;
+    while i < end {
+        if limit <= bytes[i] {
+            return false;
+        }
+        i += 1;
+    }
+    true
+}
+
+// The place after a member's entry, if each of its numbers is one byte and in range; else 0, and the exact reader decides.
+fn quick_entry(cert: &[u8], at: usize, variables: usize, states: usize) -> usize
+    ensures { λ r. ⌜ ((r ≡ 0 → ⊥) → withoutValue (readLocated (certificateBuffer (now (cert .entry))) variables states at) ≡ parsed tt r) ⌝ }
+{
+    if cert.len() <= at {
+        return 0;
+    }
+    let left = cert.len() - at;
+    if left < 2 {
+        return 0;
+    }
+    let state = cert[at];
+    if 127 < state {
+        return 0;
+    }
+    if states <= state as usize {
+        return 0;
+    }
+    let n = cert[at + 1];
+    if 12 < n {
+        return 0;
+    }
+    let cells = n as usize;
+    if left - 2 < cells {
+        return 0;
+    }
+    if left - 2 - cells < variables {
+        return 0;
+    }
+    let end = at + 2 + variables + cells;
+    if all_below(cert, at + 2, end, 3 + n) {
+        return end;
+    }
+    0
+}
+
+// A member's entry.
+fn read_member(cert: &[u8], at: usize, variables: usize, states: usize) -> Reached
+    ensures { λ r. ⌜ reachedOf r ≡ withoutValue (readLocated (certificateBuffer (now (cert .entry))) variables states at) ⌝ }
+{
+    let next = quick_entry(cert, at, variables, states);
+    if next == 0 {
+        return read_entry(Side::Certificate, cert, at, variables, states);
+    }
+    Reached::At(next)
+}
+
 // The members of a certificate; the place where each starts goes to the table.
 fn note_members(
     cert: &[u8],
@@ -314,7 +377,7 @@ fn note_members(
     while i < count {
         // every place of a certificate of up to 65,536 bytes fits
         starts[i] = (at % 65536) as u16;
-        let r = read_entry(Side::Certificate, cert, at, variables, states);
+        let r = read_member(cert, at, variables, states);
         let Reached::At(next) = r else {
             return r;
         };
