@@ -11,9 +11,10 @@ use Rattle.format.specs.Parser.{Parsed, parsed, fault, Parser, onward, _>>=_, _
 use Rattle.format.proofs.Files.{located-exact, transition-exact, job-exact, whole-sound, end-sound, end-complete}
 use Rattle.format.proofs.Parsing.{then, many-exact, ranged-exact}
 use Rattle.format.proofs.Sequence.{reads-one}
-use Rattle.reader.specs.Job.{readCounts, readFront, readRest, RestAnswered, JobRead, JobAnswered}
+use Rattle.jobreader.specs.Reader.{readFront}
+use Rattle.jobreader.specs.declared.Front.{Front}
+use Rattle.reader.specs.Job.{readRest, RestAnswered, JobRead, JobAnswered}
 use Rattle.reader.specs.Number.{withoutValue}
-use Rattle.reader.specs.declared.Front.{Front}
 use Rattle.reader.specs.declared.Header.{Header}
 use Rattle.reader.specs.declared.JobAnswer.{JobAnswer}
 use Rattle.reader.specs.declared.JobAnswer.the-variants.{Job, Refused}
@@ -37,7 +38,7 @@ module _ (job : List ℕ) where
   parts : readWholeJob (jobBuffer job) 0
       ≡ onward (readFront (jobBuffer job) 0)
       (λ f p. onward (many (f .transitions) (readTransition (jobBuffer job) (f .variables) (f .states)) p) (fileRest f))
-  unfolding readWholeJob readJob readFront readCounts fileRest
+  unfolding readWholeJob readJob readFront fileRest
   parts = simp bind-assoc
 
   -- the rest is read alike, whatever is made of it

@@ -29,8 +29,8 @@ mul-starts c = search needs
 slice-write-starts : tie.Need-slice-write-starts Inv-loop μ-loop
 slice-write-starts c = omega (arith, c .before .loop .inv .size)
 
-read-entry-requires : tie.Need-read-entry-requires Inv-loop μ-loop
-read-entry-requires c κs = search needs
+read-member-requires : tie.Need-read-member-requires Inv-loop μ-loop
+read-member-requires c κs = search needs
 
 enum-known-r : tie.Need-enum-known-r Inv-loop μ-loop
 enum-known-r c = search needs
@@ -47,7 +47,7 @@ returns c =
     let e = c .enum-told .given .1 in
     let l = c .before .before .before .before .loop in
     let p = readMember (certificateBuffer (a .cert .now)) (a .variables) (a .states) in
-    let refused = sym (as-entry (a .cert .now) (a .variables) (a .states) (l .at)) ∙ reached-lost (c .before .before .read-entry .ensures) e in (
+    let refused = sym (as-entry (a .cert .now) (a .variables) (a .states) (l .at)) ∙ reached-lost (c .before .before .read-member .ensures) e in (
       ap reachedOf e ∙ left-lost p (a .count) (a .first) (l .at) (l .i) (l .inv .left) _ _ (omega arith) refused,
       note-last p (a .count) (a .first) (a .starts .now) (l .starts) (l .at) (l .i) (l .inv) (omega arith) (omega arith) _ _ refused,
     )
@@ -64,7 +64,7 @@ loop-again c =
     let l = c .before .before .before .before .before .loop in
     note-more (readMember (certificateBuffer (a .cert .now)) (a .variables) (a .states)) (a .count) (a .first) (a .starts .now) (l .starts) (l .at) (l .i)
     (l .inv) (omega arith) (omega arith) _
-    (sym (as-entry (a .cert .now) (a .variables) (a .states) (l .at)) ∙ reached-got (c .before .before .before .read-entry .ensures) (c .before .r .given .1))
+    (sym (as-entry (a .cert .now) (a .variables) (a .states) (l .at)) ∙ reached-got (c .before .before .before .read-member .ensures) (c .before .r .given .1))
 
 same-length-2 : tie.Need-same-length-2 Inv-loop μ-loop
 same-length-2 c = search needs
@@ -88,7 +88,7 @@ note-members-spec =
     cast-starts
     mul-starts
     slice-write-starts
-    read-entry-requires
+    read-member-requires
     enum-known-r
     enum-told
     same-length
