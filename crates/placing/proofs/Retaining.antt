@@ -48,11 +48,11 @@ module _ (links : List ℕ) (k : ℕ) where
   unfolding exists
   exists-high h = simp (le-ltb k (length links + 2) h)
 
-  opened-none : k ≤ length links → opened links k ≡ links
+  pub opened-none : k ≤ length links → opened links k ≡ links
   unfolding opened
   opened-none h = simp (le-leb k (length links) h)
 
-  opened-fresh : k ≡ suc (length links) → opened links k ≡ links ++ (nowhere ∷ [])
+  pub opened-fresh : k ≡ suc (length links) → opened links k ≡ links ++ (nowhere ∷ [])
   unfolding opened
   opened-fresh e = simp (lt-leb k (length links) (omega arith), eq-eqb k (suc (length links)) e)
 
@@ -64,7 +64,7 @@ module _ (links : List ℕ) (k : ℕ) where
       go (no e) = rw (opened-none (omega arith)) refl
 
   module _ (l : length links + 2 ≤ k) (b : k < length links + (2 + length links)) where
-    opened-middle : opened links k
+    pub opened-middle : opened links k
         ≡ set links (k - (length links + 2)) (cell (length links)) ++ (getD links (k - (length links + 2)) nowhere ∷ [])
     unfolding opened
     opened-middle = simp (lt-leb k (length links) (omega arith), ne-eqb k (suc (length links)) (omega arith))
