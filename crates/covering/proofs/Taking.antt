@@ -15,17 +15,11 @@ use Rattle.verdict.specs.Verdict.{reachedOf}
 use Rattle.verdict.specs.declared.Reached.{Reached}
 use Rattle.verdict.specs.declared.Refusal.{Refusal}
 use Rattle.layout.specs.Entries.{locatedAt}
-use Rattle.embedding.specs.Images.{imagesIn}
+use Rattle.covering.specs.Images.{imagesIn}
 use Rattle.covering.specs.Members.{membersFrom}
 use Rattle.covering.specs.Reading.{withoutMember, cellsAt, coverOf, CoverIs}
 use Rattle.covering.specs.declared.reading.CoverRead.{CoverRead}
 use Rattle.covering.specs.declared.reading.CoverRead.the-variants.{Taken, Refused}
-
--- no more cells are held than there are
-pub held : (n : ℕ) (links : List ℕ) → take (length (take n links)) links ≡ take n links
-held zero links = refl
-held (suc n) [] = refl
-held (suc n) (x ∷ xs) = ap (λ (l : List ℕ). x ∷ l) (held n xs)
 
 module _ (cert : List ℕ) (variables : ℕ) (starts : List ℕ) (at state : ℕ) (byte : state < 256) (shape : Shape) (n : ℕ) (cells : size shape ≡ n)
     (codes : List ℕ) (r : CoverRead) (k : CoverIs cert variables starts at n r codes) where

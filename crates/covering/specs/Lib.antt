@@ -1,2 +1,4 @@
+pub mod Images
+pub mod Marks
 pub mod Members
 pub mod Reading

@@ -1,29 +1,32 @@
 // One cover: reading it, and testing that its images are an embedding.
 use crate::fitting::embeds;
+use crate::fitting::wide;
 use crate::reading::CoverRead;
 use crate::reading::read_cover;
 use verdict::Reached;
 use verdict::Refusal;
 ghost use mathlib.Core.Path.{_≡_};
 ghost use Prim.Native.Nat.{_≤_};
-ghost use lib.ListN.{length, take};
+ghost use lib.ListN.{length};
 ghost use Rattle.format.specs.Certificate.{readCover};
 ghost use Rattle.format.specs.Parser.{certificateBuffer};
 ghost use Rattle.verdict.specs.Verdict.{reachedOf};
-ghost use Rattle.layout.specs.Arrays.{shapeIn};
+ghost use Rattle.layout.specs.ShapeArray.{linksIn, shapeIn};
 ghost use Rattle.covering.specs.Members.{membersFrom};
 ghost use Rattle.covering.specs.Reading.{withoutMember};
 
 mod fitting;
 mod reading;
 
-// How many of n cells the array of links has room for.
-fn cells_held(links: &[u8; 14], n: usize) -> usize
-    ensures { λ r. ⌜ (length (now (links .entry)) ≡ 14) × (r ≤ 14) × (r ≡ length (take n (now (links .entry)))) ⌝ }
+// How many cells the shape in an array has: no more than there are slots from the first link on.
+fn cells_held(s: &[u8; 28]) -> usize
+    ensures { λ r. ⌜ (length (now (s .entry)) ≡ 28) × (r ≤ 25) × (r ≡ length (linksIn (now (s .entry)))) ⌝ }
 {
-    let all = &links[..];
-    if all.len() < n {
-        return all.len();
+    let all = &s[..];
+    let n = wide(s[0]);
+    let most = all.len() - 3;
+    if most < n {
+        return most;
     }
     n
 }
@@ -48,14 +51,12 @@ pub fn take_cover(
     variables: usize,
     at: usize,
     state: u8,
-    n: usize,
-    vars: &[u8; 10],
-    links: &[u8; 14],
+    s: &[u8; 28],
 ) -> Reached
-    ensures { λ r. ⌜ reachedOf r ≡ readCover (certificateBuffer (now (cert .entry))) (membersFrom (now (cert .entry)) variables (now (starts .entry))) (record { state = state; shape = shapeIn variables n (now (vars .entry)) (now (links .entry)) }) at ⌝ }
+    ensures { λ r. ⌜ reachedOf r ≡ readCover (certificateBuffer (now (cert .entry))) (membersFrom (now (cert .entry)) variables (now (starts .entry))) (record { state = state; shape = shapeIn variables (now (s .entry)) }) at ⌝ }
 {
     let mut images = NO_IMAGES;
-    let cells = cells_held(links, n);
+    let cells = cells_held(s);
     let r = read_cover(cert, starts, variables, at, cells, &mut images);
     let CoverRead::Taken(m, next) = r else {
         return refused(r);
@@ -64,7 +65,7 @@ pub fn take_cover(
     if cert[start] != state {
         return Reached::Refused(Refusal::CoverFails, at);
     }
-    if !embeds(cert, start, variables, &images, cells, vars, links) {
+    if !embeds(cert, start, variables, &images, cells, s) {
         return Reached::Refused(Refusal::CoverFails, at);
     }
     Reached::At(next)

@@ -14,9 +14,9 @@ use Rattle.lists.proofs.Reflect.{Reflect, is-true, is-false, passes, r-eq, r-or
 use Rattle.heap.specs.Place.{cell}
 use Rattle.cover.specs.Test.{stops}
 use Rattle.cover.proofs.Embeds.{r-stops}
-use Rattle.embedding.specs.Images.{once}
-use Rattle.embedding.specs.Marks.{mark, Marks}
-use Rattle.embedding.proofs.Marks.{mark-free, marks-stop}
+use Rattle.covering.specs.Images.{once}
+use Rattle.covering.specs.Marks.{mark, Marks}
+use Rattle.covering.proofs.Marks.{mark-free, marks-stop}
 
 module _ (images : List ℕ) where
   r-once : Reflect ((i : ℕ) → i < length images → (j : ℕ) → j < length images → i ≢ j → getD images i 0 ≢ getD images j 0) (once images)
@@ -32,7 +32,7 @@ module _ (images : List ℕ) where
   marking-none marks m = record { inside = omega arith; marked = m; apart = λ j k a b. absurd (omega arith) }
 
   module _ (i : ℕ) (marks : List ℕ) (m : Marking i marks) where
-    module _ (b : i < length images) (p : ℕ) (e : p ≡ cell (getD images i 0)) (h : p < 17) where
+    module _ (b : i < length images) (p : ℕ) (e : p ≡ cell (getD images i 0)) (h : p < 28) where
       here-marked : getD marks p 0 ≡ mark (stops (take i images) p) true
       here-marked = m .marked .marked p h
 
