@@ -11,3 +11,4 @@ pub mod Elements
 pub mod ReadImages
 pub mod Covers
 pub mod Taking
+pub mod TakeImages

@@ -36,7 +36,7 @@ map-snoc f [] y = refl
 map-snoc f (x ∷ xs) y = ap (λ (l : List ℕ). f x ∷ l) (map-snoc f xs y)
 
 module _ (n i : ℕ) (codes : List ℕ) (m : ImageCodes i n codes) (x : ℕ) (room : i < 12) where
-  images-snoc : imagesIn (i + 1) (set codes (i + 3) (x + 3)) ≡ imagesIn i codes ++ (x ∷ [])
+  pub images-snoc : imagesIn (i + 1) (set codes (i + 3) (x + 3)) ≡ imagesIn i codes ++ (x ∷ [])
   images-snoc =
       let swap : i + 3 ≡ 3 + i = omega arith in
       let inside : i < length (drop 3 codes) = omega (arith, length-drop 3 codes, m .room) in

@@ -7,22 +7,38 @@ ghost use lib.ListN.{length, getD, replicate};
 ghost use Rattle.lists.specs.Test.{allFrom};
 ghost use Rattle.shape.specs.Shape.{Shape, size};
 ghost use Rattle.cover.specs.Test.{embeds?};
-ghost use Rattle.layout.specs.ShapeArray.{shapeIn};
+ghost use Rattle.layout.specs.ShapeArray.{linksIn, shapeIn};
 ghost use Rattle.layout.specs.Entries.{locatedAt, Whole};
 ghost use Rattle.covering.specs.Images.{imagesIn, ImageCodes, imageIn, once, varFitsIn, pathFits};
 ghost use Rattle.covering.specs.Marks.{markIn, Marks, Walking, Followed, Linking};
 
 // Marks by the code of a place: where a path may pass, where it ends, where one has passed.
-const FREE: u8 = 0;
+pub(crate) const FREE: u8 = 0;
 
-const STOP: u8 = 1;
+pub(crate) const STOP: u8 = 1;
 
 const USED: u8 = 2;
+
+// No image is read yet: nowhere, # and * are their own images, and every cell's is cell 0.
+pub(crate) const NO_IMAGES: [u8; 15] = [0, 1, 2, 3, 3, 3, 3, 3, 3, 3, 3, 3, 3, 3, 3];
 
 pub(crate) fn wide(byte: u8) -> usize
     ensures { λ r. ⌜ (r ≡ byte) × (r < 256) ⌝ }
 {
     byte as usize
+}
+
+// How many cells the shape in an array has: no more than there are slots from the first link on.
+pub(crate) fn cells_held(s: &[u8; 28]) -> usize
+    ensures { λ r. ⌜ (length (now (s .entry)) ≡ 28) × (r ≤ 25) × (r ≡ length (linksIn (now (s .entry)))) ⌝ }
+{
+    let all = &s[..];
+    let n = wide(s[0]);
+    let most = all.len() - 3;
+    if most < n {
+        return most;
+    }
+    n
 }
 
 // The image of a place; that of a cell which the member lacks is cell 0.
@@ -56,7 +72,13 @@ fn mark_images(images: &[u8; 15], count: usize, marks: &mut [u8; 28]) -> bool
 }
 
 // Whether each variable that the member places stands at the image of that place.
-fn vars_fit(cert: &[u8], first: usize, count: usize, images: &[u8; 15], s: &[u8; 28]) -> bool
+pub(crate) fn vars_fit(
+    cert: &[u8],
+    first: usize,
+    count: usize,
+    images: &[u8; 15],
+    s: &[u8; 28],
+) -> bool
     requires { ⌜ (first + count ≤ length (now cert)) × (count ≤ 9) ⌝ }
     ensures { λ r. ⌜ r ≡ allFrom count 0 (varFitsIn (now (cert .entry)) first (now (images .entry)) (now (s .entry))) ⌝ }
 {
@@ -101,7 +123,7 @@ fn walk(n: usize, s: &[u8; 28], marks: &mut [u8; 28], from: usize) -> usize
 }
 
 // Whether the paths of the member's links end where they should and share no cell.
-fn links_fit(
+pub(crate) fn links_fit(
     cert: &[u8],
     first: usize,
     count: usize,

@@ -1,38 +1,28 @@
 // One cover: reading it, and testing that its images are an embedding.
+use crate::fitting::NO_IMAGES;
+use crate::fitting::cells_held;
 use crate::fitting::embeds;
 use crate::fitting::wide;
+use crate::quick::images_embed;
 use crate::reading::CoverRead;
 use crate::reading::read_cover;
+use number::Read;
+use number::read_number;
+use reader::load::is_whole;
 use verdict::Reached;
 use verdict::Refusal;
+ghost use mathlib.Core.Logic.{_≢_};
 ghost use mathlib.Core.Path.{_≡_};
-ghost use Prim.Native.Nat.{_≤_};
-ghost use lib.ListN.{length};
 ghost use Rattle.format.specs.Certificate.{readCover};
-ghost use Rattle.format.specs.Parser.{certificateBuffer};
+ghost use Rattle.format.specs.Parser.{parsed, certificateBuffer};
 ghost use Rattle.verdict.specs.Verdict.{reachedOf};
-ghost use Rattle.layout.specs.ShapeArray.{linksIn, shapeIn};
+ghost use Rattle.layout.specs.ShapeArray.{shapeIn};
 ghost use Rattle.covering.specs.Members.{membersFrom};
 ghost use Rattle.covering.specs.Reading.{withoutMember};
 
 mod fitting;
+mod quick;
 mod reading;
-
-// How many cells the shape in an array has: no more than there are slots from the first link on.
-fn cells_held(s: &[u8; 28]) -> usize
-    ensures { λ r. ⌜ (length (now (s .entry)) ≡ 28) × (r ≤ 25) × (r ≡ length (linksIn (now (s .entry)))) ⌝ }
-{
-    let all = &s[..];
-    let n = wide(s[0]);
-    let most = all.len() - 3;
-    if most < n {
-        return most;
-    }
-    n
-}
-
-// No image is read yet: nowhere, # and * are their own images, and every cell's is cell 0.
-const NO_IMAGES: [u8; 15] = [0, 1, 2, 3, 3, 3, 3, 3, 3, 3, 3, 3, 3, 3, 3];
 
 // The place after a cover, or its refusal.
 fn refused(read: CoverRead) -> Reached
@@ -69,4 +59,39 @@ pub fn take_cover(
         return Reached::Refused(Refusal::CoverFails, at);
     }
     Reached::At(next)
+}
+
+// A quick test of the cover at a place: the place after it, or 0 where it is left to `take_cover`.
+pub fn quick_cover(
+    cert: &[u8],
+    starts: &[u16],
+    variables: usize,
+    at: usize,
+    state: u8,
+    s: &[u8; 28],
+) -> usize
+    ensures { λ r. ⌜ (r ≢ 0 → readCover (certificateBuffer (now (cert .entry))) (membersFrom (now (cert .entry)) variables (now (starts .entry))) (record { state = state; shape = shapeIn variables (now (s .entry)) }) at ≡ parsed tt r) ⌝ }
+{
+    let r = read_number(cert, at);
+    let Read::Number(m, first) = r else {
+        return 0;
+    };
+    if starts.len() <= m {
+        return 0;
+    }
+    let start = starts[m] as usize;
+    if !is_whole(cert, start, variables) {
+        return 0;
+    }
+    if cert[start] != state {
+        return 0;
+    }
+    let count = wide(cert[start + 1]);
+    if cert.len() - first < count {
+        return 0;
+    }
+    if !images_embed(cert, start, variables, first, count, s) {
+        return 0;
+    }
+    first + count
 }

@@ -1,8 +1,8 @@
 use native.Mathlib.Omega.{arith}
 use lib.ListN.{getD, drop, length-take, length-drop}
 use borrow.Author.Needs.{needs}
-use Rattle.covering.proofs.cells_held.Statement.{statement}
-use Rattle.covering.proofs.cells_held.Tie as tie
+use Rattle.covering.proofs.fitting.cells_held.Statement.{statement}
+use Rattle.covering.proofs.fitting.cells_held.Tie as tie
 
 element-copy-out-wide : tie.Need-element-copy-out-wide
 element-copy-out-wide c = search needs
