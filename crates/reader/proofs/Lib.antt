@@ -9,3 +9,4 @@ pub mod WholeJob
 pub mod Testing
 pub mod Noting
 pub mod Loading
+pub mod Loaded

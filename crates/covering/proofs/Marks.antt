@@ -8,13 +8,13 @@ use native.Mathlib.Decide.{ℕ-discrete}
 use native.Mathlib.Omega.{arith}
 use borrow.Author.Tests.{eq-eqb, ne-eqb, le-ltb}
 use lib.Dec.{eqb, eqb-refl, ltb}
-use lib.ListN.{length, getD, set, length-set}
+use lib.ListN.{length, getD, set, length-set, replicate, getD-replicate}
 use lib.Seq.{getD-set-same, getD-set-other}
 use Rattle.lists.specs.List.{_∈_, absent}
 use Rattle.lists.proofs.Reflect.{Reflect, is-true, is-false, r-iff, r-absent}
 use Rattle.heap.specs.Place.{cell}
 use Rattle.cover.specs.Test.{isImage, stops}
-use Rattle.embedding.specs.Marks.{mark, Marks}
+use Rattle.covering.specs.Marks.{mark, Marks}
 
 -- ---- one mark
 
@@ -35,23 +35,14 @@ mark-stop false false n m = absurd (m refl)
 
 -- ---- nothing is marked yet
 
-abbrev pub zeros : ℕ → List ℕ
-zeros zero = []
-zeros (suc n) = 0 ∷ zeros n
-
-zero-at : (n i : ℕ) → getD (zeros n) i 0 ≡ 0
-zero-at zero i = refl
-zero-at (suc n) zero = refl
-zero-at (suc n) (suc i) = zero-at n i
-
-pub marks-none : Marks [] [] (1 ∷ 1 ∷ 1 ∷ zeros 14)
-marks-none = record { room = refl; marked = λ p b. go p }
+pub marks-none : Marks [] [] (1 ∷ 1 ∷ 1 ∷ replicate 25 0)
+marks-none = record { room = refl; marked = go }
   where
-    go : (p : ℕ) → getD (1 ∷ 1 ∷ 1 ∷ zeros 14) p 0 ≡ mark (stops [] p) true
-    go zero = refl
-    go (suc zero) = refl
-    go (suc (suc zero)) = refl
-    go (suc (suc (suc i))) = zero-at 14 i ∙ rw (le-ltb (cell i) (cell 0) (omega arith)) refl
+    go : (p : ℕ) → p < 28 → getD (1 ∷ 1 ∷ 1 ∷ replicate 25 0) p 0 ≡ mark (stops [] p) true
+    go zero b = refl
+    go (suc zero) b = refl
+    go (suc (suc zero)) b = refl
+    go (suc (suc (suc i))) b = getD-replicate 25 i 0 0 (omega arith) ∙ rw (le-ltb (cell i) (cell 0) (omega arith)) refl
 
 -- ---- how many places are free
 
@@ -87,10 +78,10 @@ module _ (images used marks : List ℕ) (m : Marks images used marks) where
             (same-test (absent p used) (absent p used′) (r-absent p used) (r-iff (λ o k. o (f p k)) (λ o k. o (g p k)) (r-absent p used′)));
       }
 
-  pub marks-use : (q : ℕ) → q < 17 → stops images q ≡ false → Marks images (q ∷ used) (set marks q 2)
+  pub marks-use : (q : ℕ) → q < 28 → stops images q ≡ false → Marks images (q ∷ used) (set marks q 2)
   marks-use q b e = record { room = length-set marks q 2 ∙ m .room; marked = λ p c. go p c (ℕ-discrete p q) }
     where
-      go : (p : ℕ) → p < 17 → Dec (p ≡ q) → getD (set marks q 2) p 0 ≡ mark (stops images p) (absent p (q ∷ used))
+      go : (p : ℕ) → p < 28 → Dec (p ≡ q) → getD (set marks q 2) p 0 ≡ mark (stops images p) (absent p (q ∷ used))
       go p c (yes z) =
           rw z (getD-set-same marks q 2 0 (omega (arith, m .room)) ∙ rw (e, is-true (eqb q q) (eqb-refl q)) refl)
       go p c (no n) = getD-set-other marks q p 2 0 n ∙ m .marked p c ∙ rw (ne-eqb q p (λ z. n (sym z))) refl
@@ -107,10 +98,10 @@ image-same : (xs : List ℕ) (y : ℕ) → isImage (xs ++ (y ∷ [])) (cell y) �
 image-same [] y = rw (is-true (eqb (cell y) (cell y)) (eqb-refl (cell y))) refl
 image-same (x ∷ xs) y = ap (λ (b : Bool). eqb (cell y) (cell x) || b) (image-same xs y) ∙ or-true (eqb (cell y) (cell x))
 
-pub marks-stop : (images marks : List ℕ) (y : ℕ) → Marks images [] marks → cell y < 17 → Marks (images ++ (y ∷ [])) [] (set marks (cell y) 1)
+pub marks-stop : (images marks : List ℕ) (y : ℕ) → Marks images [] marks → cell y < 28 → Marks (images ++ (y ∷ [])) [] (set marks (cell y) 1)
 marks-stop images marks y m b = record { room = length-set marks (cell y) 1 ∙ m .room; marked = λ p c. go p c (ℕ-discrete p (cell y)) }
   where
-    go : (p : ℕ) → p < 17 → Dec (p ≡ cell y) → getD (set marks (cell y) 1) p 0 ≡ mark (stops (images ++ (y ∷ [])) p) true
+    go : (p : ℕ) → p < 28 → Dec (p ≡ cell y) → getD (set marks (cell y) 1) p 0 ≡ mark (stops (images ++ (y ∷ [])) p) true
     go p c (yes z) =
         rw z (getD-set-same marks (cell y) 1 0 (omega (arith, m .room)) ∙ rw (image-same images y, or-true (ltb (cell y) (cell 0))) refl)
     go p c (no n) =

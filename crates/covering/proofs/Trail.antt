@@ -14,7 +14,7 @@ use Rattle.heap.specs.Codes.{linkIn}
 use Rattle.heap.specs.Place.{nowhere, cell}
 use Rattle.shape.proofs.Laws.{CellOf}
 use Rattle.cover.specs.Test.{isImage, stops, walkEnd, walked}
-use Rattle.embedding.specs.Marks.{endFrom, pathFrom}
+use Rattle.covering.specs.Marks.{endFrom, pathFrom}
 
 distinct-snoc : (xs : List ℕ) (y : ℕ) → Distinct xs → ¬ (y ∈ xs) → Distinct (xs ++ (y ∷ []))
 distinct-snoc [] y d o = (List·Memᴰ·not-nil, tt)

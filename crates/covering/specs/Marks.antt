@@ -11,7 +11,7 @@ use Rattle.heap.specs.Codes.{linkIn}
 use Rattle.heap.specs.Place.{nowhere, cell}
 use Rattle.shape.specs.Shape.{Shape, size}
 use Rattle.cover.specs.Test.{stops, walkEnd, walked}
-use Rattle.embedding.specs.Images.{imagesIn, ImageCodes}
+use Rattle.covering.specs.Images.{imagesIn, ImageCodes}
 
 -- the mark of a place at which a path ends or not, and that no path has used or one has: 0 is free, 1 a stop, 2 used
 abbrev pub mark : Bool → Bool → ℕ
@@ -21,23 +21,23 @@ mark false false = 2
 
 -- the marks where paths end at these images and have used these cells
 pub record Marks (images used marks : List ℕ) : Type 0 where
-  pub room : length marks ≡ 17
-  pub marked : (p : ℕ) → p < 17 → getD marks p 0 ≡ mark (stops images p) (absent p used)
+  pub room : length marks ≡ 28
+  pub marked : (p : ℕ) → p < 28 → getD marks p 0 ≡ mark (stops images p) (absent p used)
 
 -- the mark of a place in a shape of n cells; one past its cells counts as used
 unfoldable pub markIn : ℕ → List ℕ → ℕ → ℕ
 markIn n marks p = cond (ltb p (cell n)) (getD marks p 0) 2
 
--- the links of a shape are the first in an array
-pub record LinksIn (links codes : List ℕ) : Type 0 where
-  pub room : length codes ≡ 14
-  pub fit : length links ≤ 14
-  pub same : (i : ℕ) → i < length links → getD codes i 0 ≡ getD links i 0
+-- these are the links of the shape in an array
+pub record LinksIn (links s : List ℕ) : Type 0 where
+  pub room : length s ≡ 28
+  pub fit : length links ≤ 25
+  pub same : (i : ℕ) → i < length links → getD s (cell i) 0 ≡ getD links i 0
 
 -- a path may be followed from a cell that is an image, in a shape of n cells
-pub record Walking (links images used codes marks : List ℕ) (n from : ℕ) : Type 0 where
+pub record Walking (links images used s marks : List ℕ) (n from : ℕ) : Type 0 where
   pub cells : length links ≡ n
-  pub linked : LinksIn links codes
+  pub linked : LinksIn links s
   pub marked : Marks images used marks
   pub low : cell 0 ≤ from
   pub high : from < cell (length links)
@@ -60,11 +60,11 @@ pub record Followed (links images used : List ℕ) (from r : ℕ) (marks : List 
   pub lost : r ≡ nowhere → (endFrom links images from ≡ nowhere) ⊎ (disjoint (pathFrom links images from) used ≡ false)
 
 -- The paths of a member's links may be followed in a shape of n cells: the links are the bytes from a place on, and no path has used a cell.
-pub record Linking (member covered : Shape) (cert : List ℕ) (first count : ℕ) (codes marks : List ℕ) (n : ℕ) (links : List ℕ) : Type 0 where
+pub record Linking (member covered : Shape) (cert : List ℕ) (first count : ℕ) (codes marks : List ℕ) (n : ℕ) (s : List ℕ) : Type 0 where
   pub inside : first + count ≤ length cert
   pub cells : size member ≡ count
   pub same : (i : ℕ) → i < count → getD cert (first + i) 0 ≡ getD (member .links) i 0
   pub covered-cells : size covered ≡ n
   pub images : ImageCodes count (size covered) codes
-  pub linked : LinksIn (covered .links) links
+  pub linked : LinksIn (covered .links) s
   pub marked : Marks (imagesIn count codes) [] marks

@@ -15,13 +15,13 @@ use Rattle.heap.specs.Place.{nowhere, cell}
 use Rattle.shape.specs.Shape.{Shape, linkAt, size}
 use Rattle.cover.specs.Test.{imageMap, stops, betweenBelow}
 use Rattle.cover.proofs.Embeds.{r-stops}
-use Rattle.embedding.specs.Images.{imagesIn, imageIn, pathFits}
-use Rattle.embedding.specs.Marks.{Marks, Walking, Followed, Linking}
-use Rattle.embedding.proofs.Images.{images-length, image-at, image-of}
-use Rattle.embedding.proofs.Paths.{path-none, below-none, path-good, path-bad}
+use Rattle.covering.specs.Images.{imagesIn, imageIn, pathFits}
+use Rattle.covering.specs.Marks.{Marks, Walking, Followed, Linking}
+use Rattle.covering.proofs.Images.{images-length, image-at, image-of}
+use Rattle.covering.proofs.Paths.{path-none, below-none, path-good, path-bad}
 
-module _ (member covered : Shape) (cert : List ℕ) (first count : ℕ) (codes marks₀ : List ℕ) (n : ℕ) (links : List ℕ)
-    (l : Linking member covered cert first count codes marks₀ n links) where
+module _ (member covered : Shape) (cert : List ℕ) (first count : ℕ) (codes marks₀ : List ℕ) (n : ℕ) (s : List ℕ)
+    (l : Linking member covered cert first count codes marks₀ n s) where
   abbrev images : List ℕ
   images = imagesIn count codes
 
@@ -54,18 +54,18 @@ module _ (member covered : Shape) (cert : List ℕ) (first count : ℕ) (codes m
             whole = sym (all-passed test count i b (path-none member covered images i none)) ∙ f .whole;
           }
 
-      module _ (from : ℕ) (s : from ≡ getD codes (i + 3) 0) where
+      module _ (from : ℕ) (g : from ≡ getD codes (i + 3) 0) where
         start : from ≡ imageMap images (cell i)
-        start = s ∙ sym (image-at count (size covered) codes (l .images) i b)
+        start = g ∙ sym (image-at count (size covered) codes (l .images) i b)
 
-        pub fit-walk : Walking (covered .links) images (betweenBelow member covered images i) links marks n from
+        pub fit-walk : Walking (covered .links) images (betweenBelow member covered images i) s marks n from
         fit-walk =
             record {
               cells = l .covered-cells;
               linked = l .linked;
               marked = f .marked;
-              low = omega (arith, s, l .images .low i b);
-              high = omega (arith, s, l .images .high i b);
+              low = omega (arith, g, l .images .low i b);
+              high = omega (arith, g, l .images .high i b);
               image =
                   is-true (stops images from)
                   (r-stops images from .tests (λ _. (i, omega (arith, images-length count (size covered) codes (l .images)), start)));

@@ -11,19 +11,19 @@ use lib.ListN.{getD}
 use Rattle.lists.specs.Test.{allFrom}
 use Rattle.lists.proofs.Test.{all-passed, all-failed, all-done}
 use Rattle.heap.specs.Place.{nowhere}
-use Rattle.embedding.specs.Images.{imageIn, varFitsIn}
-use Rattle.embedding.proofs.Marks.{or-true}
+use Rattle.covering.specs.Images.{imageIn, varFitsIn}
+use Rattle.covering.proofs.Marks.{or-true}
 
-module _ (cert : List ℕ) (first : ℕ) (codes vars : List ℕ) (i p : ℕ) (e : p ≡ getD cert (first + i) 0) where
-  pub unplaced : p ≡ nowhere → varFitsIn cert first codes vars i ≡ true
+module _ (cert : List ℕ) (first : ℕ) (codes s : List ℕ) (i p : ℕ) (e : p ≡ getD cert (first + i) 0) where
+  pub unplaced : p ≡ nowhere → varFitsIn cert first codes s i ≡ true
   unplaced z = rw (← e) (rw (eq-eqb p nowhere z) refl)
 
   module _ (q : ℕ) (image : q ≡ imageIn codes p) where
-    pub at-image : q ≡ getD vars (i + 1) 0 → varFitsIn cert first codes vars i ≡ true
-    at-image z = rw (← e, ← image) (rw (eq-eqb (getD vars (i + 1) 0) q (sym z)) (or-true (eqb p nowhere)))
+    pub at-image : q ≡ getD s (i + 18) 0 → varFitsIn cert first codes s i ≡ true
+    at-image z = rw (← e, ← image) (rw (eq-eqb (getD s (i + 18) 0) q (sym z)) (or-true (eqb p nowhere)))
 
-    pub elsewhere : p ≢ nowhere → q ≢ getD vars (i + 1) 0 → varFitsIn cert first codes vars i ≡ false
-    elsewhere n z = rw (← e, ← image) (rw (ne-eqb p nowhere n, ne-eqb (getD vars (i + 1) 0) q (λ y. z (sym y))) refl)
+    pub elsewhere : p ≢ nowhere → q ≢ getD s (i + 18) 0 → varFitsIn cert first codes s i ≡ false
+    elsewhere n z = rw (← e, ← image) (rw (ne-eqb p nowhere n, ne-eqb (getD s (i + 18) 0) q (λ y. z (sym y))) refl)
 
 -- ---- a loop that ends at the first test that fails
 

@@ -11,9 +11,9 @@ use Rattle.lists.specs.List.{disjoint}
 use Rattle.heap.specs.Place.{nowhere, cell}
 use Rattle.shape.specs.Shape.{Shape, linkAt}
 use Rattle.cover.specs.Test.{imageMap, betweenBelow}
-use Rattle.embedding.specs.Images.{pathFits}
-use Rattle.embedding.specs.Marks.{Marks, endFrom, pathFrom, Followed}
-use Rattle.embedding.proofs.Images.{somewhere}
+use Rattle.covering.specs.Images.{pathFits}
+use Rattle.covering.specs.Marks.{Marks, endFrom, pathFrom, Followed}
+use Rattle.covering.proofs.Images.{somewhere}
 
 pub and-false : (b : Bool) → b && false ≡ false
 and-false true = refl

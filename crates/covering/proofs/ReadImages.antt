@@ -14,7 +14,7 @@ use Rattle.number.specs.Number.{numberAt}
 use Rattle.number.specs.declared.Read.the-variants.{Number, Unreadable}
 use Rattle.format.specs.Parser.{Parsed, parsed, fault, Parser, onward, return, many, certificateBuffer, within, such, meant, readAs, ranged}
 use Rattle.format.proofs.Parsing.{read-outside, read-complete}
-use Rattle.embedding.specs.Images.{imagesIn, ImageCodes}
+use Rattle.covering.specs.Images.{imagesIn, ImageCodes}
 
 -- ---- one number
 
@@ -36,7 +36,7 @@ map-snoc f [] y = refl
 map-snoc f (x ∷ xs) y = ap (λ (l : List ℕ). f x ∷ l) (map-snoc f xs y)
 
 module _ (n i : ℕ) (codes : List ℕ) (m : ImageCodes i n codes) (x : ℕ) (room : i < 12) where
-  images-snoc : imagesIn (i + 1) (set codes (i + 3) (x + 3)) ≡ imagesIn i codes ++ (x ∷ [])
+  pub images-snoc : imagesIn (i + 1) (set codes (i + 3) (x + 3)) ≡ imagesIn i codes ++ (x ∷ [])
   images-snoc =
       let swap : i + 3 ≡ 3 + i = omega arith in
       let inside : i < length (drop 3 codes) = omega (arith, length-drop 3 codes, m .room) in

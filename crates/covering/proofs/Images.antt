@@ -12,7 +12,7 @@ use lib.ListN.{length, getD, take, drop, length-map, length-take, length-drop, r
 use lib.Seq.{getD-take, getD-drop}
 use Rattle.heap.specs.Place.{nowhere, cell}
 use Rattle.cover.specs.Test.{imageMap}
-use Rattle.embedding.specs.Images.{imagesIn, ImageCodes, imageIn}
+use Rattle.covering.specs.Images.{imagesIn, ImageCodes, imageIn}
 
 getD-sub : (l : List ℕ) (i : ℕ) → getD (map (λ p. p - 3) l) i 0 ≡ getD l i 0 - 3
 getD-sub [] i = refl

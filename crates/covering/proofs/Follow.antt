@@ -3,7 +3,7 @@ use mathlib.Core.List.{List, [], _∷_, _++_, List·Memᴰ·head, List·Memᴰ·
 use mathlib.Core.Bool.{Bool, true, false}
 use mathlib.Core.Logic.{_≢_, _⊎_, inl, inr, ⊎-elim}
 use mathlib.Core.Path.{_≡_, refl, sym, _∙_}
-use Prim.Native.Nat.{ℕ, _-_, _≤_, _<_}
+use Prim.Native.Nat.{ℕ, _≤_, _<_}
 use native.Mathlib.Omega.{arith}
 use borrow.Author.Tests.{lt-ltb, le-ltb}
 use lib.ListN.{length, getD, set}
@@ -14,18 +14,15 @@ use Rattle.heap.specs.Codes.{linkIn}
 use Rattle.heap.specs.Place.{nowhere, cell}
 use Rattle.shape.proofs.Laws.{CellOf, by-number}
 use Rattle.cover.specs.Test.{stops}
-use Rattle.embedding.specs.Marks.{mark, markIn, Marks, LinksIn, Walking, Followed}
-use Rattle.embedding.proofs.Marks.{mark-free, mark-used, mark-stop, marks-like, marks-use}
-use Rattle.embedding.proofs.Trail.{free-low, Trail, trail-none, trail-more, trail-past, trail-found, trail-lost}
+use Rattle.covering.specs.Marks.{mark, markIn, Marks, LinksIn, Walking, Followed}
+use Rattle.covering.proofs.Marks.{mark-free, mark-used, mark-stop, marks-like, marks-use}
+use Rattle.covering.proofs.Trail.{free-low, Trail, trail-none, trail-more, trail-past, trail-found, trail-lost}
 
 -- ---- links
 
-module _ (links codes : List ℕ) (l : LinksIn links codes) where
-  pub link-read : (p : ℕ) → CellOf (length links) p → getD codes (p - 3) 0 ≡ linkIn links p
-  link-read p (a, b) = by-number (length links) (λ p. getD codes (p - 3) 0 ≡ linkIn links p) (λ i h. rw at-cell (l .same i h)) p (a, b)
-    where
-      at-cell : {i : ℕ} → cell i - 3 ≡ i
-      at-cell = omega arith
+module _ (links s : List ℕ) (l : LinksIn links s) where
+  pub link-read : (p : ℕ) → CellOf (length links) p → getD s p 0 ≡ linkIn links p
+  link-read p (a, b) = by-number (length links) (λ p. getD s p 0 ≡ linkIn links p) (l .same) p (a, b)
 
 -- ---- the loop
 
@@ -63,12 +60,12 @@ module _ (n : ℕ) (marks : List ℕ) (p r : ℕ) (e : r ≡ markIn n marks p) w
       cond-cases (λ (m : ℕ). r ≡ m → (p < cell n) × ((getD marks p 0 ≢ 0) × (getD marks p 0 ≢ 2))) (r-lt p (cell n))
       (λ c y. (c, (λ z. a (y ∙ z), λ z. b (y ∙ z)))) (λ o y. absurd (b y)) e
 
-module _ (links images used codes marks₀ : List ℕ) (n from : ℕ) (w : Walking links images used codes marks₀ n from) where
-  pub follow-none : Following links images used from marks₀ (getD codes (from - 3) 0)
+module _ (links images used s marks₀ : List ℕ) (n from : ℕ) (w : Walking links images used s marks₀ n from) where
+  pub follow-none : Following links images used from marks₀ (getD s from 0)
   follow-none =
       record {
         path = [];
-        trail = rw (link-read links codes (w .linked) from (w .low, w .high)) (trail-none links images used from);
+        trail = rw (link-read links s (w .linked) from (w .low, w .high)) (trail-none links images used from);
         marked = w .marked;
       }
 
@@ -83,12 +80,12 @@ module _ (links images used codes marks₀ : List ℕ) (n from : ℕ) (w : Walki
           lost = λ _. inl (trail-past links images used from (f .path) p (f .trail) (omega (arith, w .cells)) (free (stops images p) refl));
         }
       where
-        free : (s : Bool) → stops images p ≡ s → stops images p ≡ false
+        free : (b : Bool) → stops images p ≡ b → stops images p ≡ false
         free true z = absurd (omega (arith, w .cells, w .ends-in p z))
         free false z = z
 
     module _ (here : p < cell n) where
-      pub here-in : p < 17
+      pub here-in : p < 28
       here-in = omega (arith, here, w .cells, w .linked .fit)
 
       here-marked : getD marks p 0 ≡ mark (stops images p) (absent p (f .path ++ used))
@@ -97,14 +94,14 @@ module _ (links images used codes marks₀ : List ℕ) (n from : ℕ) (w : Walki
       pub here-cell : getD marks p 0 ≡ 0 → CellOf (length links) p
       here-cell e = (free-low images p (mark-free (stops images p) (absent p (f .path ++ used)) (sym here-marked ∙ e) .0), omega (arith, here, w .cells))
 
-      pub follow-more : getD marks p 0 ≡ 0 → Following links images used from (set marks p 2) (getD codes (p - 3) 0)
+      pub follow-more : getD marks p 0 ≡ 0 → Following links images used from (set marks p 2) (getD s p 0)
       follow-more e =
           let (free, new) = mark-free (stops images p) (absent p (f .path ++ used)) (sym here-marked ∙ e) in
           let out : ¬ (p ∈ (f .path ++ used)) = r-absent p (f .path ++ used) .holds (passes (absent p (f .path ++ used)) new) in
           record {
             path = f .path ++ (p ∷ []);
             trail =
-                rw (link-read links codes (w .linked) p (here-cell e))
+                rw (link-read links s (w .linked) p (here-cell e))
                 (trail-more links images used from (f .path) p (f .trail) (w .low, w .high) (w .image) (omega (arith, here, w .cells)) free
                 (λ m. out (Memᴰ·append-left used m)) (λ m. out (Memᴰ·append-right (f .path) m)));
             marked =

@@ -35,10 +35,10 @@ once images =
     let n = length images in
     allFrom n 0 (λ i. allFrom n 0 (λ j. eqb i j || not (eqb (getD images i 0) (getD images j 0))))
 
--- variable i + 1 fits, where the member's variables are the bytes from a place on and the covered shape's are in an array
+-- variable i + 1 fits, where the member's variables are the bytes from a place on and the covered shape is in an array
 abbrev pub varFitsIn : List ℕ → ℕ → List ℕ → List ℕ → ℕ → Bool
-varFitsIn cert first codes vars i =
-    eqb (getD cert (first + i) 0) nowhere || eqb (getD vars (i + 1) 0) (imageIn codes (getD cert (first + i) 0))
+varFitsIn cert first codes s i =
+    eqb (getD cert (first + i) 0) nowhere || eqb (getD s (i + 18) 0) (imageIn codes (getD cert (first + i) 0))
 
 -- the path for the link of cell i ends where it should and shares no cell with that of a lower cell
 abbrev pub pathFits : Shape → Shape → List ℕ → ℕ → Bool
