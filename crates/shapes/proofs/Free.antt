@@ -1,6 +1,7 @@
 -- The test for a free cell, one part after the other, and the tests of room.
 use mathlib.Core.Bool.{Bool, true, false, _&&_, _||_, cond}
 use mathlib.Core.List.{List, [], _∷_}
+use mathlib.Core.Logic.{_≢_}
 use mathlib.Core.Path.{_≡_, refl, sym, ap, _∙_}
 use Prim.Native.Nat.{ℕ, zero, suc, _+_, _-_, _≤_, _<_}
 use native.Mathlib.Omega.{arith}
@@ -17,7 +18,6 @@ use Rattle.place.specs.Place.{cellPlace}
 use Rattle.place.specs.declared.Place.{Place}
 use Rattle.layout.specs.ShapeArray.{cellCount, operandAt, shapeIn, ShapeArray}
 use Rattle.shapes.specs.Change.{isFreeCell, arrayWithout, hasRoom, arrayRestored}
-use Rattle.shapes.specs.Operands.{Holds}
 use Rattle.shapes.specs.Without.{isFree, without}
 use Rattle.shapes.proofs.Remove.{holds-without}
 use Rattle.shapes.proofs.Restore.{delete-some}
@@ -103,10 +103,11 @@ module _ (variables : ℕ) (s : List ℕ) (h : ShapeArray variables s) (k : ℕ)
   without-none e =
       ap (λ (b : Bool). keep b (removeCell (cell k) (shapeIn variables s))) (by-shape variables s k (h .variables-fit) (h .cells-fit) is-cell ∙ sym r-is ∙ e)
 
-  pub without-one : r ≡ true → without (shapeIn variables s) k ≡ shapeIn variables (arrayWithout s k) ∷ []
-  without-one e =
+  -- one that is gives the shape in the array t
+  pub without-one : r ≡ true → (old t : List ℕ) → t ≡ cond r (arrayWithout s k) old → without (shapeIn variables s) k ≡ shapeIn variables t ∷ []
+  without-one e old t t-is =
       let free = free-cell variables s k (sym r-is ∙ e) .free in
-      rw (holds-without variables s h k is-cell (passes (isFree (cell k) (shapeIn variables s)) free) .same, free) refl
+      rw (t-is, e, holds-without variables s h k is-cell (passes (isFree (cell k) (shapeIn variables s)) free) .same, free) refl
 
 -- ---- the test for room
 
@@ -120,3 +121,10 @@ module _ (s : List ℕ) (a : ℕ) where
 
   pub room : cellCount s < 14 → a < 10 → hasRoom s a ≡ true
   room b c = is-true (hasRoom s a) (r-room .tests (b, c))
+
+-- the predecessor by delete is the shape in the array t
+pub restored-one : (variables : ℕ) (s : List ℕ) → ShapeArray variables s → cellCount s ≤ 12 → (a : ℕ) → 1 ≤ a → a ≤ variables
+    → operandAt s a ≢ null → operandAt s a ≤ dangling → (old t : List ℕ) → t ≡ cond (hasRoom s a) (arrayRestored s a) old
+    → predecessors (delete a) (shapeIn variables s) ≡ shapeIn variables t ∷ []
+restored-one variables s h small a some most z b old t t-is =
+    rw (t-is, room s a (omega arith) (omega (arith, h .variables-fit))) (delete-some variables s h small a some most z b)

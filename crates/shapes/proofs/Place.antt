@@ -73,6 +73,23 @@ module _ (s : List ℕ) (x k : ℕ) where
           ne-eqb k (suc (cellCount s)) (omega arith),
         )
 
+    -- the stores of the code
+    pub stored-fresh : k ≡ suc (cellCount s) → set (set (set s 0 (cellCount s + 1)) (3 + cellCount s) nowhere) (17 + x) (3 + cellCount s) ≡ placedIn s x k
+    stored-fresh b =
+        let more : cellCount s + 1 ≡ suc (cellCount s) = omega arith in
+        let fresh : 3 + cellCount s ≡ cell (cellCount s) = omega arith in
+        rw (more, fresh) (sym (placed-fresh b))
+
+    pub stored-middle : suc (cellCount s) < k
+        → let c = k - cellCount s + 1 in
+        let fresh = 3 + cellCount s in
+        set (set (set (set s 0 (cellCount s + 1)) fresh (getD s c nowhere)) c fresh) (17 + x) fresh ≡ placedIn s x k
+    stored-middle b =
+        let more : cellCount s + 1 ≡ suc (cellCount s) = omega arith in
+        let fresh : 3 + cellCount s ≡ cell (cellCount s) = omega arith in
+        let from : k - cellCount s + 1 ≡ cell (k - (cellCount s + 2)) = omega arith in
+        rw (more, fresh, from) (sym (placed-middle b))
+
 -- ---- what the array holds then
 
 made-is : (x : ℕ) (t : Shape) (k p : ℕ) (links : List ℕ) → p ≡ chosen (size t) k → links ≡ opened (t .links) k

@@ -99,6 +99,12 @@ module _ {variables kind a b : ℕ} {s : List ℕ} where
         unfolding secondOf
         second-one = rw (at-operand 13 (p .work) a, at-operand 13 (p .work) b, e) refl
 
+        -- b is placed at a slot of the array
+        pub second-slots : k < cellCount s + (2 + cellCount s) → (v : ℕ) → operandAt (placedIn s b k) v < 17
+        second-slots past v =
+            let h = placed (working variables b) s (p .work .array) (p .work .cells) b k (room 13 (p .work) .1) past .holds .array in
+            omega (arith, h .operands-range v, h .cells-fit)
+
         -- b is placed, and what the operation changes is put back
         pub second-held : k < cellCount s + (2 + cellCount s) → Holds variables (undoneIn variables kind a b (placedIn s b k)) (changed variables kind a b (put b (shapeIn (working variables b) s) k))
         second-held past =
