@@ -1,6 +1,6 @@
 // The checker: one verdict for the bytes of a job and of a certificate.
-use crate::going::Going;
-use crate::take::take_covers;
+use crate::outcome::Outcome;
+use crate::owed::check_owed;
 use reader::Header;
 use reader::JobAnswer;
 use reader::MembersAnswer;
@@ -24,12 +24,13 @@ ghost use Rattle.verdict.specs.Verdict.{verdictOf};
 ghost use Rattle.verdict.specs.declared.Counts.{Counts as CountsAnswer};
 ghost use Rattle.verdict.specs.declared.Verdict.the-variants.{Accepted};
 
-mod going;
-mod one;
-mod placing;
+mod change;
+mod choices;
+mod outcome;
+mod owed;
 mod removal;
-mod take;
-mod wanting;
+mod single;
+mod wanted;
 
 // Whether a buffer of this length is judged at all.
 fn fits(len: usize) -> bool
@@ -41,15 +42,15 @@ fn fits(len: usize) -> bool
     len <= 65536
 }
 
-// Takes the covers and sees that nothing is left after them.
+// Checks the covers and sees that nothing is left after them.
 fn check_covers(job: &[u8], h: Header, cert: &[u8], starts: &[u16], at: usize) -> Verdict
     requires { ⌜ (JobRead (now job) h) × (Table (now cert) (h .variables) (now starts)) × (at ≤ length (now cert)) × (length (now cert) ≤ 65536) ⌝ }
     ensures { λ r. ⌜ verdictOf r ≡ conclude (readCovers (now (cert .entry)) (fileIn (now (job .entry)) h .job) (membersAt (now (cert .entry)) (h .variables) (now (starts .entry))) at) ⌝ }
 {
-    let g = take_covers(job, h, cert, starts, at);
+    let g = check_owed(job, h, cert, starts, at);
     match g {
-        Going::Refused(why, place) => Verdict::Refused(why, place),
-        Going::On(t) => {
+        Outcome::Refused(why, place) => Verdict::Refused(why, place),
+        Outcome::Upto(t) => {
             if t.at < cert.len() {
                 return Verdict::Refused(Refusal::CertificateLeft, t.at);
             }

@@ -1,5 +1,6 @@
 // The place type: where a variable or a link stands.
 ghost use mathlib.Core.Path.{_≡_};
+ghost use Rattle.lists.specs.List.{absent};
 ghost use Rattle.place.specs.Place.{cellPlace};
 
 // A place by its code: nowhere, # (null), * (dangling), or a cell.
@@ -34,4 +35,18 @@ impl Place {
         }
         Self::NOWHERE
     }
+}
+
+// Whether none of the places is that one.
+pub fn none_at(places: &[u8], code: u8) -> bool
+    ensures { λ r. ⌜ r ≡ absent code (now (places .entry)) ⌝ }
+{
+    let mut i = 0;
+    while i < places.len() {
+        if places[i] == code {
+            return false;
+        }
+        i += 1;
+    }
+    true
 }

@@ -10,3 +10,4 @@ pub mod Testing
 pub mod Quick
 pub mod Noting
 pub mod Loading
+pub mod Loaded

@@ -3,20 +3,20 @@ use mathlib.Core.Logic.{⊎-elim}
 use mathlib.Core.Path.{_∙_}
 use native.Mathlib.Omega.{arith}
 use Rattle.shape.specs.Shape.{Shape}
-use Rattle.embedding.specs.Marks.{Linking}
-use Rattle.embedding.proofs.Fitting.{Fitting, fit-none, fit-all, fit-skip, fit-walk, fit-good, fit-bad}
+use Rattle.covering.specs.Marks.{Linking}
+use Rattle.covering.proofs.Links.{Fitting, fit-none, fit-all, fit-skip, fit-walk, fit-good, fit-bad}
 use borrow.Author.Needs.{needs}
 use Rattle.covering.proofs.fitting.links_fit.Statement.{statement}
 use Rattle.covering.proofs.fitting.links_fit.Tie as tie
 
 abbrev Inv-loop : tie.InvT-loop
-Inv-loop cert first count images marks₀ n links i₀ marks i =
+Inv-loop cert first count images marks₀ n s i₀ marks i =
     (i ≤ count)
-    × ((member covered : Shape) (l : Linking member covered cert first count images marks₀ n links)
-    → Fitting member covered cert first count images marks₀ n links l marks i)
+    × ((member covered : Shape) (l : Linking member covered cert first count images marks₀ n s)
+    → Fitting member covered cert first count images marks₀ n s l marks i)
 
 abbrev μ-loop : tie.MeasureT-loop
-μ-loop cert first count images marks₀ n links i₀ marks i = count - i
+μ-loop cert first count images marks₀ n s i₀ marks i = count - i
 
 loop-holds : tie.Need-loop-holds Inv-loop μ-loop
 loop-holds c = (omega arith, λ m p l. fit-none _ _ _ _ _ _ _ _ _ l)

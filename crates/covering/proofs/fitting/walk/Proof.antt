@@ -5,22 +5,19 @@ use mathlib.Core.Path.{_≡_}
 use native.Mathlib.Omega.{arith}
 use lib.ListN.{getD}
 use Rattle.heap.specs.Place.{cell}
-use Rattle.embedding.specs.Marks.{Walking}
-use Rattle.embedding.proofs.Marks.{frees, frees-less}
-use Rattle.embedding.proofs.Follow.{mark-in, mark-lost, mark-end, Following, follow-none, follow-past, here-in, here-cell, follow-more, follow-lost, follow-found}
+use Rattle.covering.specs.Marks.{Walking}
+use Rattle.covering.proofs.Marks.{frees, frees-less}
+use Rattle.covering.proofs.Follow.{mark-in, mark-lost, mark-end, Following, follow-none, follow-past, here-in, here-cell, follow-more, follow-lost, follow-found}
 use borrow.Author.Needs.{needs}
 use Rattle.covering.proofs.fitting.walk.Statement.{statement}
 use Rattle.covering.proofs.fitting.walk.Tie as tie
 
 abbrev Inv-loop : tie.InvT-loop
-Inv-loop n links marks₀ from p₀ marks p =
-    (shape images used : List ℕ) → Walking shape images used links marks₀ n from → Following shape images used from marks p
+Inv-loop n s marks₀ from p₀ marks p =
+    (links images used : List ℕ) → Walking links images used s marks₀ n from → Following links images used from marks p
 
 abbrev μ-loop : tie.MeasureT-loop
-μ-loop n links marks₀ from p₀ marks p = frees marks
-
-sub-wide : tie.Need-sub-wide Inv-loop μ-loop
-sub-wide c = let (s, i, u, w) = c .pre in omega (arith, w .low)
+μ-loop n s marks₀ from p₀ marks p = frees marks
 
 element-copy-out-wide : tie.Need-element-copy-out-wide Inv-loop μ-loop
 element-copy-out-wide c = let (s, i, u, w) = c .pre in omega (arith, w .low, w .high, w .linked .fit, w .linked .room)
@@ -43,12 +40,6 @@ element-write-marks c =
     let (s, i, u, w) = c .before .before .before .before .before .before .pre in
     let (b, e) = free c in
     here-in s i u _ _ _ _ w _ _ (c .before .before .before .loop .inv s i u w) b
-
-sub-wide-2 : tie.Need-sub-wide-2 Inv-loop μ-loop
-sub-wide-2 c =
-    let (s, i, u, w) = c .before .before .before .before .before .before .pre in
-    let (b, e) = free c in
-    here-cell s i u _ _ _ _ w _ _ (c .before .before .before .loop .inv s i u w) b e .0
 
 element-copy-out-wide-2 : tie.Need-element-copy-out-wide-2 Inv-loop μ-loop
 element-copy-out-wide-2 c =
@@ -91,13 +82,11 @@ walk-spec =
     (tie.spec
     Inv-loop
     μ-loop
-    sub-wide
     element-copy-out-wide
     wide-requires
     loop-holds
     mark-at-requires
     element-write-marks
-    sub-wide-2
     element-copy-out-wide-2
     wide-requires-2
     loop-less
