@@ -1,3 +1,4 @@
+-- `reader::job_ranged`: what the job's reader gives is what the parser of a number in its range gives.
 use mathlib.Core.Path.{sym, ap, _∙_}
 use native.Mathlib.Omega.{arith}
 use Rattle.format.specs.Parser.{jobBuffer}

@@ -1,3 +1,4 @@
+-- `reader::read_job`: the front is refused, or a transition, or the rest answers.
 use mathlib.Core.Path.{ap, _∙_}
 use native.Mathlib.Omega.{arith}
 use Rattle.format.specs.Parser.{jobBuffer}
