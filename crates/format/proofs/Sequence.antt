@@ -1,10 +1,8 @@
 -- Numbers that stand one after the other in a buffer.
-use mathlib.Core.Bool.{cond}
 use mathlib.Core.List.{List, [], _∷_, _++_}
 use mathlib.Core.Path.{_≡_, refl, ap, ap₂, _∙_}
 use Prim.Native.Nat.{ℕ, zero, suc, _+_, _-_, _≤_, _<_}
 use native.Mathlib.Omega.{arith}
-use borrow.Author.Tests.{lt-ltb, le-ltb}
 use lib.ListN.{length}
 use Rattle.lists.proofs.Reflect.{r-lt, cond-cases}
 use Rattle.number.specs.Number.{numberIn, numberAt}
@@ -12,6 +10,7 @@ use Rattle.number.specs.NumberList.{Listed, numbers, refused, before, followed,
 use Rattle.number.specs.declared.Read.{Read}
 use Rattle.number.specs.declared.Read.the-variants.{Number, Unreadable}
 use Rattle.number.proofs.Reading.{taken}
+use Rattle.number.proofs.RoundTrip.{decode-more, decode-end}
 
 -- the numbers ns are read one after the other from a place to the next
 pub data Reads (s : List ℕ) : ℕ → List ℕ → ℕ → Type 0 where
@@ -76,17 +75,8 @@ reads-further (more {n = n} {mid = k} g r) (more {n = n′} {mid = k′} g′ r�
     (m, later, next, ap₂ {A = ℕ} {B = List ℕ} {C = List ℕ} (λ h l. h ∷ l) n-is e, x)
 
 module _ (s : List ℕ) where
-  decode-step : (turns at : ℕ) → at < length s → decodeFrom (suc turns) s at ≡ followed (decodeFrom turns s) (numberAt s at)
-  unfolding decodeFrom
-  decode-step turns at h = ap (λ b. cond b (followed (decodeFrom turns s) (numberAt s at)) (numbers [])) (lt-ltb at (length s) h)
-
-  decode-end : (turns at : ℕ) → length s ≤ at → decodeFrom turns s at ≡ numbers []
-  unfolding decodeFrom
-  decode-end zero at h = rw (le-ltb at (length s) h)
-  decode-end (suc turns) at h = rw (le-ltb at (length s) h)
-
   reads-from : (turns at : ℕ) (ns : List ℕ) (next : ℕ) → Reads s at ns next → length s ≤ next → length s - at ≤ turns → decodeFrom turns s at ≡ numbers ns
-  reads-from turns at [] next r h t = decode-end turns at (omega (arith, reads-none r))
+  reads-from turns at [] next r h t = decode-end turns s at (omega (arith, reads-none r))
   reads-from zero at (n ∷ ns) next r h t =
       let (mid, g, k) = reads-first r in
       let (some-left, on, _) = number-in at (length s - at) _ _ _ n mid g in
@@ -94,7 +84,7 @@ module _ (s : List ℕ) where
   reads-from (suc turns) at (n ∷ ns) next r h t =
       let (mid, g, k) = reads-first r in
       let (some-left, on, _) = number-in at (length s - at) _ _ _ n mid g in
-      decode-step turns at (omega arith) ∙ ap (followed (decodeFrom turns s)) g ∙ ap (before n) (reads-from turns mid ns next k h (omega arith))
+      decode-more turns s at (omega arith) ∙ ap (followed (decodeFrom turns s)) g ∙ ap (before n) (reads-from turns mid ns next k h (omega arith))
 
   -- what is read to the end is the list of numbers
   pub reads-decode : (ns : List ℕ) (next : ℕ) → Reads s 0 ns next → length s ≤ next → decode s ≡ numbers ns

@@ -3,7 +3,7 @@
 use number::Read;
 ghost use mathlib.Core.Path.{_≡_};
 ghost use Rattle.format.specs.Parser.{jobBuffer, ranged};
-ghost use Rattle.jobreader.specs.Reader.{stepOf, readerOf, readOn, readFront, frontOf};
+ghost use Rattle.jobreader.specs.Reader.{stepOf, readOn, stepAfter, stepIn, frontRead};
 
 // The number read last and the place after it. Once a number is refused, `refusal` is the number of that refusal and not 0, and the
 // reader stays at the place of the number.
@@ -33,7 +33,7 @@ pub struct Front {
 
 // The number at a place, from `low` on and below `limit`, unless one was refused.
 fn read_on(job: &[u8], at: usize, refusal: usize, low: usize, limit: usize) -> Step
-    ensures { λ r. ⌜ stepOf r ≡ readOn at refusal (ranged (jobBuffer (now (job .entry))) low limit) ⌝ }
+    ensures { λ r. ⌜ r ≡ stepOf (readOn at refusal (ranged (jobBuffer (now (job .entry))) low limit)) ⌝ }
 {
     if refusal != 0 {
         return Step {
@@ -85,7 +85,7 @@ pub fn new<'a>(src: &'a [u8], at: usize) -> Reader<'a>
 
 // The reader moved on by one number, from `low` on and below `limit`.
 pub fn next<'a>(r: Reader<'a>, low: usize, limit: usize) -> Reader<'a>
-    ensures { λ q. ⌜ (q .src ≡ r .entry .src) × (readerOf q ≡ readOn (r .entry .at) (r .entry .refusal) (ranged (jobBuffer (now (r .entry .src))) low limit)) ⌝ }
+    ensures { λ q. ⌜ (q .src ≡ r .entry .src) × (stepIn q ≡ stepAfter (stepIn (r .entry)) (ranged (jobBuffer (now (r .entry .src))) low limit)) ⌝ }
 {
     let s = read_on(r.src, r.at, r.refusal, low, limit);
     Reader {
@@ -98,7 +98,7 @@ pub fn next<'a>(r: Reader<'a>, low: usize, limit: usize) -> Reader<'a>
 
 // One number of a job.
 pub fn read_at(job: &[u8], at: usize, low: usize, limit: usize) -> Step
-    ensures { λ r. ⌜ stepOf r ≡ ranged (jobBuffer (now (job .entry))) low limit at ⌝ }
+    ensures { λ r. ⌜ r ≡ stepOf (ranged (jobBuffer (now (job .entry))) low limit at) ⌝ }
 {
     let r = next(new(job, at), low, limit);
     Step {
@@ -110,7 +110,7 @@ pub fn read_at(job: &[u8], at: usize, low: usize, limit: usize) -> Step
 
 // The numbers of a job before its transitions: version, V, S, start, T.
 pub fn read_front(job: &[u8]) -> Front
-    ensures { λ r. ⌜ frontOf r ≡ readFront (jobBuffer (now (job .entry))) 0 ⌝ }
+    ensures { λ r. ⌜ r ≡ frontRead (jobBuffer (now (job .entry))) ⌝ }
 {
     let version = next(new(job, 0), 1, 2);
     let variables = next(version, 1, 9);

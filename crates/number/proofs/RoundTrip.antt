@@ -111,11 +111,11 @@ module _ (s : List ℕ) (at n next : ℕ) (e : numberAt s at ≡ Number n next) 
 
 -- ---- lists
 
-decode-more : (turns : ℕ) (s : List ℕ) (at : ℕ) → at < length s → decodeFrom (suc turns) s at ≡ followed (decodeFrom turns s) (numberAt s at)
+pub decode-more : (turns : ℕ) (s : List ℕ) (at : ℕ) → at < length s → decodeFrom (suc turns) s at ≡ followed (decodeFrom turns s) (numberAt s at)
 unfolding decodeFrom
 decode-more turns s at h = simp (lt-ltb at (length s) h)
 
-decode-end : (turns : ℕ) (s : List ℕ) (at : ℕ) → length s ≤ at → decodeFrom turns s at ≡ numbers []
+pub decode-end : (turns : ℕ) (s : List ℕ) (at : ℕ) → length s ≤ at → decodeFrom turns s at ≡ numbers []
 unfolding decodeFrom
 decode-end zero s at h = simp (le-ltb at (length s) h)
 decode-end (suc turns) s at h = simp (le-ltb at (length s) h)

@@ -2,7 +2,6 @@
 use mathlib.Core.Bool.{cond}
 use mathlib.Core.List.{List}
 use mathlib.Core.Logic.{_⊎_, inl, inr}
-use mathlib.Core.Option.{none}
 use mathlib.Core.Path.{_≡_, refl, sym, ap, _∙_}
 use Prim.Native.Nat.{ℕ, zero, suc, _+_, _≤_, _<_}
 use native.Mathlib.Omega.{arith}
@@ -10,13 +9,13 @@ use borrow.Author.Tests.{le-leb, lt-leb}
 use lib.Dec.{eqb}
 use lib.ListN.{length}
 use Rattle.format.specs.Job.{readLocated}
-use Rattle.format.specs.Parser.{Parsed, parsed, fault, many, Buffer, jobBuffer, within, such, ranged, end}
-use Rattle.format.proofs.Parsing.{then, then-fault, Faulty, read-fault, ranged-exact}
+use Rattle.format.specs.Parser.{Parsed, parsed, fault, many, Buffer, jobBuffer, ranged, end}
+use Rattle.format.proofs.Parsing.{then, then-fault, ranged-exact}
 use Rattle.format.proofs.Sequence.{reads-one}
 use Rattle.number.specs.Number.{numberAt}
 use Rattle.number.specs.declared.Read.the-variants.{Number}
 use Rattle.reader.specs.Job.{readRest}
-use Rattle.jobreader.specs.Reader.{unlessRefused, readFront}
+use Rattle.jobreader.proofs.FrontNumbers.{unlessRefused, readFront, ranged-fault}
 use Rattle.jobreader.specs.declared.Front.{Front}
 use Rattle.reader.specs.Number.{withoutValue}
 use Rattle.reader.proofs.Answers.{in-range}
@@ -24,15 +23,6 @@ use Rattle.reader.proofs.Bytes.{single}
 use Rattle.reader.proofs.Many.{remembered, without-value-fault}
 
 -- ---- the numbers before the transitions
-
--- a number that is refused can't be read or breaks its range
-pub ranged-fault : (s : Buffer) (low limit at number place : ℕ) → ranged s low limit at ≡ fault number place
-    → (number ≡ s .unreadable) ⊎ (number ≡ s .outside)
-ranged-fault s low limit at number place e = go (read-fault s (such (within low limit)) at number place e .1)
-  where
-    go : Faulty s (λ n. such (within low limit) n ≡ none) number at → (number ≡ s .unreadable) ⊎ (number ≡ s .outside)
-    go (inl (k, _)) = inl k
-    go (inr (k, _)) = inr k
 
 -- what a reader gives; k is the number of the refusal that the code answers
 module _ {A : Type 0} (refusal at : ℕ) (value : A) {x : Parsed A} where

@@ -6,9 +6,8 @@ use mathlib.Core.Path.{_≡_, refl, sym, ap, _∙_}
 use Prim.Native.Nat.{ℕ, _+_, _≤_}
 use native.Mathlib.Decide.{decLe}
 use native.Mathlib.Omega.{arith}
-use borrow.Author.Tests.{le-leb, lt-leb, lt-ltb, le-ltb}
 use lib.Dec.{leb, ltb}
-use Rattle.lists.proofs.Reflect.{r-le, r-lt, r-and, cond-true}
+use Rattle.lists.proofs.Reflect.{r-le, r-lt, r-and, same-test, cond-true}
 use Rattle.heap.specs.Operation.{Kind, kindOf, allowsA, allowsB}
 use Rattle.run.specs.Run.{Transition}
 use Rattle.kinds.specs.Kinds.{leastA, leastB, mostB}
@@ -45,16 +44,12 @@ module _ (s : Buffer) (at : ℕ) where
 
 -- ---- an operand
 
-same-test : (a n : ℕ) → leb a n ≡ ltb a (n + 1)
-same-test a n = go (decLe a n)
-  where
-    go : Dec (a ≤ n) → leb a n ≡ ltb a (n + 1)
-    go (yes h) = le-leb a n h ∙ sym (lt-ltb a (n + 1) (omega arith))
-    go (no h) = lt-leb a n (omega arith) ∙ sym (le-ltb a (n + 1) (omega arith))
+most-limit : (a n : ℕ) → leb a n ≡ ltb a (n + 1)
+most-limit a n = same-test (r-le a n) (r-lt a (n + 1)) (λ h. omega arith) (λ h. omega arith)
 
 module _ (s : Buffer) (n kind : ℕ) (row : Kind) (r : kindOf kind ≡ some row) (at : ℕ) where
   operand : (low most low′ : ℕ) → low′ ≡ low → ranged s low′ (most + 1) at ≡ readAs s (such (λ a. leb low a && leb a most)) at
-  operand low most low′ e = rw e (ap (λ (test : ℕ → Bool). readAs s (such test) at) (λ i a. leb low a && sym (same-test a most) i))
+  operand low most low′ e = rw e (ap (λ (test : ℕ → Bool). readAs s (such test) at) (λ i a. leb low a && sym (most-limit a most) i))
 
   pub operand-a : ranged s (leastA kind) (n + 1) at ≡ readAs s (such (allowsA n row)) at
   unfolding leastA

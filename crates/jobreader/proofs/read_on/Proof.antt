@@ -1,3 +1,4 @@
+-- `jobreader::read_on`: the result is what was refused before, or what the parser of one number gives at the place.
 use mathlib.Core.Path.{sym, _∙_}
 use native.Mathlib.Omega.{arith}
 use Rattle.format.specs.Parser.{jobBuffer, ranged}

@@ -1,3 +1,4 @@
+-- `reader::all_below`: the loop tests the bytes one after the other.
 use Prim.Native.Nat.{_-_}
 use mathlib.Core.Path.{_≡_, refl, _∙_, sym}
 use native.Mathlib.Omega.{arith}

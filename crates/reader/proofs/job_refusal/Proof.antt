@@ -1,3 +1,4 @@
+-- `reader::job_refusal`: 3 is a number that can't be read, and all else one that breaks its range.
 use mathlib.Core.Path.{refl}
 use borrow.Author.Tests.{eq-eqb, ne-eqb}
 use Rattle.reader.proofs.job_refusal.Statement.{statement}

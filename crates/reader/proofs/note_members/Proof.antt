@@ -1,3 +1,4 @@
+-- `reader::note_members`: the loop reads the members one after the other, and has noted the place of each before it reads it.
 use Prim.Native.Nat.{_-_}
 use mathlib.Core.Path.{ap, _∙_, sym}
 use native.Mathlib.Omega.{arith}

@@ -1,3 +1,4 @@
+-- `reader::outside`: the refusal of each buffer's numbers that break their range.
 use mathlib.Core.List.{[]}
 use mathlib.Core.Path.{ap, sym}
 use Rattle.reader.specs.Number.{bufferOf}

@@ -1,3 +1,4 @@
+-- `reader::quick_entry`: 0 promises nothing; where all tests pass, the parser of an entry ends at the place after its bytes.
 use mathlib.Core.Path.{refl, sym, _∙_}
 use native.Mathlib.Omega.{arith}
 use Rattle.format.specs.Parser.{certificateBuffer}

@@ -1,5 +1,8 @@
+-- `reader::read_job`: the front is refused, or a transition, or the rest answers.
+use mathlib.Core.Path.{ap, _∙_}
 use native.Mathlib.Omega.{arith}
 use Rattle.format.specs.Parser.{jobBuffer}
+use Rattle.jobreader.proofs.FrontNumbers.{parsedFront, front-parsed}
 use Rattle.reader.proofs.Answers.{reached-got, reached-lost}
 use Rattle.reader.proofs.Jobs.{front-fault, reader-refused, reader-read, front-variables}
 use Rattle.reader.proofs.WholeJob.{front-lost, transitions-lost, answered}
@@ -18,14 +21,14 @@ returns c =
     let job = c .before .before .before .before .before .args .job .now in
     let f = c .before .before .before .read-front .result in
     front-lost job
-    (reader-refused (f .refusal) (f .at) f _ (c .before .before .before .read-front .ensures) (c .before .if1 .taken) (front-fault (jobBuffer job) 0)
+    (reader-refused (f .refusal) (f .at) f _ (ap parsedFront (c .before .before .before .read-front .ensures) ∙ front-parsed (c .before .before .before .before .before .args .job .now)) (c .before .if1 .taken) (front-fault (jobBuffer job) 0)
     (c .job-refusal .ensures))
 
 read-transitions-requires : tie.Need-read-transitions-requires
 read-transitions-requires c κs =
     let f = c .before .before .read-front .result in
     front-variables (jobBuffer (c .before .before .before .before .args .job .now)) 0 f _
-    (reader-read (f .refusal) (f .at) f (c .before .before .read-front .ensures) (omega arith))
+    (reader-read (f .refusal) (f .at) f (ap parsedFront (c .before .before .read-front .ensures) ∙ front-parsed (c .before .before .before .before .args .job .now)) (omega arith))
 
 enum-known-r : tie.Need-enum-known-r
 enum-known-r c = search needs
@@ -40,14 +43,14 @@ returns-2 : tie.Need-returns-2
 returns-2 c =
     let f = c .before .before .before .before .before .before .read-front .result in
     transitions-lost (c .before .before .before .before .before .before .before .before .args .job .now) f
-    (reader-read (f .refusal) (f .at) f (c .before .before .before .before .before .before .read-front .ensures) (omega arith))
+    (reader-read (f .refusal) (f .at) f (ap parsedFront (c .before .before .before .before .before .before .read-front .ensures) ∙ front-parsed (c .before .before .before .before .before .before .before .before .args .job .now)) (omega arith))
     (reached-lost (c .before .before .before .read-transitions .ensures) (c .before .r .given .1))
 
 returns-3 : tie.Need-returns-3
 returns-3 c =
     let f = c .before .before .before .before .before .before .before .read-front .result in
     answered (c .before .before .before .before .before .before .before .before .before .args .job .now) f
-    (reader-read (f .refusal) (f .at) f (c .before .before .before .before .before .before .before .read-front .ensures) (omega arith))
+    (reader-read (f .refusal) (f .at) f (ap parsedFront (c .before .before .before .before .before .before .before .read-front .ensures) ∙ front-parsed (c .before .before .before .before .before .before .before .before .before .args .job .now)) (omega arith))
     _ (reached-got (c .before .before .before .before .read-transitions .ensures) (c .before .before .r2 .given .1)) (c .read-rest .result)
     (c .read-rest .ensures)
 

@@ -1,3 +1,4 @@
+-- `reader::read_member`: the quick test where it gives a place, else the exact reader.
 use mathlib.Core.Path.{sym}
 use borrow.Author.Needs.{needs}
 use Rattle.reader.proofs.read_member.Statement.{statement}

@@ -1,3 +1,4 @@
+-- `reader::read_members`: a return for each number that is refused, for a member that is refused, for the test at the start state, and for success; with each, what the table holds.
 use mathlib.Core.Path.{refl, sym, ap, _∙_}
 use native.Mathlib.Omega.{arith}
 use Rattle.format.specs.Certificate.{readMember}

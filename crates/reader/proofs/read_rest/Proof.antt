@@ -1,3 +1,4 @@
+-- `reader::read_rest`: B is refused, or a forbidden shape, or bytes are left, or the header is made.
 use native.Mathlib.Omega.{arith}
 use Rattle.reader.proofs.Answers.{got, lost, reached-got, reached-lost}
 use Rattle.reader.proofs.Jobs.{lost-bads, lost-forbidden, left-over, rest-made}
