@@ -1,4 +1,4 @@
-// Testing that images embed a member in a shape.
+// Testing that images embed a member in a shape, exactly, whatever the bytes are.
 ghost use mathlib.Core.Bool.{true};
 ghost use mathlib.Core.List.{List, []};
 ghost use mathlib.Core.Path.{_≡_};
@@ -22,6 +22,7 @@ const USED: u8 = 2;
 // No image is read yet: nowhere, # and * are their own images, and every cell's is cell 0.
 pub(crate) const NO_IMAGES: [u8; 15] = [0, 1, 2, 3, 3, 3, 3, 3, 3, 3, 3, 3, 3, 3, 3];
 
+// A byte as a place or an index.
 pub(crate) fn wide(byte: u8) -> usize
     ensures { λ r. ⌜ (r ≡ byte) × (r < 256) ⌝ }
 {
@@ -113,7 +114,8 @@ pub(crate) fn walk(n: usize, s: &[u8; 28], marks: &mut [u8; 28], from: usize) ->
     p
 }
 
-// Whether the paths of the member's links end where they should and share no cell.
+// Whether the paths of the member's links end where they should and share no cell. What stands for a cell that the member lacks may be met and yet
+// be no end.
 fn links_fit(
     cert: &[u8],
     first: usize,

@@ -1,3 +1,4 @@
+-- Where 0 is given, nothing is to be shown. Else the member stands whole, and its number and images are read and embed it.
 use Prim.Native.Nat.{_≤_, _<_}
 use mathlib.Core.Path.{_≡_, refl, _∙_, sym}
 use native.Mathlib.Omega.{arith}

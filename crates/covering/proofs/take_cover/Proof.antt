@@ -1,3 +1,4 @@
+-- Each return is the case of `readCover` that the tests before it leave.
 use Prim.Native.Nat.{_<_}
 use mathlib.Core.Path.{_∙_, sym}
 use native.Mathlib.Omega.{arith}

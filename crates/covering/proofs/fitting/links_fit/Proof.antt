@@ -1,3 +1,4 @@
+-- The loop follows the paths of the links in turn: those of the cells before i fit, and are marked (`Fitting`).
 use Prim.Native.Nat.{_-_, _≤_}
 use mathlib.Core.Logic.{⊎-elim}
 use mathlib.Core.Path.{_∙_, sym}

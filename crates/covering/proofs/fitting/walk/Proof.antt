@@ -1,3 +1,4 @@
+-- The loop follows a path: it has come to p, and what it passed is marked (`Following`). Each turn leaves fewer places free.
 use Prim.Native.Nat.{ℕ, _<_}
 use mathlib.Core.List.{List}
 use mathlib.Core.Path.{_≡_, sym, _∙_}

@@ -1,3 +1,4 @@
+-- Where all three tests pass, the images are read and `embeds?` holds.
 use Prim.Native.Nat.{ℕ}
 use mathlib.Core.Path.{_≡_, refl, sym}
 use native.Mathlib.Omega.{arith}

@@ -1,3 +1,4 @@
+-- The loop follows the paths in turn, as `links_fit` does. The image of a place that the member has is an end, so what is met there is one.
 use Prim.Native.Nat.{ℕ, _-_, _≤_}
 use mathlib.Core.Logic.{⊎-elim}
 use mathlib.Core.Path.{_≡_, sym, _∙_}

@@ -1,3 +1,4 @@
+-- The loop tests the variables in turn, as `vars_fit` does; only where all fit is something to be shown.
 use Prim.Native.Nat.{ℕ, _-_}
 use mathlib.Core.Logic.{⊎-elim}
 use mathlib.Core.Path.{_≡_, sym}
