@@ -102,10 +102,12 @@ module _ (links images used s marks₀ : List ℕ) (n from : ℕ) (w : Walking l
     met-end stop = trail-found links images used from (f .path) p (f .trail) (w .low, w .high) (w .image) stop
 
     -- a place past the cells is met, or a used cell
-    met-none : markIn n marks p ≢ 0 → stops images p ≡ false → (endFrom links images from ≡ nowhere) ⊎ (disjoint (pathFrom links images from) used ≡ false)
+    met-none : markIn n marks p ≢ 0 → stops images p ≡ false
+        → (endFrom links images from ≡ nowhere) ⊎ (disjoint (pathFrom links images from) used ≡ false)
     met-none o free = go (decLt p (cell n))
       where
-        used-cell : Dec (p ∈ (f .path ++ used)) → getD marks p 0 ≡ mark false (absent p (f .path ++ used)) → getD marks p 0 ≢ 0 → (p ∈ f .path) ⊎ (p ∈ used)
+        used-cell : Dec (p ∈ (f .path ++ used)) → getD marks p 0 ≡ mark false (absent p (f .path ++ used)) → getD marks p 0 ≢ 0
+            → (p ∈ f .path) ⊎ (p ∈ used)
         used-cell (yes m) e k = List·Memᴰ·append-cases (f .path) m
         used-cell (no m) e k = absurd (k (e ∙ rw (is-true (absent p (f .path ++ used)) (r-absent p (f .path ++ used) .tests m)) refl))
 

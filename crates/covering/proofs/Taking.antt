@@ -65,5 +65,7 @@ pub quick-embedding : (cert : List ℕ) (variables : ℕ) (starts : List ℕ) (a
 quick-embedding cert variables starts at state byte s m first e b w here count cells i =
     let end = first + count in
     let shape = shapeIn variables s in
-    let read = cover-taken cert variables starts at (size shape) (i .codes) m first e b (is-whole cert variables (getD starts m 0) w) count cells (At end) (i .read) end refl in
-    sym (take-embedding cert variables starts at state byte shape (size shape) refl (i .codes) (Taken m end) read m end refl here (rw cells at (i .embeds)))
+    let whole = is-whole cert variables (getD starts m 0) w in
+    let read = cover-taken cert variables starts at (size shape) (i .codes) m first e b whole count cells (At end) (i .read) end refl in
+    let embeds = rw cells at (i .embeds) in
+    sym (take-embedding cert variables starts at state byte shape (size shape) refl (i .codes) (Taken m end) read m end refl here embeds)
