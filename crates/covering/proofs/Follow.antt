@@ -1,21 +1,22 @@
 -- A path as it is followed with marks.
 use mathlib.Core.List.{List, [], _∷_, _++_, List·Memᴰ·head, List·Memᴰ·tail, Memᴰ·append-left, Memᴰ·append-right, List·Memᴰ·append-cases, List·Memᴰ·eq-of-singleton}
-use mathlib.Core.Bool.{Bool, true, false}
-use mathlib.Core.Logic.{_≢_, _⊎_, inl, inr, ⊎-elim}
+use mathlib.Core.Bool.{true, false}
+use mathlib.Core.Logic.{_≢_, _⊎_, inl, ⊎-elim}
 use mathlib.Core.Path.{_≡_, refl, sym, _∙_}
 use Prim.Native.Nat.{ℕ, _≤_, _<_}
 use native.Mathlib.Omega.{arith}
+use native.Mathlib.Decide.{decLt}
 use borrow.Author.Tests.{lt-ltb, le-ltb}
 use lib.ListN.{length, getD, set}
 use Rattle.lists.specs.List.{_∈_, absent, disjoint}
 use Rattle.lists.proofs.List.{mem?}
-use Rattle.lists.proofs.Reflect.{is-true, passes, fails, cond-cases, r-lt, r-absent, r-disjoint}
+use Rattle.lists.proofs.Reflect.{is-true, passes, r-absent, r-disjoint}
 use Rattle.heap.specs.Codes.{linkIn}
 use Rattle.heap.specs.Place.{nowhere, cell}
 use Rattle.shape.proofs.Laws.{CellOf, by-number}
 use Rattle.cover.specs.Test.{stops}
-use Rattle.covering.specs.Marks.{mark, markIn, Marks, LinksIn, Walking, Followed}
-use Rattle.covering.proofs.Marks.{mark-free, mark-used, mark-stop, marks-like, marks-use}
+use Rattle.covering.specs.Marks.{mark, markIn, Marks, LinksIn, Walking, endFrom, pathFrom, Followed}
+use Rattle.covering.proofs.Marks.{mark-free, mark-stop, marks-like, marks-use}
 use Rattle.covering.proofs.Trail.{free-low, Trail, trail-none, trail-more, trail-past, trail-found, trail-lost}
 
 -- ---- links
@@ -43,22 +44,12 @@ module _ (n : ℕ) (marks : List ℕ) (p : ℕ) where
   unfolding markIn
   mark-past b = rw (le-ltb p (cell n) b) refl
 
-module _ (n : ℕ) (marks : List ℕ) (p r : ℕ) (e : r ≡ markIn n marks p) where
-  pub mark-in : r ≡ 0 → (p < cell n) × (getD marks p 0 ≡ 0)
-  unfolding markIn
-  mark-in z = cond-cases (λ (m : ℕ). r ≡ m → (p < cell n) × (getD marks p 0 ≡ 0)) (r-lt p (cell n)) (λ b y. (b, omega arith)) (λ o y. absurd (omega arith)) e
-
-  pub mark-lost : r ≡ 2 → (cell n ≤ p) ⊎ ((p < cell n) × (getD marks p 0 ≡ 2))
-  unfolding markIn
-  mark-lost z =
-      cond-cases (λ (m : ℕ). r ≡ m → (cell n ≤ p) ⊎ ((p < cell n) × (getD marks p 0 ≡ 2))) (r-lt p (cell n)) (λ b y. inr (b, omega arith))
-      (λ o y. inl (omega arith)) e
-
-  pub mark-end : r ≢ 0 → r ≢ 2 → (p < cell n) × ((getD marks p 0 ≢ 0) × (getD marks p 0 ≢ 2))
-  unfolding markIn
-  mark-end a b =
-      cond-cases (λ (m : ℕ). r ≡ m → (p < cell n) × ((getD marks p 0 ≢ 0) × (getD marks p 0 ≢ 2))) (r-lt p (cell n))
-      (λ c y. (c, (λ z. a (y ∙ z), λ z. b (y ∙ z)))) (λ o y. absurd (b y)) e
+  pub mark-in : markIn n marks p ≡ 0 → (p < cell n) × (getD marks p 0 ≡ 0)
+  mark-in z = go (decLt p (cell n))
+    where
+      go : Dec (p < cell n) → (p < cell n) × (getD marks p 0 ≡ 0)
+      go (yes b) = (b, sym (mark-read b) ∙ z)
+      go (no b) = absurd (omega (arith, mark-past (omega arith)))
 
 module _ (links images used s marks₀ : List ℕ) (n from : ℕ) (w : Walking links images used s marks₀ n from) where
   pub follow-none : Following links images used from marks₀ (getD s from 0)
@@ -70,20 +61,6 @@ module _ (links images used s marks₀ : List ℕ) (n from : ℕ) (w : Walking l
       }
 
   module _ (marks : List ℕ) (p : ℕ) (f : Following links images used from marks p) where
-    -- a place past the cells is met
-    pub follow-past : cell n ≤ p → Followed links images used from nowhere marks
-    follow-past b =
-        record {
-          ends = λ o. absurd (o refl);
-          unshared = λ o. absurd (o refl);
-          marked = λ o. absurd (o refl);
-          lost = λ _. inl (trail-past links images used from (f .path) p (f .trail) (omega (arith, w .cells)) (free (stops images p) refl));
-        }
-      where
-        free : (b : Bool) → stops images p ≡ b → stops images p ≡ false
-        free true z = absurd (omega (arith, w .cells, w .ends-in p z))
-        free false z = z
-
     module _ (here : p < cell n) where
       pub here-in : p < 28
       here-in = omega (arith, here, w .cells, w .linked .fit)
@@ -120,31 +97,48 @@ module _ (links images used s marks₀ : List ℕ) (n from : ℕ) (w : Walking l
               ⊎-elim (λ i. ⊎-elim (λ j. List·Memᴰ·tail (Memᴰ·append-left used j)) (λ j. List·Memᴰ·head (List·Memᴰ·eq-of-singleton j)) (List·Memᴰ·append-cases (f .path) i))
               (λ i. List·Memᴰ·tail (Memᴰ·append-right (f .path) i)) (List·Memᴰ·append-cases (f .path ++ (p ∷ [])) m)
 
-      -- a used cell is met
-      pub follow-lost : getD marks p 0 ≡ 2 → Followed links images used from nowhere marks
-      follow-lost e =
-          let (free, old) = mark-used (stops images p) (absent p (f .path ++ used)) (sym here-marked ∙ e) in
-          record {
-            ends = λ n. absurd (n refl);
-            unshared = λ n. absurd (n refl);
-            marked = λ n. absurd (n refl);
-            lost = λ _.
-                trail-lost links images used from (f .path) p (f .trail) (w .low, w .high) (w .image) free
-                (met (mem? p (f .path ++ used)) (λ o. fails (absent p (f .path ++ used)) old (r-absent p (f .path ++ used) .tests o)));
-          }
-        where
-          met : Dec (p ∈ (f .path ++ used)) → (¬ (p ∈ (f .path ++ used)) → ⊥) → (p ∈ f .path) ⊎ (p ∈ used)
-          met (yes m) k = List·Memᴰ·append-cases (f .path) m
-          met (no o) k = absurd (k o)
+    -- an end is met
+    met-end : stops images p ≡ true → (endFrom links images from ≡ p) × (pathFrom links images from ≡ f .path)
+    met-end stop = trail-found links images used from (f .path) p (f .trail) (w .low, w .high) (w .image) stop
 
-      -- an end is met
-      pub follow-found : getD marks p 0 ≢ 0 → getD marks p 0 ≢ 2 → Followed links images used from p marks
-      follow-found n m =
-          let stop = mark-stop (stops images p) (absent p (f .path ++ used)) (λ e. n (here-marked ∙ e)) (λ e. m (here-marked ∙ e)) in
-          let (ends, path) = trail-found links images used from (f .path) p (f .trail) (w .low, w .high) (w .image) stop in
-          record {
-            ends = λ _. ends;
-            unshared = λ _. rw path (is-true (disjoint (f .path) used) (r-disjoint (f .path) used .tests (f .trail .unused)));
-            marked = λ _. rw path (f .marked);
-            lost = λ z. inl (ends ∙ z);
-          }
+    -- a place past the cells is met, or a used cell
+    met-none : markIn n marks p ≢ 0 → stops images p ≡ false
+        → (endFrom links images from ≡ nowhere) ⊎ (disjoint (pathFrom links images from) used ≡ false)
+    met-none o free = go (decLt p (cell n))
+      where
+        used-cell : Dec (p ∈ (f .path ++ used)) → getD marks p 0 ≡ mark false (absent p (f .path ++ used)) → getD marks p 0 ≢ 0
+            → (p ∈ f .path) ⊎ (p ∈ used)
+        used-cell (yes m) e k = List·Memᴰ·append-cases (f .path) m
+        used-cell (no m) e k = absurd (k (e ∙ rw (is-true (absent p (f .path ++ used)) (r-absent p (f .path ++ used) .tests m)) refl))
+
+        go : Dec (p < cell n) → (endFrom links images from ≡ nowhere) ⊎ (disjoint (pathFrom links images from) used ≡ false)
+        go (yes b) =
+            trail-lost links images used from (f .path) p (f .trail) (w .low, w .high) (w .image) free
+            (used-cell (mem? p (f .path ++ used)) (rw free at (here-marked b)) (λ z. o (mark-read n marks p b ∙ z)))
+        go (no b) = inl (trail-past links images used from (f .path) p (f .trail) (omega (arith, w .cells)) free)
+
+    -- exactly an end is marked as one
+    met-stop : markIn n marks p ≡ 1 → stops images p ≡ true
+    met-stop e = go (decLt p (cell n))
+      where
+        go : Dec (p < cell n) → stops images p ≡ true
+        go (yes b) =
+            let here : mark (stops images p) (absent p (f .path ++ used)) ≡ 1 = sym (here-marked b) ∙ sym (mark-read n marks p b) ∙ e in
+            mark-stop (stops images p) (absent p (f .path ++ used)) here
+        go (no b) = absurd (omega (arith, mark-past n marks p (omega arith)))
+
+    met-marked : stops images p ≡ true → markIn n marks p ≡ 1
+    met-marked stop =
+        let here : p < cell n = omega (arith, w .cells, w .ends-in p stop) in
+        mark-read n marks p here ∙ here-marked here ∙ rw stop refl
+
+    pub follow-met : markIn n marks p ≢ 0 → Followed links images used from p marks
+    follow-met o =
+        record {
+          ends = λ stop. met-end stop .0;
+          unshared = λ stop. rw (met-end stop .1) (is-true (disjoint (f .path) used) (r-disjoint (f .path) used .tests (f .trail .unused)));
+          marked = λ stop. rw (met-end stop .1) (f .marked);
+          lost = met-none o;
+          marked-stop = rw (w .cells) met-stop;
+          stop-marked = rw (w .cells) met-marked;
+        }

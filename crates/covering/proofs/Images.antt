@@ -1,5 +1,5 @@
 -- Images in an array.
-use mathlib.Core.Bool.{cond}
+use mathlib.Core.Bool.{true, cond}
 use mathlib.Core.List.{List, [], _∷_, map}
 use mathlib.Core.Logic.{_≢_}
 use mathlib.Core.Path.{_≡_, refl, sym, ap, _∙_}
@@ -10,8 +10,10 @@ use borrow.Author.Tests.{lt-ltb, le-ltb}
 use lib.Dec.{ltb}
 use lib.ListN.{length, getD, take, drop, length-map, length-take, length-drop, replicate, getD-replicate, List·getD-eq-default}
 use lib.Seq.{getD-take, getD-drop}
+use Rattle.lists.proofs.Reflect.{is-true}
 use Rattle.heap.specs.Place.{nowhere, cell}
-use Rattle.cover.specs.Test.{imageMap}
+use Rattle.cover.specs.Test.{imageMap, stops}
+use Rattle.cover.proofs.Embeds.{r-stops}
 use Rattle.covering.specs.Images.{imagesIn, ImageCodes, imageIn}
 
 getD-sub : (l : List ℕ) (i : ℕ) → getD (map (λ p. p - 3) l) i 0 ≡ getD l i 0 - 3
@@ -55,6 +57,18 @@ module _ (count n : ℕ) (codes : List ℕ) (m : ImageCodes count n codes) where
       go (yes b) (yes c) = rw (lt-ltb (cell i) 15 (omega arith)) (rw swap at (sym (image-at i c)))
       go (yes b) (no c) = rw (lt-ltb (cell i) 15 (omega arith)) ((rw swap at (m .rest i (omega arith) b)) ∙ sym (no-image i (omega arith)))
       go (no b) c = rw (le-ltb (cell i) 15 (omega arith)) (sym (no-image i (omega (arith, m .few))))
+
+  -- the image of a place that the member has is an end
+  pub image-stops : (p : ℕ) → p < cell count → stops (imagesIn count codes) (imageIn codes p) ≡ true
+  image-stops p b = rw (image-of p) (go p b)
+    where
+      go : (p : ℕ) → p < cell count → stops (imagesIn count codes) (imageMap (imagesIn count codes) p) ≡ true
+      go zero b = refl
+      go (suc zero) b = refl
+      go (suc (suc zero)) b = refl
+      go (suc (suc (suc i))) b =
+          is-true (stops (imagesIn count codes) (cell (getD (imagesIn count codes) i 0)))
+          (r-stops (imagesIn count codes) (cell (getD (imagesIn count codes) i 0)) .tests (λ _. (i, omega (arith, images-length), refl)))
 
 pub image-read : (codes : List ℕ) (p : ℕ) → p < 15 → imageIn codes p ≡ getD codes p 0
 unfolding imageIn

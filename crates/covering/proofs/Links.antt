@@ -87,15 +87,16 @@ module _ (member covered : Shape) (cert : List ℕ) (first count : ℕ) (codes m
           some : linkAt member (cell i) ≢ nowhere
           some z = o (to ∙ z)
 
-          pub fit-good : r ≡ end → Fitting marks′ (i + 1)
-          fit-good z =
-              let (good, marked) = path-good member covered images i some r marks′ (rw (← start) w) (z ∙ stop) in
+          pub fit-good : r ≡ end → stops images r ≡ true → Fitting marks′ (i + 1)
+          fit-good z e =
+              let (good, marked) = path-good member covered images i some r marks′ (rw (← start) w) (z ∙ stop) e in
               record {
                 inside = omega arith;
                 marked = rw (add-one i) marked;
                 whole = sym (all-passed test count i b good) ∙ f .whole;
               }
 
-          pub fit-bad : r ≢ end → false ≡ allFrom count 0 test
+          pub fit-bad : (stops images r ≡ true → r ≢ end) → false ≡ allFrom count 0 test
           fit-bad m =
-              sym (all-failed test count i b (path-bad member covered images i some r marks′ (rw (← start) w) (λ z. m (z ∙ sym stop)))) ∙ f .whole
+              sym (all-failed test count i b (path-bad member covered images i some r marks′ (rw (← start) w) (λ e z. m e (z ∙ sym stop))))
+              ∙ f .whole

@@ -23,15 +23,10 @@ mark-free true b e = absurd (omega arith)
 mark-free false true e = (refl, refl)
 mark-free false false e = absurd (omega arith)
 
-pub mark-used : (a b : Bool) → mark a b ≡ 2 → (a ≡ false) × (b ≡ false)
-mark-used true b e = absurd (omega arith)
-mark-used false true e = absurd (omega arith)
-mark-used false false e = (refl, refl)
-
-pub mark-stop : (a b : Bool) → mark a b ≢ 0 → mark a b ≢ 2 → a ≡ true
-mark-stop true b n m = refl
-mark-stop false true n m = absurd (n refl)
-mark-stop false false n m = absurd (m refl)
+pub mark-stop : (a b : Bool) → mark a b ≡ 1 → a ≡ true
+mark-stop true b e = refl
+mark-stop false true e = absurd (omega arith)
+mark-stop false false e = absurd (omega arith)
 
 -- ---- nothing is marked yet
 

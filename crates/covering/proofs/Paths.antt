@@ -4,13 +4,12 @@ use mathlib.Core.List.{List, _++_}
 use mathlib.Core.Logic.{_≢_, _⊎_, inl, inr}
 use mathlib.Core.Path.{_≡_, refl, sym, _∙_}
 use Prim.Native.Nat.{ℕ, suc}
-use native.Mathlib.Decide.{ℕ-discrete}
 use borrow.Author.Tests.{eq-eqb, ne-eqb}
 use lib.Dec.{eqb}
 use Rattle.lists.specs.List.{disjoint}
 use Rattle.heap.specs.Place.{nowhere, cell}
 use Rattle.shape.specs.Shape.{Shape, linkAt}
-use Rattle.cover.specs.Test.{imageMap, betweenBelow}
+use Rattle.cover.specs.Test.{imageMap, stops, betweenBelow}
 use Rattle.covering.specs.Images.{pathFits}
 use Rattle.covering.specs.Marks.{Marks, endFrom, pathFrom, Followed}
 use Rattle.covering.proofs.Images.{somewhere}
@@ -43,15 +42,15 @@ module _ (member covered : Shape) (images : List ℕ) (i : ℕ) where
     fits-some = rw (ne-eqb to nowhere n) refl
 
     module _ (r : ℕ) (marks : List ℕ) (f : Followed (covered .links) images (betweenBelow member covered images i) from r marks) where
-      pub path-good : r ≡ imageMap images to → (pathFits member covered images i ≡ true) × Marks images (betweenBelow member covered images (suc i)) marks
-      path-good e =
-          let s : r ≢ nowhere = λ z. somewhere images to n (sym e ∙ z) in (
-            fits-some ∙ rw (eq-eqb (endFrom (covered .links) images from) (imageMap images to) (f .ends s ∙ e), f .unshared s) refl,
-            rw below-some (f .marked s),
-          )
+      pub path-good : r ≡ imageMap images to → stops images r ≡ true
+          → (pathFits member covered images i ≡ true) × Marks images (betweenBelow member covered images (suc i)) marks
+      path-good e s = (
+        fits-some ∙ rw (eq-eqb (endFrom (covered .links) images from) (imageMap images to) (f .ends s ∙ e), f .unshared s) refl,
+        rw below-some (f .marked s),
+      )
 
-      pub path-bad : r ≢ imageMap images to → pathFits member covered images i ≡ false
-      path-bad m = fits-some ∙ go (ℕ-discrete r nowhere)
+      pub path-bad : (stops images r ≡ true → r ≢ imageMap images to) → pathFits member covered images i ≡ false
+      path-bad m = fits-some ∙ go (stops images r) refl
         where
           other : endFrom (covered .links) images from ≢ imageMap images to
               → eqb (endFrom (covered .links) images from) (imageMap images to)
@@ -65,7 +64,7 @@ module _ (member covered : Shape) (images : List ℕ) (i : ℕ) where
           lost (inl z) = other (λ y. somewhere images to n (sym y ∙ z))
           lost (inr z) = rw z (and-false (eqb (endFrom (covered .links) images from) (imageMap images to)))
 
-          go : Dec (r ≡ nowhere) → eqb (endFrom (covered .links) images from) (imageMap images to)
+          go : (b : Bool) → stops images r ≡ b → eqb (endFrom (covered .links) images from) (imageMap images to)
               && disjoint (pathFrom (covered .links) images from) (betweenBelow member covered images i) ≡ false
-          go (yes z) = lost (f .lost z)
-          go (no s) = other (λ y. m (sym (f .ends s) ∙ y))
+          go true s = other (λ y. m s (sym (f .ends s) ∙ y))
+          go false s = lost (f .lost s)

@@ -17,8 +17,9 @@ use Rattle.verdict.specs.Verdict.{reachedOf}
 use Rattle.verdict.specs.declared.Reached.{Reached}
 use Rattle.verdict.specs.declared.Reached.the-variants.{At}
 use Rattle.verdict.specs.declared.Refusal.{Refusal}
-use Rattle.layout.specs.Entries.{locatedAt, isWhole}
+use Rattle.layout.specs.Entries.{locatedAt, Whole}
 use Rattle.layout.specs.ShapeArray.{shapeIn}
+use Rattle.layout.proofs.Whole.{is-whole}
 use Rattle.covering.specs.Images.{imagesIn}
 use Rattle.covering.specs.Members.{membersFrom}
 use Rattle.covering.specs.Quick.{ImagesEmbed}
@@ -57,12 +58,14 @@ module _ (cert : List ℕ) (variables : ℕ) (starts : List ℕ) (at state : ℕ
 
 -- the quick test accepts
 pub quick-embedding : (cert : List ℕ) (variables : ℕ) (starts : List ℕ) (at state : ℕ) → state < 256 → (s : List ℕ) (m first : ℕ)
-    → numberAt cert at ≡ Number m first → m < length starts → isWhole cert variables (getD starts m 0) ≡ true → getD cert (getD starts m 0) 0 ≡ state
+    → numberAt cert at ≡ Number m first → m < length starts → Whole cert variables (getD starts m 0) → getD cert (getD starts m 0) 0 ≡ state
     → (count : ℕ) → count ≡ cellsAt cert variables starts m → ImagesEmbed cert (getD starts m 0) variables first count s
     → readCover (certificateBuffer cert) (membersFrom cert variables starts) (record { state = state; shape = shapeIn variables s }) at
     ≡ parsed tt (first + count)
 quick-embedding cert variables starts at state byte s m first e b w here count cells i =
     let end = first + count in
     let shape = shapeIn variables s in
-    let read = cover-taken cert variables starts at (size shape) (i .codes) m first e b w count cells (At end) (i .read) end refl in
-    sym (take-embedding cert variables starts at state byte shape (size shape) refl (i .codes) (Taken m end) read m end refl here (rw cells at (i .embeds)))
+    let whole = is-whole cert variables (getD starts m 0) w in
+    let read = cover-taken cert variables starts at (size shape) (i .codes) m first e b whole count cells (At end) (i .read) end refl in
+    let embeds = rw cells at (i .embeds) in
+    sym (take-embedding cert variables starts at state byte shape (size shape) refl (i .codes) (Taken m end) read m end refl here embeds)

@@ -1,7 +1,7 @@
 -- Marks by the code of a place, while the paths of a cover are followed.
 use mathlib.Core.Bool.{Bool, true, false, cond}
 use mathlib.Core.List.{List, [], _++_}
-use mathlib.Core.Logic.{_≢_, _⊎_}
+use mathlib.Core.Logic.{_⊎_}
 use mathlib.Core.Path.{_≡_}
 use Prim.Native.Nat.{ℕ, _+_, _≤_, _<_}
 use lib.Dec.{ltb}
@@ -52,12 +52,15 @@ module _ (links images : List ℕ) where
   abbrev pub pathFrom : ℕ → List ℕ
   pathFrom from = walked (linkIn links) (stops images) (length links) (linkIn links from)
 
--- What following a path gives: its end, with its cells used; or nowhere, if it has no end or meets a used cell.
+-- What following a path gives, the first place met that is not free. Where that is an end, it is the path's, with its cells used; else the path has
+-- no end or shares a cell.
 pub record Followed (links images used : List ℕ) (from r : ℕ) (marks : List ℕ) : Type 0 where
-  pub ends : r ≢ nowhere → endFrom links images from ≡ r
-  pub unshared : r ≢ nowhere → disjoint (pathFrom links images from) used ≡ true
-  pub marked : r ≢ nowhere → Marks images (pathFrom links images from ++ used) marks
-  pub lost : r ≡ nowhere → (endFrom links images from ≡ nowhere) ⊎ (disjoint (pathFrom links images from) used ≡ false)
+  pub ends : stops images r ≡ true → endFrom links images from ≡ r
+  pub unshared : stops images r ≡ true → disjoint (pathFrom links images from) used ≡ true
+  pub marked : stops images r ≡ true → Marks images (pathFrom links images from ++ used) marks
+  pub lost : stops images r ≡ false → (endFrom links images from ≡ nowhere) ⊎ (disjoint (pathFrom links images from) used ≡ false)
+  pub marked-stop : markIn (length links) marks r ≡ 1 → stops images r ≡ true
+  pub stop-marked : stops images r ≡ true → markIn (length links) marks r ≡ 1
 
 -- The paths of a member's links may be followed in a shape of n cells: the links are the bytes from a place on, and no path has used a cell.
 pub record Linking (member covered : Shape) (cert : List ℕ) (first count : ℕ) (codes marks : List ℕ) (n : ℕ) (s : List ℕ) : Type 0 where

@@ -1,4 +1,4 @@
-// Testing that images embed a member in a shape.
+// Testing that images embed a member in a shape, exactly, whatever the bytes are.
 ghost use mathlib.Core.Bool.{true};
 ghost use mathlib.Core.List.{List, []};
 ghost use mathlib.Core.Path.{_≡_};
@@ -22,6 +22,7 @@ const USED: u8 = 2;
 // No image is read yet: nowhere, # and * are their own images, and every cell's is cell 0.
 pub(crate) const NO_IMAGES: [u8; 15] = [0, 1, 2, 3, 3, 3, 3, 3, 3, 3, 3, 3, 3, 3, 3];
 
+// A byte as a place or an index.
 pub(crate) fn wide(byte: u8) -> usize
     ensures { λ r. ⌜ (r ≡ byte) × (r < 256) ⌝ }
 {
@@ -72,13 +73,7 @@ fn mark_images(images: &[u8; 15], count: usize, marks: &mut [u8; 28]) -> bool
 }
 
 // Whether each variable that the member places stands at the image of that place.
-pub(crate) fn vars_fit(
-    cert: &[u8],
-    first: usize,
-    count: usize,
-    images: &[u8; 15],
-    s: &[u8; 28],
-) -> bool
+fn vars_fit(cert: &[u8], first: usize, count: usize, images: &[u8; 15], s: &[u8; 28]) -> bool
     requires { ⌜ (first + count ≤ length (now cert)) × (count ≤ 9) ⌝ }
     ensures { λ r. ⌜ r ≡ allFrom count 0 (varFitsIn (now (cert .entry)) first (now (images .entry)) (now (s .entry))) ⌝ }
 {
@@ -106,8 +101,8 @@ fn mark_at(marks: &[u8; 28], n: usize, p: usize) -> u8
     USED
 }
 
-// Follows links from a cell to the first stop and uses the cells between; nowhere where it meets a used one.
-fn walk(n: usize, s: &[u8; 28], marks: &mut [u8; 28], from: usize) -> usize
+// Follows links from a cell to the first place that is not free, and uses the cells between.
+pub(crate) fn walk(n: usize, s: &[u8; 28], marks: &mut [u8; 28], from: usize) -> usize
     requires { ⌜ ((links : List ℕ) × (images : List ℕ) × (used : List ℕ) × Walking links images used (now s) (now marks) n from) ⌝ }
     ensures { λ r. ⌜ ((links images used : List ℕ) → Walking links images used (now (s .entry)) (now (marks .entry)) n from → Followed links images used from r (now (marks .exit))) ⌝ }
 {
@@ -116,14 +111,12 @@ fn walk(n: usize, s: &[u8; 28], marks: &mut [u8; 28], from: usize) -> usize
         marks[p] = USED;
         p = wide(s[p]);
     }
-    if mark_at(marks, n, p) == USED {
-        return 0;
-    }
     p
 }
 
-// Whether the paths of the member's links end where they should and share no cell.
-pub(crate) fn links_fit(
+// Whether the paths of the member's links end where they should and share no cell. What stands for a cell that the member lacks may be met and yet
+// be no end.
+fn links_fit(
     cert: &[u8],
     first: usize,
     count: usize,
@@ -141,7 +134,11 @@ pub(crate) fn links_fit(
         if p != 0 {
             let from = wide(images[i + 3]);
             let end = wide(image_of(images, p));
-            if walk(n, s, marks, from) != end {
+            let met = walk(n, s, marks, from);
+            if met != end {
+                return false;
+            }
+            if mark_at(marks, n, met) != STOP {
                 return false;
             }
         }

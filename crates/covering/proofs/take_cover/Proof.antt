@@ -1,5 +1,6 @@
+-- Each return is the case of `readCover` that the tests before it leave.
 use Prim.Native.Nat.{_<_}
-use mathlib.Core.Path.{_≡_, _∙_, sym}
+use mathlib.Core.Path.{_∙_, sym}
 use native.Mathlib.Omega.{arith}
 use borrow.Author.Needs.{needs}
 use borrow.Author.Tests.{not-true, not-false}

@@ -1,3 +1,4 @@
+-- The result is the length of the links: as many as the count says, or all slots from the third on.
 use native.Mathlib.Omega.{arith}
 use lib.ListN.{getD, drop, length-take, length-drop}
 use borrow.Author.Needs.{needs}

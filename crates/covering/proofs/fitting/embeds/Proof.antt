@@ -1,3 +1,4 @@
+-- The three tests in turn are the parts of `embeds?`.
 use mathlib.Core.Path.{_∙_, refl, sym}
 use native.Mathlib.Omega.{arith}
 use Rattle.covering.proofs.Whole.{images-in, linking-read, not-once, not-vars, by-links}

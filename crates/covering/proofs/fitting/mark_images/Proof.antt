@@ -1,3 +1,4 @@
+-- The loop marks the images in turn: those before i are marked and differ (`Marking`).
 use Prim.Native.Nat.{ℕ, _-_, _≤_}
 use lib.ListN.{take}
 use mathlib.Core.Path.{_≡_, sym}

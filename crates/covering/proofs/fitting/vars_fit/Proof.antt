@@ -1,3 +1,4 @@
+-- The loop tests the variables in turn: those before i fit (`Passing`).
 use Prim.Native.Nat.{_-_}
 use mathlib.Core.Logic.{⊎-elim}
 use native.Mathlib.Omega.{arith}

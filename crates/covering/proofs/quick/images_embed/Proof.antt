@@ -1,5 +1,6 @@
+-- Where all three tests pass, the images are read and `embeds?` holds.
 use Prim.Native.Nat.{ℕ}
-use mathlib.Core.Path.{_≡_, refl, _∙_, sym}
+use mathlib.Core.Path.{_≡_, refl, sym}
 use native.Mathlib.Omega.{arith}
 use borrow.Author.Needs.{needs}
 use borrow.Author.Tests.{not-false}
@@ -19,23 +20,23 @@ take-images-requires c κs =
 returns : tie.Need-returns
 returns c = λ z. let v : _≡_ {A = ℕ} 0 1 = cc in absurd (omega arith)
 
-add-vars-fit : tie.Need-add-vars-fit
-add-vars-fit c = search needs
+add-quick-vars : tie.Need-add-quick-vars
+add-quick-vars c = search needs
 
-vars-fit-requires : tie.Need-vars-fit-requires
-vars-fit-requires c κs = search needs
+quick-vars-requires : tie.Need-quick-vars-requires
+quick-vars-requires c κs = search needs
 
 returns-2 : tie.Need-returns-2
 returns-2 c = λ z. let v : _≡_ {A = ℕ} 0 1 = cc in absurd (omega arith)
 
-add-links-fit : tie.Need-add-links-fit
-add-links-fit c = search needs
+add-quick-links : tie.Need-add-quick-links
+add-quick-links c = search needs
 
-add-links-fit-2 : tie.Need-add-links-fit-2
-add-links-fit-2 c = search needs
+add-quick-links-2 : tie.Need-add-quick-links-2
+add-quick-links-2 c = search needs
 
-links-fit-requires : tie.Need-links-fit-requires
-links-fit-requires c κs =
+quick-links-requires : tie.Need-quick-links-requires
+quick-links-requires c κs =
     let (w, e, _) = c .before .before .before .before .before .before .before .before .before .before .before .pre in
     let h = c .before .before .before .before .before .before .before .before .before .cells-held .ensures in
     let t = c .before .before .before .before .before .before .take-images .ensures (not-false _ (c .before .before .before .before .before .if1 .left)) in
@@ -47,7 +48,7 @@ returns-3 c = λ z.
     let h = c .before .before .before .before .before .before .before .before .before .before .cells-held .ensures in
     let t = c .before .before .before .before .before .before .before .take-images .ensures (not-false _ (c .before .before .before .before .before .before .if1 .left)) in
     let l = taken-linking _ _ _ (h .0) (sym (h .2)) _ _ w _ _ e _ _ t in
-    taken-embed _ _ _ (h .0) (sym (h .2)) _ _ w _ _ e _ _ t (sym (c .before .before .before .before .vars-fit .ensures) ∙ not-false _ (c .before .before .before .if2 .left)) (sym (c .links-fit .ensures _ _ l) ∙ z)
+    taken-embed _ _ _ (h .0) (sym (h .2)) _ _ w _ _ e _ _ t (c .before .before .before .before .quick-vars .ensures (not-false _ (c .before .before .before .if2 .left))) (c .quick-links .ensures _ _ l z)
 
 pub images-embed-spec : {M : Type 1} → statement M
 images-embed-spec =
@@ -56,10 +57,10 @@ images-embed-spec =
     cells-held-requires
     take-images-requires
     returns
-    add-vars-fit
-    vars-fit-requires
+    add-quick-vars
+    quick-vars-requires
     returns-2
-    add-links-fit
-    add-links-fit-2
-    links-fit-requires
+    add-quick-links
+    add-quick-links-2
+    quick-links-requires
     returns-3)

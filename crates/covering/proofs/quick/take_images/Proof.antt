@@ -1,3 +1,4 @@
+-- The loop takes the images in turn: those before i are read and marked, and differ (`TakingImages`).
 use Prim.Native.Nat.{ℕ, _-_}
 use mathlib.Core.Path.{_≡_, refl}
 use native.Mathlib.Omega.{arith}

@@ -1,3 +1,4 @@
+-- The loop reads the images in turn: those before i are in the array (`Reading`).
 use Prim.Native.Nat.{ℕ, _-_}
 use mathlib.Core.Path.{_≡_, _∙_, sym}
 use native.Mathlib.Omega.{arith}

@@ -1,3 +1,4 @@
+-- The loop copies the bytes in turn: the first i are copied (`Copying`).
 use Prim.Native.Nat.{_-_}
 use native.Mathlib.Omega.{arith}
 use mathlib.Core.Path.{refl}

@@ -1,3 +1,4 @@
+-- The two copies after the two stores are `loadedShape`, where the entry stands whole.
 use mathlib.Core.Bool.{true}
 use mathlib.Core.Path.{_≡_, refl, sym, _∙_}
 use native.Mathlib.Omega.{arith}
