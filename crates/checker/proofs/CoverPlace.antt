@@ -6,7 +6,7 @@ use native.Mathlib.Omega.{arith}
 use lib.ListN.{length, getElem?}
 use Rattle.number.specs.Number.{numberAt}
 use Rattle.number.specs.declared.Read.the-variants.{Number}
-use Rattle.number.proofs.Reading.{taken}
+use Rattle.number.proofs.Reading.{known-number}
 use Rattle.shape.specs.Shape.{size}
 use Rattle.run.specs.Run.{Located}
 use Rattle.cover.specs.Cover.{holds?}
@@ -16,7 +16,7 @@ use Rattle.format.proofs.Parsing.{then, read-sound, require-sound, codes-exact}
 use Rattle.format.proofs.Sequence.{Reads, reads-none, reads-first}
 
 number-place : (s : List ℕ) (at n next : ℕ) → numberAt s at ≡ Number n next → (at < next) × (next ≤ length s)
-number-place s at n next e = let t = taken at (length s - at) _ _ _ n next e in (t .on, omega (arith, t .some, t .inside))
+number-place s at n next e = let t = known-number at (length s - at) _ _ _ n next e in (t .on, omega (arith, t .some, t .inside))
 
 reads-place : (s : List ℕ) (at : ℕ) (ns : List ℕ) (next : ℕ) → Reads s at ns next → at ≤ length s → (at ≤ next) × (next ≤ length s)
 reads-place s at [] next r b = let e = reads-none r in (omega arith, omega arith)

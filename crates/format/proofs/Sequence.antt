@@ -9,7 +9,7 @@ use Rattle.number.specs.Number.{numberIn, numberAt}
 use Rattle.number.specs.NumberList.{Listed, numbers, refused, before, followed, decodeFrom, decode}
 use Rattle.number.specs.declared.Read.{Read}
 use Rattle.number.specs.declared.Read.the-variants.{Number, Unreadable}
-use Rattle.number.proofs.Reading.{taken}
+use Rattle.number.proofs.Reading.{known-number}
 use Rattle.number.proofs.RoundTrip.{decode-more, decode-end}
 
 -- the numbers ns are read one after the other from a place to the next
@@ -43,7 +43,7 @@ module _ {s : List ℕ} where
 
 -- a number has a byte of the buffer, the next place is further on, and not past the end
 pub number-in : (at left a b c n next : ℕ) → numberIn at left a b c ≡ Number n next → (0 < left) × (at < next) × (next ≤ at + left)
-number-in at left a b c n next e = let t = taken at left a b c n next e in (t .some, t .on, t .inside)
+number-in at left a b c n next e = let t = known-number at left a b c n next e in (t .some, t .on, t .inside)
 
 pub reads-on : {s : List ℕ} {at next : ℕ} {ns : List ℕ} → Reads s at ns next → at ≤ next
 reads-on done = omega arith

@@ -1,3 +1,3 @@
 pub mod FrontNumbers
 pub mod Readers
-pub mod Steps
+pub mod OneNumber

@@ -3,7 +3,7 @@
 use number::Read;
 ghost use mathlib.Core.Path.{_≡_};
 ghost use Rattle.format.specs.Parser.{jobBuffer, ranged};
-ghost use Rattle.jobreader.specs.Reader.{stepOf, readOn, stepAfter, stepIn, frontRead};
+ghost use Rattle.jobreader.specs.Reader.{numberedOf, readOn, numberedAfter, numberedIn, frontRead};
 
 // The number read last and the place after it. Once a number is refused, `refusal` is the number of that refusal and not 0, and the
 // reader stays at the place of the number.
@@ -15,7 +15,7 @@ pub struct Reader<'a> {
 }
 
 // The same without the job.
-pub struct Step {
+pub struct Numbered {
     pub at: usize,
     pub number: usize,
     pub refusal: usize,
@@ -32,11 +32,11 @@ pub struct Front {
 }
 
 // The number at a place, from `low` on and below `limit`, unless one was refused.
-fn read_on(job: &[u8], at: usize, refusal: usize, low: usize, limit: usize) -> Step
-    ensures { λ r. ⌜ r ≡ stepOf (readOn at refusal (ranged (jobBuffer (now (job .entry))) low limit)) ⌝ }
+fn read_on(job: &[u8], at: usize, refusal: usize, low: usize, limit: usize) -> Numbered
+    ensures { λ r. ⌜ r ≡ numberedOf (readOn at refusal (ranged (jobBuffer (now (job .entry))) low limit)) ⌝ }
 {
     if refusal != 0 {
-        return Step {
+        return Numbered {
             at,
             number: 0,
             refusal,
@@ -44,27 +44,27 @@ fn read_on(job: &[u8], at: usize, refusal: usize, low: usize, limit: usize) -> S
     }
     let r = number::read_number(job, at);
     let Read::Number(n, next) = r else {
-        return Step {
+        return Numbered {
             at,
             number: 0,
             refusal: 3,
         };
     };
     if n < low {
-        return Step {
+        return Numbered {
             at,
             number: 0,
             refusal: 4,
         };
     }
     if limit <= n {
-        return Step {
+        return Numbered {
             at,
             number: 0,
             refusal: 4,
         };
     }
-    Step {
+    Numbered {
         at: next,
         number: n,
         refusal: 0,
@@ -85,7 +85,7 @@ pub fn new<'a>(src: &'a [u8], at: usize) -> Reader<'a>
 
 // The reader moved on by one number, from `low` on and below `limit`.
 pub fn next<'a>(r: Reader<'a>, low: usize, limit: usize) -> Reader<'a>
-    ensures { λ q. ⌜ (q .src ≡ r .entry .src) × (stepIn q ≡ stepAfter (stepIn (r .entry)) (ranged (jobBuffer (now (r .entry .src))) low limit)) ⌝ }
+    ensures { λ q. ⌜ (q .src ≡ r .entry .src) × (numberedIn q ≡ numberedAfter (numberedIn (r .entry)) (ranged (jobBuffer (now (r .entry .src))) low limit)) ⌝ }
 {
     let s = read_on(r.src, r.at, r.refusal, low, limit);
     Reader {
@@ -97,11 +97,11 @@ pub fn next<'a>(r: Reader<'a>, low: usize, limit: usize) -> Reader<'a>
 }
 
 // One number of a job.
-pub fn read_at(job: &[u8], at: usize, low: usize, limit: usize) -> Step
-    ensures { λ r. ⌜ r ≡ stepOf (ranged (jobBuffer (now (job .entry))) low limit at) ⌝ }
+pub fn read_at(job: &[u8], at: usize, low: usize, limit: usize) -> Numbered
+    ensures { λ r. ⌜ r ≡ numberedOf (ranged (jobBuffer (now (job .entry))) low limit at) ⌝ }
 {
     let r = next(new(job, at), low, limit);
-    Step {
+    Numbered {
         at: r.at,
         number: r.number,
         refusal: r.refusal,

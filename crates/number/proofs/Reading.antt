@@ -35,16 +35,16 @@ by-bytes at left a b c P unread one two three =
     (λ h. three (leb-false left 2 l₂) (ltb-false a 128 a₀) (eqb-false b 0 b₀) (ltb-false b 128 b₁) (eqb-false c 0 c₀) (ltb-true c 4 h)) (λ _. unread))))))))
 
 -- what is known of a number that was read, where a is the first of the bytes that are left
-pub record Taken (at left a n next : ℕ) : Type 0 where
+pub record KnownNumber (at left a n next : ℕ) : Type 0 where
   pub some : 0 < left
   pub on : at < next
   pub inside : next ≤ at + left
   pub value : n < 128 → n ≡ a
   pub after : n < 128 → next ≡ at + 1
 
-pub taken : (at left a b c n next : ℕ) → numberIn at left a b c ≡ Number n next → Taken at left a n next
-taken at left a b c n next =
-    by-bytes at left a b c (λ r. r ≡ Number n next → Taken at left a n next) (λ e. let z : _≡_ {A = ℕ} 0 1 = cc in absurd (omega arith))
+pub known-number : (at left a b c n next : ℕ) → numberIn at left a b c ≡ Number n next → KnownNumber at left a n next
+known-number at left a b c n next =
+    by-bytes at left a b c (λ r. r ≡ Number n next → KnownNumber at left a n next) (λ e. let z : _≡_ {A = ℕ} 0 1 = cc in absurd (omega arith))
     (λ l h e.
     let m : a ≡ n = cc in
     let z : at + 1 ≡ next = cc in

@@ -20,14 +20,14 @@ pub record Bounds (cert : List ℕ) (variables states : ℕ) : Type 0 where
 -- ---- the table of the members' first places
 
 -- what comes after a value that was read; nothing after a refusal
-abbrev pub unlessRefused : {A : Type 0} → Parsed A → (ℕ → List ℕ) → List ℕ
-unlessRefused (parsed x next) rest = rest next
-unlessRefused (fault number place) rest = []
+abbrev pub placesAfter : {A : Type 0} → Parsed A → (ℕ → List ℕ) → List ℕ
+placesAfter (parsed x next) rest = rest next
+placesAfter (fault number place) rest = []
 
 -- the places at which so many values are read, one after the other; where one is refused, its place is the last
 unfoldable pub placesRead : {A : Type 0} → ℕ → Parser A → ℕ → List ℕ
 placesRead zero p at = []
-placesRead (suc left) p at = at ∷ unlessRefused (p at) (placesRead left p)
+placesRead (suc left) p at = at ∷ placesAfter (p at) (placesRead left p)
 
 abbrev pub placesOf : Parsed (List ℕ) → List ℕ
 placesOf (parsed places next) = places

@@ -44,17 +44,17 @@ use denote.Triple.Walked.{says, Stays, stay-none, walkOf, goes-none, Walks, ends
 use denote.Exit.{yes}
 use denote.Triple.Clauses.{ensured, lasts}
 use Rattle.format.specs.Parser.{jobBuffer, ranged}
-use Rattle.jobreader.specs.Reader.{stepOf, readOn}
+use Rattle.jobreader.specs.Reader.{numberedOf, readOn}
 use Rattle.jobreader.specs.declared.Reader.{Reader}
-use Rattle.jobreader.specs.declared.Step.{Step}
+use Rattle.jobreader.specs.declared.Numbered.{Numbered}
 use Rattle.jobreader.proofs.Reader as T
 use Rattle.jobreader.proofs.Reader.Laws as T′
-use Rattle.jobreader.proofs.Step as S
-use Rattle.jobreader.proofs.Step.Laws as S′
-use Rattle.jobreader.proofs.read_on as step
-use Rattle.jobreader.proofs.read_on.Symbol as step-def
+use Rattle.jobreader.proofs.Numbered as S
+use Rattle.jobreader.proofs.Numbered.Laws as S′
+use Rattle.jobreader.proofs.read_on as read-on
+use Rattle.jobreader.proofs.read_on.Symbol as read-on-def
 use Rattle.jobreader.proofs.read_on.Symbol.{name as #jobreader·read-on}
-use Rattle.jobreader.proofs.read_on.Met as step-thm
+use Rattle.jobreader.proofs.read_on.Met as read-on-thm
 use Rattle.jobreader.proofs.next.Key.{name as #jobreader·next}
 use Rattle.jobreader.proofs.next as next
 use Rattle.jobreader.proofs.next.Statement as stated
@@ -70,7 +70,7 @@ stayed = (stay-none B yes, (stay-none (λ _. usize) yes, (stay-none (λ _. usize
 module _ {M : Type 1} (𝓤 : URA M) (H : Heap 𝓤) (A : Atoms 𝓤) (mem : Memory → SProp 𝓤) (run : Routine → Fun 𝓤) where
   -- the contract that the proof cites
   abbrev ReadOn : Contract 𝓤
-  ReadOn = tripleOf 𝓤 H A step.signature (step.spec 𝓤 H A mem run)
+  ReadOn = tripleOf 𝓤 H A read-on.signature (read-on.spec 𝓤 H A mem run)
 
 module _ {M : Type 1} (𝓤 : URA M) (H : Heap 𝓤) (A : Atoms 𝓤) (W : Given 𝓤 H A) (mem : Memory → SProp 𝓤) (run : Routine → Fun 𝓤) (κ : Lft) (q : Share) (d : Reader) (low limit : ℕ) (low-ok : low < 2 ^ 64) (limit-ok : limit < 2 ^ 64) where
   abbrev mach : Val
@@ -89,8 +89,8 @@ module _ {M : Type 1} (𝓤 : URA M) (H : Heap 𝓤) (A : Atoms 𝓤) (W : Given
   abbrev at : Vals next.signature (κ, tt)
   at = (mach ∷ [], (vint w64 low ∷ [], (vint w64 limit ∷ [], tt)))
 
-  abbrev found : Step
-  found = stepOf (readOn (d .at) (d .refusal) (ranged (jobBuffer (now (d .src))) low limit))
+  abbrev found : Numbered
+  found = numberedOf (readOn (d .at) (d .refusal) (ranged (jobBuffer (now (d .src))) low limit))
 
   abbrev Post : Val → SProp 𝓤
   Post = walkOf 𝓤 H A next.ended stayed (next.clauses 𝓤 H A mem run) .post (((κ, tt), (q, tt), tt, a, at), tt)
@@ -109,7 +109,7 @@ module _ {M : Type 1} (𝓤 : URA M) (H : Heap 𝓤) (A : Atoms 𝓤) (W : Given
   vd = (d .src, (d .at, (d .number, (d .refusal, tt))))
 
   -- the struct that is made of the slice and of what the callee gives
-  abbrev moved : Step → Reader
+  abbrev moved : Numbered → Reader
   moved r = record { src = d .src; at = r .at; number = r .number; refusal = r .refusal }
 
   -- what the callee is passed
@@ -119,13 +119,13 @@ module _ {M : Type 1} (𝓤 : URA M) (H : Heap 𝓤) (A : Atoms 𝓤) (W : Given
   abbrev args : Args
   args = (d .src, (d .at, (d .refusal, (low, (limit, tt)))))
 
-  abbrev passed : Vals step.signature (κ, tt)
+  abbrev passed : Vals read-on.signature (κ, tt)
   passed = (v ∷ [], (vint w64 (d .at) ∷ [], (vint w64 (d .refusal) ∷ [], (vint w64 low ∷ [], (vint w64 limit ∷ [], tt)))))
 
   abbrev to : ReadOn 𝓤 H A mem run .Ghost
   to = (((κ, tt), (q, tt), tt, args, passed), tt)
 
-  asked : ent 𝓤 (onEntry 𝓤 H A step.signature (κ, tt) (q, tt) args passed) (ReadOn 𝓤 H A mem run .pre to)
+  asked : ent 𝓤 (onEntry 𝓤 H A read-on.signature (κ, tt) (q, tt) args passed) (ReadOn 𝓤 H A mem run .pre to)
   asked = qed W ((‵ (flft κ q) ⊛ ‵ ftrue) ∷ ‵ (owns (ShrSlice (named 0) κ u8 ∷ usize ∷ usize ∷ usize ∷ usize ∷ []) args passed) ∷ []) ∵ join ! $ frame ! $ done !
 
   -- what the struct owns gives what the callee asks, and is kept
@@ -140,17 +140,17 @@ module _ {M : Type 1} (𝓤 : URA M) (H : Heap 𝓤) (A : Atoms 𝓤) (W : Given
       move ! (2 ∷ 0 ∷ []) $ use2 W (raw (ReadOn 𝓤 H A mem run .pre to)) asked $ frame ! $ done !)
 
   -- of the callee's `ensured`, the clause alone: it has no `&mut`, so what is said of last values is dropped
-  said : (r : Step) → ent 𝓤 (ensured 𝓤 H A step.ended (step.clauses 𝓤 H A mem run) (κ, tt) args tt r) (fact 𝓤 (r ≡ found))
-  said r = exE 𝓤 _ (λ ws. snd∗ 𝓤 (sem 𝓤 H A (lasts step.ended (κ, tt) args ws)) (fact 𝓤 (r ≡ found)))
+  said : (r : Numbered) → ent 𝓤 (ensured 𝓤 H A read-on.ended (read-on.clauses 𝓤 H A mem run) (κ, tt) args tt r) (fact 𝓤 (r ≡ found))
+  said r = exE 𝓤 _ (λ ws. snd∗ 𝓤 (sem 𝓤 H A (lasts read-on.ended (κ, tt) args ws)) (fact 𝓤 (r ≡ found)))
 
   -- the numbers that the callee gives fit
-  abbrev Fits : Step → Type 0
+  abbrev Fits : Numbered → Type 0
   Fits r = (r .at < 2 ^ 64) × (r .number < 2 ^ 64) × (r .refusal < 2 ^ 64)
 
-  fits : (r : Step) (u : Val) → Is S.the-row r (u ∷ []) → Fits r
+  fits : (r : Numbered) (u : Val) → Is S.the-row r (u ∷ []) → Fits r
   fits r u is = let o = LL.owed S.the-type S′.the-laws r _ is in (o .0 .1, o .1 .0 .1, o .1 .1 .0 .1)
 
-  exits : (r : Step) → r ≡ found → Fits r → ent 𝓤 (⋆ 𝓤 H A ((‵ (flft κ q) ⊛ ‵ ftrue) ∷ ‵ Own ∷ [])) (Post (T′.lowered (moved r)))
+  exits : (r : Numbered) → r ≡ found → Fits r → ent 𝓤 (⋆ 𝓤 H A ((‵ (flft κ q) ⊛ ‵ ftrue) ∷ ‵ Own ∷ [])) (Post (T′.lowered (moved r)))
   exits r e ok =
       qed W ((‵ (flft κ q) ⊛ ‵ ftrue) ∷ ‵ Own ∷ []) ∵
       suffices ! _ (ends-at 𝓤 H A next.ended stayed (next.clauses 𝓤 H A mem run) W (((κ, tt), (q, tt), tt, a, at), tt) (T′.lowered (moved r)) (moved r) (tt, (tt, (tt, tt))) (tt, (tt, (tt, tt)))) $ says ! (refl, e) $
@@ -173,7 +173,7 @@ module _ {M : Type 1} (𝓤 : URA M) (H : Heap 𝓤) (A : Atoms 𝓤) (W : Given
         assigns ! (of-opd ! (load ! (from ! (fld ! refl (stop !))) (look-in ! 14 (sub ! 3 refl (whole !))))) (from ! (stop !)) (init ! 2 refl (tt, wt .1 .1 .1 .1 .0)) $
         move ! (18 ∷ []) $ use1 W (raw (ReadOn 𝓤 H A mem run .pre to) ⊛ ‵ Own) (apart (wt .1 .1 .0 .fits) (wt .1 .1 .1 .1 .0 .fits)) $ split ! $
         calls-at ! fm (ReadOn 𝓤 H A mem run) known to (and-then ! (load ! (from ! (stop !)) (look ! 8 refl)) (and-then ! (load ! (from ! (stop !)) (look ! 6 refl)) (and-then ! (load ! (from ! (stop !)) (look ! 4 refl)) (and-then ! (load ! (from ! (stop !)) (look ! 14 refl)) (and-then ! (load ! (from ! (stop !)) (look ! 12 refl)) (no-more !)))))) (λ u.
-        use1 W (later (some (λ (r : Step). ((‵ (flft κ q) ⊛ ‵ ftrue) ⊛ ‵ (S.the-row .own r (u ∷ []))) ⊛ raw (ensured 𝓤 H A step.ended (step.clauses 𝓤 H A mem run) (κ, tt) args tt r)))) (id⊢ 𝓤 _) $ await ! tt $ pick ! (λ r.
+        use1 W (later (some (λ (r : Numbered). ((‵ (flft κ q) ⊛ ‵ ftrue) ⊛ ‵ (S.the-row .own r (u ∷ []))) ⊛ raw (ensured 𝓤 H A read-on.ended (read-on.clauses 𝓤 H A mem run) (κ, tt) args tt r)))) (id⊢ 𝓤 _) $ await ! tt $ pick ! (λ r.
         split ! $ move ! (1 ∷ []) $ use1 W (raw (fact 𝓤 (r ≡ found))) (said r) $ heard ! (r ≡ found) (λ e. split ! $ move ! (1 ∷ []) $
         -- [the result; the token; what the struct owns; _8; …; _7; …; _6; …; _5; …; room for _4; …; _3; …; _2; …; _1; …; room for _0; …]
         peeks ! S.the-row (Is S.the-row) (shows 𝓤 H A S.the-row) r (u ∷ []) (λ is.
@@ -194,8 +194,8 @@ module _ {M : Type 1} (𝓤 : URA M) (H : Heap 𝓤) (A : Atoms 𝓤) (W : Given
 next-meets : {M : Type 1} (𝓤 : URA M) (H : Heap 𝓤) (A : Atoms 𝓤) (W : Given 𝓤 H A) (mem : Memory → SProp 𝓤) (run : Routine → Fun 𝓤) (𝓣 : Tables 𝓤 H)
     → Triple 𝓤 (𝓣 .C #jobreader·read-on) (ReadOn 𝓤 H A mem run)
     → Meets 𝓤 H A next.signature (WpFn 𝓤 H (𝓣 .C) (𝓣 .Λ) code.function) (next.spec 𝓤 H A mem run)
-next-meets 𝓤 H A W mem run 𝓣 known-step = walk-meets 𝓤 H A next.ended stayed W (goes-none 𝓤 H A W 1 B yes (λ κs x f. refl), (goes-none 𝓤 H A W 1 (λ _. usize) yes (λ κs x f. refl), (goes-none 𝓤 H A W 1 (λ _. usize) yes (λ κs x f. refl), tt))) (next.clauses 𝓤 H A mem run) (WpFn 𝓤 H (𝓣 .C) (𝓣 .Λ) code.function) (WpFn-mono 𝓤 H (W .laws) 𝓣 code.function)
-    (next-walks 𝓤 H A W mem run (𝓣 .C) (𝓣 .Λ) (fmOf 𝓤 H (W .laws) 𝓣) known-step)
+next-meets 𝓤 H A W mem run 𝓣 known-read-on = walk-meets 𝓤 H A next.ended stayed W (goes-none 𝓤 H A W 1 B yes (λ κs x f. refl), (goes-none 𝓤 H A W 1 (λ _. usize) yes (λ κs x f. refl), (goes-none 𝓤 H A W 1 (λ _. usize) yes (λ κs x f. refl), tt))) (next.clauses 𝓤 H A mem run) (WpFn 𝓤 H (𝓣 .C) (𝓣 .Λ) code.function) (WpFn-mono 𝓤 H (W .laws) 𝓣 code.function)
+    (next-walks 𝓤 H A W mem run (𝓣 .C) (𝓣 .Λ) (fmOf 𝓤 H (W .laws) 𝓣) known-read-on)
 
 pub next-spec : {M : Type 1} → stated.statement M
 unfolding code.routine tablesOf
@@ -203,4 +203,4 @@ next-spec 𝓤 H 𝓜 𝓖 𝓡 =
     entered 𝓤 H (tripleOf 𝓤 H (𝓖 .A) next.signature (next.spec 𝓤 H (𝓖 .A) (𝓜 .mem) (𝓡 .run)))
     (tables 𝓤 H 𝓜 𝓡 code.env .C) (tables 𝓤 H 𝓜 𝓡 code.env .Λ) #jobreader·next code.function (code.unfolded 𝓤 H 𝓜 𝓡)
     (next-meets 𝓤 H (𝓖 .A) (givenOf 𝓤 H 𝓜 𝓖) (𝓜 .mem) (𝓡 .run) (tablesOf 𝓤 H 𝓜 (tables 𝓤 H 𝓜 𝓡 code.env))
-    (cited 𝓤 H (ReadOn 𝓤 H (𝓖 .A) (𝓜 .mem) (𝓡 .run)) 𝓜 𝓡 code.env #jobreader·read-on step-def.routine code.calls-jobreader·read-on (step-thm.met 𝓤 H 𝓜 𝓖 𝓡)))
+    (cited 𝓤 H (ReadOn 𝓤 H (𝓖 .A) (𝓜 .mem) (𝓡 .run)) 𝓜 𝓡 code.env #jobreader·read-on read-on-def.routine code.calls-jobreader·read-on (read-on-thm.met 𝓤 H 𝓜 𝓖 𝓡)))

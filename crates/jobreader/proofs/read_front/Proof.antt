@@ -41,10 +41,10 @@ use denote.Triple.Walked.{says, Stays, stay-none-slice, walkOf, goes-none-slice,
 use denote.Exit.{yes}
 use denote.Triple.Clauses.{ensured}
 use Rattle.format.specs.Parser.{jobBuffer, ranged}
-use Rattle.jobreader.specs.Reader.{stepOf, stepAfter, stepIn, frontRead}
+use Rattle.jobreader.specs.Reader.{numberedOf, numberedAfter, numberedIn, frontRead}
 use Rattle.jobreader.specs.declared.Front.{Front}
 use Rattle.jobreader.specs.declared.Reader.{Reader}
-use Rattle.jobreader.specs.declared.Step.{Step}
+use Rattle.jobreader.specs.declared.Numbered.{Numbered}
 use Rattle.jobreader.proofs.Readers.{B, New, Next, OwnSlice, to-new, goes-new, NewSaid, new-said, to-next, goes-next, NextSaid, next-said, Fits, fits}
 use Rattle.jobreader.proofs.Reader as T
 use Rattle.jobreader.proofs.Reader.Laws as T′
@@ -83,10 +83,10 @@ module _ {M : Type 1} (𝓤 : URA M) (H : Heap 𝓤) (A : Atoms 𝓤) (W : Given
   made r₂ r₃ r₄ r₅ = record { variables = r₂ .number; states = r₃ .number; start = r₄ .number; transitions = r₅ .number; at = r₅ .at; refusal = r₅ .refusal }
 
   -- what a call of `next` says where the reader passed has the job, and what it read before is known
-  read-next : (r t : Reader) (low limit : ℕ) (x : Step) → r .src ≡ s → stepIn r ≡ x → stepIn t ≡ stepAfter (stepIn r) (ranged (jobBuffer (now (r .src))) low limit)
-      → stepIn t ≡ stepAfter x (ranged (jobBuffer (now s)) low limit)
+  read-next : (r t : Reader) (low limit : ℕ) (x : Numbered) → r .src ≡ s → numberedIn r ≡ x → numberedIn t ≡ numberedAfter (numberedIn r) (ranged (jobBuffer (now (r .src))) low limit)
+      → numberedIn t ≡ numberedAfter x (ranged (jobBuffer (now s)) low limit)
   read-next r t low limit x src-is r-is e =
-      e ∙ ap (λ (y : RefT (List ℕ)). stepAfter (stepIn r) (ranged (jobBuffer (now y)) low limit)) src-is ∙ ap (λ (y : Step). stepAfter y (ranged (jobBuffer (now s)) low limit)) r-is
+      e ∙ ap (λ (y : RefT (List ℕ)). numberedAfter (numberedIn r) (ranged (jobBuffer (now y)) low limit)) src-is ∙ ap (λ (y : Numbered). numberedAfter y (ranged (jobBuffer (now s)) low limit)) r-is
 
   -- what the six calls say together
   told : (r₀ : Reader) (u₀ : Val) (r₁ : Reader) (u₁ : Val) (r₂ : Reader) (u₂ : Val) (r₃ : Reader) (u₃ : Val) (r₄ : Reader) (u₄ : Val) (r₅ : Reader)
@@ -95,20 +95,20 @@ module _ {M : Type 1} (𝓤 : URA M) (H : Heap 𝓤) (A : Atoms 𝓤) (W : Given
   unfolding frontRead
   told r₀ u₀ r₁ u₁ r₂ u₂ r₃ u₃ r₄ u₄ r₅ (s₀, at-first, _, none) (s₁, e₁) (s₂, e₂) (s₃, e₃) (s₄, e₄) (s₅, e₅) =
       let p = ranged (jobBuffer (now s)) in
-      let version : Step = stepOf (p 1 2 0) in
-      let variables : Step = stepAfter version (p 1 9) in
-      let states : Step = stepAfter variables (p 1 65) in
-      let start : Step = stepAfter states (p 0 (states .number)) in
-      let transitions : Step = stepAfter start (p 0 257) in
+      let version : Numbered = numberedOf (p 1 2 0) in
+      let variables : Numbered = numberedAfter version (p 1 9) in
+      let states : Numbered = numberedAfter variables (p 1 65) in
+      let start : Numbered = numberedAfter states (p 0 (states .number)) in
+      let transitions : Numbered = numberedAfter start (p 0 257) in
       let z₁ : r₁ .src ≡ s = s₁ ∙ s₀ in
       let z₂ : r₂ .src ≡ s = s₂ ∙ z₁ in
       let z₃ : r₃ .src ≡ s = s₃ ∙ z₂ in
       let z₄ : r₄ .src ≡ s = s₄ ∙ z₃ in
-      let q₁ : stepIn r₁ ≡ version = read-next r₀ r₁ 1 2 (stepIn r₀) s₀ refl e₁ ∙ rw (at-first, none) refl in
-      let q₂ : stepIn r₂ ≡ variables = read-next r₁ r₂ 1 9 version z₁ q₁ e₂ in
-      let q₃ : stepIn r₃ ≡ states = read-next r₂ r₃ 1 65 variables z₂ q₂ e₃ in
-      let q₄ : stepIn r₄ ≡ start = read-next r₃ r₄ 0 (r₃ .number) states z₃ q₃ e₄ ∙ ap (λ (n : ℕ). stepAfter states (p 0 n)) (ap (λ (x : Step). x .number) q₃) in
-      let q₅ : stepIn r₅ ≡ transitions = read-next r₄ r₅ 0 257 start z₄ q₄ e₅ in
+      let q₁ : numberedIn r₁ ≡ version = read-next r₀ r₁ 1 2 (numberedIn r₀) s₀ refl e₁ ∙ rw (at-first, none) refl in
+      let q₂ : numberedIn r₂ ≡ variables = read-next r₁ r₂ 1 9 version z₁ q₁ e₂ in
+      let q₃ : numberedIn r₃ ≡ states = read-next r₂ r₃ 1 65 variables z₂ q₂ e₃ in
+      let q₄ : numberedIn r₄ ≡ start = read-next r₃ r₄ 0 (r₃ .number) states z₃ q₃ e₄ ∙ ap (λ (n : ℕ). numberedAfter states (p 0 n)) (ap (λ (x : Numbered). x .number) q₃) in
+      let q₅ : numberedIn r₅ ≡ transitions = read-next r₄ r₅ 0 257 start z₄ q₄ e₅ in
       λ i. record { variables = q₂ i .number; states = q₃ i .number; start = q₄ i .number; transitions = q₅ i .number; at = q₅ i .at; refusal = q₅ i .refusal }
 
   exits : (r₂ r₃ r₄ r₅ : Reader) → made r₂ r₃ r₄ r₅ ≡ frontRead (jobBuffer (now s)) → r₂ .number < 2 ^ 64 → r₃ .number < 2 ^ 64 → r₄ .number < 2 ^ 64 → Fits 𝓤 H A W mem run κ q r₅

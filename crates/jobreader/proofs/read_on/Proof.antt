@@ -2,7 +2,7 @@
 use mathlib.Core.Path.{sym, _∙_}
 use native.Mathlib.Omega.{arith}
 use Rattle.format.specs.Parser.{jobBuffer, ranged}
-use Rattle.jobreader.proofs.Steps.{refused-before, unread, outside, value}
+use Rattle.jobreader.proofs.OneNumber.{refused-before, unread, outside, value}
 use borrow.Author.Needs.{needs}
 use Rattle.jobreader.proofs.read_on.Statement.{statement}
 use Rattle.jobreader.proofs.read_on.Tie as tie
