@@ -3,6 +3,7 @@
 # make lib                          target/staticlib/libvorruda.a, for hosts to link
 # make install PREFIX=/usr/local    header, library and pkg-config file; DESTDIR is honoured
 # make try ROUTINE=name-or-file     from a routine as text to a verdict; without ROUTINE, the routines there are
+# make report ROUTINE=name-or-file  a page to look at; without ROUTINE, or with a folder, a table and a page for each routine
 # make bench                        the benchmarks
 
 export PATH := $(PATH):/opt/rattle/bin
@@ -10,7 +11,7 @@ export PATH := $(PATH):/opt/rattle/bin
 PREFIX ?= /usr/local
 export PREFIX DESTDIR
 
-.PHONY: run test lib install try bench
+.PHONY: run test lib install try report bench
 
 run:
 	@scripts/run.sh
@@ -30,6 +31,10 @@ install:
 try:
 	@scripts/lib.sh
 	@scripts/tool.sh try $(ROUTINE) || [ $$? -eq 1 ]
+
+report:
+	@scripts/lib.sh
+	@scripts/tool.sh report $(ROUTINE)
 
 bench:
 	@scripts/lib.sh

@@ -14,6 +14,7 @@ pub mod library;
 pub mod pairs;
 pub mod random;
 pub mod reference;
+pub mod report;
 pub mod routine;
 pub mod search;
 pub mod stack;

@@ -2,15 +2,10 @@
 
 /// A whole number with commas.
 pub fn thousands(number: u64) -> String {
-    let digits = number.to_string();
-    let mut text = String::new();
-    for (index, digit) in digits.chars().enumerate() {
-        if index > 0 && (digits.len() - index) % 3 == 0 {
-            text.push(',');
-        }
-        text.push(digit);
-    }
-    text
+    let digits: Vec<char> = number.to_string().chars().collect();
+    let groups = digits.rchunks(3).rev();
+    let groups: Vec<String> = groups.map(|group| group.iter().collect()).collect();
+    groups.join(",")
 }
 
 /// A count with its noun, which is in the plural unless there is one.
