@@ -2,6 +2,10 @@
  * certificates.
  *
  *   gcc -std=c11 -Wall -Wextra -Werror -Iinclude examples/host.c target/staticlib/libvorruda.a
+ *
+ * or, where the library is installed,
+ *
+ *   gcc -std=c11 -Wall -Wextra -Werror examples/host.c $(pkg-config --cflags --libs vorruda)
  */
 #include <stdio.h>
 #include <string.h>

@@ -24,9 +24,12 @@
 //! [`sets`].
 
 mod mistake;
+mod names;
+mod operation_text;
 mod parse;
 pub mod sets;
 mod shape_text;
+mod words;
 
 pub use mistake::Mistake;
 pub use parse::parse;
@@ -42,6 +45,19 @@ pub struct Routine {
     pub variables: Vec<String>,
     pub states: Vec<String>,
     pub job: Job,
+    /// Where each of the job's forbidden shapes comes from.
+    pub origins: Vec<Origin>,
+    /// What is allowed but may be misspelt.
+    pub warnings: Vec<Mistake>,
+}
+
+/// The line that forbids a shape.
+#[derive(Clone, Debug, PartialEq, Eq)]
+pub struct Origin {
+    /// From 1.
+    pub line: usize,
+    /// What stands there behind the state.
+    pub text: String,
 }
 
 impl Routine {
@@ -63,6 +79,7 @@ impl Routine {
 pub fn words<'a>(operation: Operation, name: impl Fn(usize) -> &'a str) -> String {
     let (a, b) = (name(operation.a), name(operation.b));
     match operation.kind {
+        EQUAL if operation.a == 0 && operation.b == 0 => "skip".to_string(),
         EQUAL => format!("{a} = {b}"),
         DIFFERENT => format!("{a} != {b}"),
         ASSIGN => format!("{a} := {b}"),
