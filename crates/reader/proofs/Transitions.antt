@@ -1,19 +1,16 @@
 -- Reading a transition, number after number, by the columns of the table of kinds.
 use mathlib.Core.Bool.{Bool, _&&_}
-use mathlib.Core.List.{List, [], _∷_}
 use mathlib.Core.Logic.{inl, inr}
 use mathlib.Core.Option.{none, some}
 use mathlib.Core.Path.{_≡_, refl, sym, ap, _∙_}
-use Prim.Native.Nat.{ℕ, zero, suc, _+_, _≤_, _<_}
-use native.Mathlib.Decide.{decLe}
+use Prim.Native.Nat.{ℕ, _+_}
 use native.Mathlib.Omega.{arith}
 use lib.Dec.{leb, ltb}
-use lib.ListN.{length, getElem?}
 use Rattle.lists.proofs.Reflect.{r-le, r-lt, r-and, same-test, cond-true}
-use Rattle.heap.specs.Operation.{Kind, kinds, kindOf, allowsA, allowsB}
+use Rattle.heap.specs.Operation.{Kind, kindOf, allowsA, allowsB}
 use Rattle.run.specs.Run.{Transition}
 use Rattle.kinds.specs.Kinds.{leastA, leastB, mostB}
-use Rattle.kinds.proofs.Rows.{no-kind, most-b-all, most-b-none}
+use Rattle.kinds.proofs.Rows.{is-kind, no-kind}
 use Rattle.format.specs.Job.{readTransition}
 use Rattle.format.specs.Parser.{parsed, fault, Buffer, within, such, meant, readAs, ranged}
 use Rattle.format.proofs.Parsing.{read-complete, read-outside, read-fault, Faulty, ranged-exact}
@@ -23,21 +20,11 @@ use Rattle.reader.proofs.Many.{without-value-made}
 
 -- ---- a kind
 
--- a number below a list's length has an element
-element : {A : Type 0} (l : List A) (i : ℕ) → i < length l → (x : A) × (getElem? l i ≡ some x)
-element [] i h = absurd (omega arith)
-element (x ∷ l) zero h = (x, refl)
-element (x ∷ l) (suc i) h = element l i (omega arith)
-
-row-of : (k : ℕ) → 1 ≤ k → k < 8 → (row : Kind) × (kindOf k ≡ some row)
-row-of zero l h = absurd (omega arith)
-row-of (suc k) l h = element kinds k (omega arith)
-
 module _ (s : Buffer) (at : ℕ) where
   pub kind-got : (kind next : ℕ) → ranged s 1 8 at ≡ parsed kind next → (row : Kind) × (kindOf kind ≡ some row) × (readAs s kindOf at ≡ parsed row next)
   kind-got kind next e =
       let (g, (l, h)) = ranged-exact s 1 8 .sound at kind next e in
-      let (row, r) = row-of kind l h in
+      let (row, r) = is-kind kind l (omega arith) in
       (row, r, read-complete s kindOf at kind next row (reads-one g) r)
 
   pub kind-lost : (number place : ℕ) → ranged s 1 8 at ≡ fault number place → readAs s kindOf at ≡ fault number place
@@ -55,14 +42,6 @@ module _ (s : Buffer) (at : ℕ) where
           ∙ cc
 
 -- ---- an operand
-
-pub most-bound : (kind n : ℕ) → mostB kind n ≤ n
-most-bound kind n = go (decLe 1 kind) (decLe kind 5)
-  where
-    go : Dec (1 ≤ kind) → Dec (kind ≤ 5) → mostB kind n ≤ n
-    go (yes l) (yes h) = omega (arith, most-b-all kind n l h)
-    go (yes l) (no h) = omega (arith, most-b-none kind n (λ p q. h q))
-    go (no l) d = omega (arith, most-b-none kind n (λ p q. l p))
 
 most-limit : (a n : ℕ) → leb a n ≡ ltb a (n + 1)
 most-limit a n = same-test (r-le a n) (r-lt a (n + 1)) (λ h. omega arith) (λ h. omega arith)
