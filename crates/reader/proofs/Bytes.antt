@@ -28,10 +28,6 @@ module _ (s : List ℕ) (at n next : ℕ) (g : numberAt s at ≡ Number n next) 
   number-inside = let t = number-known in omega (arith, t .some, t .inside)
 
 module _ {s : List ℕ} where
-  pub reads-inside : {at next : ℕ} {ns : List ℕ} → Reads s at ns next → at ≤ length s → next ≤ length s
-  reads-inside done h = h
-  reads-inside {at} (more {n = n} {mid = mid} g r) h = reads-inside r (number-inside s at n mid g)
-
   -- numbers below 128 are as many bytes
   pub reads-bytes : {at next : ℕ} {ns : List ℕ} → Reads s at ns next → AllBelow 128 ns → (ns ≡ take (length ns) (drop at s)) × (next ≡ at + length ns)
   reads-bytes done small = (refl, omega arith)

@@ -13,11 +13,11 @@ use Rattle.format.specs.Job.{readLocated}
 use Rattle.format.specs.Parser.{Parsed, parsed, fault, Parser, onward, Buffer, certificateBuffer, many, ranged}
 use Rattle.format.proofs.Covers.{members-sound}
 use Rattle.format.proofs.Parsing.{then, ranged-exact}
-use Rattle.format.proofs.Sequence.{reads-one}
+use Rattle.format.proofs.Sequence.{reads-one, reads-inside}
 use Rattle.layout.specs.Entries.{locatedAt, EntryInRange, entryEnd, placesAt, EntriesIn}
 use Rattle.reader.specs.Members.{Bounds, placesRead, memberPlaces, noted, tested, readTested, MembersRead}
 use Rattle.reader.specs.Number.{withoutValue}
-use Rattle.reader.proofs.Bytes.{reads-inside, number-inside}
+use Rattle.reader.proofs.Bytes.{number-inside}
 use Rattle.reader.proofs.Many.{remembered, without-value-fault, without-value-made, many-length, Left, left-none, left-more}
 use Rattle.reader.proofs.Standing.{MembersAre, members-read}
 use Rattle.reader.proofs.Testing.{tested-place, tested-same}

@@ -20,11 +20,11 @@ use Rattle.format.specs.Job.{readLocated, readTransition}
 use Rattle.format.specs.Parser.{parsed, many, Buffer}
 use Rattle.format.proofs.Files.{in-table, op-numbers, located-exact, transition-exact}
 use Rattle.format.proofs.Parsing.{then}
-use Rattle.format.proofs.Sequence.{Reads, reads-first, reads-one, reads-split}
+use Rattle.format.proofs.Sequence.{Reads, reads-first, reads-one, reads-split, reads-inside}
 use Rattle.layout.specs.Entries.{locatedAt, EntryInRange, entryEnd, entriesAt, placesAt, EntriesIn}
 use Rattle.layout.specs.Transitions.{opOf, transitionAt}
 use Rattle.reader.specs.Job.{TransitionIn}
-use Rattle.reader.proofs.Bytes.{Single, single, reads-inside, reads-bytes}
+use Rattle.reader.proofs.Bytes.{Single, single, reads-bytes}
 
 -- ---- an entry by the place after its state
 

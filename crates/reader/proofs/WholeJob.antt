@@ -10,7 +10,7 @@ use Rattle.format.specs.JobNumbers.{JobFile}
 use Rattle.format.specs.Parser.{Parsed, parsed, fault, Parser, onward, _>>=_, _>>_, return, many, jobBuffer, ranged, end}
 use Rattle.format.proofs.Files.{located-exact, transition-exact, job-exact, whole-sound, end-sound, end-complete}
 use Rattle.format.proofs.Parsing.{then, many-exact, ranged-exact}
-use Rattle.format.proofs.Sequence.{reads-one}
+use Rattle.format.proofs.Sequence.{reads-one, reads-inside}
 use Rattle.jobreader.proofs.FrontNumbers.{readFront}
 use Rattle.jobreader.specs.declared.Front.{Front}
 use Rattle.reader.specs.Job.{readRest, RestAnswered, JobRead, JobAnswered}
@@ -18,7 +18,7 @@ use Rattle.reader.specs.Number.{withoutValue}
 use Rattle.reader.specs.declared.Header.{Header}
 use Rattle.reader.specs.declared.JobAnswer.{JobAnswer}
 use Rattle.reader.specs.declared.JobAnswer.the-variants.{Job, Refused}
-use Rattle.reader.proofs.Bytes.{reads-inside, number-inside}
+use Rattle.reader.proofs.Bytes.{number-inside}
 use Rattle.reader.proofs.Jobs.{front-place}
 use Rattle.reader.proofs.Many.{remembered, without-value-fault, without-value-onward, bind-assoc}
 use Rattle.reader.proofs.Standing.{entries-read, transitions-read}
