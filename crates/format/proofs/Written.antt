@@ -88,7 +88,7 @@ small-op : (n : ℕ) (o : Op) → n ≤ 8 → Allowed n o → Small (opNumbers o
 small-op n (equal a b) h (p, q) = (omega arith, (omega arith, (omega arith, tt)))
 small-op n (different a b) h (p, q) = (omega arith, (omega arith, (omega arith, tt)))
 small-op n (assign a b) h (z, p, q) = (omega arith, (omega arith, (omega arith, tt)))
-small-op n (load a b) h (z, p, q) = (omega arith, (omega arith, (omega arith, tt)))
+small-op n (load a b) h (z, _, p, q) = (omega arith, (omega arith, (omega arith, tt)))
 small-op n (store a b) h (z, p, q) = (omega arith, (omega arith, (omega arith, tt)))
 small-op n (new a) h (z, p) = (omega arith, (omega arith, (omega arith, tt)))
 small-op n (delete a) h (z, p) = (omega arith, (omega arith, (omega arith, tt)))
