@@ -25,7 +25,7 @@ use Rattle.format.proofs.Guarantee.{safe-bytes, one-job}
 use Rattle.format.proofs.Sequence.{reads-decode}
 use Rattle.format.proofs.Written.{written-job}
 use Rattle.forbidden.specs.Sets.{notList, lostBlock, atState, badStep, badStepsOf, stepsThrough, alsoForbid}
-use Rattle.forbidden.specs.Written.{ReadySet, not-list, lost-block, bad-steps, shapesOf, Guarantees, pointInside, isInside, withSet, written, refused, rewriteFile, rewriteRead, rewrite, Ready}
+use Rattle.forbidden.specs.Written.{ReadySet, not-list, lost-block, bad-steps, shapesOf, Guarantees, isInside, withSet, written, refused, rewriteFile, rewriteRead, rewrite, Ready}
 use Rattle.forbidden.proofs.InRange.{not-list-in-range, lost-in-range, standing-in-range}
 use Rattle.forbidden.proofs.Runs.{through-range, list-at, none-lost-at, steps-at-cells, also-forbids}
 
@@ -38,21 +38,21 @@ read-is job f next e =
 
 -- ---- the set in a job
 
--- the set asks for a variable and a state of the job
-abbrev pub Inside : ReadySet → JobFile → Type 0
-Inside (not-list x q) f = ((1 ≤ x) × (x < suc (f .job .variables))) × (q < f .states)
-Inside (lost-block x q) f = ((1 ≤ x) × (x < suc (f .job .variables))) × (q < f .states)
-Inside bad-steps f = Unit {0}
+-- the set asks for one of n variables and one of so many states
+abbrev pub Inside : ReadySet → ℕ → ℕ → Type 0
+Inside (not-list x q) n states = ((1 ≤ x) × (x < suc n)) × (q < states)
+Inside (lost-block x q) n states = ((1 ≤ x) × (x < suc n)) × (q < states)
+Inside bad-steps n states = Unit {0}
 
-r-point : (x q : ℕ) (f : JobFile) → Reflect (((1 ≤ x) × (x < suc (f .job .variables))) × (q < f .states)) (pointInside x q f)
-r-point x q f = r-and (r-and (r-le 1 x) (r-lt x (suc (f .job .variables)))) (r-lt q (f .states))
-
-pub r-inside : (set : ReadySet) (f : JobFile) → Reflect (Inside set f) (isInside set f)
-r-inside (not-list x q) f = r-point x q f
-r-inside (lost-block x q) f = r-point x q f
-r-inside bad-steps f = record { holds = λ t. t; tests = λ t. t }
+pub r-inside : (set : ReadySet) (n states : ℕ) → Reflect (Inside set n states) (isInside set n states)
+r-inside (not-list x q) n states = r-and (r-and (r-le 1 x) (r-lt x (suc n))) (r-lt q states)
+r-inside (lost-block x q) n states = r-and (r-and (r-le 1 x) (r-lt x (suc n))) (r-lt q states)
+r-inside bad-steps n states = record { holds = λ t. t; tests = λ t. t }
 
 module _ (f : JobFile) (ok : JobInRange f) where
+  abbrev shapes : ReadySet → List Located
+  shapes set = shapesOf set (f .job .variables) (f .job .transitions)
+
   operands : (t : Transition) → t ∈ f .job .transitions → Allowed (f .job .variables) (t .op)
   operands t i = let (kind, a, b, e) = ok .transitions t i .op in allowed (f .job .variables) kind a b (t .op) e
 
@@ -70,7 +70,7 @@ module _ (f : JobFile) (ok : JobInRange f) where
       subst (InRange (f .job .variables) 12) (sym (List·Memᴰ·eq-of-singleton i))
       (standing-in-range (f .job .variables) v 12 v≢0 v≤n (omega arith) dangling (omega arith) (omega arith))
 
-  pub set-in-range : (set : ReadySet) → Inside set f → (m : Located) → m ∈ shapesOf set (f .job) → LocatedInRange (f .job .variables) (f .states) m
+  pub set-in-range : (set : ReadySet) → Inside set (f .job .variables) (f .states) → (m : Located) → m ∈ shapes set → LocatedInRange (f .job .variables) (f .states) m
   set-in-range (not-list x q) ((a, b), c) m i =
       at-in-range q c (notList (f .job .variables) x) (not-list-in-range (f .job .variables) x 12 (omega arith) (omega arith) (omega arith)) m i
   set-in-range (lost-block x q) ((a, b), c) m i =
@@ -81,7 +81,7 @@ module _ (f : JobFile) (ok : JobInRange f) where
       let (v≢0, v≤n) = through-range (f .job .variables) (t .op) (operands t k) v n in
       at-in-range (t .from) (ok .transitions t k .from) (badStep (f .job .variables) v) (step-in-range v v≢0 v≤n) m o
 
-  module _ (set : ReadySet) (inside : Inside set f) where
+  module _ (set : ReadySet) (inside : Inside set (f .job .variables) (f .states)) where
     -- with the set it is a job still, if it does not forbid too many shapes
     pub with-in-range : length (withSet set f .job .forbidden) ≤ 64 → JobInRange (withSet set f)
     with-in-range few =
@@ -91,11 +91,11 @@ module _ (f : JobFile) (ok : JobInRange f) where
           start = ok .start;
           transitions-number = ok .transitions-number;
           transitions = ok .transitions;
-          forbidden-number = (omega (arith, ok .forbidden-number .0, length-append (f .job .forbidden) (shapesOf set (f .job))), few);
+          forbidden-number = (omega (arith, ok .forbidden-number .0, length-append (f .job .forbidden) (shapes set)), few);
           forbidden = λ m i. either m (List·Memᴰ·append-cases (f .job .forbidden) i);
         }
       where
-        either : (m : Located) → (m ∈ f .job .forbidden) ⊎ (m ∈ shapesOf set (f .job)) → LocatedInRange (f .job .variables) (f .states) m
+        either : (m : Located) → (m ∈ f .job .forbidden) ⊎ (m ∈ shapes set) → LocatedInRange (f .job .variables) (f .states) m
         either m (inl i) = ok .forbidden m i
         either m (inr i) = set-in-range set inside m i
 
@@ -103,15 +103,15 @@ module _ (f : JobFile) (ok : JobInRange f) where
     pub guaranteed : Safe (withSet set f .job) → Guarantees set (f .job)
     guaranteed safe = by-set set inside safe
       where
-        by-set : (set : ReadySet) → Inside set f → Safe (withSet set f .job) → Guarantees set (f .job)
+        by-set : (set : ReadySet) → Inside set (f .job .variables) (f .states) → Safe (withSet set f .job) → Guarantees set (f .job)
         by-set (not-list x q) ((a, b), c) safe =
-            let list = shapesOf (not-list x q) (f .job) in
+            let list = shapes (not-list x q) in
             list-at (alsoForbid list (f .job)) operands safe x q (omega arith) (omega arith) (also-forbids list (f .job))
         by-set (lost-block x q) ((a, b), c) safe =
-            let list = shapesOf (lost-block x q) (f .job) in
+            let list = shapes (lost-block x q) in
             none-lost-at (alsoForbid list (f .job)) operands safe x q (omega arith) (omega arith) (also-forbids list (f .job))
         by-set bad-steps _ safe =
-            let list = shapesOf bad-steps (f .job) in
+            let list = shapes bad-steps in
             steps-at-cells (alsoForbid list (f .job)) operands safe (also-forbids list (f .job))
 
 -- ---- over bytes
@@ -120,7 +120,7 @@ module _ (f : JobFile) (ok : JobInRange f) where
 pub record Wrote (job : List ℕ) (set : ReadySet) (bytes : List ℕ) : Type 0 where
   pub file : JobFile
   pub job-is : IsJob job file
-  pub inside : Inside set file
+  pub inside : Inside set (file .job .variables) (file .states)
   pub few : length (withSet set file .job .forbidden) ≤ 64
   pub bytes-are : bytes ≡ encode (jobNumbers (withSet set file))
 
@@ -128,10 +128,10 @@ module _ (job : List ℕ) (set : ReadySet) (room : ℕ) (bytes : List ℕ) where
   wrote-file : (f : JobFile) (next : ℕ) → readWholeJob (jobBuffer job) 0 ≡ parsed f next → rewriteFile set room f ≡ written bytes → Wrote job set bytes
   unfolding rewriteFile
   wrote-file f next e =
-      by-tests (isInside set f) (ltb 64 (length (withSet set f .job .forbidden))) (ltb room (length (encode (jobNumbers (withSet set f)))))
-      (r-inside set f .holds) (r-lt 64 (length (withSet set f .job .forbidden)) .tests)
+      by-tests (isInside set (f .job .variables) (f .states)) (ltb 64 (length (withSet set f .job .forbidden))) (ltb room (length (encode (jobNumbers (withSet set f)))))
+      (r-inside set (f .job .variables) (f .states) .holds) (r-lt 64 (length (withSet set f .job .forbidden)) .tests)
     where
-      by-tests : (a b c : Bool) → (T a → Inside set f) → (64 < length (withSet set f .job .forbidden) → T b)
+      by-tests : (a b c : Bool) → (T a → Inside set (f .job .variables) (f .states)) → (64 < length (withSet set f .job .forbidden) → T b)
           → cond (not a) (refused 16 0)
           (cond b (refused 31 0) (cond c (refused 12 (length (encode (jobNumbers (withSet set f))))) (written (encode (jobNumbers (withSet set f))))))
           ≡ written bytes

@@ -8,7 +8,7 @@ use lib.Dec.{ltb}
 use lib.ListN.{length, drop}
 use Rattle.number.specs.CallResult.{CallResult}
 use Rattle.number.specs.NumberList.{encode}
-use Rattle.run.specs.Run.{Located, Job}
+use Rattle.run.specs.Run.{Transition, Located, Job}
 use Rattle.format.specs.Job.{readWholeJob}
 use Rattle.format.specs.JobBytes.{IsJob}
 use Rattle.format.specs.JobNumbers.{JobFile, jobNumbers}
@@ -23,10 +23,11 @@ pub data ReadySet : Type 0 where
   lost-block : ℕ → ℕ → ReadySet
   bad-steps : ReadySet
 
-abbrev pub shapesOf : ReadySet → Job → List Located
-shapesOf (not-list x q) j = atState q (notList (j .variables) x)
-shapesOf (lost-block x q) j = atState q (lostBlock (j .variables) x)
-shapesOf bad-steps j = badSteps (j .variables) (j .transitions)
+-- its shapes, for n variables and these transitions
+abbrev pub shapesOf : ReadySet → ℕ → List Transition → List Located
+shapesOf (not-list x q) n ts = atState q (notList n x)
+shapesOf (lost-block x q) n ts = atState q (lostBlock n x)
+shapesOf bad-steps n ts = badSteps n ts
 
 -- what a job that forbids the set guarantees on every run
 abbrev pub Guarantees : ReadySet → Job → Type 0
@@ -34,18 +35,15 @@ Guarantees (not-list x q) j = ListAt j x q
 Guarantees (lost-block x q) j = NoneLostAt j x q
 Guarantees bad-steps j = StepsAtCells j
 
--- a variable of the job, and one of its states
-abbrev pub pointInside : ℕ → ℕ → JobFile → Bool
-pointInside x q f = within 1 (suc (f .job .variables)) x && ltb q (f .states)
-
-abbrev pub isInside : ReadySet → JobFile → Bool
-isInside (not-list x q) f = pointInside x q f
-isInside (lost-block x q) f = pointInside x q f
-isInside bad-steps f = true
+-- one of n variables and one of so many states are asked for
+abbrev pub isInside : ReadySet → ℕ → ℕ → Bool
+isInside (not-list x q) n states = within 1 (suc n) x && ltb q states
+isInside (lost-block x q) n states = within 1 (suc n) x && ltb q states
+isInside bad-steps n states = true
 
 -- the job with the set after its own
 abbrev pub withSet : ReadySet → JobFile → JobFile
-withSet set f = record { states = f .states; job = alsoForbid (shapesOf set (f .job)) (f .job) }
+withSet set f = record { states = f .states; job = alsoForbid (shapesOf set (f .job .variables) (f .job .transitions)) (f .job) }
 
 -- the bytes that are written, or the number of a refusal and the value told with it
 pub data Rewritten : Type 0 where
@@ -57,7 +55,7 @@ unfoldable pub rewriteFile : ReadySet → ℕ → JobFile → Rewritten
 rewriteFile set room f =
     let count = length (withSet set f .job .forbidden) in
     let bytes = encode (jobNumbers (withSet set f)) in
-    cond (not (isInside set f)) (refused 16 0)
+    cond (not (isInside set (f .job .variables) (f .states))) (refused 16 0)
     (cond (ltb 64 count) (refused 31 0)
     (cond (ltb room (length bytes)) (refused 12 (length bytes)) (written bytes)))
 
