@@ -116,11 +116,3 @@ module _ (h : Heap) (w : WellFormed h) (n x : ℕ) (x≢0 : x ≢ 0) (x≤n : x 
       go : (c : ℕ) → ¬ Meets h x c → SatisfiesOne h (lostBlock n x) ⊎ Meets h x c → SatisfiesOne h (lostBlock n x)
       go c o (inl s) = s
       go c o (inr m) = absurd (o m)
-
-  -- so it can be decided
-  pub null-met? : Dec (Meets h x null)
-  null-met? = go four-or-met
-    where
-      go : SatisfiesOne h (notList n x) ⊎ Meets h x null → Dec (Meets h x null)
-      go (inl s) = no (four-unmet s)
-      go (inr m) = yes m

@@ -1,12 +1,12 @@
 -- What is written is a job, with the set after its own, and what its acceptance guarantees.
 use mathlib.Core.Bool.{Bool, true, false, cond, not}
-use mathlib.Core.List.{List, List·Memᴰ·append-cases, List·Memᴰ·head, List·Memᴰ·tail, List·Memᴰ·eq-of-singleton, Memᴰ·of-map}
+use mathlib.Core.List.{List, [], _∷_, _++_, List·Memᴰ·append-cases, List·Memᴰ·head, List·Memᴰ·tail, List·Memᴰ·eq-of-singleton, Memᴰ·of-map}
 use mathlib.Core.Logic.{_≢_, _⊎_, inl, inr}
-use mathlib.Core.Path.{_≡_, refl, sym, subst}
+use mathlib.Core.Path.{_≡_, refl, sym, ap, _∙_, subst}
 use Prim.Native.Nat.{ℕ, suc, _≤_, _<_}
 use native.Mathlib.Omega.{arith}
 use lib.Dec.{ltb, T}
-use lib.ListN.{length, length-append}
+use lib.ListN.{length, drop, length-append}
 use Rattle.lists.specs.List.{_∈_}
 use Rattle.lists.proofs.List.{concatMap-mem}
 use Rattle.lists.proofs.Reflect.{Reflect, r-le, r-lt, r-and}
@@ -19,15 +19,15 @@ use Rattle.format.specs.Job.{readWholeJob}
 use Rattle.format.specs.JobBytes.{LocatedInRange, JobInRange, IsJob}
 use Rattle.format.specs.JobNumbers.{JobFile, jobNumbers}
 use Rattle.format.specs.Parser.{Parsed, parsed, fault, jobBuffer}
-use Rattle.format.specs.Verdict.{fits}
+use Rattle.format.specs.Verdict.{Counts, accepted, verdict, fits}
 use Rattle.format.proofs.Files.{job-exact, whole-sound}
 use Rattle.format.proofs.Guarantee.{safe-bytes, one-job}
 use Rattle.format.proofs.Sequence.{reads-decode}
 use Rattle.format.proofs.Written.{written-job}
 use Rattle.forbidden.specs.Sets.{notList, lostBlock, atState, badStep, badStepsOf, stepsThrough, alsoForbid}
-use Rattle.forbidden.specs.Written.{ReadySet, not-list, lost-block, bad-steps, shapesOf, Guarantees, isInside, withSet, written, refused, rewriteFile, rewriteRead, rewrite, Ready}
+use Rattle.forbidden.specs.Written.{ReadySet, not-list, lost-block, bad-steps, shapesOf, Guarantees, isInside, withSet, written, refused, rewriteFile, rewriteRead, rewrite, rewriteResult, outputAfter, Ready, Rewrites}
 use Rattle.forbidden.proofs.InRange.{not-list-in-range, lost-in-range, standing-in-range}
-use Rattle.forbidden.proofs.Runs.{through-range, list-at, none-lost-at, steps-at-cells, also-forbids}
+use Rattle.forbidden.proofs.Runs.{through-range, list-at, none-lost-at, steps-at-cells, also-forbids, still-safe}
 
 -- what was read is the job that the bytes are
 pub read-is : (job : List ℕ) (f : JobFile) (next : ℕ) → readWholeJob (jobBuffer job) 0 ≡ parsed f next → IsJob job f
@@ -161,15 +161,39 @@ module _ (job : List ℕ) (set : ReadySet) (room : ℕ) (bytes : List ℕ) where
       let ok = w .job-is .in-range in
       let written-is : IsJob bytes (withSet set f) =
       subst (λ (l : List ℕ). IsJob l (withSet set f)) (sym (w .bytes-are)) (written-job (withSet set f) (with-in-range f ok set (w .inside) (w .few))) in
+      let safe-with : (certificate : List ℕ) (counts : Counts) → verdict bytes certificate ≡ accepted counts → Safe (withSet set f .job) =
+      λ certificate counts v.
+      let s = safe-bytes bytes certificate counts v in
+      subst (λ (g : JobFile). Safe (g .job)) (one-job bytes (s .file) (withSet set f) (s .job-is) written-is) (s .safe) in
       record {
         file = f;
         job-is = w .job-is;
         written-is = written-is;
-        guarantees = λ certificate counts v.
-            let s = safe-bytes bytes certificate counts v in
-            guaranteed f ok set (w .inside) (subst (λ (g : JobFile). Safe (g .job)) (one-job bytes (s .file) (withSet set f) (s .job-is) written-is) (s .safe));
+        safe = λ certificate counts v. still-safe (shapes f ok set) (f .job) (safe-with certificate counts v);
+        guarantees = λ certificate counts v. guaranteed f ok set (w .inside) (safe-with certificate counts v);
       }
 
   -- WHAT IS WRITTEN reads as the job with the set after its own, and its acceptance guarantees what the set is for
   pub ready : rewrite job set room ≡ written bytes → Ready job set bytes
   ready e = ready-of (wrote e)
+
+-- ---- what is promised, by what was to be written
+
+module _ (job : List ℕ) (set : ReadySet) (before : List ℕ) where
+  pub rewrites-none : (number value : ℕ) → 1 ≤ number → rewrite job set (length before) ≡ refused number value
+      → Rewrites job set before (record { code = number; values = value ∷ [] }) before
+  rewrites-none number value some e =
+      record {
+        result = sym (ap rewriteResult e);
+        output = sym (ap (λ w. outputAfter w before) e);
+        ready = λ z. absurd (omega arith);
+      }
+
+  pub rewrites-all : (bytes after : List ℕ) (n : ℕ) → rewrite job set (length before) ≡ written bytes → n ≡ length bytes
+      → after ≡ bytes ++ drop (length bytes) before → Rewrites job set before (record { code = 0; values = n ∷ [] }) after
+  rewrites-all bytes after n e l o =
+      record {
+        result = ap (λ (k : ℕ). record { code = 0; values = k ∷ [] }) l ∙ sym (ap rewriteResult e);
+        output = o ∙ sym (ap (λ w. outputAfter w before) e);
+        ready = λ z. record { bytes = bytes; after-is = o; ready = ready job set (length before) bytes e };
+      }

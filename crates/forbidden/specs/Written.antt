@@ -8,7 +8,7 @@ use lib.Dec.{ltb}
 use lib.ListN.{length, drop}
 use Rattle.number.specs.CallResult.{CallResult}
 use Rattle.number.specs.NumberList.{encode}
-use Rattle.run.specs.Run.{Transition, Located, Job}
+use Rattle.run.specs.Run.{Transition, Located, Job, Safe}
 use Rattle.format.specs.Job.{readWholeJob}
 use Rattle.format.specs.JobBytes.{IsJob}
 use Rattle.format.specs.JobNumbers.{JobFile, jobNumbers}
@@ -77,9 +77,23 @@ abbrev pub outputAfter : Rewritten → List ℕ → List ℕ
 outputAfter (written bytes) out = bytes ++ drop (length bytes) out
 outputAfter (refused number value) out = out
 
--- What is written reads as the job with the set after its own; if it is accepted with some certificate, the job guarantees what the set is for.
+-- What is written reads as the job with the set after its own. If it is accepted with some certificate, no heap on a run of the job satisfies
+-- what the job forbids, and the job guarantees what the set is for.
 pub record Ready (job : List ℕ) (set : ReadySet) (bytes : List ℕ) : Type 0 where
   pub file : JobFile
   pub job-is : IsJob job file
   pub written-is : IsJob bytes (withSet set file)
+  pub safe : (certificate : List ℕ) (counts : Counts) → verdict bytes certificate ≡ accepted counts → Safe (file .job)
   pub guarantees : (certificate : List ℕ) (counts : Counts) → verdict bytes certificate ≡ accepted counts → Guarantees set (file .job)
+
+-- the output begins with such bytes, and the rest of it is as before
+pub record ReadyIn (job : List ℕ) (set : ReadySet) (before after : List ℕ) : Type 0 where
+  pub bytes : List ℕ
+  pub after-is : after ≡ bytes ++ drop (length bytes) before
+  pub ready : Ready job set bytes
+
+-- what is promised of the result and of the output
+pub record Rewrites (job : List ℕ) (set : ReadySet) (before : List ℕ) (told : CallResult) (after : List ℕ) : Type 0 where
+  pub result : told ≡ rewriteResult (rewrite job set (length before))
+  pub output : after ≡ outputAfter (rewrite job set (length before)) before
+  pub ready : told .code ≡ 0 → ReadyIn job set before after

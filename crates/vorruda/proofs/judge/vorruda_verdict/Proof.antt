@@ -1,6 +1,6 @@
 use mathlib.Core.Path.{refl}
 use native.Mathlib.Omega.{arith}
-use Rattle.vorruda.proofs.Judging.{numbered}
+use Rattle.verdict.proofs.Numbers.{numbered}
 use borrow.Author.Needs.{needs}
 use Rattle.vorruda.proofs.judge.vorruda_verdict.Statement.{statement}
 use Rattle.vorruda.proofs.judge.vorruda_verdict.Tie as tie

@@ -1,9 +1,9 @@
--- What the number of a verdict tells.
+-- The numbers of refusals.
 use Prim.Native.Nat.{_≤_}
 use native.Mathlib.Omega.{arith}
 use Rattle.verdict.specs.Verdict.{refusalNumber}
 use Rattle.verdict.specs.declared.Refusal.{Refusal}
 use Rattle.verdict.specs.declared.Refusal.the-variants.{JobLength, CertificateLength, JobUnreadable, JobRange, JobLeft, CertificateUnreadable, CertificateRange, StartSatisfied, CoverFails, CertificateLeft}
 
 -- no refusal has the number 0
 pub numbered : (r : Refusal) → 1 ≤ refusalNumber r
