@@ -25,6 +25,7 @@
 
 mod mistake;
 mod parse;
+mod ready;
 pub mod sets;
 mod shape_text;
 

@@ -1,7 +1,7 @@
 //! From the text of a routine to its job.
 
 use super::mistake::Mistake;
-use super::{sets, shape_text, Routine};
+use super::{ready, sets, shape_text, Routine};
 use crate::reference::job::{
     Job, Located, Transition, MOST_FORBIDDEN, MOST_STATES, MOST_TRANSITIONS, MOST_VARIABLES,
 };
@@ -188,7 +188,7 @@ impl Parser {
         }
         let variables = self.variables.len();
         match (set, &from[..]) {
-            ("no list", &[x]) => Ok(sets::no_list(variables, x)),
+            ("no list", &[x]) => Ok(ready::not_list(variables, x)),
             ("ring", &[x]) => Ok(sets::ring(variables, x)),
             ("no ring", &[x]) => Ok(sets::no_ring(variables, x)),
             ("shared", &[x, y]) => Ok(sets::shared(variables, x, y)),
