@@ -17,6 +17,7 @@ use Rattle.forbidding.specs.declared.put.Point.{Point}
 use Rattle.forbidding.specs.declared.Rewritten.{Rewritten}
 use Rattle.forbidding.specs.declared.Rewritten.the-variants.{Filled, Job, Outside, TooMany, TooShort}
 
+-- the set of the definitions that is asked for
 abbrev pub setOf : Asked → ReadySet
 setOf (NotList x q) = not-list x q
 setOf (LostBlock x q) = lost-block x q

@@ -10,6 +10,7 @@ use Rattle.layout.specs.Transitions.{transitionAt}
 use Rattle.forbidding.specs.declared.steps.Through.{Through}
 use Rattle.forbidding.specs.declared.steps.Through.the-variants.{Variable, Nothing}
 
+-- the variable as a list of one or none, as the definitions have it
 abbrev pub throughOf : Through → List ℕ
 throughOf (Variable v) = v ∷ []
 throughOf Nothing = []
@@ -24,5 +25,6 @@ pub record StepIn (job : List ℕ) (n at : ℕ) : Type 0 where
   pub from : transitionAt job at .from < 64
   pub through : (v : ℕ) → v ∈ stepsThrough (transitionAt job at .op) → (1 ≤ v) × (v ≤ n)
 
+-- each of so many transitions is
 abbrev pub StepsIn : List ℕ → ℕ → ℕ → ℕ → Type 0
 StepsIn job n first count = (i : ℕ) → i < count → StepIn job n (first + 5 * i)

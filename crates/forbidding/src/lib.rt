@@ -9,9 +9,9 @@ use reader::Header;
 use reader::JobAnswer;
 use reader::read_job;
 use verdict::Refusal;
+ghost use mathlib.Core.Bool.{_&&_};
 ghost use mathlib.Core.List.{_++_};
 ghost use mathlib.Core.Path.{_≡_};
-ghost use mathlib.Core.Bool.{_&&_};
 ghost use Prim.Native.Nat.{suc, _+_, _*_, _≤_};
 ghost use lib.Dec.{ltb};
 ghost use lib.ListN.{length};
@@ -42,7 +42,7 @@ pub enum Rewritten {
     TooShort(usize),
 }
 
-// Whether the variable is one of so many, and the state.
+// Whether a variable, from 1, and a state, from 0, are among so many.
 fn is_point(variable: usize, state: usize, variables: usize, states: usize) -> bool
     ensures { λ r. ⌜ r ≡ within 1 (suc variables) variable && ltb state states ⌝ }
 {
@@ -55,6 +55,7 @@ fn is_point(variable: usize, state: usize, variables: usize, states: usize) -> b
     state < states
 }
 
+// Whether the variable and the state that are asked for are the job's.
 fn is_inside(asked: Asked, variables: usize, states: usize) -> bool
     ensures { λ r. ⌜ r ≡ isInside (setOf asked) variables states ⌝ }
 {
