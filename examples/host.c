@@ -1,5 +1,5 @@
 /* A host of the proved library: writes and reads numbers, keeps a short list on the heap and checks
- * certificates.
+ * certificates, and has the usual forbidden shapes added to a job.
  *
  *   gcc -std=c11 -Wall -Wextra -Werror -Iinclude examples/host.c target/staticlib/libvorruda.a
  *
@@ -150,6 +150,25 @@ static void certificates_that_do_not(void)
     refused("no certificate: refused", job, NULL, 0, VORRUDA_CERT_LENGTH, 0);
 }
 
+/* The job again, with "head is not a proper list" forbidden at state 1. */
+static void ready_shapes(void)
+{
+    uint8_t bytes[64];
+    uint64_t out[1] = {0};
+    uint32_t answer;
+
+    answer = vorruda_forbid_not_list(job, sizeof job, HEAD, 1, bytes, sizeof bytes, out, 1);
+    expect("forbid not a list: written", answer, 0);
+    expect("bytes filled", out[0], 30);
+    expect("forbidden shapes, now", bytes[10], 5);
+
+    answer = vorruda_forbid_not_list(job, sizeof job, HEAD, 1, bytes, 29, out, 1);
+    expect("to 29 bytes: refused", answer, VORRUDA_NO_ROOM);
+    expect("bytes needed", out[0], 30);
+    answer = vorruda_forbid_lost_block(job, sizeof job, BLOCK, 1, bytes, sizeof bytes, out, 1);
+    expect("there is no variable 2: refused", answer, VORRUDA_OUTSIDE);
+}
+
 int main(void)
 {
     puts("Numbers as bytes");
@@ -161,6 +180,8 @@ int main(void)
     puts("Certificates");
     certificate_that_holds();
     certificates_that_do_not();
+    puts("Forbidden shapes, ready cut");
+    ready_shapes();
     puts(surprises == 0 ? "As expected." : "NOT as expected.");
     return surprises == 0 ? 0 : 1;
 }

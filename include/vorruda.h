@@ -134,6 +134,47 @@ uint32_t vorruda_check(const uint8_t *job, size_t job_len, const uint8_t *cert, 
 uint32_t vorruda_verdict(const uint8_t *job, size_t job_len, const uint8_t *cert, size_t cert_len,
                          uint64_t *out, size_t out_len);
 
+/* ---- Forbidden shapes, ready cut --------------------------------------------------------------
+ *
+ * Each call writes a job again with the usual forbidden shapes after its own. What then holds, if
+ * the job that was written is accepted with some certificate, beside what the job forbade before:
+ *
+ *   not list     on every run, whenever it is at that state, # is met by following links from the
+ *                variable (a variable at # counts as met)
+ *   lost block   on every run, whenever it is at that state, every cell is met by following links
+ *                from the variable
+ *   bad steps    on every run, before each a := b.next the variable b, and before each a.next := b
+ *                the variable a, stands at a cell: there is no step through null or dangling
+ *
+ * A call answers
+ *   0: out[0] is how many bytes were filled, from the first of `bytes`; none beyond is touched.
+ *   VORRUDA_JOB_LENGTH, VORRUDA_JOB_UNREADABLE, VORRUDA_JOB_RANGE, VORRUDA_JOB_LEFT: this is no
+ *      job; out[0] is the place.
+ *   VORRUDA_OUTSIDE: the job has no such variable, from 1, or state, from 0; out[0] is 0.
+ *   VORRUDA_TOO_MANY: more than 64 forbidden shapes in all; out[0] is 0.
+ *   VORRUDA_NO_ROOM: out[0] is the length needed.
+ * by the first that applies. Where it isn't 0, no byte is touched. out has one entry. */
+
+#define VORRUDA_OUTSIDE  16 /* a variable or a state outside the job */
+#define VORRUDA_TOO_MANY 31 /* more than 64 forbidden shapes */
+
+/* "Not a proper list", four shapes: x at *; x's cell linked to *; x's cell linked to itself; x's
+ * cell linked to a cell that links to itself. */
+uint32_t vorruda_forbid_not_list(const uint8_t *job, size_t job_len,
+                                 uint32_t variable, uint32_t state,
+                                 uint8_t *bytes, size_t len, uint64_t *out, size_t out_len);
+
+/* "Lost block", six shapes: one loose cell beside each of those four, beside x at #, and beside x's
+ * cell linked to #. */
+uint32_t vorruda_forbid_lost_block(const uint8_t *job, size_t job_len,
+                                   uint32_t variable, uint32_t state,
+                                   uint8_t *bytes, size_t len, uint64_t *out, size_t out_len);
+
+/* "Step through null" and "step through dangling", for every transition that steps: its variable
+ * at #, then at *, at the state that it leaves. */
+uint32_t vorruda_forbid_bad_steps(const uint8_t *job, size_t job_len,
+                                  uint8_t *bytes, size_t len, uint64_t *out, size_t out_len);
+
 #ifdef __cplusplus
 }
 #endif

@@ -30,6 +30,34 @@ extern "C" {
         out: *mut u64,
         out_len: usize,
     ) -> u32;
+    fn vorruda_forbid_not_list(
+        job: *const u8,
+        job_len: usize,
+        variable: u32,
+        state: u32,
+        bytes: *mut u8,
+        len: usize,
+        out: *mut u64,
+        out_len: usize,
+    ) -> u32;
+    fn vorruda_forbid_lost_block(
+        job: *const u8,
+        job_len: usize,
+        variable: u32,
+        state: u32,
+        bytes: *mut u8,
+        len: usize,
+        out: *mut u64,
+        out_len: usize,
+    ) -> u32;
+    fn vorruda_forbid_bad_steps(
+        job: *const u8,
+        job_len: usize,
+        bytes: *mut u8,
+        len: usize,
+        out: *mut u64,
+        out_len: usize,
+    ) -> u32;
 }
 
 fn lent<T>(slice: &[T]) -> *const T {
@@ -83,6 +111,64 @@ pub fn verdict(job: &[u8], certificate: &[u8], out: &mut [u64]) -> u32 {
             job.len(),
             lent(certificate),
             certificate.len(),
+            lent_mut(out),
+            out.len(),
+        )
+    }
+}
+
+pub fn forbid_not_list(
+    job: &[u8],
+    variable: u32,
+    state: u32,
+    bytes: &mut [u8],
+    out: &mut [u64],
+) -> u32 {
+    // SAFETY: each pointer goes with the length of the slice that it came from.
+    unsafe {
+        vorruda_forbid_not_list(
+            lent(job),
+            job.len(),
+            variable,
+            state,
+            lent_mut(bytes),
+            bytes.len(),
+            lent_mut(out),
+            out.len(),
+        )
+    }
+}
+
+pub fn forbid_lost_block(
+    job: &[u8],
+    variable: u32,
+    state: u32,
+    bytes: &mut [u8],
+    out: &mut [u64],
+) -> u32 {
+    // SAFETY: each pointer goes with the length of the slice that it came from.
+    unsafe {
+        vorruda_forbid_lost_block(
+            lent(job),
+            job.len(),
+            variable,
+            state,
+            lent_mut(bytes),
+            bytes.len(),
+            lent_mut(out),
+            out.len(),
+        )
+    }
+}
+
+pub fn forbid_bad_steps(job: &[u8], bytes: &mut [u8], out: &mut [u64]) -> u32 {
+    // SAFETY: each pointer goes with the length of the slice that it came from.
+    unsafe {
+        vorruda_forbid_bad_steps(
+            lent(job),
+            job.len(),
+            lent_mut(bytes),
+            bytes.len(),
             lent_mut(out),
             out.len(),
         )

@@ -20,12 +20,11 @@ use Rattle.graph.proofs.Paths.{path-linked, place-off-path}
 use Rattle.graph.proofs.Proper.{Proper, IsPlace, Closed, dangling-place, distinct-places}
 use Rattle.graph.proofs.Update.{update-same, update-cases}
 use Rattle.shape.specs.Placing.{setVar, fresh, grow}
-use Rattle.shape.specs.Shape.{Shape, varAt, linkAt, size, shapeGraph, heapGraph}
+use Rattle.shape.specs.Shape.{Shape, varAt, linkAt, size, shapeGraph, heapGraph, SatisfiesOne}
 use Rattle.shape.proofs.Laws.{link-map, var-map}
 use Rattle.shape.proofs.Placing.{Placed, unlinked}
 use Rattle.run.proofs.WellFormed.{WellFormed, heap-proper, after-formed}
 use Rattle.backward.specs.Predecessors.{forget, forgetDangling, predecessors}
-use Rattle.backward.proofs.Both.{SatisfiesOne}
 
 forget-other : (p : ℕ) → p ≢ dangling → forget p ≡ p
 forget-other p n = cond-cases (λ q. q ≡ p) (r-eq p dangling) (λ e. absurd (n e)) (λ _. refl)

@@ -1,6 +1,6 @@
 -- Following a path over places that are neither ends nor used: what the walk of the definitions gives.
 use mathlib.Core.Bool.{Bool, true, false, _||_}
-use mathlib.Core.List.{List, [], _∷_, _++_, append-nil, append-assoc, List·Memᴰ·head, List·Memᴰ·tail, List·Memᴰ·not-nil, Memᴰ·cast, Memᴰ·append-left, Memᴰ·append-right, List·Memᴰ·append-cases, List·Memᴰ·eq-of-singleton}
+use mathlib.Core.List.{List, [], _∷_, _++_, append-nil, append-assoc, List·Memᴰ·head, List·Memᴰ·not-nil, Memᴰ·cast, Memᴰ·append-left, Memᴰ·append-right, List·Memᴰ·append-cases, List·Memᴰ·eq-of-singleton}
 use mathlib.Core.Logic.{_⊎_, inl, inr}
 use mathlib.Core.Path.{_≡_, refl, sym, subst, _∙_}
 use Prim.Native.Nat.{ℕ, zero, suc, _+_, _≤_, _<_}
@@ -8,24 +8,13 @@ use native.Mathlib.Omega.{arith}
 use lib.Dec.{ltb}
 use lib.ListN.{length, length-append, List·getD-eq-default}
 use Rattle.lists.specs.List.{_∈_, disjoint}
-use Rattle.lists.proofs.List.{all-cons, Distinct, pigeonhole}
+use Rattle.lists.proofs.List.{all-cons, Distinct, distinct-snoc, pigeonhole}
 use Rattle.lists.proofs.Reflect.{is-false, passes, fails, r-lt, r-disjoint}
 use Rattle.heap.specs.Codes.{linkIn}
 use Rattle.heap.specs.Place.{nowhere, cell}
 use Rattle.shape.proofs.Laws.{CellOf}
 use Rattle.cover.specs.Test.{isImage, stops, walkEnd, walked}
 use Rattle.covering.specs.Marks.{endFrom, pathFrom}
-
-distinct-snoc : (xs : List ℕ) (y : ℕ) → Distinct xs → ¬ (y ∈ xs) → Distinct (xs ++ (y ∷ []))
-distinct-snoc [] y d o = (List·Memᴰ·not-nil, tt)
-distinct-snoc (x ∷ xs) y (a, d) o = (out, distinct-snoc xs y d (λ m. o (List·Memᴰ·tail m)))
-  where
-    out : ¬ (x ∈ (xs ++ (y ∷ [])))
-    out m = cases (List·Memᴰ·append-cases xs m)
-      where
-        cases : (x ∈ xs) ⊎ (x ∈ (y ∷ [])) → ⊥
-        cases (inl i) = a i
-        cases (inr i) = o (List·Memᴰ·head (sym (List·Memᴰ·eq-of-singleton i)))
 
 -- what holds of each member of xs and of y
 all-snoc : (P : ℕ → Type 0) (xs : List ℕ) (y : ℕ) → ((x : ℕ) → x ∈ xs → P x) → P y → (x : ℕ) → x ∈ (xs ++ (y ∷ [])) → P x

@@ -55,49 +55,55 @@ module _ (f : JobFile) (ms : List Located) (ok : JobInRange f) (oks : MembersInR
           let (t, _, c) = concatMap-mem (predecessorsBy m) (f .job .transitions) o b in
           before-range m t o a c
 
--- ---- every number is at most 65,535
+-- ---- numbers with a bound
+
+pub at-most-append : (most : ℕ) (a b : List ℕ) → AtMost most a → AtMost most b → AtMost most (a ++ b)
+at-most-append most [] b s t = t
+at-most-append most (x ∷ a) b (h, s) t = (h, at-most-append most a b s t)
+
+pub at-most-all : (most : ℕ) {A : Type 0} (g : A → List ℕ) (l : List A) → ((x : A) → x ∈ l → AtMost most (g x)) → AtMost most (concatMap g l)
+at-most-all most g [] h = tt
+at-most-all most g (x ∷ xs) h =
+    at-most-append most (g x) (concatMap g xs) (h x (List·Memᴰ·head refl)) (at-most-all most g xs (λ y i. h y (List·Memᴰ·tail i)))
+
+below-at-most : (most k : ℕ) (l : List ℕ) → k ≤ most → AllBelow k l → AtMost most l
+below-at-most most k [] h b = tt
+below-at-most most k (x ∷ xs) h b = (let q = b x (List·Memᴰ·head refl) in omega arith, below-at-most most k xs h (λ y i. b y (List·Memᴰ·tail i)))
+
+-- every number of a state with a shape and of a transition is at most 64
+module _ (most : ℕ) (enough : 64 ≤ most) where
+  pub located-at-most : (variables states : ℕ) (m : Located) → states ≤ 64 → LocatedInRange variables states m → AtMost most (locatedNumbers m)
+  located-at-most variables states m h ok =
+      let r = ok .shape in
+      let c = r .cells in (
+        let q = ok .state in omega arith,
+        (
+          omega arith,
+          at-most-append most (m .shape .vars) (m .shape .links) (below-at-most most (cell (size (m .shape))) (m .shape .vars) (omega arith) (r .vars))
+              (below-at-most most (cell (size (m .shape))) (m .shape .links) (omega arith) (r .links)),
+        ),
+      )
+
+  op-at-most : (n : ℕ) (o : Op) → n ≤ 8 → Allowed n o → AtMost most (opNumbers o)
+  op-at-most n (equal a b) h (p, q) = (omega arith, (omega arith, (omega arith, tt)))
+  op-at-most n (different a b) h (p, q) = (omega arith, (omega arith, (omega arith, tt)))
+  op-at-most n (assign a b) h (z, p, q) = (omega arith, (omega arith, (omega arith, tt)))
+  op-at-most n (load a b) h (z, _, p, q) = (omega arith, (omega arith, (omega arith, tt)))
+  op-at-most n (store a b) h (z, p, q) = (omega arith, (omega arith, (omega arith, tt)))
+  op-at-most n (new a) h (z, p) = (omega arith, (omega arith, (omega arith, tt)))
+  op-at-most n (delete a) h (z, p) = (omega arith, (omega arith, (omega arith, tt)))
+
+  pub transition-at-most : (variables states : ℕ) (t : Transition) → variables ≤ 8 → states ≤ 64 → TransitionInRange variables states t
+      → AtMost most (transitionNumbers t)
+  transition-at-most variables states t v h ok =
+      let (kind, a, b, e) = ok .op in
+      let s = op-at-most variables (t .op) v (allowed variables kind a b (t .op) e) in
+      (let q = ok .from in omega arith, at-most-append most (opNumbers (t .op)) (t .to ∷ []) s (let q = ok .to in omega arith, tt))
+
+-- every number of a job and of a certificate is at most 65,535
 
 abbrev Small : List ℕ → Type 0
 Small = AtMost largest
-
-small-append : (a b : List ℕ) → Small a → Small b → Small (a ++ b)
-small-append [] b s t = t
-small-append (x ∷ a) b (h, s) t = (h, small-append a b s t)
-
-small-all : {A : Type 0} (g : A → List ℕ) (l : List A) → ((x : A) → x ∈ l → Small (g x)) → Small (concatMap g l)
-small-all g [] h = tt
-small-all g (x ∷ xs) h = small-append (g x) (concatMap g xs) (h x (List·Memᴰ·head refl)) (small-all g xs (λ y i. h y (List·Memᴰ·tail i)))
-
-small-below : (k : ℕ) (l : List ℕ) → k ≤ largest → AllBelow k l → Small l
-small-below k [] h b = tt
-small-below k (x ∷ xs) h b = (let q = b x (List·Memᴰ·head refl) in omega arith, small-below k xs h (λ y i. b y (List·Memᴰ·tail i)))
-
-small-located : (variables states : ℕ) (m : Located) → states ≤ 64 → LocatedInRange variables states m → Small (locatedNumbers m)
-small-located variables states m h ok =
-    let r = ok .shape in
-    let c = r .cells in (
-      let q = ok .state in omega arith,
-      (
-        omega arith,
-        small-append (m .shape .vars) (m .shape .links) (small-below (cell (size (m .shape))) (m .shape .vars) (omega arith) (r .vars))
-            (small-below (cell (size (m .shape))) (m .shape .links) (omega arith) (r .links)),
-      ),
-    )
-
-small-op : (n : ℕ) (o : Op) → n ≤ 8 → Allowed n o → Small (opNumbers o)
-small-op n (equal a b) h (p, q) = (omega arith, (omega arith, (omega arith, tt)))
-small-op n (different a b) h (p, q) = (omega arith, (omega arith, (omega arith, tt)))
-small-op n (assign a b) h (z, p, q) = (omega arith, (omega arith, (omega arith, tt)))
-small-op n (load a b) h (z, p, q) = (omega arith, (omega arith, (omega arith, tt)))
-small-op n (store a b) h (z, p, q) = (omega arith, (omega arith, (omega arith, tt)))
-small-op n (new a) h (z, p) = (omega arith, (omega arith, (omega arith, tt)))
-small-op n (delete a) h (z, p) = (omega arith, (omega arith, (omega arith, tt)))
-
-small-transition : (variables states : ℕ) (t : Transition) → variables ≤ 8 → states ≤ 64 → TransitionInRange variables states t → Small (transitionNumbers t)
-small-transition variables states t v h ok =
-    let (kind, a, b, e) = ok .op in
-    let s = small-op variables (t .op) v (allowed variables kind a b (t .op) e) in
-    (let q = ok .from in omega arith, small-append (opNumbers (t .op)) (t .to ∷ []) s (let q = ok .to in omega arith, tt))
 
 pub small-job : (f : JobFile) → JobInRange f → Small (jobNumbers f)
 small-job f ok =
@@ -112,10 +118,10 @@ small-job f ok =
             let q = ok .start in omega arith,
             (
               let q = ok .transitions-number in omega arith,
-              small-append (concatMap transitionNumbers (f .job .transitions)) _
-                  (small-all transitionNumbers (f .job .transitions) (λ t i. small-transition (f .job .variables) (f .states) t v s (ok .transitions t i))) (
+              at-most-append largest (concatMap transitionNumbers (f .job .transitions)) _
+                  (at-most-all largest transitionNumbers (f .job .transitions) (λ t i. transition-at-most largest (omega arith) (f .job .variables) (f .states) t v s (ok .transitions t i))) (
                     let q = ok .forbidden-number .1 in omega arith,
-                    small-all locatedNumbers (f .job .forbidden) (λ m i. small-located (f .job .variables) (f .states) m s (ok .forbidden m i)),
+                    at-most-all largest locatedNumbers (f .job .forbidden) (λ m i. located-at-most largest (omega arith) (f .job .variables) (f .states) m s (ok .forbidden m i)),
                   ),
             ),
           ),
@@ -132,7 +138,7 @@ small-members f ms ok oks = (
   omega arith,
   (
     let n = oks .number .1 in omega arith,
-    small-all locatedNumbers ms (λ m i. small-located (f .job .variables) (f .states) m (ok .states .1) (oks .members m i)),
+    at-most-all largest locatedNumbers ms (λ m i. located-at-most largest (omega arith) (f .job .variables) (f .states) m (ok .states .1) (oks .members m i)),
   ),
 )
 
@@ -148,8 +154,8 @@ small-covers ms h [] (o ∷ os) hold images sizes = absurd hold
 small-covers ms h (c ∷ cs) [] hold images sizes = absurd hold
 small-covers ms h (c ∷ cs) (o ∷ os) (k, ks) images sizes = (
   let q = number-below ms (c .member) (k .member) (k .numbered) in omega arith,
-  small-append (c .images) (concatMap coverNumbers cs)
-      (small-below (size (o .shape)) (c .images) (let q = sizes o (List·Memᴰ·head refl) in omega arith) (images-below ms o c k (images c (List·Memᴰ·head refl))))
+  at-most-append largest (c .images) (concatMap coverNumbers cs)
+      (below-at-most largest (size (o .shape)) (c .images) (let q = sizes o (List·Memᴰ·head refl) in omega arith) (images-below ms o c k (images c (List·Memᴰ·head refl))))
       (small-covers ms h cs os ks (λ d i. images d (List·Memᴰ·tail i)) (λ p i. sizes p (List·Memᴰ·tail i))),
 )
 
@@ -157,7 +163,7 @@ module _ (f : JobFile) (ms : List Located) (cs : List Cover) (ok : JobInRange f)
     (images : (c : Cover) → c ∈ cs → ImageForEach ms c) (hold : AllHold ms cs (owed (f .job) ms)) where
   small-certificate : Small (certificateNumbers ms cs)
   small-certificate =
-      small-append (memberNumbers ms) (concatMap coverNumbers cs) (small-members f ms ok oks)
+      at-most-append largest (memberNumbers ms) (concatMap coverNumbers cs) (small-members f ms ok oks)
       (small-covers ms (oks .number .1) cs (owed (f .job) ms) hold images (λ o i. owed-range f ms ok oks o i .cells))
 
   -- WRITTEN: they are accepted, if they are not too long

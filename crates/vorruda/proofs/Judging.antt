@@ -11,22 +11,9 @@ use Rattle.number.specs.CallResult.{lent}
 use Rattle.verdict.specs.Verdict.{refusalNumber, verdictOf, verdictResult}
 use Rattle.verdict.specs.declared.Counts.{Counts as CountsAnswer}
 use Rattle.verdict.specs.declared.Refusal.{Refusal}
-use Rattle.verdict.specs.declared.Refusal.the-variants.{JobLength, CertificateLength, JobUnreadable, JobRange, JobLeft, CertificateUnreadable, CertificateRange, StartSatisfied, CoverFails, CertificateLeft}
 use Rattle.verdict.specs.declared.Verdict.{Verdict as Answer}
 use Rattle.verdict.specs.declared.Verdict.the-variants.{Accepted, Refused}
-
--- no refusal has the number 0
-pub numbered : (r : Refusal) → 1 ≤ refusalNumber r
-numbered JobLength = omega arith
-numbered CertificateLength = omega arith
-numbered JobUnreadable = omega arith
-numbered JobRange = omega arith
-numbered JobLeft = omega arith
-numbered CertificateUnreadable = omega arith
-numbered CertificateRange = omega arith
-numbered StartSatisfied = omega arith
-numbered CoverFails = omega arith
-numbered CertificateLeft = omega arith
+use Rattle.verdict.proofs.Numbers.{numbered}
 
 -- What `check` promises of its answer r, as a host is told it.
 module _

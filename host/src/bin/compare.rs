@@ -6,7 +6,7 @@
 use std::env;
 use std::process::ExitCode;
 
-use vorruda_host::compare::{lists, numbers, steps, verdicts, Tally};
+use vorruda_host::compare::{lists, numbers, ready, steps, verdicts, Tally};
 use vorruda_host::verdict::Check;
 use vorruda_host::{baseline, check};
 
@@ -37,6 +37,7 @@ fn tallies() -> Result<Vec<Tally>, String> {
         lists::compare_writing(),
         lists::compare_round_trips(),
         steps::compare(),
+        ready::compare(seed)?,
     ];
     let verdicts = verdicts::compare(&CHECKERS, verdicts::pairs(seed, pairs)?);
     Ok(calls.into_iter().chain(verdicts).collect())

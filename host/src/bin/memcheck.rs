@@ -6,10 +6,12 @@
 use std::env;
 use std::process::ExitCode;
 
+use vorruda_host::compare::ready::forbid_in_library;
 use vorruda_host::library;
 use vorruda_host::pairs::{Pair, Pairs};
 use vorruda_host::random::Random;
 use vorruda_host::reference::heap::Heap;
+use vorruda_host::reference::ready::{forbid, Set};
 use vorruda_host::reference::{checker, number, stepper};
 use vorruda_host::sweep;
 
@@ -48,6 +50,25 @@ fn check((turn, Pair { job, certificate }): (usize, Pair)) {
     let mut out = exact(&[0; 4][..turn % 5]);
     assert_eq!(library::check(&job, &certificate), expected);
     assert_eq!(library::verdict(&job, &certificate, &mut out), expected);
+    let (variable, state) = (turn as u32 % 4, turn as u32 % 3);
+    ready(&job, Set::NotList { variable, state }, turn);
+    ready(&job, Set::LostBlock { variable, state }, turn);
+    ready(&job, Set::BadSteps, turn);
+}
+
+/// A ready set, in room that is too little, just enough or more.
+fn ready(job: &[u8], set: Set, turn: usize) {
+    let room = match forbid(job, set, usize::MAX) {
+        Ok(bytes) => bytes.len() + turn % 3 - 1,
+        Err(_) => turn % 3,
+    };
+    let mut bytes = exact(&vec![0; room]);
+    let mut out = exact(&[0; 2][..turn % 3]);
+    let number = forbid_in_library(job, set, &mut bytes, &mut out);
+    match forbid(job, set, room) {
+        Ok(expected) => assert_eq!((number, expected[..] == bytes[..expected.len()]), (0, true)),
+        Err(refused) => assert_eq!(number, refused.number),
+    }
 }
 
 /// A list written to room that is short, enough or none, and read from every place.

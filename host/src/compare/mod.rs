@@ -2,6 +2,7 @@
 
 pub mod lists;
 pub mod numbers;
+pub mod ready;
 pub mod steps;
 pub mod verdicts;
 

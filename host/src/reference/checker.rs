@@ -41,7 +41,7 @@ fn accept(job: &[u8], certificate: &[u8]) -> Result<Counts, Refusal> {
     })
 }
 
-fn check_length(bytes: &[u8], number: u32) -> Result<(), Refusal> {
+pub fn check_length(bytes: &[u8], number: u32) -> Result<(), Refusal> {
     match bytes.len() {
         1..=MOST_BYTES => Ok(()),
         _ => Err(Refusal { number, place: 0 }),

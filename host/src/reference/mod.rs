@@ -9,5 +9,6 @@ pub mod number;
 pub mod operation;
 pub mod predecessor;
 pub mod reader;
+pub mod ready;
 pub mod shape;
 pub mod stepper;

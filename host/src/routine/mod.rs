@@ -27,6 +27,7 @@ mod mistake;
 mod names;
 mod operation_text;
 mod parse;
+mod ready;
 pub mod sets;
 mod shape_text;
 mod words;

@@ -3,7 +3,7 @@
 use super::mistake::Mistake;
 use super::names::Names;
 use super::words::{is_of_name, Word, Words};
-use super::{operation_text, sets, shape_text, Origin, Routine};
+use super::{operation_text, ready, sets, shape_text, Origin, Routine};
 use crate::reference::job::{
     Job, Located, Transition, MOST_FORBIDDEN, MOST_STATES, MOST_TRANSITIONS, MOST_VARIABLES,
 };
@@ -195,7 +195,7 @@ impl Parser {
         let set = words.join(" ");
         let variables = self.variables.all.len();
         match (&set[..], &from[..]) {
-            ("no list", &[x]) => Ok(sets::no_list(variables, x)),
+            ("no list", &[x]) => Ok(ready::not_list(variables, x)),
             ("ring", &[x]) => Ok(sets::ring(variables, x)),
             ("no ring", &[x]) => Ok(sets::no_ring(variables, x)),
             ("shared", &[x, y]) => Ok(sets::shared(variables, x, y)),

@@ -1,10 +1,8 @@
-//! Ready sets of forbidden shapes.
+//! Ready sets of forbidden shapes. Those that the proved library makes are in [`ready`].
 
-use std::collections::BTreeSet;
-
+use super::ready;
 use crate::reference::heap::Place;
 use crate::reference::job::{Located, Transition};
-use crate::reference::operation::{LOAD, STORE};
 use crate::reference::shape::Shape;
 
 const NULL: u64 = 1;
@@ -22,16 +20,6 @@ fn shape(variables: usize, placed: &[(usize, u64)], links: &[u64]) -> Shape {
         places[variable - 1] = place;
     }
     Shape::of_codes(&places, links)
-}
-
-/// `no list: x` - # isn't met by following links from x: x at *, x's cell linked to *, to itself,
-/// or to a cell linked to itself.
-pub fn no_list(variables: usize, x: usize) -> Vec<Shape> {
-    let dangling = [
-        shape(variables, &[(x, DANGLING)], &[]),
-        shape(variables, &[(x, cell(0))], &[DANGLING]),
-    ];
-    dangling.into_iter().chain(ring(variables, x)).collect()
 }
 
 /// `ring: x` - a ring is met by following links from x.
@@ -53,18 +41,16 @@ pub fn no_ring(variables: usize, x: usize) -> Vec<Shape> {
     ]
 }
 
-/// `lost block: x` - some cell isn't met by following links from x. With more variables: some cell
-/// isn't met from any of them, while they are lists and share no cell.
+/// `lost block: x y` - some cell isn't met from any of the variables, while they are lists and share
+/// no cell. For one variable the proved library makes the set.
 pub fn lost_block(variables: usize, from: &[usize]) -> Vec<Shape> {
-    let beside = match *from {
-        [x] => {
-            let mut all = no_list(variables, x);
-            all.extend(lists_apart(variables, from));
-            all
-        }
-        _ => lists_apart(variables, from),
-    };
-    beside.into_iter().map(with_loose_cell).collect()
+    match *from {
+        [x] => ready::lost_block(variables, x),
+        _ => lists_apart(variables, from)
+            .into_iter()
+            .map(with_loose_cell)
+            .collect(),
+    }
 }
 
 /// Every combination of empty and other lists at the variables.
@@ -102,21 +88,18 @@ pub fn shared(variables: usize, x: usize, y: usize) -> Vec<Shape> {
     ]
 }
 
-/// `steps` - where a transition follows or sets a variable's link: that variable at # or at *.
+/// `steps` - where a transition follows or sets a variable's link: that variable at # or at *, each
+/// once.
 pub fn steps(variables: usize, transitions: &[Transition]) -> Vec<Located> {
-    let mut seen = BTreeSet::new();
-    let mut all = Vec::new();
-    for transition in transitions {
-        let stepping = match transition.operation.kind {
-            LOAD => transition.operation.b,
-            STORE => transition.operation.a,
-            _ => continue,
-        };
-        if seen.insert((transition.from, stepping)) {
-            all.extend([NULL, DANGLING].map(|place| Located {
-                state: transition.from,
-                shape: shape(variables, &[(stepping, place)], &[]),
-            }));
+    let mut all: Vec<Located> = Vec::new();
+    if variables == 0 {
+        return all;
+    }
+    for &transition in transitions {
+        for bad in ready::bad_steps(variables, transition) {
+            if !all.contains(&bad) {
+                all.push(bad);
+            }
         }
     }
     all

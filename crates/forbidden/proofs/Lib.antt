@@ -1,0 +1,11 @@
+pub mod Meets
+pub mod Walk
+pub mod Only
+pub mod Fits
+pub mod Bases
+pub mod InRange
+pub mod Standing
+pub mod Theorems
+pub mod Runs
+pub mod Tests
+pub mod Written

@@ -1,0 +1,4 @@
+pub mod Meets
+pub mod Sets
+pub mod Guarantees
+pub mod Written

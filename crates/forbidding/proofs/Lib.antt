@@ -1,0 +1,5 @@
+pub mod Putting
+pub mod Shapes
+pub mod Stepping
+pub mod JobBytes
+pub mod Answers

@@ -1,0 +1,58 @@
+use native.Mathlib.Omega.{arith}
+use Rattle.forbidding.proofs.Putting.{put-more, put-end}
+use borrow.Author.Needs.{needs}
+use Rattle.forbidding.proofs.put.put_loose.Statement.{statement}
+use Rattle.forbidding.proofs.put.put_loose.Tie as tie
+
+slice-aggregate-put-shape : tie.Need-slice-aggregate-put-shape
+slice-aggregate-put-shape c = search needs
+
+put-shape-requires : tie.Need-put-shape-requires
+put-shape-requires c κs = search needs
+
+slice-aggregate-put-shape-2 : tie.Need-slice-aggregate-put-shape-2
+slice-aggregate-put-shape-2 c = search needs
+
+put-shape-requires-2 : tie.Need-put-shape-requires-2
+put-shape-requires-2 c κs = search needs
+
+slice-aggregate-put-shape-3 : tie.Need-slice-aggregate-put-shape-3
+slice-aggregate-put-shape-3 c = search needs
+
+put-shape-requires-3 : tie.Need-put-shape-requires-3
+put-shape-requires-3 c κs = search needs
+
+slice-aggregate-put-shape-4 : tie.Need-slice-aggregate-put-shape-4
+slice-aggregate-put-shape-4 c = search needs
+
+put-shape-requires-4 : tie.Need-put-shape-requires-4
+put-shape-requires-4 c κs = search needs
+
+same-length : tie.Need-same-length
+same-length c = search needs
+
+returns : tie.Need-returns
+returns c =
+    let fourth = c .before .before in
+    let third = c .before .before .before .before .before .before .before in
+    let second = c .before .before .before .before .before .before .before .before .before .before .before .before in
+    let first = c .before .before .before .before .before .before .before .before .before .before .before .before .before .before .before .before .before in (
+      omega arith,
+      put-more (first .put-shape .ensures .1)
+          (put-more (second .put-shape2 .ensures .1) (put-more (third .put-shape3 .ensures .1) (put-end (fourth .put-shape4 .ensures .1)))),
+    )
+
+pub put-loose-spec : {M : Type 1} → statement M
+put-loose-spec =
+    tie.close
+    (tie.spec
+    slice-aggregate-put-shape
+    put-shape-requires
+    slice-aggregate-put-shape-2
+    put-shape-requires-2
+    slice-aggregate-put-shape-3
+    put-shape-requires-3
+    slice-aggregate-put-shape-4
+    put-shape-requires-4
+    same-length
+    returns)

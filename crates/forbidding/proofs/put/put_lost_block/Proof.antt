@@ -1,0 +1,41 @@
+use Rattle.forbidding.proofs.Putting.{put-more, put-end}
+use Rattle.forbidding.proofs.Shapes.{put-lost}
+use borrow.Author.Needs.{needs}
+use Rattle.forbidding.proofs.put.put_lost_block.Statement.{statement}
+use Rattle.forbidding.proofs.put.put_lost_block.Tie as tie
+
+put-loose-requires : tie.Need-put-loose-requires
+put-loose-requires c κs = search needs
+
+slice-aggregate-put-shape : tie.Need-slice-aggregate-put-shape
+slice-aggregate-put-shape c = search needs
+
+put-shape-requires : tie.Need-put-shape-requires
+put-shape-requires c κs = search needs
+
+slice-aggregate-put-shape-2 : tie.Need-slice-aggregate-put-shape-2
+slice-aggregate-put-shape-2 c = search needs
+
+put-shape-requires-2 : tie.Need-put-shape-requires-2
+put-shape-requires-2 c κs = search needs
+
+same-length : tie.Need-same-length
+same-length c = search needs
+
+returns : tie.Need-returns
+returns c =
+    let p = c .before .before .before .before .before .before .before .before .before .before .before .before .before .before .before .args .p in
+    put-lost (p .variables) (p .variable) (p .state) (c .before .before .before .before .before .before .before .before .before .before .before .before .put-loose .ensures .1)
+    (put-more (c .before .before .before .before .before .before .before .put-shape .ensures .1) (put-end (c .before .before .put-shape2 .ensures .1)))
+
+pub put-lost-block-spec : {M : Type 1} → statement M
+put-lost-block-spec =
+    tie.close
+    (tie.spec
+    put-loose-requires
+    slice-aggregate-put-shape
+    put-shape-requires
+    slice-aggregate-put-shape-2
+    put-shape-requires-2
+    same-length
+    returns)
