@@ -12,5 +12,6 @@ scripts/example.sh
 cargo test --offline --release --quiet --manifest-path host/Cargo.toml
 cargo run --offline --release --quiet --manifest-path host/Cargo.toml --bin compare
 scripts/valgrind.sh
+scripts/stack.sh
 
 tail -n 1 build/ci.log

@@ -1,13 +1,12 @@
 -- A cover that was read ends further on, within the certificate.
 use mathlib.Core.List.{List, [], _∷_}
 use mathlib.Core.Path.{_≡_}
-use Prim.Native.Nat.{ℕ, _+_, _-_, _≤_, _<_}
+use Prim.Native.Nat.{ℕ, _-_, _≤_, _<_}
 use native.Mathlib.Omega.{arith}
-use lib.ListN.{length, getD, getElem?}
-use Rattle.lists.proofs.Reflect.{r-le, r-lt, r-eq, cond-cases}
-use Rattle.number.specs.Number.{numberIn, numberAt}
-use Rattle.number.specs.declared.Read.{Read}
-use Rattle.number.specs.declared.Read.the-variants.{Number, Unreadable}
+use lib.ListN.{length, getElem?}
+use Rattle.number.specs.Number.{numberAt}
+use Rattle.number.specs.declared.Read.the-variants.{Number}
+use Rattle.number.proofs.Reading.{taken}
 use Rattle.shape.specs.Shape.{size}
 use Rattle.run.specs.Run.{Located}
 use Rattle.cover.specs.Cover.{holds?}
@@ -17,25 +16,7 @@ use Rattle.format.proofs.Parsing.{then, read-sound, require-sound, codes-exact}
 use Rattle.format.proofs.Sequence.{Reads, reads-none, reads-first}
 
 number-place : (s : List ℕ) (at n next : ℕ) → numberAt s at ≡ Number n next → (at < next) × (next ≤ length s)
-unfolding numberIn
-number-place s at n next =
-    cond-cases Q (r-le left 0) (λ _. unread)
-    (λ l₀. cond-cases Q (r-lt (getD s at 0) 128) (λ _ e. let z : at + 1 ≡ next = cc in (omega arith, omega arith))
-    (λ _. cond-cases Q (r-le left 1) (λ _. unread)
-    (λ l₁. cond-cases Q (r-eq (getD s (at + 1) 0) 0) (λ _. unread)
-    (λ _. cond-cases Q (r-lt (getD s (at + 1) 0) 128) (λ _ e. let z : at + 2 ≡ next = cc in (omega arith, omega arith))
-    (λ _. cond-cases Q (r-le left 2) (λ _. unread)
-    (λ l₂. cond-cases Q (r-eq (getD s (at + 2) 0) 0) (λ _. unread)
-    (λ _. cond-cases Q (r-lt (getD s (at + 2) 0) 4) (λ _ e. let z : at + 3 ≡ next = cc in (omega arith, omega arith)) (λ _. unread))))))))
-  where
-    left : ℕ
-    left = length s - at
-
-    Q : Read → Type 0
-    Q r = r ≡ Number n next → (at < next) × (next ≤ length s)
-
-    unread : Q (Unreadable at)
-    unread e = let z : _≡_ {A = ℕ} 0 1 = cc in absurd (omega arith)
+number-place s at n next e = let t = taken at (length s - at) _ _ _ n next e in (t .on, omega (arith, t .some, t .inside))
 
 reads-place : (s : List ℕ) (at : ℕ) (ns : List ℕ) (next : ℕ) → Reads s at ns next → at ≤ length s → (at ≤ next) × (next ≤ length s)
 reads-place s at [] next r b = let e = reads-none r in (omega arith, omega arith)

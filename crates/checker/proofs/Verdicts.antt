@@ -1,6 +1,7 @@
 -- From what the code answers to the verdict.
 use mathlib.Core.Bool.{true, false}
 use mathlib.Core.List.{List, []}
+use mathlib.Core.Logic.{_↔_}
 use mathlib.Core.Path.{_≡_, refl, sym, ap, ap₂, _∙_}
 use Prim.Native.Nat.{ℕ, zero, suc, _+_, _≤_, _<_}
 use native.Mathlib.Omega.{arith}
@@ -12,12 +13,13 @@ use Rattle.lists.proofs.Test.{and-right}
 use Rattle.run.specs.Run.{Located, Job}
 use Rattle.cover.specs.Cover.{owed}
 use Rattle.format.specs.Certificate.{Member, withoutPlaces, readMembers, testStart, readCover}
-use Rattle.format.specs.Conditions.{countsOf}
+use Rattle.format.specs.Conditions.{Conditions, countsOf}
 use Rattle.format.specs.JobBytes.{SafeBytes}
 use Rattle.format.specs.Job.{readWholeJob}
 use Rattle.format.specs.JobNumbers.{JobFile}
 use Rattle.format.specs.Parser.{Parsed, parsed, fault, Parser, onward, each, certificateBuffer, jobBuffer, end}
 use Rattle.format.specs.Verdict.{Counts, accepted, refused, conclude, readCertificate, fits, verdict, readBoth}
+use Rattle.format.proofs.Exact.{exact}
 use Rattle.format.proofs.Guarantee.{safe-bytes}
 use Rattle.layout.specs.Entries.{entryEnd, entriesAt}
 use Rattle.reader.specs.Job.{JobRead}
@@ -171,6 +173,14 @@ module _ (job cert : List ℕ) where
       unfolding verdict readBoth
       job-read h d = rw (job-fits, cert-fits, d .read, file-is job h d) refl
 
-  -- an accepted job is safe
-  pub with-safe : (r : Answer) → verdictOf r ≡ verdict job cert → (verdictOf r ≡ verdict job cert) × ((c : CountsAnswer) → r ≡ Accepted c → SafeBytes job)
-  with-safe r e = (e, λ c r-is. safe-bytes job cert (record { bads = c .bads; members = c .members; covers = c .covers }) (sym e ∙ ap verdictOf r-is))
+  -- what `check` promises of the verdict: which it is, when it accepts, and that an accepted job is safe
+  pub promised : (r : Answer) → verdictOf r ≡ verdict job cert
+      → (verdictOf r ≡ verdict job cert)
+      × (((c : Counts) → (verdictOf r ≡ accepted c) ↔ Conditions job cert c) × ((c : CountsAnswer) → r ≡ Accepted c → SafeBytes job))
+  promised r e = (
+    e,
+    (
+      λ c. (λ is. exact job cert c .0 (sym e ∙ is), λ d. e ∙ exact job cert c .1 d),
+      λ c r-is. safe-bytes job cert (record { bads = c .bads; members = c .members; covers = c .covers }) (sym e ∙ ap verdictOf r-is),
+    ),
+  )

@@ -9,13 +9,15 @@ use reader::read_members;
 use verdict::Counts;
 use verdict::Refusal;
 use verdict::Verdict;
+ghost use mathlib.Core.Logic.{_↔_};
 ghost use mathlib.Core.Path.{_≡_};
 ghost use Prim.Native.Nat.{_≤_};
 ghost use lib.ListN.{length};
 ghost use Rattle.checker.specs.Jobs.{fileIn, readCovers};
+ghost use Rattle.format.specs.Conditions.{Conditions};
 ghost use Rattle.format.specs.JobBytes.{SafeBytes};
 ghost use Rattle.format.specs.Parser.{certificateBuffer, within};
-ghost use Rattle.format.specs.Verdict.{conclude, readCertificate, verdict};
+ghost use Rattle.format.specs.Verdict.{Counts as CountsDue, accepted, conclude, readCertificate, verdict};
 ghost use Rattle.layout.specs.Entries.{membersAt, Table};
 ghost use Rattle.reader.specs.Job.{JobRead};
 ghost use Rattle.verdict.specs.Verdict.{verdictOf};
@@ -77,9 +79,11 @@ fn check_certificate(job: &[u8], h: Header, cert: &[u8]) -> Verdict
     }
 }
 
-// The verdict on a job and a certificate. An accepted job is safe.
+// The verdict on a job and a certificate: accepted with these counts exactly if the conditions of document 01 hold with them. An accepted job is
+// safe.
 pub fn check(job: &[u8], cert: &[u8]) -> Verdict
     ensures exact { λ r. ⌜ verdictOf r ≡ verdict (now (job .entry)) (now (cert .entry)) ⌝ }
+    ensures accepted { λ r. ⌜ ((c : CountsDue) → (verdictOf r ≡ accepted c) ↔ Conditions (now (job .entry)) (now (cert .entry)) c) ⌝ }
     ensures safe { λ r. ⌜ ((c : CountsAnswer) → r ≡ Accepted c → SafeBytes (now (job .entry))) ⌝ }
 {
     if !fits(job.len()) {

@@ -1,5 +1,5 @@
 // The calls for a host in C: include/vorruda.h declares them.
-mod heap;
 mod judge;
 mod lend;
 mod numbers;
+mod step;

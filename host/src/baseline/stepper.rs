@@ -1,7 +1,7 @@
 //! The stepper, fast: on the bytes themselves.
 
 use super::shape::{CELL, DANGLING, NOWHERE, NULL};
-use crate::reference::operation::{operation, ASSIGN, DELETE, DIFFERENT, EQUAL, FOLLOW, LINK, NEW};
+use crate::reference::operation::{operation, ASSIGN, DELETE, DIFFERENT, EQUAL, LOAD, NEW, STORE};
 use crate::reference::stepper::{CELLS, HEAP_BYTES, LINKS, MARKS, SLOTS};
 
 type Heap = [u8; HEAP_BYTES];
@@ -58,11 +58,11 @@ fn enabled_step(heap: &mut Heap, kind: u64, a: usize, b: usize) -> u32 {
             heap[a] = at_b;
             MOVED
         }
-        FOLLOW if at_b >= CELL && heap[link_of(at_b)] != DANGLING => {
+        LOAD if at_b >= CELL && heap[link_of(at_b)] != DANGLING => {
             heap[a] = heap[link_of(at_b)];
             MOVED
         }
-        LINK if at_a >= CELL && at_b != DANGLING => {
+        STORE if at_a >= CELL && at_b != DANGLING => {
             heap[link_of(at_a)] = at_b;
             MOVED
         }

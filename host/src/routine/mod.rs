@@ -32,7 +32,7 @@ pub use mistake::Mistake;
 pub use parse::parse;
 
 use crate::reference::job::Job;
-use crate::reference::operation::{Operation, ASSIGN, DELETE, DIFFERENT, EQUAL, FOLLOW, LINK, NEW};
+use crate::reference::operation::{Operation, ASSIGN, DELETE, DIFFERENT, EQUAL, LOAD, NEW, STORE};
 
 /// A job with the names that a person gave.
 #[derive(Clone, Debug)]
@@ -66,8 +66,8 @@ pub fn words<'a>(operation: Operation, name: impl Fn(usize) -> &'a str) -> Strin
         EQUAL => format!("{a} = {b}"),
         DIFFERENT => format!("{a} != {b}"),
         ASSIGN => format!("{a} := {b}"),
-        FOLLOW => format!("{a} := {b}.next"),
-        LINK => format!("{a}.next := {b}"),
+        LOAD => format!("{a} := {b}.next"),
+        STORE => format!("{a}.next := {b}"),
         NEW => format!("new({a})"),
         DELETE => format!("delete({a})"),
         _ => unreachable!("an operation has a kind of the table"),

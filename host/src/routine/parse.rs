@@ -6,7 +6,7 @@ use crate::reference::job::{
     Job, Located, Transition, MOST_FORBIDDEN, MOST_STATES, MOST_TRANSITIONS, MOST_VARIABLES,
 };
 use crate::reference::operation::{
-    operation, Operation, ASSIGN, DELETE, DIFFERENT, EQUAL, FOLLOW, LINK, NEW,
+    operation, Operation, ASSIGN, DELETE, DIFFERENT, EQUAL, LOAD, NEW, STORE,
 };
 use crate::reference::shape::Shape;
 
@@ -255,8 +255,8 @@ fn split_operation(text: &str) -> Option<(u64, &str, &str)> {
     if let Some((a, b)) = text.split_once(":=") {
         return Some(match (a.strip_suffix(".next"), b.strip_suffix(".next")) {
             (None, None) => (ASSIGN, a, b),
-            (None, Some(b)) => (FOLLOW, a, b),
-            (Some(a), None) => (LINK, a, b),
+            (None, Some(b)) => (LOAD, a, b),
+            (Some(a), None) => (STORE, a, b),
             (Some(_), Some(_)) => return None,
         });
     }

@@ -4,7 +4,7 @@ use std::collections::BTreeSet;
 
 use crate::reference::heap::Place;
 use crate::reference::job::{Located, Transition};
-use crate::reference::operation::{FOLLOW, LINK};
+use crate::reference::operation::{LOAD, STORE};
 use crate::reference::shape::Shape;
 
 const NULL: u64 = 1;
@@ -108,8 +108,8 @@ pub fn steps(variables: usize, transitions: &[Transition]) -> Vec<Located> {
     let mut all = Vec::new();
     for transition in transitions {
         let stepping = match transition.operation.kind {
-            FOLLOW => transition.operation.b,
-            LINK => transition.operation.a,
+            LOAD => transition.operation.b,
+            STORE => transition.operation.a,
             _ => continue,
         };
         if seen.insert((transition.from, stepping)) {

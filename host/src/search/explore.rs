@@ -7,7 +7,7 @@ use super::images::{features, find_images, Features};
 use super::smaller::{without_middle, without_unmet};
 use crate::baseline::shape::{Located, Shape, CELL, DANGLING, HELPER, NOWHERE, NULL};
 use crate::reference::job::Job;
-use crate::reference::operation::{Operation, ASSIGN, DELETE, DIFFERENT, EQUAL, FOLLOW, LINK, NEW};
+use crate::reference::operation::{Operation, ASSIGN, DELETE, DIFFERENT, EQUAL, LOAD, NEW, STORE};
 
 /// How a heap was reached; the numbers are of the heap before and of the transition.
 #[derive(Clone, Copy, PartialEq, Eq)]
@@ -161,8 +161,8 @@ pub fn after(heap: &Shape, operation: Operation) -> Option<Shape> {
         EQUAL => at_a != DANGLING && at_a == at_b,
         DIFFERENT => at_a != DANGLING && at_b != DANGLING && at_a != at_b,
         ASSIGN => at_b != DANGLING,
-        FOLLOW => at_b >= CELL && heap.link_of(at_b) != DANGLING,
-        LINK => at_a >= CELL && at_b != DANGLING,
+        LOAD => at_b >= CELL && heap.link_of(at_b) != DANGLING,
+        STORE => at_a >= CELL && at_b != DANGLING,
         NEW => true,
         DELETE => at_a >= CELL,
         _ => unreachable!("an operation has a kind of the table"),
@@ -172,8 +172,8 @@ pub fn after(heap: &Shape, operation: Operation) -> Option<Shape> {
     }
     match kind {
         ASSIGN => after.variables[a] = at_b,
-        FOLLOW => after.variables[a] = heap.link_of(at_b),
-        LINK => after.set_link_of(at_a, at_b),
+        LOAD => after.variables[a] = heap.link_of(at_b),
+        STORE => after.set_link_of(at_a, at_b),
         NEW => {
             after.variables[a] = heap.fresh();
             after.add_cell(DANGLING);
