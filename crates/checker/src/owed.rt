@@ -6,6 +6,8 @@ use crate::outcome::Position;
 use crate::removal::check_delete;
 use crate::removal::check_new;
 use crate::single::check_cover;
+use kinds::DELETE;
+use kinds::NEW;
 use reader::Header;
 use reader::load::load_shape;
 use transitions::index_transitions;
@@ -72,10 +74,10 @@ fn check_transition(
     ensures { λ r. ⌜ Checks (now (cert .entry)) (membersFrom (now (cert .entry)) variables (now (starts .entry))) (transitionAt (now (job .entry)) at .from) (predecessors (transitionAt (now (job .entry)) at .op) (shapeIn variables (now (s .entry)))) t r ⌝ }
 {
     let by = transition_at(job, at);
-    if by.kind == 7 {
+    if by.kind == DELETE {
         return check_delete(cert, starts, variables, by, s, t);
     }
-    if by.kind == 6 {
+    if by.kind == NEW {
         return check_new(cert, starts, variables, by, s, t);
     }
     let placed = with_helper(variables, by);
