@@ -19,7 +19,7 @@ checkAll cert ms (o ∷ os) covers = do
   readCover (certificateBuffer cert) ms o
   checkAll cert ms os (suc covers)
 
--- how far the covers were taken, as the answer of a parser
+-- how far the covers are checked, as the answer of a parser
 abbrev pub outcomeOf : Outcome → Parsed ℕ
 outcomeOf (Upto t) = parsed (t .covers) (t .at)
 outcomeOf (Refused r place) = fault (refusalNumber r) place
@@ -39,7 +39,7 @@ StaysWithin cert (Refused r place) = Unit {0}
 abbrev pub located : ℕ → Shape → Located
 located state s = record { state = state; shape = s }
 
--- g is how far the covers of all these are taken, from t on
+-- g is how far the covers of all these are checked, from t on
 abbrev pub ChecksAll : List ℕ → List Located → List Located → Position → Outcome → Type 0
 ChecksAll cert ms os t g = (outcomeOf g ≡ checkAll cert ms os (t .covers) (t .at)) × StaysWithin cert g
 

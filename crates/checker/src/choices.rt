@@ -7,6 +7,7 @@ use crate::single::check_quickly;
 use crate::wanted::is_wanted_in;
 use crate::wanted::wanted_of_a;
 use crate::wanted::wanted_of_b;
+use kinds::LOAD;
 use placing::choices_of;
 use transitions::Transition;
 ghost use mathlib.Core.Bool.{true};
@@ -98,7 +99,7 @@ pub(crate) fn with_helper(variables: usize, by: Transition) -> Transition
     requires { ⌜ variables ≤ 8 ⌝ }
     ensures { λ r. ⌜ r ≡ withHelper variables by ⌝ }
 {
-    if by.kind != 4 {
+    if by.kind != LOAD {
         return by;
     }
     if by.a != by.b {

@@ -2,6 +2,10 @@
 use crate::outcome::Outcome;
 use crate::outcome::Position;
 use crate::single::check_cover;
+use place::DANGLING;
+use place::FIRST_CELL;
+use place::NOWHERE;
+use place::NULL;
 use shapes::remove_cell;
 use shapes::restore_deleted;
 use transitions::Transition;
@@ -65,7 +69,7 @@ pub(crate) fn check_new(
 {
     let slot = 17 + by.a as usize;
     let x = s[slot];
-    if x == 0 {
+    if x == NOWHERE {
         let all = Cells {
             first: 0,
             end: s[0],
@@ -76,13 +80,13 @@ pub(crate) fn check_new(
         };
         return check_cover(cert, starts, variables, by.from, s, u);
     }
-    if x < 3 {
+    if x < FIRST_CELL {
         return Outcome::Upto(t);
     }
     let mut v = *s;
-    v[slot] = 0;
+    v[slot] = NOWHERE;
     let one = Cells {
-        first: x - 3,
+        first: x - FIRST_CELL,
         end: x - 2,
     };
     check_removals(cert, starts, variables, by.from, &v, one, t)
@@ -101,10 +105,10 @@ pub(crate) fn check_delete(
     ensures { λ r. ⌜ Checks (now (cert .entry)) (membersFrom (now (cert .entry)) variables (now (starts .entry))) (by .from) (predecessors (delete (by .a)) (shapeIn variables (now (s .entry)))) t r ⌝ }
 {
     let x = s[17 + by.a as usize];
-    if x == 1 {
+    if x == NULL {
         return Outcome::Upto(t);
     }
-    if 2 < x {
+    if DANGLING < x {
         return Outcome::Upto(t);
     }
     let mut v = *s;

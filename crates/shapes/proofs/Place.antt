@@ -1,5 +1,4 @@
 -- An operand is placed in an array: the array holds the shape that the choice gives.
-use mathlib.Core.Bool.{cond}
 use mathlib.Core.List.{List, [], _∷_, _++_}
 use mathlib.Core.Logic.{_≢_}
 use mathlib.Core.Path.{_≡_, refl, sym, ap, _∙_}
@@ -7,10 +6,10 @@ use Prim.Native.Nat.{ℕ, suc, _+_, _-_, _≤_, _<_}
 use native.Mathlib.Decide.{ℕ-discrete, decLt}
 use native.Mathlib.Omega.{arith}
 use borrow.Author.Tests.{lt-ltb, le-ltb, eq-eqb, ne-eqb}
-use lib.ListN.{length, getD, set}
+use lib.ListN.{getD, set}
 use lib.Seq.{set-append-left}
 use Rattle.heap.specs.Place.{nowhere, null, cell}
-use Rattle.shape.specs.Placing.{setVarIn, setVar}
+use Rattle.shape.specs.Placing.{setVar}
 use Rattle.shape.specs.Shape.{Shape, varAt, size}
 use Rattle.backward.specs.Predecessors.{setLink}
 use Rattle.layout.specs.ShapeArray.{cellCount, operandAt, linksIn, shapeIn, ShapeArray}

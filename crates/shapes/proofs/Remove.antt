@@ -1,21 +1,20 @@
 -- Kind 6: the predecessors by new, and the array without a cell.
-use mathlib.Core.Bool.{true, false, cond}
-use mathlib.Core.List.{List, [], _∷_, _++_, map, List·Memᴰ·head, List·Memᴰ·tail, Memᴰ·cast}
+use mathlib.Core.List.{List, [], _∷_, _++_, map, Memᴰ·cast}
 use mathlib.Core.Logic.{_≢_}
 use mathlib.Core.Path.{_≡_, refl, sym, ap, ap₂, _∙_}
 use Prim.Native.Nat.{ℕ, zero, suc, _+_, _-_, _≤_, _<_}
-use native.Mathlib.Decide.{ℕ-discrete, decLt}
+use native.Mathlib.Decide.{decLt}
 use native.Mathlib.Omega.{arith}
 use borrow.Author.Tests.{lt-ltb, le-ltb, le-leb, lt-leb, ne-eqb}
 use lib.Dec.{T}
-use lib.ListN.{length, getD, take, drop, length-map, length-drop}
-use lib.Seq.{length-take-le, getD-take, getD-drop, ext-getD}
-use Rattle.lists.specs.List.{_∈_, concatMap, keep}
+use lib.ListN.{length, getD, drop, length-map}
+use lib.Seq.{getD-take, getD-drop, ext-getD}
+use Rattle.lists.specs.List.{concatMap}
 use Rattle.lists.specs.Range.{range}
 use Rattle.lists.proofs.List.{at-mem, getD-mem, mem-getD}
 use Rattle.lists.proofs.Reflect.{r-and, r-le, r-lt, cond-cases}
 use Rattle.heap.specs.Operation.{new}
-use Rattle.heap.specs.Place.{nowhere, null, dangling, cell}
+use Rattle.heap.specs.Place.{nowhere, null, cell}
 use Rattle.shape.specs.Placing.{setVar}
 use Rattle.shape.specs.Shape.{Shape, AllBelow, varAt, size}
 use Rattle.shape.proofs.Laws.{link-map}

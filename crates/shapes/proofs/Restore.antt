@@ -14,7 +14,7 @@ use Rattle.lists.proofs.Reflect.{r-eq, cond-cases}
 use Rattle.heap.specs.Operation.{delete}
 use Rattle.heap.specs.Place.{nowhere, null, dangling, cell}
 use Rattle.shape.specs.Placing.{setVar, fresh, grow}
-use Rattle.shape.specs.Shape.{Shape, varAt, size}
+use Rattle.shape.specs.Shape.{Shape}
 use Rattle.shape.proofs.Laws.{link-map}
 use Rattle.backward.specs.Predecessors.{forget, forgetDangling, predecessors}
 use Rattle.layout.specs.ShapeArray.{cellCount, operandAt, linksIn, shapeIn, ShapeArray}
