@@ -1,6 +1,6 @@
 // The checker: one verdict for the bytes of a job and of a certificate.
-use crate::outcome::Outcome;
 use crate::owed::check_owed;
+use crate::progress::Progress;
 use reader::Header;
 use reader::JobAnswer;
 use reader::MembersAnswer;
@@ -26,8 +26,8 @@ ghost use Rattle.verdict.specs.declared.Verdict.the-variants.{Accepted};
 
 mod change;
 mod choices;
-mod outcome;
 mod owed;
+mod progress;
 mod removal;
 mod single;
 mod wanted;
@@ -49,8 +49,8 @@ fn check_covers(job: &[u8], h: Header, cert: &[u8], starts: &[u16], at: usize) -
 {
     let g = check_owed(job, h, cert, starts, at);
     match g {
-        Outcome::Refused(why, place) => Verdict::Refused(why, place),
-        Outcome::Upto(t) => {
+        Progress::Refused(why, place) => Verdict::Refused(why, place),
+        Progress::Upto(t) => {
             if t.at < cert.len() {
                 return Verdict::Refused(Refusal::CertificateLeft, t.at);
             }

@@ -18,7 +18,7 @@ use Rattle.placing.proofs.Chosen.{chosen-cell, chosen-null, chosen-fresh, not-n
 use Rattle.placing.proofs.Putting.{put-nothing, put-made}
 use Rattle.placing.proofs.Retaining.{opened-none, opened-fresh, opened-middle}
 use Rattle.shapes.specs.Change.{setOperand, setLinkOf, addCell, placedIn}
-use Rattle.shapes.specs.Operands.{Holds}
+use Rattle.shapes.specs.Operands.{HoldsShape}
 use Rattle.shapes.proofs.Slots.{
   size-in,
   var-in,
@@ -99,7 +99,7 @@ made-is x t k p links e f = rw (e, f) refl
 module _ (w : ℕ) (s : List ℕ) (h : ShapeArray w s) (small : cellCount s ≤ 13) (x k : ℕ) (x-in : x ≤ w) (choice : k < cellCount s + (2 + cellCount s)) where
   -- the array t holds the shape with the operand placed, in which there is at most one cell more
   pub record Placing (t : List ℕ) : Type 0 where
-    pub holds : Holds w t (put x (shapeIn w s) k)
+    pub holds : HoldsShape w t (put x (shapeIn w s) k)
     pub most : cellCount t ≤ suc (cellCount s)
 
   abbrev n : ℕ

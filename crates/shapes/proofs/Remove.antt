@@ -22,7 +22,7 @@ use Rattle.backward.specs.Predecessors.{removeAt, lower, removeCell, predecesso
 use Rattle.backward.proofs.Remove.{lower-low, lower-below, links-remove-length}
 use Rattle.layout.specs.ShapeArray.{cellCount, operandAt, linksIn, shapeIn, ShapeArray}
 use Rattle.shapes.specs.Change.{setOperand, slotFrom, slotWithout, arrayWithout}
-use Rattle.shapes.specs.Operands.{Holds}
+use Rattle.shapes.specs.Operands.{HoldsShape}
 use Rattle.shapes.specs.Without.{isFree, without}
 use Rattle.shapes.proofs.New.{r-isFree, append-none, new-at-cell, new-at-null, new-at-dangling, new-at-nowhere}
 use Rattle.shapes.proofs.Slots.{size-in, vars-in, var-in, link-in, links-in-range, shape-operand}
@@ -211,7 +211,7 @@ module _ (variables : ℕ) (s : List ℕ) (h : ShapeArray variables s) (k : ℕ)
       fewer : length (removeAt k (linksIn s)) ≡ cellCount s - 1
       fewer = omega (arith, links-remove-length c (linksIn s) (omega arith, omega (arith, size-in variables s h)), size-in variables s h)
 
-  holds-slots : Holds variables t (removeCell (cell k) (shapeIn variables s))
+  holds-slots : HoldsShape variables t (removeCell (cell k) (shapeIn variables s))
   holds-slots =
       record {
         array = array;
@@ -222,6 +222,6 @@ module _ (variables : ℕ) (s : List ℕ) (h : ShapeArray variables s) (k : ℕ)
 
 -- the array holds the shape without the cell
 pub holds-without : (variables : ℕ) (s : List ℕ) → ShapeArray variables s → (k : ℕ) → k < cellCount s → T (isFree (cell k) (shapeIn variables s))
-    → Holds variables (arrayWithout s k) (removeCell (cell k) (shapeIn variables s))
+    → HoldsShape variables (arrayWithout s k) (removeCell (cell k) (shapeIn variables s))
 holds-without variables s h k is-cell free =
     holds-slots variables s h k is-cell free (arrayWithout s k) (table-length (slotWithout s k)) (table-at (slotWithout s k))
