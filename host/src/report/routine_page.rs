@@ -226,7 +226,7 @@ fn states(routine: &Routine, run: &[usize]) -> String {
         counted(routine.job.transitions.len(), "transition")
     );
     format!(
-        "<section class=\"states\">\n<h2>States and transitions</h2>\n<p>The run begins at \
+        "<section class=\"states\">\n<h2>States and transitions</h2>\n<p>Every run begins at \
          <b>{}</b>. At states with a thick frame something is forbidden.{of_run}</p>\n\
          {}</section>\n",
         escape(&routine.states[routine.job.start as usize]),
