@@ -11,9 +11,9 @@ use Rattle.reader.specs.declared.Header.{Header}
 use Rattle.verdict.specs.declared.Refusal.{Refusal}
 use Rattle.checker.specs.Jobs.{transitionIn, toState, owedBy}
 use Rattle.checker.specs.Checking.{Within, ChecksAll}
-use Rattle.checker.specs.declared.progress.Progress.{Progress}
-use Rattle.checker.specs.declared.progress.Progress.the-variants.{Upto, Refused}
-use Rattle.checker.specs.declared.progress.Position.{Position}
+use Rattle.checker.specs.declared.checked.Checked.{Checked}
+use Rattle.checker.specs.declared.checked.Checked.the-variants.{Upto, Refused}
+use Rattle.checker.specs.declared.checked.Position.{Position}
 use Rattle.checker.proofs.Checking.{Progress, begin, advance, halt, finish}
 
 -- how many transitions there are from the one that k names on
@@ -61,7 +61,7 @@ module _ {job : List ℕ} {h : Header} {cert : List ℕ} {ms : List Located} {m 
         let same : c .passed + (h .transitions - c .passed) - suc (k - 1) ≡ h .transitions - suc (k - 1) = omega (arith, c .inside) in
         rw same at (rw (first .owes) at (c .progress))
 
-    module _ {g : Progress} (taken : ChecksAll cert ms here t g) where
+    module _ {g : Checked} (taken : ChecksAll cert ms here t g) where
       pub chain-halt : {r : Refusal} {place : ℕ} → g ≡ Refused r place → ChecksAll cert ms (owedBy job h m) from g
       chain-halt e = halt here rest left taken e
 

@@ -8,9 +8,9 @@ use Rattle.run.specs.Run.{Located}
 use Rattle.format.specs.Certificate.{readCover}
 use Rattle.format.specs.Parser.{Parsed, parsed, fault, Parser, _>>=_, _>>_, return, certificateBuffer}
 use Rattle.verdict.specs.Verdict.{refusalNumber}
-use Rattle.checker.specs.declared.progress.Progress.{Progress}
-use Rattle.checker.specs.declared.progress.Progress.the-variants.{Upto, Refused}
-use Rattle.checker.specs.declared.progress.Position.{Position}
+use Rattle.checker.specs.declared.checked.Checked.{Checked}
+use Rattle.checker.specs.declared.checked.Checked.the-variants.{Upto, Refused}
+use Rattle.checker.specs.declared.checked.Position.{Position}
 
 -- checks a cover of each shape, with members ms, and counts on
 unfoldable pub checkAll : List ℕ → List Located → List Located → ℕ → Parser ℕ
@@ -20,9 +20,9 @@ checkAll cert ms (o ∷ os) covers = do
   checkAll cert ms os (suc covers)
 
 -- how far the covers are checked, as the answer of a parser
-abbrev pub progressOf : Progress → Parsed ℕ
-progressOf (Upto t) = parsed (t .covers) (t .at)
-progressOf (Refused r place) = fault (refusalNumber r) place
+abbrev pub checkedOf : Checked → Parsed ℕ
+checkedOf (Upto t) = parsed (t .covers) (t .at)
+checkedOf (Refused r place) = fault (refusalNumber r) place
 
 -- a cover has at least one byte
 pub record Within (cert : List ℕ) (t : Position) : Type 0 where
@@ -31,7 +31,7 @@ pub record Within (cert : List ℕ) (t : Position) : Type 0 where
   pub fits : length cert ≤ 65536
 
 -- what goes on is within the certificate
-abbrev pub StaysWithin : List ℕ → Progress → Type 0
+abbrev pub StaysWithin : List ℕ → Checked → Type 0
 StaysWithin cert (Upto t) = Within cert t
 StaysWithin cert (Refused r place) = Unit {0}
 
@@ -40,9 +40,9 @@ abbrev pub located : ℕ → Shape → Located
 located state s = record { state = state; shape = s }
 
 -- g is how far the covers of all these are checked, from t on
-abbrev pub ChecksAll : List ℕ → List Located → List Located → Position → Progress → Type 0
-ChecksAll cert ms os t g = (progressOf g ≡ checkAll cert ms os (t .covers) (t .at)) × StaysWithin cert g
+abbrev pub ChecksAll : List ℕ → List Located → List Located → Position → Checked → Type 0
+ChecksAll cert ms os t g = (checkedOf g ≡ checkAll cert ms os (t .covers) (t .at)) × StaysWithin cert g
 
 -- and those of shapes at a state
-abbrev pub Checks : List ℕ → List Located → ℕ → List Shape → Position → Progress → Type 0
+abbrev pub Checks : List ℕ → List Located → ℕ → List Shape → Position → Checked → Type 0
 Checks cert ms state ss t g = ChecksAll cert ms (map (located state) ss) t g

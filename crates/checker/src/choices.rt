@@ -1,8 +1,8 @@
 // Kinds 1 to 5: covers of the predecessors, by first choices, of a, and second choices, of b.
 use crate::change::place_operand;
 use crate::change::undo;
-use crate::progress::Position;
-use crate::progress::Progress;
+use crate::checked::Checked;
+use crate::checked::Position;
 use crate::single::check_quickly;
 use crate::wanted::is_wanted_in;
 use crate::wanted::wanted_of_a;
@@ -18,7 +18,7 @@ ghost use Rattle.placing.specs.Choice.{put};
 ghost use Rattle.placing.specs.Retained.{changed, seconds, firsts};
 ghost use Rattle.placing.specs.Wanted.{fitsIn};
 ghost use Rattle.shapes.specs.Operands.{HoldsShape, working, Working, Placed, wantedB};
-ghost use Rattle.checker.specs.Checking.{progressOf, Within};
+ghost use Rattle.checker.specs.Checking.{checkedOf, Within};
 ghost use Rattle.checker.specs.Placing.{checkShapes, withHelper};
 
 // The predecessor by choice k of b, which is wanted, in place.
@@ -38,9 +38,9 @@ pub(crate) fn check_second_choices(
     by: Transition,
     s: &[u8; 28],
     from: Position,
-) -> Progress
+) -> Checked
     requires { ⌜ (Placed variables (by .kind) (by .a) (by .b) (now s)) × (Within (now cert) from) ⌝ }
-    ensures { λ r. ⌜ progressOf r ≡ checkShapes (now (cert .entry)) variables (now (starts .entry)) (by .from) (seconds variables (by .kind) (by .a) (by .b) (shapeIn (working variables (by .b)) (now (s .entry)))) from ⌝ }
+    ensures { λ r. ⌜ checkedOf r ≡ checkShapes (now (cert .entry)) variables (now (starts .entry)) (by .from) (seconds variables (by .kind) (by .a) (by .b) (shapeIn (working variables (by .b)) (now (s .entry)))) from ⌝ }
 {
     let wanted = wanted_of_b(by, s);
     let c = choices_of(s[0], wanted);
@@ -53,13 +53,13 @@ pub(crate) fn check_second_choices(
             let mut v = *s;
             undo_choice(variables, by, &mut v, j);
             let g = check_quickly(cert, starts, variables, by.from, &v, t);
-            let Progress::Upto(u) = g else {
+            let Checked::Upto(u) = g else {
                 return g;
             };
             t = u;
         }
     }
-    Progress::Upto(t)
+    Checked::Upto(t)
 }
 
 // Covers of all choices of a and b.
@@ -70,9 +70,9 @@ pub(crate) fn check_first_choices(
     by: Transition,
     s: &[u8; 28],
     from: Position,
-) -> Progress
+) -> Checked
     requires { ⌜ (Working 12 variables (by .kind) (by .a) (by .b) (now s)) × (Within (now cert) from) ⌝ }
-    ensures { λ r. ⌜ progressOf r ≡ checkShapes (now (cert .entry)) variables (now (starts .entry)) (by .from) (firsts variables (by .kind) (by .a) (by .b) (shapeIn (working variables (by .b)) (now (s .entry)))) from ⌝ }
+    ensures { λ r. ⌜ checkedOf r ≡ checkShapes (now (cert .entry)) variables (now (starts .entry)) (by .from) (firsts variables (by .kind) (by .a) (by .b) (shapeIn (working variables (by .b)) (now (s .entry)))) from ⌝ }
 {
     let wanted = wanted_of_a(by, s);
     let c = choices_of(s[0], wanted);
@@ -85,13 +85,13 @@ pub(crate) fn check_first_choices(
             let mut v = *s;
             place_operand(&mut v, by.a, j);
             let g = check_second_choices(cert, starts, variables, by, &v, t);
-            let Progress::Upto(u) = g else {
+            let Checked::Upto(u) = g else {
                 return g;
             };
             t = u;
         }
     }
-    Progress::Upto(t)
+    Checked::Upto(t)
 }
 
 // The transition in which the helper plays b, where kind 4 has one variable.

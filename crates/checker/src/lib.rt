@@ -1,6 +1,6 @@
 // The checker: one verdict for the bytes of a job and of a certificate.
+use crate::checked::Checked;
 use crate::owed::check_owed;
-use crate::progress::Progress;
 use reader::Header;
 use reader::JobAnswer;
 use reader::MembersAnswer;
@@ -25,9 +25,9 @@ ghost use Rattle.verdict.specs.declared.Counts.{Counts as CountsAnswer};
 ghost use Rattle.verdict.specs.declared.Verdict.the-variants.{Accepted};
 
 mod change;
+mod checked;
 mod choices;
 mod owed;
-mod progress;
 mod removal;
 mod single;
 mod wanted;
@@ -49,8 +49,8 @@ fn check_covers(job: &[u8], h: Header, cert: &[u8], starts: &[u16], at: usize) -
 {
     let g = check_owed(job, h, cert, starts, at);
     match g {
-        Progress::Refused(why, place) => Verdict::Refused(why, place),
-        Progress::Upto(t) => {
+        Checked::Refused(why, place) => Verdict::Refused(why, place),
+        Checked::Upto(t) => {
             if t.at < cert.len() {
                 return Verdict::Refused(Refusal::CertificateLeft, t.at);
             }

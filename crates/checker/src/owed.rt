@@ -1,8 +1,8 @@
 // Checks the covers in their order: those of the forbidden shapes; then for each member, each transition into its state.
+use crate::checked::Checked;
+use crate::checked::Position;
 use crate::choices::check_first_choices;
 use crate::choices::with_helper;
-use crate::progress::Position;
-use crate::progress::Progress;
 use crate::removal::check_delete;
 use crate::removal::check_new;
 use crate::single::check_cover;
@@ -20,7 +20,7 @@ ghost use Rattle.lists.specs.List.{concatMap};
 ghost use Rattle.backward.specs.Predecessors.{predecessors};
 ghost use Rattle.cover.specs.Cover.{owed};
 ghost use Rattle.checker.specs.Jobs.{toState, fileIn, owedBy};
-ghost use Rattle.checker.specs.Checking.{checkAll, progressOf, Within, ChecksAll, Checks};
+ghost use Rattle.checker.specs.Checking.{checkAll, checkedOf, Within, ChecksAll, Checks};
 ghost use Rattle.covering.specs.Members.{membersFrom};
 ghost use Rattle.kinds.specs.Kinds.{allowed};
 ghost use Rattle.layout.specs.ShapeArray.{cellCount, shapeIn, ShapeArray};
@@ -38,7 +38,7 @@ pub(crate) fn check_forbidden(
     starts: &[u16],
     variables: usize,
     from: Position,
-) -> Progress
+) -> Checked
     requires { ⌜ (EntriesIn (now job) variables first bads) × (variables ≤ 8) × (Within (now cert) from) ⌝ }
     ensures { λ r. ⌜ ChecksAll (now (cert .entry)) (membersFrom (now (cert .entry)) variables (now (starts .entry))) (entriesAt (now (job .entry)) variables first bads) from r ⌝ }
 {
@@ -50,14 +50,14 @@ pub(crate) fn check_forbidden(
         load_shape(job, at, variables, &mut s);
         let n = s[0] as usize;
         let g = check_cover(cert, starts, variables, job[at], &s, t);
-        let Progress::Upto(u) = g else {
+        let Checked::Upto(u) = g else {
             return g;
         };
         t = u;
         at += 2 + variables + n;
         i += 1;
     }
-    Progress::Upto(t)
+    Checked::Upto(t)
 }
 
 // Covers of the predecessors of a shape by the transition at a place of the job.
@@ -69,7 +69,7 @@ fn check_transition(
     variables: usize,
     s: &[u8; 28],
     t: Position,
-) -> Progress
+) -> Checked
     requires { ⌜ (at + 5 ≤ length (now job)) × (allowed variables (getD (now job) (at + 1) 0) (getD (now job) (at + 2) 0) (getD (now job) (at + 3) 0) ≡ true) × (variables ≤ 8) × (ShapeArray variables (now s)) × (cellCount (now s) ≤ 12) × (Within (now cert) t) ⌝ }
     ensures { λ r. ⌜ Checks (now (cert .entry)) (membersFrom (now (cert .entry)) variables (now (starts .entry))) (transitionAt (now (job .entry)) at .from) (predecessors (transitionAt (now (job .entry)) at .op) (shapeIn variables (now (s .entry)))) t r ⌝ }
 {
@@ -93,14 +93,14 @@ fn check_member(
     starts: &[u16],
     m: usize,
     from: Position,
-) -> Progress
+) -> Checked
     requires { ⌜ (JobRead (now job) h) × (IndexedFrom (toState (now job) h) (h .transitions) 0 (now index)) × (Table (now cert) (h .variables) (now starts)) × (m < length (now starts)) × (Within (now cert) from) ⌝ }
     ensures { λ r. ⌜ ChecksAll (now (cert .entry)) (membersFrom (now (cert .entry)) (h .variables) (now (starts .entry))) (owedBy (now (job .entry)) h (locatedAt (now (cert .entry)) (h .variables) (getD (now (starts .entry)) m 0))) from r ⌝ }
 {
     let at = starts[m] as usize;
     let mut k = index[cert[at] as usize];
     if k == 0 {
-        return Progress::Upto(from);
+        return Checked::Upto(from);
     }
     let mut s = [0u8; 28];
     load_shape(cert, at, h.variables, &mut s);
@@ -109,13 +109,13 @@ fn check_member(
         let i = (k - 1) as usize;
         let place = h.transitions_at + 5 * i;
         let g = check_transition(job, place, cert, starts, h.variables, &s, t);
-        let Progress::Upto(u) = g else {
+        let Checked::Upto(u) = g else {
             return g;
         };
         t = u;
         k = index[64 + i];
     }
-    Progress::Upto(t)
+    Checked::Upto(t)
 }
 
 // Covers of the predecessors of every member.
@@ -126,7 +126,7 @@ pub(crate) fn check_members(
     cert: &[u8],
     starts: &[u16],
     from: Position,
-) -> Progress
+) -> Checked
     requires { ⌜ (JobRead (now job) h) × (IndexedFrom (toState (now job) h) (h .transitions) 0 (now index)) × (Table (now cert) (h .variables) (now starts)) × (Within (now cert) from) ⌝ }
     ensures { λ r. ⌜ ChecksAll (now (cert .entry)) (membersFrom (now (cert .entry)) (h .variables) (now (starts .entry))) (concatMap (owedBy (now (job .entry)) h) (membersAt (now (cert .entry)) (h .variables) (now (starts .entry)))) from r ⌝ }
 {
@@ -134,25 +134,25 @@ pub(crate) fn check_members(
     let mut m = 0;
     while m < starts.len() {
         let g = check_member(job, h, index, cert, starts, m, t);
-        let Progress::Upto(u) = g else {
+        let Checked::Upto(u) = g else {
             return g;
         };
         t = u;
         m += 1;
     }
-    Progress::Upto(t)
+    Checked::Upto(t)
 }
 
 // Covers of all that is owed, from a place of the certificate on.
-pub(crate) fn check_owed(job: &[u8], h: Header, cert: &[u8], starts: &[u16], at: usize) -> Progress
+pub(crate) fn check_owed(job: &[u8], h: Header, cert: &[u8], starts: &[u16], at: usize) -> Checked
     requires { ⌜ (JobRead (now job) h) × (Table (now cert) (h .variables) (now starts)) × (at ≤ length (now cert)) × (length (now cert) ≤ 65536) ⌝ }
-    ensures { λ r. ⌜ progressOf r ≡ checkAll (now (cert .entry)) (membersAt (now (cert .entry)) (h .variables) (now (starts .entry))) (owed (fileIn (now (job .entry)) h .job) (membersAt (now (cert .entry)) (h .variables) (now (starts .entry)))) 0 at ⌝ }
+    ensures { λ r. ⌜ checkedOf r ≡ checkAll (now (cert .entry)) (membersAt (now (cert .entry)) (h .variables) (now (starts .entry))) (owed (fileIn (now (job .entry)) h .job) (membersAt (now (cert .entry)) (h .variables) (now (starts .entry)))) 0 at ⌝ }
 {
     let mut index = [0u16; 320];
     index_transitions(job, h.transitions_at, h.transitions, &mut index);
     let from = Position { at, covers: 0 };
     let g = check_forbidden(job, h.bads_at, h.bads, cert, starts, h.variables, from);
-    let Progress::Upto(t) = g else {
+    let Checked::Upto(t) = g else {
         return g;
     };
     check_members(job, h, &index, cert, starts, t)

@@ -1,6 +1,6 @@
 // Kinds 6 (new) and 7 (delete): covers of the predecessors.
-use crate::progress::Position;
-use crate::progress::Progress;
+use crate::checked::Checked;
+use crate::checked::Position;
 use crate::single::check_cover;
 use place::DANGLING;
 use place::FIRST_CELL;
@@ -34,7 +34,7 @@ fn check_removals(
     s: &[u8; 28],
     cells: Cells,
     from: Position,
-) -> Progress
+) -> Checked
     requires { ⌜ (ShapeArray variables (now s)) × (cells .first ≤ cells .end) × (cells .end ≤ cellCount (now s)) × (Within (now cert) from) ⌝ }
     ensures { λ r. ⌜ Checks (now (cert .entry)) (membersFrom (now (cert .entry)) variables (now (starts .entry))) state (concatMap (without (shapeIn variables (now (s .entry)))) (range (cells .first) (cells .end - cells .first))) from r ⌝ }
 {
@@ -46,13 +46,13 @@ fn check_removals(
         k += 1;
         if is_free {
             let g = check_cover(cert, starts, variables, state, &v, t);
-            let Progress::Upto(u) = g else {
+            let Checked::Upto(u) = g else {
                 return g;
             };
             t = u;
         }
     }
-    Progress::Upto(t)
+    Checked::Upto(t)
 }
 
 // Kind 6: a's cell taken out; where a is nowhere, each cell in turn, and then a fresh one, which leaves the shape.
@@ -63,7 +63,7 @@ pub(crate) fn check_new(
     by: Transition,
     s: &[u8; 28],
     t: Position,
-) -> Progress
+) -> Checked
     requires { ⌜ (ShapeArray variables (now s)) × (cellCount (now s) ≤ 12) × (1 ≤ by .a) × (by .a ≤ variables) × (Within (now cert) t) ⌝ }
     ensures { λ r. ⌜ Checks (now (cert .entry)) (membersFrom (now (cert .entry)) variables (now (starts .entry))) (by .from) (predecessors (new (by .a)) (shapeIn variables (now (s .entry)))) t r ⌝ }
 {
@@ -75,13 +75,13 @@ pub(crate) fn check_new(
             end: s[0],
         };
         let g = check_removals(cert, starts, variables, by.from, s, all, t);
-        let Progress::Upto(u) = g else {
+        let Checked::Upto(u) = g else {
             return g;
         };
         return check_cover(cert, starts, variables, by.from, s, u);
     }
     if x < FIRST_CELL {
-        return Progress::Upto(t);
+        return Checked::Upto(t);
     }
     let mut v = *s;
     v[slot] = NOWHERE;
@@ -100,16 +100,16 @@ pub(crate) fn check_delete(
     by: Transition,
     s: &[u8; 28],
     t: Position,
-) -> Progress
+) -> Checked
     requires { ⌜ (ShapeArray variables (now s)) × (cellCount (now s) ≤ 12) × (1 ≤ by .a) × (by .a ≤ variables) × (Within (now cert) t) ⌝ }
     ensures { λ r. ⌜ Checks (now (cert .entry)) (membersFrom (now (cert .entry)) variables (now (starts .entry))) (by .from) (predecessors (delete (by .a)) (shapeIn variables (now (s .entry)))) t r ⌝ }
 {
     let x = s[17 + by.a as usize];
     if x == NULL {
-        return Progress::Upto(t);
+        return Checked::Upto(t);
     }
     if DANGLING < x {
-        return Progress::Upto(t);
+        return Checked::Upto(t);
     }
     let mut v = *s;
     restore_deleted(s, by.a, &mut v);
