@@ -60,7 +60,7 @@ pub extern "C" fn vorruda_forbid_not_list(
     tell(answer, out)
 }
 
-// The same with "lost block".
+// The same with "lost block" of a variable at a state.
 #[no_mangle]
 pub extern "C" fn vorruda_forbid_lost_block(
     job: &[u8],
