@@ -1,24 +1,41 @@
 # make run                          the main job: the verdict on a sample job and certificate
 # make test                         every proof and every test
 # make lib                          target/staticlib/libvorruda.a, for hosts to link
-# make try ROUTINE=name-or-file     from a routine as text to a verdict
+# make install PREFIX=/usr/local    header, library and pkg-config file; DESTDIR is honoured
+# make try ROUTINE=name-or-file     from a routine as text to a verdict; without ROUTINE, the routines there are
+# make report ROUTINE=name-or-file  a page to look at; without ROUTINE, or with a folder, a table and a page for each routine
 # make bench                        the benchmarks
 
 export PATH := $(PATH):/opt/rattle/bin
 
-.PHONY: run test lib try bench
+PREFIX ?= /usr/local
+export PREFIX DESTDIR
+
+.PHONY: run test lib install try report bench
 
 run:
-	scripts/run.sh
+	@scripts/run.sh
 
 test:
-	scripts/test.sh
+	@scripts/test.sh
 
 lib:
-	scripts/lib.sh
+	@scripts/lib.sh
+	@echo target/staticlib/libvorruda.a
 
-try: lib
-	@cargo run --offline --release --quiet --manifest-path host/Cargo.toml --bin try -- $(ROUTINE)
+install:
+	@scripts/lib.sh
+	@scripts/install.sh
 
-bench: lib
-	scripts/bench.sh
+# Status 1 says that there is no certificate, which is an answer.
+try:
+	@scripts/lib.sh
+	@scripts/tool.sh try $(ROUTINE) || [ $$? -eq 1 ]
+
+report:
+	@scripts/lib.sh
+	@scripts/tool.sh report $(ROUTINE)
+
+bench:
+	@scripts/lib.sh
+	@scripts/bench.sh

@@ -2,6 +2,10 @@
  * certificates, and has the usual forbidden shapes added to a job.
  *
  *   gcc -std=c11 -Wall -Wextra -Werror -Iinclude examples/host.c target/staticlib/libvorruda.a
+ *
+ * or, where the library is installed,
+ *
+ *   gcc -std=c11 -Wall -Wextra -Werror examples/host.c $(pkg-config --cflags --libs vorruda)
  */
 #include <stdio.h>
 #include <string.h>
@@ -83,12 +87,12 @@ static void list_of_blocks(void)
     step("head := null", VORRUDA_ASSIGN, HEAD, NOTHING, 0);
     for (int i = 0; i < 3; i++) {
         step("new(block)", VORRUDA_NEW, BLOCK, NOTHING, 0);
-        step("block.next := head", VORRUDA_LINK, BLOCK, HEAD, 0);
+        step("block.next := head", VORRUDA_STORE, BLOCK, HEAD, 0);
         step("head := block", VORRUDA_ASSIGN, HEAD, BLOCK, 0);
     }
     expect("cells from the head", list_length(), 3);
 
-    step("head := head.next", VORRUDA_FOLLOW, HEAD, HEAD, 0);
+    step("head := head.next", VORRUDA_LOAD, HEAD, HEAD, 0);
     step("delete(block), the old front", VORRUDA_DELETE, BLOCK, NOTHING, 0);
     expect("cells from the head", list_length(), 2);
     step("delete(block) again: blocked", VORRUDA_DELETE, BLOCK, NOTHING, VORRUDA_BLOCKED);

@@ -1,8 +1,10 @@
 /* vorruda.h - calls of the proved library libvorruda.a.
  *
- * A buffer is a pointer and a length. NULL with length 0 is an empty buffer. Buffers of one call
- * must not overlap. Nothing is allocated and nothing is kept between calls; calls on different
- * buffers may run at the same time.
+ * A buffer is a pointer and a length; NULL with length 0 is an empty buffer. What the caller owes:
+ * each pointer is valid for its length, and a buffer that a call may change overlaps no other buffer
+ * of the call. Buffers that are only read, as job and certificate, may overlap. There is no other
+ * condition. Nothing is allocated and nothing is kept between calls; calls on different buffers may
+ * run at the same time.
  *
  * Every call returns a number: 0 is success, 1 to 99 is a refusal, 100 and above is told at the
  * call. Results beside it go to the caller's array `out`. Where `out_len` is too short for them,
@@ -76,8 +78,8 @@ uint32_t vorruda_write_numbers(const uint64_t *numbers, size_t count,
 #define VORRUDA_EQUAL     1 /* a = b        neither at *, same place;           a, b from 0 */
 #define VORRUDA_DIFFERENT 2 /* a != b       neither at *, different places;     a, b from 0 */
 #define VORRUDA_ASSIGN    3 /* a := b       b not at *;                         b from 0 */
-#define VORRUDA_FOLLOW    4 /* a := b.next  b at a cell whose link isn't *                  */
-#define VORRUDA_LINK      5 /* a.next := b  a at a cell, b not at *;            b from 0 */
+#define VORRUDA_LOAD      4 /* a := b.next  b at a cell whose link isn't *                  */
+#define VORRUDA_STORE     5 /* a.next := b  a at a cell, b not at *;            b from 0 */
 #define VORRUDA_NEW       6 /* new(a)       always; b is 0                                  */
 #define VORRUDA_DELETE    7 /* delete(a)    a at a cell; b is 0                             */
 

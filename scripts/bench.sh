@@ -3,4 +3,4 @@
 set -euo pipefail
 cd "$(dirname "$0")/.."
 mkdir -p build/bench
-cargo run --offline --release --quiet --manifest-path host/Cargo.toml --bin bench -- build/bench
+scripts/tool.sh bench build/bench

@@ -9,8 +9,11 @@ rt fmt --check
 
 scripts/lib.sh
 scripts/example.sh
+scripts/install_test.sh
+scripts/lint.sh
 cargo test --offline --release --quiet --manifest-path host/Cargo.toml
 cargo run --offline --release --quiet --manifest-path host/Cargo.toml --bin compare
 scripts/valgrind.sh
+scripts/stack.sh
 
 tail -n 1 build/ci.log

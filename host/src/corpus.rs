@@ -6,6 +6,7 @@ use std::path::{Path, PathBuf};
 use crate::pairs::Pair;
 use crate::routine::{parse, Routine};
 use crate::search::{search, Outcome};
+use crate::text::nearest;
 
 /// What a routine's file name says of it.
 #[derive(Clone, Copy, Debug, PartialEq, Eq)]
@@ -30,28 +31,72 @@ pub fn folder() -> PathBuf {
 
 /// All routines by name, or what is wrong with a file.
 pub fn read() -> Result<Vec<Entry>, String> {
-    let folder = folder();
-    let listed = fs::read_dir(&folder).map_err(|error| format!("{}: {error}", folder.display()))?;
+    read_folder(&folder())
+}
+
+/// The routines of a folder by name, or what is wrong with a file.
+pub fn read_folder(folder: &Path) -> Result<Vec<Entry>, String> {
+    files(folder)?.iter().map(|path| entry(path)).collect()
+}
+
+/// The files of a folder that are routines, in the order of their names.
+fn files(folder: &Path) -> Result<Vec<PathBuf>, String> {
+    let listed = fs::read_dir(folder).map_err(|error| format!("{}: {error}", folder.display()))?;
     let mut files: Vec<PathBuf> = listed
         .filter_map(|file| Some(file.ok()?.path()))
         .filter(|path| path.extension().is_some_and(|end| end == "routine"))
         .collect();
     files.sort();
-    files.iter().map(|path| entry(path)).collect()
+    Ok(files)
+}
+
+/// The routine of the corpus with this name where there is one, else that of the file.
+pub fn find(name: &str) -> Result<Entry, String> {
+    let known = folder().join(format!("{name}.routine"));
+    let file = Path::new(name);
+    match (known.is_file(), file.exists()) {
+        (true, _) => entry(&known),
+        (false, true) => entry(file),
+        (false, false) => Err(unknown(name)?),
+    }
+}
+
+/// What to say of a name that is neither a routine nor a file: those that may have been meant.
+fn unknown(name: &str) -> Result<String, String> {
+    let files = files(&folder())?;
+    let names: Vec<String> = files.iter().map(|path| name_of(path)).collect();
+    let names: Vec<&str> = names.iter().map(String::as_str).collect();
+    let mut meant = nearest(name, names.iter().copied());
+    let contains_it = |known: &&str| !meant.contains(known) && known.contains(name);
+    let others: Vec<&str> = names.iter().copied().filter(contains_it).collect();
+    meant.extend(others);
+    let what = format!("{name}: neither a file nor a routine of the corpus");
+    Ok(match meant.is_empty() {
+        true => format!("{what}; `make try` lists them"),
+        false => format!(
+            "{what}; did you mean one of these?\n  {}",
+            meant.join("\n  ")
+        ),
+    })
+}
+
+fn name_of(path: &Path) -> String {
+    let name = path.file_stem().unwrap_or_default();
+    name.to_string_lossy().into_owned()
 }
 
 fn entry(path: &Path) -> Result<Entry, String> {
     let mistake = |what: String| format!("{}: {what}", path.display());
     let text = fs::read_to_string(path).map_err(|error| mistake(error.to_string()))?;
     let routine = parse(&text).map_err(|wrong| mistake(wrong.to_string()))?;
-    let name = path.file_stem().unwrap_or_default().to_string_lossy();
+    let name = name_of(path);
     Ok(Entry {
         expected: match &name {
             name if name.starts_with("wrong_") => Expected::Wrong,
             name if name.starts_with("beyond_") => Expected::Beyond,
             _ => Expected::Certified,
         },
-        name: name.into_owned(),
+        name,
         routine,
     })
 }

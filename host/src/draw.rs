@@ -1,16 +1,32 @@
-//! Shapes and chains as text for a person.
+//! Shapes, heaps, runs and chains as text for a person.
 
 use std::fmt::Write;
 
-use crate::reference::heap::Place;
+use crate::reference::heap::{Heap, Place};
 use crate::reference::shape::Shape;
 use crate::routine::Routine;
 use crate::search::chain::Chain;
+use crate::search::run::Run;
 
 /// Draws a shape, a line for each run of cells: `[1 x] -> [2] -> #`. Cells are numbered from 1,
 /// with the variables that stand at them; an arrow is a link or a path of several.
 pub fn shape(shape: &Shape, variables: &[String]) -> Vec<String> {
-    let drawing = Drawing { shape, variables };
+    let numbers: Vec<usize> = (1..=shape.cells()).collect();
+    lines(shape, &numbers, variables)
+}
+
+/// Draws a heap in the same way; here an arrow is one link, and a cell's number is its own.
+pub fn heap(heap: &Heap, variables: &[String]) -> Vec<String> {
+    let numbers: Vec<usize> = heap.links.keys().map(|cell| cell + 1).collect();
+    lines(&Shape::of_heap(heap), &numbers, variables)
+}
+
+fn lines(shape: &Shape, numbers: &[usize], variables: &[String]) -> Vec<String> {
+    let drawing = Drawing {
+        shape,
+        numbers,
+        variables,
+    };
     let mut drawn = Vec::new();
     let mut lines = Vec::new();
     for cell in drawing.starts() {
@@ -27,6 +43,8 @@ pub fn shape(shape: &Shape, variables: &[String]) -> Vec<String> {
 
 struct Drawing<'a> {
     shape: &'a Shape,
+    /// The number that is drawn of each cell.
+    numbers: &'a [usize],
     variables: &'a [String],
 }
 
@@ -67,7 +85,7 @@ impl Drawing<'_> {
     /// A cell with its number and the variables at it.
     fn cell(&self, cell: usize) -> String {
         let names = self.at(Place::Cell(cell));
-        let words = std::iter::once((cell + 1).to_string()).chain(names);
+        let words = std::iter::once(self.numbers[cell].to_string()).chain(names);
         format!("[{}]", words.collect::<Vec<_>>().join(" "))
     }
 
@@ -85,6 +103,53 @@ impl Drawing<'_> {
         let dangling = self.at(Place::Dangling).into_iter().map(|x| x + " at *");
         let all: Vec<String> = null.chain(dangling).collect();
         (!all.is_empty()).then(|| all.join(", "))
+    }
+}
+
+/// Draws a run from the start on: at each step the state, the operation and the heap after it.
+pub fn run(run: &Run, routine: &Routine) -> String {
+    let transitions = run.transitions.iter().map(|&number| {
+        let transition = &routine.job.transitions[number];
+        let state = routine.states[transition.from as usize].as_str();
+        (state, routine.operation(transition.operation))
+    });
+    let steps: Vec<(&str, String)> = transitions.collect();
+    let of_states = steps.iter().map(|(state, _)| state.chars().count());
+    let of_operations = steps.iter().map(|(_, operation)| operation.chars().count());
+    let table = Table {
+        states: of_states.max().unwrap_or(0).max("state".len()),
+        operations: of_operations.max().unwrap_or(0).max("operation".len()),
+    };
+
+    let mut text = table.row(["", "state", "operation", "heap after it"]);
+    let empty = heap(&run.heaps[0], &routine.variables);
+    text += &table.rows("", "", "", &empty);
+    for (number, ((state, operation), after)) in steps.iter().zip(&run.heaps[1..]).enumerate() {
+        let step = (number + 1).to_string();
+        text += &table.rows(&step, state, operation, &heap(after, &routine.variables));
+    }
+    text
+}
+
+/// The widths of the columns of a run.
+struct Table {
+    states: usize,
+    operations: usize,
+}
+
+impl Table {
+    fn row(&self, [step, state, operation, heap]: [&str; 4]) -> String {
+        let (states, operations) = (self.states, self.operations);
+        let row = format!("{step:>5}  {state:<states$}  {operation:<operations$}  {heap}");
+        row.trim_end().to_string() + "\n"
+    }
+
+    /// A row whose last column has several lines.
+    fn rows(&self, step: &str, state: &str, operation: &str, heap: &[String]) -> String {
+        let (first, others) = heap.split_first().expect("a drawing has a line");
+        let first = self.row([step, state, operation, first]);
+        let others = others.iter().map(|line| self.row(["", "", "", line]));
+        std::iter::once(first).chain(others).collect()
     }
 }
 
@@ -109,6 +174,8 @@ pub fn chain(chain: &Chain, routine: &Routine) -> String {
 #[cfg(test)]
 mod tests {
     use super::*;
+    use crate::judge::{judge, Ending};
+    use crate::routine::parse;
 
     fn drawn(variables: &[u64], links: &[u64]) -> Vec<String> {
         let names = ["x", "y", "z"].map(str::to_string);
@@ -132,5 +199,36 @@ mod tests {
         assert_eq!(drawn(&[0, 0, 4], &[4, 3]), ["[1] -> [2 z] -> back to [1]"]);
         assert_eq!(drawn(&[0, 0, 0], &[2]), ["[1] -> *"]);
         assert_eq!(drawn(&[0, 0, 0], &[]), ["anything"]);
+    }
+
+    #[test]
+    fn a_run_step_by_step() {
+        let text = "\
+-- Wrong.
+variables x y
+start     begin
+begin     new(y)      -> made
+made      delete(y)   -> again
+again     new(x)      -> kept
+kept      x.next := x -> end
+forbidden
+end       ring: x
+";
+        let routine = parse(text).unwrap();
+        let Ending::Wrong(found) = judge(&routine.job).ending else {
+            panic!("no run");
+        };
+        let expected = "
+       state  operation    heap after it
+                           x at *, y at *
+    1  begin  new(y)       [1 y] -> *
+                           x at *
+    2  made   delete(y)    x at *, y at *
+    3  again  new(x)       [2 x] -> *
+                           y at *
+    4  kept   x.next := x  [2 x] -> back to [2 x]
+                           y at *
+";
+        assert_eq!(format!("\n{}", run(&found, &routine)), expected);
     }
 }

@@ -4,7 +4,7 @@ use crate::baseline::shape::{Located, Shape};
 use crate::pairs::Pair;
 use crate::reference::certificate::MOST_MEMBERS;
 use crate::reference::job::{self, Job, Transition, MOST_TRANSITIONS};
-use crate::reference::operation::{Operation, ASSIGN, DIFFERENT, EQUAL, FOLLOW, LINK};
+use crate::reference::operation::{Operation, ASSIGN, DIFFERENT, EQUAL, LOAD, STORE};
 use crate::reference::shape as reference;
 use crate::search::covers::certificate_of;
 
@@ -79,10 +79,10 @@ fn all_dropped() -> Pair {
         op(EQUAL, 1, 4),
         op(DIFFERENT, 1, 4),
         op(ASSIGN, 1, 4),
-        op(FOLLOW, 1, 3),
-        op(FOLLOW, 1, 4),
-        op(LINK, 1, 4),
-        op(LINK, 3, 1),
+        op(LOAD, 1, 3),
+        op(LOAD, 1, 4),
+        op(STORE, 1, 4),
+        op(STORE, 3, 1),
     ];
     let members = vec![chain(&[0, 0, 1, 2]); MOST_MEMBERS as usize];
     pair(8, &operations, MOST_TRANSITIONS as usize, &members)
@@ -92,7 +92,7 @@ fn all_dropped() -> Pair {
 fn linked_b() -> Pair {
     let covering = shape(&[0, 0, 1], &[]);
     let members = [vec![covering], vec![chain(&[0, 3, 1]); 116]].concat();
-    pair(8, &[op(FOLLOW, 1, 2)], MOST_TRANSITIONS as usize, &members)
+    pair(8, &[op(LOAD, 1, 2)], MOST_TRANSITIONS as usize, &members)
 }
 
 /// The most predecessors that one transition has.

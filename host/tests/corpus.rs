@@ -6,7 +6,7 @@ use std::fs;
 use std::path::Path;
 use std::process::Command;
 
-use common::assert_chain_holds;
+use common::{assert_chain_holds, assert_run_holds};
 use vorruda_host::baseline;
 use vorruda_host::check as proved;
 use vorruda_host::corpus::{self, Entry, Expected};
@@ -63,15 +63,15 @@ fn routines_end_as_their_names_say() {
                     assert_eq!(other(&job, &certificate), verdict, "{name}");
                 }
             }
-            Outcome::Impossible(chain) => {
-                let ended = match chain.is_a_run {
-                    true => Expected::Wrong,
-                    false => Expected::Beyond,
-                };
-                assert_eq!(expected, ended, "{name}");
+            Outcome::Wrong(run) => {
+                assert_eq!(expected, Expected::Wrong, "{name}");
+                assert_run_holds(&routine.job, &run, &name);
+            }
+            Outcome::Impossible(chain, _) => {
+                assert_eq!(expected, Expected::Beyond, "{name}");
                 assert_chain_holds(&routine.job, &chain, &name);
             }
-            Outcome::Undecided(limit) => panic!("{name}: {limit}"),
+            Outcome::Undecided(limit, _) => panic!("{name}: {limit}"),
         }
     }
 }

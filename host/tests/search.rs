@@ -2,7 +2,7 @@
 
 mod common;
 
-use common::assert_chain_holds;
+use common::{assert_chain_holds, assert_run_holds};
 use vorruda_host::pairs::{accepted_pairs, Pair};
 use vorruda_host::reference::checker::check;
 use vorruda_host::reference::job::Job;
@@ -20,11 +20,15 @@ fn is_certified(job: &Job) -> bool {
             );
             true
         }
-        Outcome::Impossible(chain) => {
+        Outcome::Wrong(run) => {
+            assert_run_holds(job, &run, &format!("{job:?}"));
+            false
+        }
+        Outcome::Impossible(chain, _) => {
             assert_chain_holds(job, &chain, &format!("{job:?}"));
             false
         }
-        Outcome::Undecided(_) => false,
+        Outcome::Undecided(..) => false,
     }
 }
 

@@ -70,7 +70,7 @@ together a b s = eqb (varAt s a) (varAt s b)
 abbrev pub linkFits : ℕ → ℕ → Shape → Bool
 linkFits c p s = ltb dangling c && (eqb (linkAt s c) nowhere || eqb (linkAt s c) p)
 
--- c is "a cell that no link and no other variable [than a] stands at and whose link is nowhere or *"
+-- where a is the variable, c is "a cell that no link and no other variable stands at and whose link is nowhere or *"
 abbrev pub isNew : ℕ → ℕ → Shape → Bool
 isNew a c s = linkFits c dangling s && (absent c (s .links) && absent c (setVarIn a nowhere (s .vars)))
 

@@ -10,11 +10,11 @@ use Rattle.order.proofs.Into.{before, owedFrom, FirstInto, none-into, some-into
 use Rattle.reader.specs.declared.Header.{Header}
 use Rattle.verdict.specs.declared.Refusal.{Refusal}
 use Rattle.checker.specs.Jobs.{transitionIn, toState, owedBy}
-use Rattle.checker.specs.Taking.{Within, TakesAll}
-use Rattle.checker.specs.declared.going.Going.{Going}
-use Rattle.checker.specs.declared.going.Going.the-variants.{On, Refused}
-use Rattle.checker.specs.declared.going.Taken.{Taken}
-use Rattle.checker.proofs.Taking.{Progress, begin, advance, halt, finish}
+use Rattle.checker.specs.Checking.{Within, ChecksAll}
+use Rattle.checker.specs.declared.outcome.Outcome.{Outcome}
+use Rattle.checker.specs.declared.outcome.Outcome.the-variants.{Upto, Refused}
+use Rattle.checker.specs.declared.outcome.Position.{Position}
+use Rattle.checker.proofs.Checking.{Progress, begin, advance, halt, finish}
 
 -- how many transitions there are from the one that k names on
 abbrev pub leftFrom : ℕ → ℕ → ℕ
@@ -26,24 +26,24 @@ left-from count zero h = absurd (omega arith)
 left-from count (suc i) h = omega arith
 
 -- covers are taken for the transitions below `passed`; k names the first into the member's state among the others
-pub record Chain (job : List ℕ) (h : Header) (cert : List ℕ) (ms : List Located) (m : Located) (from : Taken) (k : ℕ) (t : Taken) : Type 0 where
+pub record Chain (job : List ℕ) (h : Header) (cert : List ℕ) (ms : List Located) (m : Located) (from : Position) (k : ℕ) (t : Position) : Type 0 where
   pub passed : ℕ
   pub inside : passed ≤ h .transitions
   pub named : k ≡ nextInto (toState job h) (m .state) (h .transitions - passed) passed
   pub progress : Progress cert ms (owedBy job h m) from (owedFrom (transitionIn job h) m (h .transitions - passed) passed) t
 
-module _ {job : List ℕ} {h : Header} {cert : List ℕ} {ms : List Located} {m : Located} {from : Taken} where
+module _ {job : List ℕ} {h : Header} {cert : List ℕ} {ms : List Located} {m : Located} {from : Position} where
   pub chain-begin : {k : ℕ} → k ≡ nextInto (toState job h) (m .state) (h .transitions) 0 → Within cert from → Chain job h cert ms m from k from
   chain-begin e w =
       let all : h .transitions - 0 ≡ h .transitions = omega arith in
       record { passed = 0; inside = omega arith; named = rw all e; progress = rw all (begin w) }
 
-  pub chain-end : {k : ℕ} {t : Taken} → Chain job h cert ms m from k t → k ≤ 0 → TakesAll cert ms (owedBy job h m) from (On t)
+  pub chain-end : {k : ℕ} {t : Position} → Chain job h cert ms m from k t → k ≤ 0 → ChecksAll cert ms (owedBy job h m) from (Upto t)
   chain-end c e =
       let none = none-into (transitionIn job h) m (h .transitions - c .passed) (c .passed) (sym (c .named) ∙ omega arith) in
       finish (rw none at (c .progress))
 
-  module _ {k : ℕ} {t : Taken} (c : Chain job h cert ms m from k t) (some : 0 < k) where
+  module _ {k : ℕ} {t : Position} (c : Chain job h cert ms m from k t) (some : 0 < k) where
     abbrev here : List Located
     here = before m (transitionIn job h (k - 1))
 
@@ -61,11 +61,11 @@ module _ {job : List ℕ} {h : Header} {cert : List ℕ} {ms : List Located} {m 
         let same : c .passed + (h .transitions - c .passed) - suc (k - 1) ≡ h .transitions - suc (k - 1) = omega (arith, c .inside) in
         rw same at (rw (first .owes) at (c .progress))
 
-    module _ {g : Going} (taken : TakesAll cert ms here t g) where
-      pub chain-halt : {r : Refusal} {place : ℕ} → g ≡ Refused r place → TakesAll cert ms (owedBy job h m) from g
+    module _ {g : Outcome} (taken : ChecksAll cert ms here t g) where
+      pub chain-halt : {r : Refusal} {place : ℕ} → g ≡ Refused r place → ChecksAll cert ms (owedBy job h m) from g
       chain-halt e = halt here rest left taken e
 
-      pub chain-more : (nexts : List ℕ) → Follows (toState job h) (h .transitions) 0 nexts → {u : Taken} → g ≡ On u
+      pub chain-more : (nexts : List ℕ) → Follows (toState job h) (h .transitions) 0 nexts → {u : Position} → g ≡ Upto u
           → Chain job h cert ms m from (getD nexts (k - 1) 0) u
       chain-more nexts follows e =
           record {

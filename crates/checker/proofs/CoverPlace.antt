@@ -1,49 +1,16 @@
 -- A cover that was read ends further on, within the certificate.
-use mathlib.Core.List.{List, [], _∷_}
+use mathlib.Core.List.{List}
 use mathlib.Core.Path.{_≡_}
-use Prim.Native.Nat.{ℕ, _+_, _-_, _≤_, _<_}
+use Prim.Native.Nat.{ℕ, _-_, _≤_, _<_}
 use native.Mathlib.Omega.{arith}
-use lib.ListN.{length, getD, getElem?}
-use Rattle.lists.proofs.Reflect.{r-le, r-lt, r-eq, cond-cases}
-use Rattle.number.specs.Number.{numberIn, numberAt}
-use Rattle.number.specs.declared.Read.{Read}
-use Rattle.number.specs.declared.Read.the-variants.{Number, Unreadable}
+use lib.ListN.{length, getElem?}
 use Rattle.shape.specs.Shape.{size}
 use Rattle.run.specs.Run.{Located}
 use Rattle.cover.specs.Cover.{holds?}
 use Rattle.format.specs.Certificate.{readCover}
 use Rattle.format.specs.Parser.{parsed, many, ranged, readAs, Buffer}
 use Rattle.format.proofs.Parsing.{then, read-sound, require-sound, codes-exact}
-use Rattle.format.proofs.Sequence.{Reads, reads-none, reads-first}
-
-number-place : (s : List ℕ) (at n next : ℕ) → numberAt s at ≡ Number n next → (at < next) × (next ≤ length s)
-unfolding numberIn
-number-place s at n next =
-    cond-cases Q (r-le left 0) (λ _. unread)
-    (λ l₀. cond-cases Q (r-lt (getD s at 0) 128) (λ _ e. let z : at + 1 ≡ next = cc in (omega arith, omega arith))
-    (λ _. cond-cases Q (r-le left 1) (λ _. unread)
-    (λ l₁. cond-cases Q (r-eq (getD s (at + 1) 0) 0) (λ _. unread)
-    (λ _. cond-cases Q (r-lt (getD s (at + 1) 0) 128) (λ _ e. let z : at + 2 ≡ next = cc in (omega arith, omega arith))
-    (λ _. cond-cases Q (r-le left 2) (λ _. unread)
-    (λ l₂. cond-cases Q (r-eq (getD s (at + 2) 0) 0) (λ _. unread)
-    (λ _. cond-cases Q (r-lt (getD s (at + 2) 0) 4) (λ _ e. let z : at + 3 ≡ next = cc in (omega arith, omega arith)) (λ _. unread))))))))
-  where
-    left : ℕ
-    left = length s - at
-
-    Q : Read → Type 0
-    Q r = r ≡ Number n next → (at < next) × (next ≤ length s)
-
-    unread : Q (Unreadable at)
-    unread e = let z : _≡_ {A = ℕ} 0 1 = cc in absurd (omega arith)
-
-reads-place : (s : List ℕ) (at : ℕ) (ns : List ℕ) (next : ℕ) → Reads s at ns next → at ≤ length s → (at ≤ next) × (next ≤ length s)
-reads-place s at [] next r b = let e = reads-none r in (omega arith, omega arith)
-reads-place s at (n ∷ ns) next r b =
-    let (mid, g, k) = reads-first r in
-    let (c, d) = number-place s at n mid g in
-    let (e, f) = reads-place s mid ns next k d in
-    (omega arith, f)
+use Rattle.format.proofs.Sequence.{number-in, reads-on, reads-inside}
 
 pub cover-place : (s : Buffer) (ms : List Located) (o : Located) (at : ℕ) {u : Unit {0}} {next : ℕ} → readCover s ms o at ≡ parsed u next
     → (at < next) × (next ≤ length (s .bytes))
@@ -53,8 +20,7 @@ cover-place s ms o at =
     (λ m a h₁. then (many (size (m .shape)) (ranged s 0 (size (o .shape))) a) _
     (λ images b h₂ h₃.
     let (n, g, numbered) = read-sound s (getElem? ms) at m a h₁ in
-    let (c, d) = number-place (s .bytes) at n a g in
+    let (some-left, on, inside) = number-in at (length (s .bytes) - at) _ _ _ n a g in
     let (r, ok) = codes-exact s (size (m .shape)) (size (o .shape)) .sound a images b h₂ in
-    let (e, f) = reads-place (s .bytes) a images b r d in
     let (t, next-is) = require-sound (holds? m images o) 9 at b h₃ in
-    (omega arith, omega arith)))
+    (omega (arith, reads-on r), omega (arith, reads-inside r (omega arith)))))

@@ -1,12 +1,11 @@
 pub mod Members
 pub mod CoverPlace
 pub mod Lists
-pub mod Taking
-pub mod Takes
-pub mod Trying
+pub mod Checking
+pub mod Checks
+pub mod ChoiceLoop
 pub mod Helper
 pub mod Operands
-pub mod Loading
 pub mod Chain
 pub mod Verdicts
 pub mod Indexed

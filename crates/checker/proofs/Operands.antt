@@ -11,13 +11,13 @@ use Rattle.heap.specs.Operation.{kindOf}
 use Rattle.backward.specs.Predecessors.{predecessors}
 use Rattle.kinds.specs.Kinds.{allowed}
 use Rattle.kinds.proofs.Rows.{by-kind, known, row-of}
-use Rattle.layout.specs.Arrays.{shapeIn, Hold}
+use Rattle.layout.specs.ShapeArray.{cellCount, shapeIn, ShapeArray}
 use Rattle.layout.specs.Transitions.{opOf}
-use Rattle.choices.specs.Held.{working, Working}
-use Rattle.choices.specs.Retained.{firsts}
-use Rattle.choices.proofs.Arrays.{vars-in, hold-helper, with-helper}
-use Rattle.choices.proofs.Operations.{by-two, by-one}
-use Rattle.choices.proofs.Undoing.{working-more, working-same}
+use Rattle.placing.specs.Retained.{firsts}
+use Rattle.placing.proofs.Operations.{by-two, by-one}
+use Rattle.shapes.specs.Operands.{working, Working}
+use Rattle.shapes.proofs.Slots.{vars-in, array-helper, with-helper}
+use Rattle.shapes.proofs.Undo.{working-more, working-same}
 use Rattle.checker.specs.Placing.{secondOperand}
 use Rattle.checker.proofs.Helper.{second-helper, second-itself}
 
@@ -35,11 +35,11 @@ module _ (variables kind a b : ℕ) (most : kind ≤ 5) (allows : allowed variab
       (λ _ e. let r = row-of variables 5 a b _ refl e .0 in (λ _. r .least-a, r .most-a, r .most-b))
       (λ h _. absurd (omega arith)) (λ h _. absurd (omega arith)) kind least (omega arith) most allows
 
-  module _ (n : ℕ) (vars links : List ℕ) (room : variables ≤ 8) (cells : n ≤ 12) (hold : Hold variables n vars links) where
+  module _ (s : List ℕ) (room : variables ≤ 8) (cells : cellCount s ≤ 12) (array : ShapeArray variables s) where
     -- d plays b: the shape to work on, and that its choices are the predecessors
     pub record Plays (d : ℕ) : Type 0 where
-      pub work : Working 12 variables kind a d n vars links
-      pub same : firsts variables kind a d (shapeIn (working variables d) n vars links) ≡ predecessors (opOf (kindOf kind) a b) (shapeIn variables n vars links)
+      pub work : Working 12 variables kind a d s
+      pub same : firsts variables kind a d (shapeIn (working variables d) s) ≡ predecessors (opOf (kindOf kind) a b) (shapeIn variables s)
 
     itself : (kind ≡ 4 → a ≢ b) → Plays b
     itself apart =
@@ -60,9 +60,9 @@ module _ (variables kind a b : ℕ) (most : kind ≤ 5) (allows : allowed variab
                       apart = apart;
                     };
                 cells = cells;
-                hold = rw w hold;
+                array = rw w array;
               };
-          same = rw w (sym (by-two variables a b (shapeIn variables n vars links) kind least most apart b-most));
+          same = rw w (sym (by-two variables a b (shapeIn variables s) kind least most apart b-most));
         }
 
     helper : kind ≡ 4 → a ≡ b → Plays (suc variables)
@@ -84,12 +84,12 @@ module _ (variables kind a b : ℕ) (most : kind ≤ 5) (allows : allowed variab
                       apart = λ _ i. omega arith;
                     };
                 cells = cells;
-                hold = rw w (hold-helper variables n vars links hold room);
+                array = rw w (array-helper variables s array room);
               };
           same =
               rw (w, k, ← e)
-              (ap (firsts variables 4 a (suc variables)) (sym (with-helper variables n vars links hold room))
-              ∙ sym (by-one variables a (shapeIn variables n vars links) (vars-in variables n vars links hold)));
+              (ap (firsts variables 4 a (suc variables)) (sym (with-helper variables s array room))
+              ∙ sym (by-one variables a (shapeIn variables s) (vars-in variables s array)));
         }
 
     pub plays : (d : ℕ) → d ≡ secondOperand variables kind a b → Plays d

@@ -1,6 +1,7 @@
 -- From what the code answers to the verdict.
 use mathlib.Core.Bool.{true, false}
 use mathlib.Core.List.{List, []}
+use mathlib.Core.Logic.{_↔_}
 use mathlib.Core.Path.{_≡_, refl, sym, ap, ap₂, _∙_}
 use Prim.Native.Nat.{ℕ, zero, suc, _+_, _≤_, _<_}
 use native.Mathlib.Omega.{arith}
@@ -12,12 +13,13 @@ use Rattle.lists.proofs.Test.{and-right}
 use Rattle.run.specs.Run.{Located, Job}
 use Rattle.cover.specs.Cover.{owed}
 use Rattle.format.specs.Certificate.{Member, withoutPlaces, readMembers, testStart, readCover}
-use Rattle.format.specs.Conditions.{countsOf}
+use Rattle.format.specs.Conditions.{Conditions, countsOf}
 use Rattle.format.specs.JobBytes.{SafeBytes}
 use Rattle.format.specs.Job.{readWholeJob}
 use Rattle.format.specs.JobNumbers.{JobFile}
 use Rattle.format.specs.Parser.{Parsed, parsed, fault, Parser, onward, each, certificateBuffer, jobBuffer, end}
 use Rattle.format.specs.Verdict.{Counts, accepted, refused, conclude, readCertificate, fits, verdict, readBoth}
+use Rattle.format.proofs.Exact.{exact}
 use Rattle.format.proofs.Guarantee.{safe-bytes}
 use Rattle.layout.specs.Entries.{entryEnd, entriesAt}
 use Rattle.reader.specs.Job.{JobRead}
@@ -29,11 +31,11 @@ use Rattle.verdict.specs.declared.Counts.{Counts as CountsAnswer}
 use Rattle.verdict.specs.declared.Verdict.{Verdict as Answer}
 use Rattle.verdict.specs.declared.Verdict.the-variants.{Accepted}
 use Rattle.checker.specs.Jobs.{fileIn, readCovers}
-use Rattle.checker.specs.Taking.{takeAll, goingOf}
-use Rattle.checker.specs.declared.going.Going.{Going}
-use Rattle.checker.specs.declared.going.Going.the-variants.{On, Refused}
-use Rattle.checker.specs.declared.going.Taken.{Taken}
-use Rattle.checker.proofs.Taking.{takeAll-each}
+use Rattle.checker.specs.Checking.{checkAll, outcomeOf}
+use Rattle.checker.specs.declared.outcome.Outcome.{Outcome}
+use Rattle.checker.specs.declared.outcome.Outcome.the-variants.{Upto, Refused}
+use Rattle.checker.specs.declared.outcome.Position.{Position}
+use Rattle.checker.proofs.Checking.{checkAll-each}
 
 -- ---- lengths
 
@@ -49,42 +51,42 @@ fits-most s e = let h = ltb-true (length s) 65537 (and-right (leb 1 (length s)) 
 
 -- ---- the covers
 
-module _ (cert : List ℕ) (j : Job) (ms : List Located) (at : ℕ) (g : Going) (taken : goingOf g ≡ takeAll cert ms (owed j ms) 0 at) where
+module _ (cert : List ℕ) (j : Job) (ms : List Located) (at : ℕ) (g : Outcome) (taken : outcomeOf g ≡ checkAll cert ms (owed j ms) 0 at) where
   -- what is read after the covers
   abbrev after : List (Unit {0}) → Parser Counts
   after us place = onward (end (certificateBuffer cert) place) (λ u next. parsed (countsOf j ms) next)
 
-  by-each : (r : Parsed (List (Unit {0}))) → goingOf g ≡ onward r (λ us next. parsed (0 + length (owed j ms)) next)
+  by-each : (r : Parsed (List (Unit {0}))) → outcomeOf g ≡ onward r (λ us next. parsed (0 + length (owed j ms)) next)
       → ((why : Refusal) (place : ℕ) → g ≡ Refused why place → onward r after ≡ fault (refusalNumber why) place)
-      × ((t : Taken) → g ≡ On t → (t .covers ≡ length (owed j ms)) × (onward r after ≡ after [] (t .at)))
+      × ((t : Position) → g ≡ Upto t → (t .covers ≡ length (owed j ms)) × (onward r after ≡ after [] (t .at)))
   by-each (parsed us next) e = (
-    (λ why place g-is. let z : _≡_ {A = ℕ} 0 1 = cc (ap goingOf g-is) in absurd (omega arith)),
+    (λ why place g-is. let z : _≡_ {A = ℕ} 0 1 = cc (ap outcomeOf g-is) in absurd (omega arith)),
     (λ t g-is.
-        let f : _≡_ {A = Parsed ℕ} (parsed (t .covers) (t .at)) (parsed (0 + length (owed j ms)) next) = sym (ap goingOf g-is) ∙ e in
+        let f : _≡_ {A = Parsed ℕ} (parsed (t .covers) (t .at)) (parsed (0 + length (owed j ms)) next) = sym (ap outcomeOf g-is) ∙ e in
         let covers-is : t .covers ≡ 0 + length (owed j ms) = cc in
         let at-is : t .at ≡ next = cc in
         (covers-is ∙ omega arith, ap (after []) (sym at-is))),
   )
   by-each (fault number place) e = (
     (λ why q g-is.
-        let f : _≡_ {A = Parsed ℕ} (fault (refusalNumber why) q) (fault number place) = sym (ap goingOf g-is) ∙ e in
+        let f : _≡_ {A = Parsed ℕ} (fault (refusalNumber why) q) (fault number place) = sym (ap outcomeOf g-is) ∙ e in
         let number-is : number ≡ refusalNumber why = cc in
         let place-is : place ≡ q = cc in
         ap₂ fault number-is place-is),
-    (λ t g-is. let z : _≡_ {A = ℕ} 0 1 = cc (ap goingOf g-is) in absurd (omega arith)),
+    (λ t g-is. let z : _≡_ {A = ℕ} 0 1 = cc (ap outcomeOf g-is) in absurd (omega arith)),
   )
 
   pub covers-refused : (why : Refusal) (place : ℕ) → g ≡ Refused why place → refused (refusalNumber why) place ≡ conclude (readCovers cert j ms at)
   unfolding readCovers
   covers-refused why place g-is =
       let r = each (readCover (certificateBuffer cert) ms) (owed j ms) at in
-      sym (ap conclude (by-each r (taken ∙ takeAll-each cert ms (owed j ms) 0 at) .0 why place g-is))
+      sym (ap conclude (by-each r (taken ∙ checkAll-each cert ms (owed j ms) 0 at) .0 why place g-is))
 
-  module _ (t : Taken) (g-is : g ≡ On t) where
+  module _ (t : Position) (g-is : g ≡ Upto t) where
     -- all covers were taken
     reached : (t .covers ≡ length (owed j ms)) × (readCovers cert j ms at ≡ after [] (t .at))
     unfolding readCovers
-    reached = by-each (each (readCover (certificateBuffer cert) ms) (owed j ms) at) (taken ∙ takeAll-each cert ms (owed j ms) 0 at) .1 t g-is
+    reached = by-each (each (readCover (certificateBuffer cert) ms) (owed j ms) at) (taken ∙ checkAll-each cert ms (owed j ms) 0 at) .1 t g-is
 
     pub covers-left : t .at < length cert → refused 10 (t .at) ≡ conclude (readCovers cert j ms at)
     unfolding end
@@ -171,6 +173,14 @@ module _ (job cert : List ℕ) where
       unfolding verdict readBoth
       job-read h d = rw (job-fits, cert-fits, d .read, file-is job h d) refl
 
-  -- an accepted job is safe
-  pub with-safe : (r : Answer) → verdictOf r ≡ verdict job cert → (verdictOf r ≡ verdict job cert) × ((c : CountsAnswer) → r ≡ Accepted c → SafeBytes job)
-  with-safe r e = (e, λ c r-is. safe-bytes job cert (record { bads = c .bads; members = c .members; covers = c .covers }) (sym e ∙ ap verdictOf r-is))
+  -- what `check` promises of the verdict: which it is, when it accepts, and that an accepted job is safe
+  pub promised : (r : Answer) → verdictOf r ≡ verdict job cert
+      → (verdictOf r ≡ verdict job cert)
+      × (((c : Counts) → (verdictOf r ≡ accepted c) ↔ Conditions job cert c) × ((c : CountsAnswer) → r ≡ Accepted c → SafeBytes job))
+  promised r e = (
+    e,
+    (
+      λ c. (λ is. exact job cert c .0 (sym e ∙ is), λ d. e ∙ exact job cert c .1 d),
+      λ c r-is. safe-bytes job cert (record { bads = c .bads; members = c .members; covers = c .covers }) (sym e ∙ ap verdictOf r-is),
+    ),
+  )

@@ -1,3 +1,3 @@
-pub mod Taking
+pub mod Checking
 pub mod Placing
 pub mod Jobs

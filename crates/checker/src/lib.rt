@@ -1,6 +1,6 @@
 // The checker: one verdict for the bytes of a job and of a certificate.
-use crate::going::Going;
-use crate::take::take_covers;
+use crate::outcome::Outcome;
+use crate::owed::check_owed;
 use reader::Header;
 use reader::JobAnswer;
 use reader::MembersAnswer;
@@ -9,25 +9,28 @@ use reader::read_members;
 use verdict::Counts;
 use verdict::Refusal;
 use verdict::Verdict;
+ghost use mathlib.Core.Logic.{_↔_};
 ghost use mathlib.Core.Path.{_≡_};
 ghost use Prim.Native.Nat.{_≤_};
 ghost use lib.ListN.{length};
 ghost use Rattle.checker.specs.Jobs.{fileIn, readCovers};
+ghost use Rattle.format.specs.Conditions.{Conditions};
 ghost use Rattle.format.specs.JobBytes.{SafeBytes};
 ghost use Rattle.format.specs.Parser.{certificateBuffer, within};
-ghost use Rattle.format.specs.Verdict.{conclude, readCertificate, verdict};
+ghost use Rattle.format.specs.Verdict.{Counts as CountsDue, accepted, conclude, readCertificate, verdict};
 ghost use Rattle.layout.specs.Entries.{membersAt, Table};
 ghost use Rattle.reader.specs.Job.{JobRead};
 ghost use Rattle.verdict.specs.Verdict.{verdictOf};
 ghost use Rattle.verdict.specs.declared.Counts.{Counts as CountsAnswer};
 ghost use Rattle.verdict.specs.declared.Verdict.the-variants.{Accepted};
 
-mod going;
-mod one;
-mod placing;
+mod change;
+mod choices;
+mod outcome;
+mod owed;
 mod removal;
-mod take;
-mod wanting;
+mod single;
+mod wanted;
 
 // Whether a buffer of this length is judged at all.
 fn fits(len: usize) -> bool
@@ -39,15 +42,15 @@ fn fits(len: usize) -> bool
     len <= 65536
 }
 
-// Takes the covers and sees that nothing is left after them.
+// Checks the covers and sees that nothing is left after them.
 fn check_covers(job: &[u8], h: Header, cert: &[u8], starts: &[u16], at: usize) -> Verdict
     requires { ⌜ (JobRead (now job) h) × (Table (now cert) (h .variables) (now starts)) × (at ≤ length (now cert)) × (length (now cert) ≤ 65536) ⌝ }
     ensures { λ r. ⌜ verdictOf r ≡ conclude (readCovers (now (cert .entry)) (fileIn (now (job .entry)) h .job) (membersAt (now (cert .entry)) (h .variables) (now (starts .entry))) at) ⌝ }
 {
-    let g = take_covers(job, h, cert, starts, at);
+    let g = check_owed(job, h, cert, starts, at);
     match g {
-        Going::Refused(why, place) => Verdict::Refused(why, place),
-        Going::On(t) => {
+        Outcome::Refused(why, place) => Verdict::Refused(why, place),
+        Outcome::Upto(t) => {
             if t.at < cert.len() {
                 return Verdict::Refused(Refusal::CertificateLeft, t.at);
             }
@@ -76,9 +79,11 @@ fn check_certificate(job: &[u8], h: Header, cert: &[u8]) -> Verdict
     }
 }
 
-// The verdict on a job and a certificate. An accepted job is safe.
+// The verdict on a job and a certificate: accepted with these counts exactly if the conditions of document 01 hold with them. An accepted job is
+// safe.
 pub fn check(job: &[u8], cert: &[u8]) -> Verdict
     ensures exact { λ r. ⌜ verdictOf r ≡ verdict (now (job .entry)) (now (cert .entry)) ⌝ }
+    ensures accepted { λ r. ⌜ ((c : CountsDue) → (verdictOf r ≡ accepted c) ↔ Conditions (now (job .entry)) (now (cert .entry)) c) ⌝ }
     ensures safe { λ r. ⌜ ((c : CountsAnswer) → r ≡ Accepted c → SafeBytes (now (job .entry))) ⌝ }
 {
     if !fits(job.len()) {

@@ -1,119 +1,113 @@
 // Kinds 6 (new) and 7 (delete): covers of the predecessors.
-use crate::going::Going;
-use crate::going::Taken;
-use crate::one::take_one;
-use places::revive;
-use places::take_out;
+use crate::outcome::Outcome;
+use crate::outcome::Position;
+use crate::single::check_cover;
+use shapes::remove_cell;
+use shapes::restore_deleted;
+use transitions::Transition;
 ghost use Prim.Native.Nat.{_-_, _≤_};
 ghost use Rattle.lists.specs.List.{concatMap};
 ghost use Rattle.lists.specs.Range.{range};
 ghost use Rattle.heap.specs.Operation.{new, delete};
 ghost use Rattle.backward.specs.Predecessors.{predecessors};
-ghost use Rattle.checker.specs.Taking.{Within, Takes};
-ghost use Rattle.layout.specs.Arrays.{shapeIn, Hold};
+ghost use Rattle.checker.specs.Checking.{Within, Checks};
 ghost use Rattle.covering.specs.Members.{membersFrom};
-ghost use Rattle.removing.specs.Without.{without};
+ghost use Rattle.layout.specs.ShapeArray.{cellCount, shapeIn, ShapeArray};
+ghost use Rattle.shapes.specs.Without.{without};
 
-// Each of the cells from `first` on, below `end`, taken out in turn, if it is free.
-fn take_cells(
+// Cells from one on, before another.
+pub struct Cells {
+    pub first: u8,
+    pub end: u8,
+}
+
+// Each of the cells taken out in turn, if it is free.
+fn check_removals(
     cert: &[u8],
     starts: &[u16],
     variables: usize,
     state: u8,
-    n: u8,
-    vars: &[u8; 10],
-    links: &[u8; 14],
-    first: u8,
-    end: u8,
-    from: Taken,
-) -> Going
-    requires { ⌜ (Hold variables n (now vars) (now links)) × (first ≤ end) × (end ≤ n) × (Within (now cert) from) ⌝ }
-    ensures { λ r. ⌜ Takes (now (cert .entry)) (membersFrom (now (cert .entry)) variables (now (starts .entry))) state (concatMap (without (shapeIn variables n (now (vars .entry)) (now (links .entry)))) (range first (end - first))) from r ⌝ }
+    s: &[u8; 28],
+    cells: Cells,
+    from: Position,
+) -> Outcome
+    requires { ⌜ (ShapeArray variables (now s)) × (cells .first ≤ cells .end) × (cells .end ≤ cellCount (now s)) × (Within (now cert) from) ⌝ }
+    ensures { λ r. ⌜ Checks (now (cert .entry)) (membersFrom (now (cert .entry)) variables (now (starts .entry))) state (concatMap (without (shapeIn variables (now (s .entry)))) (range (cells .first) (cells .end - cells .first))) from r ⌝ }
 {
     let mut t = from;
-    let mut k = first;
-    while k < end {
-        let mut v = *vars;
-        let mut l = *links;
-        let is_free = take_out(variables, n, &mut v, &mut l, k);
+    let mut k = cells.first;
+    while k < cells.end {
+        let mut v = *s;
+        let is_free = remove_cell(variables, s, k, &mut v);
         k += 1;
         if is_free {
-            let g = take_one(cert, starts, variables, state, (n - 1) as usize, &v, &l, t);
-            let Going::On(u) = g else {
+            let g = check_cover(cert, starts, variables, state, &v, t);
+            let Outcome::Upto(u) = g else {
                 return g;
             };
             t = u;
         }
     }
-    Going::On(t)
+    Outcome::Upto(t)
 }
 
 // Kind 6: a's cell taken out; where a is nowhere, each cell in turn, and then a fresh one, which leaves the shape.
-pub(crate) fn take_new(
+pub(crate) fn check_new(
     cert: &[u8],
     starts: &[u16],
     variables: usize,
-    state: u8,
-    a: u8,
-    n: u8,
-    vars: &[u8; 10],
-    links: &[u8; 14],
-    t: Taken,
-) -> Going
-    requires { ⌜ (Hold variables n (now vars) (now links)) × (n ≤ 12) × (1 ≤ a) × (a ≤ variables) × (Within (now cert) t) ⌝ }
-    ensures { λ r. ⌜ Takes (now (cert .entry)) (membersFrom (now (cert .entry)) variables (now (starts .entry))) state (predecessors (new a) (shapeIn variables n (now (vars .entry)) (now (links .entry)))) t r ⌝ }
+    by: Transition,
+    s: &[u8; 28],
+    t: Position,
+) -> Outcome
+    requires { ⌜ (ShapeArray variables (now s)) × (cellCount (now s) ≤ 12) × (1 ≤ by .a) × (by .a ≤ variables) × (Within (now cert) t) ⌝ }
+    ensures { λ r. ⌜ Checks (now (cert .entry)) (membersFrom (now (cert .entry)) variables (now (starts .entry))) (by .from) (predecessors (new (by .a)) (shapeIn variables (now (s .entry)))) t r ⌝ }
 {
-    let x = vars[a as usize];
+    let slot = 17 + by.a as usize;
+    let x = s[slot];
     if x == 0 {
-        let g = take_cells(cert, starts, variables, state, n, vars, links, 0, n, t);
-        let Going::On(u) = g else {
+        let all = Cells {
+            first: 0,
+            end: s[0],
+        };
+        let g = check_removals(cert, starts, variables, by.from, s, all, t);
+        let Outcome::Upto(u) = g else {
             return g;
         };
-        return take_one(cert, starts, variables, state, n as usize, vars, links, u);
+        return check_cover(cert, starts, variables, by.from, s, u);
     }
     if x < 3 {
-        return Going::On(t);
+        return Outcome::Upto(t);
     }
-    let mut v = *vars;
-    v[a as usize] = 0;
-    take_cells(
-        cert,
-        starts,
-        variables,
-        state,
-        n,
-        &v,
-        links,
-        x - 3,
-        x - 2,
-        t,
-    )
+    let mut v = *s;
+    v[slot] = 0;
+    let one = Cells {
+        first: x - 3,
+        end: x - 2,
+    };
+    check_removals(cert, starts, variables, by.from, &v, one, t)
 }
 
 // Kind 7: a, being nowhere or at *, at a fresh cell, and nothing at *.
-pub(crate) fn take_delete(
+pub(crate) fn check_delete(
     cert: &[u8],
     starts: &[u16],
     variables: usize,
-    state: u8,
-    a: u8,
-    n: u8,
-    vars: &[u8; 10],
-    links: &[u8; 14],
-    t: Taken,
-) -> Going
-    requires { ⌜ (Hold variables n (now vars) (now links)) × (n ≤ 12) × (1 ≤ a) × (a ≤ variables) × (Within (now cert) t) ⌝ }
-    ensures { λ r. ⌜ Takes (now (cert .entry)) (membersFrom (now (cert .entry)) variables (now (starts .entry))) state (predecessors (delete a) (shapeIn variables n (now (vars .entry)) (now (links .entry)))) t r ⌝ }
+    by: Transition,
+    s: &[u8; 28],
+    t: Position,
+) -> Outcome
+    requires { ⌜ (ShapeArray variables (now s)) × (cellCount (now s) ≤ 12) × (1 ≤ by .a) × (by .a ≤ variables) × (Within (now cert) t) ⌝ }
+    ensures { λ r. ⌜ Checks (now (cert .entry)) (membersFrom (now (cert .entry)) variables (now (starts .entry))) (by .from) (predecessors (delete (by .a)) (shapeIn variables (now (s .entry)))) t r ⌝ }
 {
-    let x = vars[a as usize];
+    let x = s[17 + by.a as usize];
     if x == 1 {
-        return Going::On(t);
+        return Outcome::Upto(t);
     }
     if 2 < x {
-        return Going::On(t);
+        return Outcome::Upto(t);
     }
-    let mut v = *vars;
-    let mut l = *links;
-    let cells = revive(n, &mut v, &mut l, a);
-    take_one(cert, starts, variables, state, cells as usize, &v, &l, t)
+    let mut v = *s;
+    restore_deleted(s, by.a, &mut v);
+    check_cover(cert, starts, variables, by.from, &v, t)
 }

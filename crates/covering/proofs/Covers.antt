@@ -19,7 +19,7 @@ use Rattle.verdict.specs.declared.Reached.the-variants.{At, Refused}
 use Rattle.verdict.specs.declared.Refusal.{Refusal}
 use Rattle.verdict.specs.declared.Refusal.the-variants.{CertificateUnreadable, CertificateRange, CoverFails}
 use Rattle.layout.specs.Entries.{locatedAt, isWhole}
-use Rattle.embedding.proofs.Reading.{read-unreadable}
+use Rattle.covering.proofs.ReadImages.{read-unreadable}
 use Rattle.covering.specs.Members.{memberAt, membersFrom}
 use Rattle.covering.specs.Reading.{ImagesRead, CoverIs}
 use Rattle.covering.specs.declared.reading.CoverRead.{CoverRead}

@@ -1,3 +1,14 @@
+pub mod Trail
+pub mod Marks
+pub mod Follow
+pub mod Images
+pub mod Marking
+pub mod Paths
+pub mod Links
+pub mod Variables
+pub mod Whole
 pub mod Elements
+pub mod ReadImages
 pub mod Covers
 pub mod Taking
+pub mod TakeImages

@@ -1,2 +1,5 @@
+pub mod Images
+pub mod Marks
 pub mod Members
 pub mod Reading
+pub mod Quick

@@ -13,7 +13,7 @@ use Rattle.verdict.specs.Verdict.{refusalNumber}
 use Rattle.verdict.specs.declared.Reached.{Reached}
 use Rattle.verdict.specs.declared.Reached.the-variants.{At, Refused}
 use Rattle.layout.specs.Entries.{locatedAt, Whole}
-use Rattle.embedding.specs.Images.{imagesIn, ImageCodes}
+use Rattle.covering.specs.Images.{imagesIn, ImageCodes}
 use Rattle.covering.specs.Members.{membersFrom}
 use Rattle.covering.specs.declared.reading.CoverRead.{CoverRead}
 use Rattle.covering.specs.declared.reading.CoverRead.the-variants.{Taken, Refused as NotRead}

@@ -1,48 +1,45 @@
-// Testing that images embed a member in a shape.
+// Testing that images embed a member in a shape, exactly, whatever the bytes are.
 ghost use mathlib.Core.Bool.{true};
 ghost use mathlib.Core.List.{List, []};
 ghost use mathlib.Core.Path.{_≡_};
 ghost use Prim.Native.Nat.{ℕ, _+_, _≤_, _<_};
-ghost use lib.ListN.{length, getD};
+ghost use lib.ListN.{length, getD, replicate};
 ghost use Rattle.lists.specs.Test.{allFrom};
-ghost use Rattle.shape.specs.Shape.{Shape};
+ghost use Rattle.shape.specs.Shape.{Shape, size};
 ghost use Rattle.cover.specs.Test.{embeds?};
-ghost use Rattle.layout.specs.Arrays.{shapeIn};
+ghost use Rattle.layout.specs.ShapeArray.{linksIn, shapeIn};
 ghost use Rattle.layout.specs.Entries.{locatedAt, Whole};
-ghost use Rattle.embedding.specs.Images.{imagesIn, ImageCodes, imageIn, once, varFitsIn, pathFits};
-ghost use Rattle.embedding.specs.Marks.{markIn, Marks, Walking, Followed, Linking};
+ghost use Rattle.covering.specs.Images.{imagesIn, ImageCodes, imageIn, once, varFitsIn, pathFits};
+ghost use Rattle.covering.specs.Marks.{markIn, Marks, Walking, Followed, Linking};
 
 // Marks by the code of a place: where a path may pass, where it ends, where one has passed.
-const FREE: u8 = 0;
+pub(crate) const FREE: u8 = 0;
 
-const STOP: u8 = 1;
+pub(crate) const STOP: u8 = 1;
 
 const USED: u8 = 2;
 
-const NO_MARKS: [u8; 17] = [
-    STOP,
-    STOP,
-    STOP,
-    FREE,
-    FREE,
-    FREE,
-    FREE,
-    FREE,
-    FREE,
-    FREE,
-    FREE,
-    FREE,
-    FREE,
-    FREE,
-    FREE,
-    FREE,
-    FREE,
-];
+// No image is read yet: nowhere, # and * are their own images, and every cell's is cell 0.
+pub(crate) const NO_IMAGES: [u8; 15] = [0, 1, 2, 3, 3, 3, 3, 3, 3, 3, 3, 3, 3, 3, 3];
 
+// A byte as a place or an index.
 pub(crate) fn wide(byte: u8) -> usize
     ensures { λ r. ⌜ (r ≡ byte) × (r < 256) ⌝ }
 {
     byte as usize
+}
+
+// How many cells the shape in an array has: no more than there are slots from the first link on.
+pub(crate) fn cells_held(s: &[u8; 28]) -> usize
+    ensures { λ r. ⌜ (length (now (s .entry)) ≡ 28) × (r ≤ 25) × (r ≡ length (linksIn (now (s .entry)))) ⌝ }
+{
+    let all = &s[..];
+    let n = wide(s[0]);
+    let most = all.len() - 3;
+    if most < n {
+        return most;
+    }
+    n
 }
 
 // The image of a place; that of a cell which the member lacks is cell 0.
@@ -55,11 +52,14 @@ fn image_of(images: &[u8; 15], p: usize) -> u8
     3
 }
 
-// Marks the images as stops. False where two are the same.
-fn mark_images(images: &[u8; 15], count: usize, marks: &mut [u8; 17]) -> bool
-    requires { ⌜ ImageCodes count 14 (now images) × Marks [] [] (now marks) ⌝ }
+// Marks nowhere, #, * and the images as stops. False where two images are the same.
+fn mark_images(images: &[u8; 15], count: usize, marks: &mut [u8; 28]) -> bool
+    requires { ⌜ ImageCodes count 25 (now images) × (now marks ≡ replicate 28 0) ⌝ }
     ensures { λ r. ⌜ (r ≡ once (imagesIn count (now (images .entry)))) × (r ≡ true → Marks (imagesIn count (now (images .entry))) [] (now (marks .exit))) ⌝ }
 {
+    marks[0] = STOP;
+    marks[1] = STOP;
+    marks[2] = STOP;
     let mut i = 0;
     while i < count {
         let p = wide(images[i + 3]);
@@ -73,15 +73,15 @@ fn mark_images(images: &[u8; 15], count: usize, marks: &mut [u8; 17]) -> bool
 }
 
 // Whether each variable that the member places stands at the image of that place.
-fn vars_fit(cert: &[u8], first: usize, count: usize, images: &[u8; 15], vars: &[u8; 10]) -> bool
+fn vars_fit(cert: &[u8], first: usize, count: usize, images: &[u8; 15], s: &[u8; 28]) -> bool
     requires { ⌜ (first + count ≤ length (now cert)) × (count ≤ 9) ⌝ }
-    ensures { λ r. ⌜ r ≡ allFrom count 0 (varFitsIn (now (cert .entry)) first (now (images .entry)) (now (vars .entry))) ⌝ }
+    ensures { λ r. ⌜ r ≡ allFrom count 0 (varFitsIn (now (cert .entry)) first (now (images .entry)) (now (s .entry))) ⌝ }
 {
     let mut i = 0;
     while i < count {
         let p = wide(cert[first + i]);
         if p != 0 {
-            if image_of(images, p) != vars[i + 1] {
+            if image_of(images, p) != s[i + 18] {
                 return false;
             }
         }
@@ -91,8 +91,8 @@ fn vars_fit(cert: &[u8], first: usize, count: usize, images: &[u8; 15], vars: &[
 }
 
 // The mark of a place; one past the shape's cells counts as used.
-fn mark_at(marks: &[u8; 17], n: usize, p: usize) -> u8
-    requires { ⌜ n ≤ 14 ⌝ }
+fn mark_at(marks: &[u8; 28], n: usize, p: usize) -> u8
+    requires { ⌜ n ≤ 25 ⌝ }
     ensures { λ r. ⌜ r ≡ markIn n (now (marks .entry)) p ⌝ }
 {
     if p < n + 3 {
@@ -101,34 +101,32 @@ fn mark_at(marks: &[u8; 17], n: usize, p: usize) -> u8
     USED
 }
 
-// Follows links from a cell to the first stop and uses the cells between; nowhere where it meets a used one.
-fn walk(n: usize, links: &[u8; 14], marks: &mut [u8; 17], from: usize) -> usize
-    requires { ⌜ ((shape : List ℕ) × (images : List ℕ) × (used : List ℕ) × Walking shape images used (now links) (now marks) n from) ⌝ }
-    ensures { λ r. ⌜ ((shape images used : List ℕ) → Walking shape images used (now (links .entry)) (now (marks .entry)) n from → Followed shape images used from r (now (marks .exit))) ⌝ }
+// Follows links from a cell to the first place that is not free, and uses the cells between.
+pub(crate) fn walk(n: usize, s: &[u8; 28], marks: &mut [u8; 28], from: usize) -> usize
+    requires { ⌜ ((links : List ℕ) × (images : List ℕ) × (used : List ℕ) × Walking links images used (now s) (now marks) n from) ⌝ }
+    ensures { λ r. ⌜ ((links images used : List ℕ) → Walking links images used (now (s .entry)) (now (marks .entry)) n from → Followed links images used from r (now (marks .exit))) ⌝ }
 {
-    let mut p = wide(links[from - 3]);
+    let mut p = wide(s[from]);
     while mark_at(marks, n, p) == FREE {
         marks[p] = USED;
-        p = wide(links[p - 3]);
-    }
-    if mark_at(marks, n, p) == USED {
-        return 0;
+        p = wide(s[p]);
     }
     p
 }
 
-// Whether the paths of the member's links end where they should and share no cell.
+// Whether the paths of the member's links end where they should and share no cell. What stands for a cell that the member lacks may be met and yet
+// be no end.
 fn links_fit(
     cert: &[u8],
     first: usize,
     count: usize,
     images: &[u8; 15],
-    marks: &mut [u8; 17],
+    marks: &mut [u8; 28],
     n: usize,
-    links: &[u8; 14],
+    s: &[u8; 28],
 ) -> bool
-    requires { ⌜ ((member : Shape) × (covered : Shape) × Linking member covered (now cert) first count (now images) (now marks) n (now links)) ⌝ }
-    ensures { λ r. ⌜ ((member covered : Shape) → Linking member covered (now (cert .entry)) first count (now (images .entry)) (now (marks .entry)) n (now (links .entry)) → r ≡ allFrom count 0 (pathFits member covered (imagesIn count (now (images .entry))))) ⌝ }
+    requires { ⌜ ((member : Shape) × (covered : Shape) × Linking member covered (now cert) first count (now images) (now marks) n (now s)) ⌝ }
+    ensures { λ r. ⌜ ((member covered : Shape) → Linking member covered (now (cert .entry)) first count (now (images .entry)) (now (marks .entry)) n (now (s .entry)) → r ≡ allFrom count 0 (pathFits member covered (imagesIn count (now (images .entry))))) ⌝ }
 {
     let mut i = 0;
     while i < count {
@@ -136,7 +134,11 @@ fn links_fit(
         if p != 0 {
             let from = wide(images[i + 3]);
             let end = wide(image_of(images, p));
-            if walk(n, links, marks, from) != end {
+            let met = walk(n, s, marks, from);
+            if met != end {
+                return false;
+            }
+            if mark_at(marks, n, met) != STOP {
                 return false;
             }
         }
@@ -152,27 +154,18 @@ pub(crate) fn embeds(
     variables: usize,
     images: &[u8; 15],
     n: usize,
-    vars: &[u8; 10],
-    links: &[u8; 14],
+    s: &[u8; 28],
 ) -> bool
-    requires { ⌜ (Whole (now cert) variables start) × (length (now links) ≡ 14) × (n ≤ 14) × (ImageCodes (getD (now cert) (start + 1) 0) n (now images)) ⌝ }
-    ensures { λ r. ⌜ r ≡ embeds? (locatedAt (now (cert .entry)) variables start .shape) (shapeIn variables n (now (vars .entry)) (now (links .entry))) (imagesIn (getD (now (cert .entry)) (start + 1) 0) (now (images .entry))) ⌝ }
+    requires { ⌜ (Whole (now cert) variables start) × (length (now s) ≡ 28) × (size (shapeIn variables (now s)) ≡ n) × (ImageCodes (getD (now cert) (start + 1) 0) n (now images)) ⌝ }
+    ensures { λ r. ⌜ r ≡ embeds? (locatedAt (now (cert .entry)) variables start .shape) (shapeIn variables (now (s .entry))) (imagesIn (getD (now (cert .entry)) (start + 1) 0) (now (images .entry))) ⌝ }
 {
     let cells = wide(cert[start + 1]);
-    let mut marks = NO_MARKS;
+    let mut marks = [0u8; 28];
     if !mark_images(images, cells, &mut marks) {
         return false;
     }
-    if !vars_fit(cert, start + 2, variables, images, vars) {
+    if !vars_fit(cert, start + 2, variables, images, s) {
         return false;
     }
-    links_fit(
-        cert,
-        start + 2 + variables,
-        cells,
-        images,
-        &mut marks,
-        n,
-        links,
-    )
+    links_fit(cert, start + 2 + variables, cells, images, &mut marks, n, s)
 }

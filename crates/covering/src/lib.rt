@@ -1,35 +1,27 @@
 // One cover: reading it, and testing that its images are an embedding.
+use crate::fitting::NO_IMAGES;
+use crate::fitting::cells_held;
 use crate::fitting::embeds;
+use crate::fitting::wide;
+use crate::quick::images_embed;
 use crate::reading::CoverRead;
 use crate::reading::read_cover;
+use number::Read;
+use number::read_number;
 use verdict::Reached;
 use verdict::Refusal;
+ghost use mathlib.Core.Logic.{_≢_};
 ghost use mathlib.Core.Path.{_≡_};
-ghost use Prim.Native.Nat.{_≤_};
-ghost use lib.ListN.{length, take};
 ghost use Rattle.format.specs.Certificate.{readCover};
-ghost use Rattle.format.specs.Parser.{certificateBuffer};
+ghost use Rattle.format.specs.Parser.{parsed, certificateBuffer};
 ghost use Rattle.verdict.specs.Verdict.{reachedOf};
-ghost use Rattle.layout.specs.Arrays.{shapeIn};
+ghost use Rattle.layout.specs.ShapeArray.{shapeIn};
 ghost use Rattle.covering.specs.Members.{membersFrom};
 ghost use Rattle.covering.specs.Reading.{withoutMember};
 
 mod fitting;
+mod quick;
 mod reading;
-
-// How many of n cells the array of links has room for.
-fn cells_held(links: &[u8; 14], n: usize) -> usize
-    ensures { λ r. ⌜ (length (now (links .entry)) ≡ 14) × (r ≤ 14) × (r ≡ length (take n (now (links .entry)))) ⌝ }
-{
-    let all = &links[..];
-    if all.len() < n {
-        return all.len();
-    }
-    n
-}
-
-// No image is read yet: nowhere, # and * are their own images, and every cell's is cell 0.
-const NO_IMAGES: [u8; 15] = [0, 1, 2, 3, 3, 3, 3, 3, 3, 3, 3, 3, 3, 3, 3];
 
 // The place after a cover, or its refusal.
 fn refused(read: CoverRead) -> Reached
@@ -48,14 +40,12 @@ pub fn take_cover(
     variables: usize,
     at: usize,
     state: u8,
-    n: usize,
-    vars: &[u8; 10],
-    links: &[u8; 14],
+    s: &[u8; 28],
 ) -> Reached
-    ensures { λ r. ⌜ reachedOf r ≡ readCover (certificateBuffer (now (cert .entry))) (membersFrom (now (cert .entry)) variables (now (starts .entry))) (record { state = state; shape = shapeIn variables n (now (vars .entry)) (now (links .entry)) }) at ⌝ }
+    ensures { λ r. ⌜ reachedOf r ≡ readCover (certificateBuffer (now (cert .entry))) (membersFrom (now (cert .entry)) variables (now (starts .entry))) (record { state = state; shape = shapeIn variables (now (s .entry)) }) at ⌝ }
 {
     let mut images = NO_IMAGES;
-    let cells = cells_held(links, n);
+    let cells = cells_held(s);
     let r = read_cover(cert, starts, variables, at, cells, &mut images);
     let CoverRead::Taken(m, next) = r else {
         return refused(r);
@@ -64,8 +54,50 @@ pub fn take_cover(
     if cert[start] != state {
         return Reached::Refused(Refusal::CoverFails, at);
     }
-    if !embeds(cert, start, variables, &images, cells, vars, links) {
+    if !embeds(cert, start, variables, &images, cells, s) {
         return Reached::Refused(Refusal::CoverFails, at);
     }
     Reached::At(next)
+}
+
+// A quick test of the cover at a place: the place after it, or 0 where it is left to `take_cover`. An entry of 9 variables and 12 cells has 23
+// bytes.
+pub fn quick_cover(
+    cert: &[u8],
+    starts: &[u16],
+    variables: usize,
+    at: usize,
+    state: u8,
+    s: &[u8; 28],
+) -> usize
+    ensures { λ r. ⌜ (r ≢ 0 → readCover (certificateBuffer (now (cert .entry))) (membersFrom (now (cert .entry)) variables (now (starts .entry))) (record { state = state; shape = shapeIn variables (now (s .entry)) }) at ≡ parsed tt r) ⌝ }
+{
+    let r = read_number(cert, at);
+    let Read::Number(m, first) = r else {
+        return 0;
+    };
+    if starts.len() <= m {
+        return 0;
+    }
+    let start = starts[m] as usize;
+    if 9 < variables {
+        return 0;
+    }
+    if cert.len() < start + 23 {
+        return 0;
+    }
+    if state != cert[start] {
+        return 0;
+    }
+    let count = wide(cert[start + 1]);
+    if 12 < count {
+        return 0;
+    }
+    if cert.len() - first < count {
+        return 0;
+    }
+    if !images_embed(cert, start, variables, first, count, s) {
+        return 0;
+    }
+    first + count
 }

@@ -6,7 +6,7 @@ use reader::load::is_whole;
 use verdict::Reached;
 use verdict::Refusal;
 ghost use Prim.Native.Nat.{_≤_};
-ghost use Rattle.embedding.specs.Images.{ImageCodes};
+ghost use Rattle.covering.specs.Images.{ImageCodes};
 ghost use Rattle.covering.specs.Reading.{ImagesRead, CoverIs};
 
 // A cover as read: its member's number and the next place, with its images in an array beside; or a refusal and its place.
@@ -17,7 +17,7 @@ pub(crate) enum CoverRead {
 
 // Reads images, each below n.
 fn read_images(cert: &[u8], first: usize, n: usize, count: usize, images: &mut [u8; 15]) -> Reached
-    requires { ⌜ ImageCodes 0 n (now images) × (count ≤ 12) × (n ≤ 14) ⌝ }
+    requires { ⌜ ImageCodes 0 n (now images) × (count ≤ 12) × (n ≤ 25) ⌝ }
     ensures { λ r. ⌜ ImagesRead (now (cert .entry)) first n count r (now (images .exit)) ⌝ }
 {
     let mut at = first;
@@ -46,7 +46,7 @@ pub(crate) fn read_cover(
     n: usize,
     images: &mut [u8; 15],
 ) -> CoverRead
-    requires { ⌜ ImageCodes 0 n (now images) × (n ≤ 14) ⌝ }
+    requires { ⌜ ImageCodes 0 n (now images) × (n ≤ 25) ⌝ }
     ensures { λ r. ⌜ CoverIs (now (cert .entry)) variables (now (starts .entry)) at n r (now (images .exit)) ⌝ }
 {
     let r = read_number(cert, at);

@@ -19,7 +19,7 @@ use Rattle.format.specs.Job.{readShape, readLocated, readTransition, rea
 use Rattle.format.specs.JobNumbers.{JobFile, opNumbers, transitionNumbers, shapeNumbers, locatedNumbers, jobNumbers}
 use Rattle.format.specs.JobBytes.{LocatedInRange, TransitionInRange, JobInRange}
 use Rattle.format.proofs.Sequence.{Reads, more, one, reads-first, reads-append, reads-split}
-use Rattle.format.proofs.Parsing.{then, require-sound, require-fault, require-complete, read-sound, read-complete}
+use Rattle.format.proofs.Parsing.{then, require-sound, require-fault, require-complete, require-refuses, read-sound, read-complete}
 use Rattle.format.proofs.Parsing.{Exact, such-exact, ranged-exact, many-exact, codes-exact}
 
 -- ---- the table of kinds
@@ -214,6 +214,11 @@ module _ (s : Buffer) where
       go : Dec (at < length (s .bytes)) → ¬ T (leb (length (s .bytes)) at) → at < length (s .bytes)
       go (yes h) n = h
       go (no h) n = absurd (n (r-le (length (s .bytes)) at .tests (omega arith)))
+
+  pub end-refuses : (at : ℕ) → at < length (s .bytes) → end s at ≡ fault (s .left) at
+  unfolding end
+  end-refuses at h =
+      require-refuses (leb (length (s .bytes)) at) (s .left) at at (λ t. let k = r-le (length (s .bytes)) at .holds t in omega arith)
 
   -- ---- jobs
 

@@ -6,5 +6,9 @@ pub mod Exact
 pub mod Guarantee
 pub mod Written
 pub mod Local
+pub mod FirstFault
+pub mod Completing
 pub mod Refusals
+pub mod Means
+pub mod Decided
 pub mod Meaning

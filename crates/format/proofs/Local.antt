@@ -1,29 +1,30 @@
--- Parsers look no further than they read: on buffers with the same bytes up to a place they do the same up to that place.
-use mathlib.Core.Bool.{Bool}
-use mathlib.Core.List.{List, [], _∷_, _++_}
-use mathlib.Core.Logic.{_≢_, _⊎_, inl, inr}
-use mathlib.Core.Option.{Option, none}
+-- Parsers look no further than they read, and what they have read without refusal goes on: on a buffer with the same bytes so far a parser
+-- does the same, and before a number that is refused stands what begins something that the parser reads.
+use mathlib.Core.List.{List, [], _∷_, _++_, append-nil, append-assoc}
+use mathlib.Core.Logic.{inl, inr}
+use mathlib.Core.Option.{Option, none, some}
 use mathlib.Core.Path.{_≡_, refl, sym, ap, subst, _∙_}
 use Prim.Native.Nat.{ℕ, zero, suc, _+_, _-_, _≤_, _<_, min}
 use native.Mathlib.Omega.{arith}
-use lib.ListN.{length, getD, take, length-take, getElem?}
-use lib.Seq.{getD-take, take-take}
+use lib.ListN.{length, getD, take, drop, length-take, length-append}
+use lib.Seq.{getD-take, take-take, take-length, take-at, length-take-le, drop-append-seam}
 use Rattle.lists.proofs.Reflect.{r-le, r-lt, r-eq, cond-cases}
-use Rattle.number.specs.Number.{numberIn, numberAt}
-use Rattle.number.specs.NumberList.{numbers, decode}
+use Rattle.number.specs.Number.{largest, bytesOf, numberIn, numberAt}
+use Rattle.number.specs.NumberList.{encode}
+use Rattle.number.specs.Range.{AtMost}
 use Rattle.number.specs.declared.Read.{Read}
 use Rattle.number.specs.declared.Read.the-variants.{Number, Unreadable}
 use Rattle.number.proofs.Reading.{one-byte, two-bytes, three-bytes}
-use Rattle.heap.specs.Operation.{kindOf}
-use Rattle.shape.specs.Shape.{size}
-use Rattle.run.specs.Run.{Located}
-use Rattle.cover.specs.Cover.{holds?}
-use Rattle.format.specs.Parser.{parsed, fault, Parser, onward, _>>=_, _>>_, return, here, require, many, each, Buffer, readAs, end}
-use Rattle.format.specs.Job.{readShape, readLocated, readTransition, readJob}
-use Rattle.format.specs.Certificate.{readMember, readMembers, readCover}
-use Rattle.format.proofs.Sequence.{Reads, done, more, one, reads-on, reads-append, number-in, reads-decode}
-use Rattle.format.proofs.Files.{end-fault}
-use Rattle.format.proofs.Parsing.{not-fault, then, then-fault, require-sound, require-fault, read-sound, read-complete, read-outside, Faulty, read-fault}
+use Rattle.number.proofs.RoundTrip.{reads}
+use Rattle.number.proofs.Writing.{some-bytes}
+use Rattle.format.specs.Parser.{parsed, fault, Parser, onward, _>>=_, return, here, many, Buffer, readAs}
+use Rattle.format.specs.Meaning.{Before}
+use Rattle.format.proofs.Sequence.{Reads, done, more, one, reads-on, reads-inside, reads-append, number-in, reads-decode, decode-reads}
+use Rattle.format.proofs.Parsing.{not-fault, then, then-fault, read-sound, read-complete, read-outside, Faulty, faulty-map, read-fault}
+
+-- buffers with the same bytes up to a place have the same bytes up to an earlier one
+agree-less : (a b : List ℕ) (k e : ℕ) → k ≤ e → take e a ≡ take e b → take k a ≡ take k b
+agree-less a b k e h same = sym (take-take k e a h) ∙ ap (take k) same ∙ take-take k e b h
 
 module _ (s s′ : List ℕ) (e : ℕ) (agree : take e s ≡ take e s′) where
   same-byte : (i : ℕ) → i < e → getD s i 0 ≡ getD s′ i 0
@@ -77,187 +78,231 @@ module _ (s s′ : List ℕ) (e : ℕ) (agree : take e s ≡ take e s′) where
       unread : Q (Unreadable at)
       unread r k = let z : _≡_ {A = ℕ} 0 1 = cc in absurd (omega arith)
 
-  reads-local : {at next : ℕ} {ns : List ℕ} → Reads s at ns next → next ≤ e → Reads s′ at ns next
+  pub reads-local : {at next : ℕ} {ns : List ℕ} → Reads s at ns next → next ≤ e → Reads s′ at ns next
   reads-local done k = done
   reads-local (more {at = a} {n = n} {mid = m} g r) k = let l = reads-on r in more (number-local a n m g (omega arith)) (reads-local r k)
 
--- what is read before a place
-pub reads-before : (s : List ℕ) {place : ℕ} {ns : List ℕ} → Reads s 0 ns place → decode (take place s) ≡ numbers ns
-reads-before s {place} {ns} r =
+-- numbers written at the end of a buffer are read there
+pub written-reads : (b ns : List ℕ) → AtMost largest ns → Reads (b ++ encode ns) (length b) ns (length (b ++ encode ns))
+unfolding encode
+written-reads b [] small = rw append-nil done
+written-reads b (n ∷ ns) (h, small) =
+    let e : b ++ (bytesOf n ++ encode ns) ≡ (b ++ bytesOf n) ++ encode ns = sym (append-assoc b (bytesOf n) (encode ns)) in
+    let g = reads (b ++ (bytesOf n ++ encode ns)) (length b) n (encode ns) h (drop-append-seam b (bytesOf n ++ encode ns)) in
+    let r = written-reads (b ++ bytesOf n) ns small in
+    more g (rw (← e, length-append b (bytesOf n)) at r)
+
+module _ (s : List ℕ) where
+  -- what is read before a place
+  pub reads-before : {place : ℕ} {ns : List ℕ} → Reads s 0 ns place → Before s place ns
+  reads-before {place} {ns} r = (
+    let inside = reads-inside r (omega arith) in omega arith,
     reads-decode (take place s) ns place (reads-local s (take place s) place (sym (take-take place place s (omega arith))) r (omega arith))
-    (rw length-take (omega arith))
+        (rw length-take (omega arith)),
+  )
 
--- ---- two buffers that agree up to the place e, and parsers of one and of the other
+  -- and the other way round
+  pub before-reads : {place : ℕ} {ns : List ℕ} → Before s place ns → Reads s 0 ns place
+  before-reads {place} {ns} (inside, e) =
+      let (next, r, whole) = decode-reads (take place s) ns e in
+      let long = length-take-le place s inside in
+      let short = reads-inside r (omega arith) in
+      let next-is : next ≡ place = omega arith in
+      reads-local (take place s) s place (take-take place place s (omega arith)) (rw next-is at r) (omega arith)
 
--- `Tests` has the refusals that are not about a number
-module _ (b b′ : List ℕ) (u o l e : ℕ) (agree : take e b ≡ take e b′) (Tests : ℕ → Type 0) (apart : (k : ℕ) → Tests k → k ≢ o) where
-  abbrev s : Buffer
-  s = record { bytes = b; unreadable = u; outside = o; left = l }
+-- ---- parsers of numbers, on any buffer
 
-  abbrev s′ : Buffer
-  s′ = record { bytes = b′; unreadable = u; outside = o; left = l }
+module _ (u o l : ℕ) where
+  -- the buffer of these bytes, with the refusals u, o and l
+  abbrev pub on : List ℕ → Buffer
+  on b = record { bytes = b; unreadable = u; outside = o; left = l }
 
-  -- a number at the place, after others, is refused
-  abbrev pub Refused : ℕ → ℕ → ℕ → Type 0
-  Refused at number place = (ns : List ℕ) × Reads b at ns place × Faulty s (λ n. Unit {0}) number place
+  -- p reads the other buffer, which begins with b, from the end of b to its own end
+  pub record Grown {A : Type 0} (p : List ℕ → Parser A) (b : List ℕ) : Type 0 where
+    pub other : List ℕ
+    pub begins : take (length b) other ≡ b
+    pub value : A
+    pub parses : p other (length b) ≡ parsed value (length other)
 
-  -- where the first refuses a number that breaks its range and ends by e, the second does so too
-  pub record SameFault {A : Type 0} (p p′ : Parser A) : Type 0 where
-    pub fault-on : (at place : ℕ) → p at ≡ fault o place → at ≤ place
-    pub same-fault : (at place n next : ℕ) → p at ≡ fault o place → numberAt b place ≡ Number n next → next ≤ e → p′ at ≡ fault o place
+  -- A number at the place, after others, is refused; one that breaks its range is so on every buffer with the same bytes up to its end. p
+  -- reads another buffer, which has the same bytes before the place and goes on there, to its end.
+  pub record NumberFault {A : Type 0} (p : List ℕ → Parser A) (b : List ℕ) (at number place : ℕ) : Type 0 where
+    pub earlier : List ℕ
+    pub before : Reads b at earlier place
+    pub faulty : Faulty (on b) (λ n. Unit {0}) number place
+    pub again : (n next : ℕ) → numberAt b place ≡ Number n next → (b′ : List ℕ) → take next b ≡ take next b′ → p b′ at ≡ fault number place
+    pub other : List ℕ
+    pub same : take place b ≡ take place other
+    pub longer : place < length other
+    pub value : A
+    pub parses : p other at ≡ parsed value (length other)
 
-  -- the first reads numbers, and what it reads up to e, the second reads too
-  pub record Local {A : Type 0} (p p′ : Parser A) : Type 0 where
-    pub reads : (at : ℕ) (x : A) (next : ℕ) → p at ≡ parsed x next → (ns : List ℕ) × Reads b at ns next
-    pub same : (at : ℕ) (x : A) (next : ℕ) → p at ≡ parsed x next → next ≤ e → p′ at ≡ parsed x next
-    pub faults : (at number place : ℕ) → p at ≡ fault number place → Tests number ⊎ Refused at number place
-    pub again : SameFault p p′
+  -- p reads numbers, and values of which P holds; it looks no further than it reads; it can read on where a buffer ends, and where it refuses
+  pub record Completes {A : Type 0} (P : A → Type 0) (p : List ℕ → Parser A) : Type 0 where
+    pub reads : (b : List ℕ) (at : ℕ) (x : A) (next : ℕ) → p b at ≡ parsed x next → (ns : List ℕ) × Reads b at ns next
+    pub ok : (b : List ℕ) (at : ℕ) (x : A) (next : ℕ) → p b at ≡ parsed x next → P x
+    pub same : (b b′ : List ℕ) (at : ℕ) (x : A) (next : ℕ) → take next b ≡ take next b′ → p b at ≡ parsed x next → p b′ at ≡ parsed x next
+    pub grows : (b : List ℕ) → Grown p b
+    pub refused : (b : List ℕ) (at number place : ℕ) → at ≤ length b → p b at ≡ fault number place → NumberFault p b at number place
 
-  -- a parser that reads nothing and refuses by tests alone
-  local-still : {A : Type 0} {p : Parser A} → ((at : ℕ) (x : A) (next : ℕ) → p at ≡ parsed x next → at ≡ next)
-      → ((at number place : ℕ) → p at ≡ fault number place → Tests number) → Local p p
-  local-still still tests =
+  pub completes-weaken : {A : Type 0} {P Q : A → Type 0} {p : List ℕ → Parser A} → ((x : A) → P x → Q x) → Completes P p → Completes Q p
+  completes-weaken to c =
+      record { reads = c .reads; ok = λ b at x next h. to x (c .ok b at x next h); same = c .same; grows = c .grows; refused = c .refused }
+
+  -- a parser that reads nothing
+  completes-still : {A : Type 0} {P : A → Type 0} (f : ℕ → A) → ((at : ℕ) → P (f at)) → Completes P (λ b at. parsed (f at) at)
+  completes-still {A} {P} f h =
       record {
-        reads = λ at x next h. ([], subst (Reads b at []) (still at x next h) done);
-        same = λ at x next h k. h;
-        faults = λ at number place h. inl (tests at number place h);
-        again = record { fault-on = λ at place h. absurd (apart o (tests at o place h) refl); same-fault = λ at place n next h g k. h };
+        reads = λ b at x next e. let next-is : at ≡ next = cc in ([], subst (Reads b at []) next-is done);
+        ok = λ b at x next e. let x-is : f at ≡ x = cc in subst P x-is (h at);
+        same = λ b b′ at x next agree e. e;
+        grows = λ b. record { other = b; begins = take-length b; value = f (length b); parses = refl };
+        refused = λ b at number place i e. absurd (not-fault (f at) at number place (sym e));
       }
 
-  pub local-return : {A : Type 0} (x : A) → Local (return x) (return x)
-  local-return x = local-still (λ at y next h. cc) (λ at number place h. absurd (not-fault x at number place (sym h)))
+  pub completes-return : {A : Type 0} {P : A → Type 0} (x : A) → P x → Completes P (λ b. return x)
+  completes-return x h = completes-still (λ at. x) (λ at. h)
 
-  pub local-here : Local here here
-  local-here = local-still (λ at y next h. cc) (λ at number place h. absurd (not-fault at at number place (sym h)))
+  pub completes-here : Completes (λ at. Unit {0}) (λ b. here)
+  completes-here = completes-still (λ at. at) (λ at. tt)
 
-  pub local-require : (test : Bool) (number place : ℕ) → Tests number → Local (require test number place) (require test number place)
-  local-require test number place t =
-      local-still (λ at y next h. require-sound test number place at h .1) (λ at k q h. subst Tests (require-fault test number place at h .0) t)
+  -- a number, where some number is allowed
+  module _ {A : Type 0} (meaning : ℕ → Option A) (n : ℕ) (x : A) (small : n ≤ largest) (allowed : meaning n ≡ some x) where
+    -- it is read where it is written
+    read-written : (b : List ℕ) → readAs (on (b ++ bytesOf n)) meaning (length b) ≡ parsed x (length (b ++ bytesOf n))
+    read-written b =
+        let e : drop (length b) (b ++ bytesOf n) ≡ bytesOf n ++ [] = drop-append-seam b (bytesOf n) ∙ sym (append-nil (bytesOf n)) in
+        read-complete (on (b ++ bytesOf n)) meaning (length b) n (length (b ++ bytesOf n)) x
+        (reads (b ++ bytesOf n) (length b) n [] small e ∙ ap (Number n) (sym (length-append b (bytesOf n)))) allowed
 
-  pub local-read : {A : Type 0} (meaning : ℕ → Option A) → Local (readAs s meaning) (readAs s′ meaning)
-  local-read meaning =
-      record {
-        reads = λ at x next h. let (n, g, m) = read-sound s meaning at x next h in (n ∷ [], one g);
-        same = λ at x next h k.
-            let (n, g, m) = read-sound s meaning at x next h in
-            read-complete s′ meaning at n next x (number-local b b′ e agree at n next g k) m;
-        faults = λ at number place h. inr (by-fault at number place (read-fault s meaning at number place h));
-        again = record {
-          fault-on = λ at place h. let (z, _) = read-fault s meaning at o place h in omega arith;
-          same-fault = λ at place n next h g k. again at place n next g k (read-fault s meaning at o place h);
-        };
-      }
-    where
-      by-fault : (at number place : ℕ) → (at ≡ place) × Faulty s (λ n. meaning n ≡ none) number at → Refused at number place
-      by-fault at number place (z, inl f) = ([], subst (Reads b at []) z done, inl (rw (← z) f))
-      by-fault at number place (z, inr (f, (n, next, g, _))) = ([], subst (Reads b at []) z done, inr (f, (n, next, rw (← z) g, tt)))
-
-      again : (at place n next : ℕ) → numberAt b place ≡ Number n next → next ≤ e → (at ≡ place) × Faulty s (λ n. meaning n ≡ none) o at
-          → readAs s′ meaning at ≡ fault o place
-      again at place n next g k (z, inl (_, x)) =
-          let y : numberAt b at ≡ Number n next = rw z g in
-          let q : _≡_ {A = ℕ} 0 1 = cc in
-          absurd (omega arith)
-      again at place n next g k (z, inr (_, (m, next′, x, none-is))) =
-          let y : numberAt b at ≡ Number n next = rw z g in
-          let next-is : next′ ≡ next = cc in
-          read-outside s′ meaning at m next′ (number-local b b′ e agree at m next′ x (omega arith)) none-is ∙ ap (fault o) z
-
-  module _ {A B : Type 0} {p p′ : Parser A} {r r′ : A → Parser B} (first : Local p p′) where
-    pub fault-bind : ((x : A) → SameFault (r x) (r′ x)) → SameFault (p >>= r) (p′ >>= r′)
-    fault-bind rest =
-        record {
-          fault-on = λ at place.
-              then-fault (p at) r (λ x mid h₁ h₂. omega (arith, reads-on (first .reads at x mid h₁ .1), rest x .fault-on mid place h₂)) (first .again .fault-on at place);
-          same-fault = λ at place n next h g k.
-              then-fault (p at) r
-              (λ x mid h₁ h₂.
-              let l = rest x .fault-on mid place h₂ in
-              let (_, i) = number-in place _ _ _ _ n next g in
-              ap (λ q. onward q r′) (first .same at x mid h₁ (omega arith)) ∙ rest x .same-fault mid place n next h₂ g k)
-              (λ h₁. ap (λ q. onward q r′) (first .again .same-fault at place n next h₁ g k)) h;
-        }
-
-    pub local-bind : ((x : A) → Local (r x) (r′ x)) → Local (p >>= r) (p′ >>= r′)
-    local-bind rest =
-        record {
-          reads = λ at y next.
-              then (p at) r
-              (λ x mid h₁ h₂.
-              let (ns, g) = first .reads at x mid h₁ in
-              let (ms, k) = rest x .reads mid y next h₂ in
-              (ns ++ ms, reads-append g k));
-          same = λ at y next h k.
-              then (p at) r
-              (λ x mid h₁ h₂.
-              let l = reads-on (rest x .reads mid y next h₂ .1) in
-              ap (λ q. onward q r′) (first .same at x mid h₁ (omega arith)) ∙ rest x .same mid y next h₂ k) h;
-          faults = λ at number place.
-              then-fault (p at) r (λ x mid h₁ h₂. after at mid number place (first .reads at x mid h₁) (rest x .faults mid number place h₂))
-              (first .faults at number place);
-          again = fault-bind (λ x. rest x .again);
-        }
+    read-refused : (b : List ℕ) (at number place : ℕ) → at ≤ length b → (at ≡ place) × Faulty (on b) (λ n. meaning n ≡ none) number at
+        → NumberFault (λ b. readAs (on b) meaning) b at number place
+    read-refused b at number place inside (at-is, f) =
+        subst (NumberFault (λ b. readAs (on b) meaning) b at number) at-is
+        (record {
+          earlier = [];
+          before = done;
+          faulty = faulty-map (on b) (λ n _. tt) f;
+          again = again f;
+          other = take at b ++ bytesOf n;
+          same = sym (take-at (take at b) (bytesOf n) at long);
+          longer = omega (arith, long, length-append (take at b) (bytesOf n), some-bytes n);
+          value = x;
+          parses = rw long at (read-written (take at b));
+        })
       where
-        after : (at mid number place : ℕ) → (ns : List ℕ) × Reads b at ns mid → Tests number ⊎ Refused mid number place → Tests number ⊎ Refused at number place
-        after at mid number place (ns, g) (inl t) = inl t
-        after at mid number place (ns, g) (inr (ms, k, f)) = inr (ns ++ ms, reads-append g k, f)
+        long : length (take at b) ≡ at
+        long = length-take-le at b inside
 
-  -- at the end nothing is refused as out of range
-  pub quiet-end : {A : Type 0} → l ≢ o → (x : A) → SameFault (end s >> return x) (end s′ >> return x)
-  quiet-end differ x =
-      record { fault-on = λ at place h. absurd (never at place h); same-fault = λ at place n next h g k. absurd (never at place h) }
-    where
-      never : (at place : ℕ) → (end s >> return x) at ≡ fault o place → ⊥
-      never at place = then-fault (end s at) _ (λ v a h r. not-fault x a o place (sym r)) (λ h. differ (end-fault s at h .0))
+        again : Faulty (on b) (λ n. meaning n ≡ none) number at → (m next : ℕ) → numberAt b at ≡ Number m next → (b′ : List ℕ) → take next b ≡ take next b′
+            → readAs (on b′) meaning at ≡ fault number at
+        again (inl (_, g)) m next h b′ agree = let q : _≡_ {A = ℕ} 0 1 = cc in absurd (omega arith)
+        again (inr (k, (m′, next′, g, outside))) m next h b′ agree =
+            let next-is : next′ ≡ next = cc in
+            rw k (read-outside (on b′) meaning at m′ next′ (number-local b b′ next agree at m′ next′ g (omega arith)) outside)
 
-  pub local-many : {A : Type 0} {p p′ : Parser A} → Local p p′ → (k : ℕ) → Local (many k p) (many k p′)
+    pub completes-read : Completes (λ x. (n : ℕ) × (meaning n ≡ some x)) (λ b. readAs (on b) meaning)
+    completes-read =
+        record {
+          reads = λ b at y next h. let (m, g, _) = read-sound (on b) meaning at y next h in (m ∷ [], one g);
+          ok = λ b at y next h. let (m, _, e) = read-sound (on b) meaning at y next h in (m, e);
+          same = λ b b′ at y next agree h.
+              let (m, g, e) = read-sound (on b) meaning at y next h in
+              read-complete (on b′) meaning at m next y (number-local b b′ next agree at m next g (omega arith)) e;
+          grows = λ b. record { other = b ++ bytesOf n; begins = take-at b (bytesOf n) (length b) refl; value = x; parses = read-written b };
+          refused = λ b at number place inside h. read-refused b at number place inside (read-fault (on b) meaning at number place h);
+        }
+
+  -- one parser, then another for each value of the first
+  module _ {A B : Type 0} {P : A → Type 0} {Q : B → Type 0} {p : List ℕ → Parser A} {r : A → List ℕ → Parser B} (first : Completes P p)
+      (rest : (x : A) → P x → Completes Q (r x)) where
+    abbrev both : List ℕ → Parser B
+    both b = p b >>= (λ x. r x b)
+
+    -- what the first read on one buffer, with what the second makes of it on another with the same bytes so far
+    after : (b b′ : List ℕ) (at : ℕ) (x : A) (mid : ℕ) → p b at ≡ parsed x mid → take mid b ≡ take mid b′ → both b′ at ≡ r x b′ mid
+    after b b′ at x mid h agree = ap (λ q. onward q (λ x. r x b′)) (first .same b b′ at x mid agree h)
+
+    begins-longer : (b other : List ℕ) → take (length b) other ≡ b → length b ≤ length other
+    begins-longer b other e = let z = sym (ap length e) ∙ length-take (length b) other in omega arith
+
+    bind-grows : (b : List ℕ) → Grown both b
+    bind-grows b =
+        let g = first .grows b in
+        let k = rest (g .value) (first .ok (g .other) (length b) (g .value) (length (g .other)) (g .parses)) .grows (g .other) in
+        record {
+          other = k .other;
+          begins =
+              sym (take-take (length b) (length (g .other)) (k .other) (begins-longer b (g .other) (g .begins))) ∙ ap (take (length b)) (k .begins) ∙ g .begins;
+          value = k .value;
+          parses =
+              after (g .other) (k .other) (length b) (g .value) (length (g .other)) (g .parses) (take-length (g .other) ∙ sym (k .begins)) ∙ k .parses;
+        }
+
+    -- the first refuses: what it reads on another buffer, the second takes further
+    first-refused : (b : List ℕ) (at number place : ℕ) → NumberFault p b at number place → NumberFault both b at number place
+    first-refused b at number place f =
+        let k = rest (f .value) (first .ok (f .other) at (f .value) (length (f .other)) (f .parses)) .grows (f .other) in
+        let longer = f .longer in
+        let further = begins-longer (f .other) (k .other) (k .begins) in
+        record {
+          earlier = f .earlier;
+          before = f .before;
+          faulty = f .faulty;
+          again = λ n next g b′ agree. ap (λ q. onward q (λ x. r x b′)) (f .again n next g b′ agree);
+          other = k .other;
+          same = f .same ∙ ap (take place) (sym (k .begins)) ∙ take-take place (length (f .other)) (k .other) (omega arith);
+          longer = omega arith;
+          value = k .value;
+          parses =
+              after (f .other) (k .other) at (f .value) (length (f .other)) (f .parses) (take-length (f .other) ∙ sym (k .begins)) ∙ k .parses;
+        }
+
+    rest-refused : (b : List ℕ) (at number place : ℕ) (x : A) (mid : ℕ) → p b at ≡ parsed x mid → NumberFault (r x) b mid number place
+        → NumberFault both b at number place
+    rest-refused b at number place x mid h f =
+        let (ns, g) = first .reads b at x mid h in
+        let l = reads-on (f .before) in
+        record {
+          earlier = ns ++ f .earlier;
+          before = reads-append g (f .before);
+          faulty = f .faulty;
+          again = λ n next k b′ agree.
+              let (_, i, _) = number-in place _ _ _ _ n next k in
+              after b b′ at x mid h (agree-less b b′ mid next (omega arith) agree) ∙ f .again n next k b′ agree;
+          other = f .other;
+          same = f .same;
+          longer = f .longer;
+          value = f .value;
+          parses = after b (f .other) at x mid h (agree-less b (f .other) mid place l (f .same)) ∙ f .parses;
+        }
+
+    pub completes-bind : Completes Q both
+    completes-bind =
+        record {
+          reads = λ b at y next.
+              then (p b at) _
+              (λ x mid h₁ h₂.
+              let (ns, g) = first .reads b at x mid h₁ in
+              let (ms, k) = rest x (first .ok b at x mid h₁) .reads b mid y next h₂ in
+              (ns ++ ms, reads-append g k));
+          ok = λ b at y next. then (p b at) _ (λ x mid h₁ h₂. rest x (first .ok b at x mid h₁) .ok b mid y next h₂);
+          same = λ b b′ at y next agree.
+              then (p b at) _
+              (λ x mid h₁ h₂.
+              let c = rest x (first .ok b at x mid h₁) in
+              let l = reads-on (c .reads b mid y next h₂ .1) in
+              after b b′ at x mid h₁ (agree-less b b′ mid next l agree) ∙ c .same b b′ mid y next agree h₂);
+          grows = bind-grows;
+          refused = λ b at number place inside.
+              then-fault (p b at) _
+              (λ x mid h₁ h₂.
+              let (ns, g) = first .reads b at x mid h₁ in
+              rest-refused b at number place x mid h₁ (rest x (first .ok b at x mid h₁) .refused b mid number place (reads-inside g inside) h₂))
+              (λ h₁. first-refused b at number place (first .refused b at number place inside h₁));
+        }
+
+  pub completes-many : {A : Type 0} {P : A → Type 0} {p : List ℕ → Parser A} → Completes P p → (k : ℕ) → Completes (λ xs. Unit {0}) (λ b. many k (p b))
   unfolding many
-  local-many i zero = local-return []
-  local-many i (suc k) = local-bind i (λ x. local-bind (local-many i k) (λ xs. local-return (x ∷ xs)))
-
-  pub local-each : {A B : Type 0} {p p′ : A → Parser B} → ((x : A) → Local (p x) (p′ x)) → (xs : List A) → Local (each p xs) (each p′ xs)
-  unfolding each
-  local-each i [] = local-return []
-  local-each i (x ∷ xs) = local-bind (i x) (λ y. local-bind (local-each i xs) (λ ys. local-return (y ∷ ys)))
-
-  module _ (variables : ℕ) where
-    local-shape : Local (readShape s variables) (readShape s′ variables)
-    unfolding readShape
-    local-shape = local-bind (local-read _) (λ n. local-bind (local-many (local-read _) variables) (λ vars. local-bind (local-many (local-read _) n) (λ links. local-return _)))
-
-    module _ (states : ℕ) where
-      local-located : Local (readLocated s variables states) (readLocated s′ variables states)
-      unfolding readLocated
-      local-located = local-bind (local-read _) (λ state. local-bind local-shape (λ shape. local-return _))
-
-      local-transition : Local (readTransition s variables states) (readTransition s′ variables states)
-      unfolding readTransition
-      local-transition =
-          local-bind (local-read _)
-          (λ from. local-bind (local-read kindOf)
-          (λ kind. local-bind (local-read _) (λ a. local-bind (local-read _) (λ c. local-bind (local-read _) (λ to. local-return _)))))
-
-      pub local-members : Local (readMembers s variables states) (readMembers s′ variables states)
-      unfolding readMembers readMember
-      local-members =
-          local-bind (local-read _)
-          (λ one. local-bind (local-read _)
-          (λ count. local-many (local-bind local-here (λ first. local-bind local-located (λ m. local-return _))) count))
-
-  pub local-cover : (ms : List Located) (covered : Located) → Tests 9 → Local (readCover s ms covered) (readCover s′ ms covered)
-  unfolding readCover
-  local-cover ms covered nine =
-      local-bind local-here
-      (λ first. local-bind (local-read (getElem? ms))
-      (λ m. local-bind (local-many (local-read _) (size (m .shape))) (λ images. local-require (holds? m images covered) 9 first nine)))
-
-  pub local-job : Local (readJob s) (readJob s′)
-  unfolding readJob
-  local-job =
-      local-bind (local-read _)
-      (λ version. local-bind (local-read _)
-      (λ variables. local-bind (local-read _)
-      (λ states. local-bind (local-read _)
-      (λ start. local-bind (local-read _)
-      (λ count. local-bind (local-many (local-transition variables states) count)
-      (λ transitions. local-bind (local-read _) (λ bads. local-bind (local-many (local-located variables states) bads) (λ forbidden. local-return _))))))))
+  completes-many c zero = completes-return [] tt
+  completes-many c (suc k) = completes-bind c (λ x _. completes-bind (completes-many c k) (λ xs _. completes-return (x ∷ xs) tt))

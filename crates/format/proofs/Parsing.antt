@@ -14,9 +14,10 @@ use Rattle.lists.proofs.Reflect.{Reflect, r-le, r-lt, r-and, cond-true}
 use Rattle.number.specs.Number.{numberAt}
 use Rattle.number.specs.declared.Read.{Read}
 use Rattle.number.specs.declared.Read.the-variants.{Number, Unreadable}
+use Rattle.number.proofs.Reading.{unreadable-at}
 use Rattle.shape.specs.Shape.{AllBelow}
 use Rattle.format.specs.Parser.{Parsed, parsed, fault, Parser, onward, require, many, Buffer, within, such, meant, judged, readAs, ranged}
-use Rattle.format.proofs.Sequence.{unreadable-at, Reads, done, one, reads-none, reads-one, reads-append, reads-split}
+use Rattle.format.proofs.Sequence.{Reads, done, one, reads-none, reads-one, reads-append, reads-split}
 
 pub not-fault : {A : Type 0} (x : A) (next number place : ℕ) → fault number place ≡ parsed x next → ⊥
 not-fault x next number place e = let z : _≡_ {A = ℕ} 0 1 = cc in omega arith
@@ -50,6 +51,10 @@ require-fault false number place at e = (cc, cc, λ t. t)
 pub require-complete : (test : Bool) (number place at : ℕ) → T test → require test number place at ≡ parsed tt at
 require-complete test number place at t = cond-true test (parsed tt at) (fault number place) t
 
+pub require-refuses : (test : Bool) (number place at : ℕ) → ¬ T test → require test number place at ≡ fault number place
+require-refuses true number place at n = absurd (n tt)
+require-refuses false number place at n = refl
+
 module _ (s : Buffer) where
   -- ---- one number
 
@@ -77,6 +82,10 @@ module _ (s : Buffer) where
       ((number ≡ s .unreadable) × (numberAt (s .bytes) place ≡ Unreadable place))
       ⊎ ((number ≡ s .outside) × ((n : ℕ) × (next : ℕ) × (numberAt (s .bytes) place ≡ Number n next) × P n))
 
+  pub faulty-map : {P Q : ℕ → Type 0} {number place : ℕ} → ((n : ℕ) → P n → Q n) → Faulty P number place → Faulty Q number place
+  faulty-map to (inl f) = inl f
+  faulty-map to (inr (k, (n, next, g, h))) = inr (k, (n, next, g, to n h))
+
   pub read-fault : {A : Type 0} (meaning : ℕ → Option A) (at number place : ℕ) → readAs s meaning at ≡ fault number place
       → (at ≡ place) × Faulty (λ n. meaning n ≡ none) number at
   unfolding readAs
@@ -91,12 +100,17 @@ module _ (s : Buffer) where
 
       by-read : (r : Read) → numberAt (s .bytes) at ≡ r → meant s meaning at r ≡ fault number place → Result
       by-read (Number n k) g e = by-meaning n k g (meaning n) refl e
-      by-read (Unreadable p) g e = (cc, inl (cc, g ∙ ap Unreadable (sym (unreadable-at (s .bytes) at p g))))
+      by-read (Unreadable p) g e = (cc, inl (cc, g ∙ ap Unreadable (sym (unreadable-at at _ _ _ _ p g))))
 
   pub read-outside : {A : Type 0} (meaning : ℕ → Option A) (at n next : ℕ) → numberAt (s .bytes) at ≡ Number n next → meaning n ≡ none
       → readAs s meaning at ≡ fault (s .outside) at
   unfolding readAs
   read-outside meaning at n next g h = ap (meant s meaning at) g ∙ ap (judged s at next) h
+
+  pub read-refuses : {A : Type 0} (meaning : ℕ → Option A) (at number : ℕ) → Faulty (λ n. meaning n ≡ none) number at → readAs s meaning at ≡ fault number at
+  unfolding readAs
+  read-refuses meaning at number (inl (k, g)) = rw (k, g)
+  read-refuses meaning at number (inr (k, (n, next, g, h))) = rw k (read-outside meaning at n next g h)
 
   pub read-complete : {A : Type 0} (meaning : ℕ → Option A) (at n next : ℕ) (x : A) → numberAt (s .bytes) at ≡ Number n next → meaning n ≡ some x
       → readAs s meaning at ≡ parsed x next
@@ -134,7 +148,7 @@ module _ (s : Buffer) where
       complete : (at x next : ℕ) → Reads (s .bytes) at (x ∷ []) next → P x → readAs s (such test) at ≡ parsed x next
       complete at x next g h = read-complete (such test) at x next x (reads-one g) (cond-true (test x) (some x) none (r x .tests h))
 
-  -- "a number from `low` on and below `limit`"
+  -- a number from `low` on and below `limit`
   pub ranged-exact : (low limit : ℕ) → Exact (ranged s low limit) (λ n. n ∷ []) (λ n. (low ≤ n) × (n < limit))
   ranged-exact low limit = such-exact (within low limit) (λ n. (low ≤ n) × (n < limit)) (λ n. r-and (r-le low n) (r-lt n limit))
 
@@ -173,11 +187,61 @@ module _ (s : Buffer) where
     pub many-exact : (k : ℕ) → Exact (many k p) (concatMap numbers) (λ xs. (length xs ≡ k) × ((x : A) → x ∈ xs → Ok x))
     many-exact k = record { sound = many-sound k; complete = λ at xs next g (long, oks). many-complete k at xs next g long oks }
 
-  -- so many numbers below a limit
+    -- some are read, and the next is refused
+    many-fault : (k at number place : ℕ) → many k p at ≡ fault number place
+        → (xs : List A) × (mid : ℕ) × Reads (s .bytes) at (concatMap numbers xs) mid × (length xs < k) × ((x : A) → x ∈ xs → Ok x) × (p mid ≡ fault number place)
+    unfolding many
+    many-fault zero at number place h = absurd (not-fault [] at number place (sym h))
+    many-fault (suc k) at number place h =
+        then-fault (p at) _
+        (λ x a h₁. then-fault (many k p a) _ (λ xs b _ r. absurd (not-fault (x ∷ xs) b number place (sym r)))
+        (λ h₂.
+        let (g, ok) = e .sound at x a h₁ in
+        let (xs, mid, r, fewer, oks, f) = many-fault k a number place h₂ in
+        (x ∷ xs, mid, reads-append g r, omega arith, all-cons Ok ok oks, f)))
+        (λ h₁. ([], at, done, omega arith, (λ x i. absurd (List·Memᴰ·not-nil i)), h₁)) h
+
+    many-refuses : (k at : ℕ) (xs : List A) (mid number place : ℕ) → Reads (s .bytes) at (concatMap numbers xs) mid → length xs < k
+        → ((x : A) → x ∈ xs → Ok x) → p mid ≡ fault number place → many k p at ≡ fault number place
+    unfolding many
+    many-refuses zero at xs mid number place g fewer oks h = absurd (omega arith)
+    many-refuses (suc k) at [] mid number place g fewer oks h = rw (reads-none g, h)
+    many-refuses (suc k) at (x ∷ xs) mid number place g fewer oks h =
+        let (a, g₁, g₂) = reads-split (numbers x) g in
+        rw (
+          e .complete at x a g₁ (oks x (List·Memᴰ·head refl)),
+          many-refuses k a xs mid number place g₂ (omega arith) (λ y i. oks y (List·Memᴰ·tail i)) h,
+        )
+
+  -- ---- so many numbers below a limit
+
+  singles : (xs : List ℕ) → concatMap (λ x. x ∷ []) xs ≡ xs
+  singles [] = refl
+  singles (x ∷ xs) = ap (λ (l : List ℕ). x ∷ l) (singles xs)
+
   pub codes-exact : (k limit : ℕ) → Exact (many k (ranged s 0 limit)) (λ xs. xs) (λ xs. (length xs ≡ k) × AllBelow limit xs)
   codes-exact k limit =
       exact-iff singles (λ xs (long, oks). (long, λ x i. oks x i .1)) (λ xs (long, oks). (long, λ x i. (omega arith, oks x i))) (many-exact (ranged-exact 0 limit) k)
+
+  -- some are read, and the next can't be read or is not below the limit
+  pub codes-fault : (k limit at number place : ℕ) → many k (ranged s 0 limit) at ≡ fault number place
+      → (xs : List ℕ) × Reads (s .bytes) at xs place × (length xs < k) × AllBelow limit xs × Faulty (λ n. limit ≤ n) number place
+  codes-fault k limit at number place h =
+      let (xs, mid, r, fewer, oks, f) = many-fault (ranged-exact 0 limit) k at number place h in
+      let (mid-is, w) = read-fault (such (within 0 limit)) mid number place f in (
+        xs,
+        subst (Reads (s .bytes) at xs) mid-is (subst (λ (l : List ℕ). Reads (s .bytes) at l mid) (singles xs) r),
+        fewer,
+        (λ x i. oks x i .1),
+        subst (Faulty (λ n. limit ≤ n) number) mid-is (faulty-map (λ n. above n (within 0 limit n) refl) w),
+      )
     where
-      singles : (xs : List ℕ) → concatMap (λ x. x ∷ []) xs ≡ xs
-      singles [] = refl
-      singles (x ∷ xs) = ap (λ (l : List ℕ). x ∷ l) (singles xs)
+      above : (n : ℕ) (b : Bool) → within 0 limit n ≡ b → cond b (some n) none ≡ none → limit ≤ n
+      above n true h e = let z : _≡_ {A = ℕ} 0 1 = cc in absurd (omega arith)
+      above n false h e = let k : ¬ (n < limit) = λ q. rw h at (r-and (r-le 0 n) (r-lt n limit) .tests (omega arith, q)) in omega arith
+
+  pub codes-refuses : (k limit at : ℕ) (xs : List ℕ) (mid number place : ℕ) → Reads (s .bytes) at xs mid → length xs < k → AllBelow limit xs
+      → ranged s 0 limit mid ≡ fault number place → many k (ranged s 0 limit) at ≡ fault number place
+  codes-refuses k limit at xs mid number place g fewer below h =
+      many-refuses (ranged-exact 0 limit) k at xs mid number place (subst (λ (l : List ℕ). Reads (s .bytes) at l mid) (sym (singles xs)) g) fewer
+      (λ x i. (omega arith, below x i)) h

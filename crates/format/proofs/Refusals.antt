@@ -2,9 +2,9 @@
 use mathlib.Core.Bool.{Bool, true, false, not}
 use mathlib.Core.List.{List, [], _∷_, _++_, List·Memᴰ·head, List·Memᴰ·tail, List·Memᴰ·not-nil}
 use mathlib.Core.Logic.{_⊎_, inl, inr}
-use mathlib.Core.Option.{Option, some}
+use mathlib.Core.Option.{none, some}
 use mathlib.Core.Path.{_≡_, refl, sym, ap, subst, _∙_}
-use Prim.Native.Nat.{ℕ, zero, suc}
+use Prim.Native.Nat.{ℕ, zero, suc, _≤_, _<_}
 use native.Mathlib.Omega.{arith}
 use lib.Dec.{T}
 use lib.ListN.{length, getElem?}
@@ -15,49 +15,16 @@ use Rattle.shape.specs.Shape.{size, Satisfies, AllBelow, InRange}
 use Rattle.run.specs.Run.{Located}
 use Rattle.run.proofs.Runs.{getElem-mem}
 use Rattle.cover.specs.Cover.{Cover, Holds, holds?, AllHold}
-use Rattle.format.specs.Parser.{parsed, fault, Parser, many, each, Buffer, within, such, readAs, ranged}
-use Rattle.format.specs.Job.{readJob}
+use Rattle.format.specs.Parser.{parsed, fault, many, each, Buffer, readAs, ranged}
 use Rattle.format.specs.Certificate.{Member, withoutPlaces, readMember, readMembers, atStart, testStart, readCover}
 use Rattle.format.specs.Numbers.{coverNumbers}
 use Rattle.format.specs.JobNumbers.{locatedNumbers}
 use Rattle.format.specs.Conditions.{ImageForEach}
 use Rattle.format.specs.JobBytes.{LocatedInRange}
 use Rattle.format.proofs.Sequence.{Reads, done, more, reads-append}
-use Rattle.format.proofs.Parsing.{not-fault, then, then-fault, require-sound, require-fault, Faulty, read-sound, ranged-exact, many-exact, codes-exact}
-use Rattle.format.proofs.Local.{Local, local-read, local-many, local-members, local-job}
+use Rattle.format.proofs.Parsing.{not-fault, then, then-fault, require-sound, require-fault, Faulty, faulty-map, read-sound, read-fault, ranged-exact, many-exact, codes-exact, codes-fault}
 use Rattle.format.proofs.Files.{version, located-exact}
 use Rattle.format.proofs.Covers.{member-read, without-places, Avoids, Every, r-start, r-avoids, holds-reflects, cover-sound}
-
--- ---- numbers
-
--- a number at the place, after others, can't be read or breaks its range
-abbrev pub NumberRefused : Buffer → ℕ → ℕ → ℕ → Type 0
-NumberRefused s at number place = (ns : List ℕ) × Reads (s .bytes) at ns place × Faulty s (λ n. Unit {0}) number place
-
--- the laws of parsers that read numbers alone
-module _ (s : Buffer) where
-  abbrev pub Plain : {A : Type 0} → Parser A → Type 0
-  Plain p = Local (s .bytes) (s .bytes) (s .unreadable) (s .outside) (s .left) 0 refl (λ k. ⊥) (λ k t. absurd t) p p
-
-  pub refused-number : {A : Type 0} {p : Parser A} → Plain p → (at number place : ℕ) → p at ≡ fault number place → NumberRefused s at number place
-  refused-number i at number place h = only (i .faults at number place h)
-    where
-      only : ⊥ ⊎ NumberRefused s at number place → NumberRefused s at number place
-      only (inl t) = absurd t
-      only (inr f) = f
-
-  plain-read : {A : Type 0} (meaning : ℕ → Option A) → Plain (readAs s meaning)
-  plain-read meaning = local-read (s .bytes) (s .bytes) (s .unreadable) (s .outside) (s .left) 0 refl (λ k. ⊥) (λ k t. absurd t) meaning
-
-  plain-many : {A : Type 0} {p : Parser A} → Plain p → (k : ℕ) → Plain (many k p)
-  plain-many i k = local-many (s .bytes) (s .bytes) (s .unreadable) (s .outside) (s .left) 0 refl (λ k. ⊥) (λ k t. absurd t) i k
-
-  pub plain-members : (variables states : ℕ) → Plain (readMembers s variables states)
-  plain-members variables states =
-      local-members (s .bytes) (s .bytes) (s .unreadable) (s .outside) (s .left) 0 refl (λ k. ⊥) (λ k t. absurd t) variables states
-
-  pub plain-job : Plain (readJob s)
-  plain-job = local-job (s .bytes) (s .bytes) (s .unreadable) (s .outside) (s .left) 0 refl (λ k. ⊥) (λ k t. absurd t)
 
 -- ---- members
 
@@ -205,20 +172,29 @@ module _ (s : Buffer) (variables : ℕ) (ms : List Located) (oks : (m : Located)
         refused = h₁;
       }) e
 
-  -- the cover at a place reads and does not hold
-  pub record Fails (o : Located) (at : ℕ) : Type 0 where
+  -- the cover at a place is read up to `next`, though images may still be owed
+  pub record Begun (o : Located) (at next : ℕ) : Type 0 where
     pub cover : Cover
     pub member : Located
     pub numbered : getElem? ms (cover .member) ≡ some member
-    pub images : length (cover .images) ≡ size (member .shape)
     pub below : AllBelow (size (o .shape)) (cover .images)
-    pub next : ℕ
     pub reads : Reads (s .bytes) at (coverNumbers cover) next
-    pub fails : ¬ Holds ms cover o
+
+  -- it reads and does not hold
+  pub record Fails (o : Located) (at : ℕ) : Type 0 where
+    pub next : ℕ
+    pub begun : Begun o at next
+    pub images : length (begun .cover .images) ≡ size (begun .member .shape)
+    pub fails : ¬ Holds ms (begun .cover) o
+
+  -- the number at a place of it has to be below the limit
+  pub data Due (o : Located) (at place limit : ℕ) : Type 0 where
+    member-owed : at ≡ place → limit ≡ length ms → Due o at place limit
+    image-owed : (c : Begun o at place) → length (c .cover .images) < size (c .member .shape) → limit ≡ size (o .shape) → Due o at place limit
 
   -- a number of the cover is refused, or the cover does not hold
   pub cover-fault : (o : Located) (at number place : ℕ) → readCover s ms o at ≡ fault number place
-      → ((9 ≡ number) × (at ≡ place) × Fails o at) ⊎ NumberRefused s at number place
+      → ((9 ≡ number) × (at ≡ place) × Fails o at) ⊎ ((limit : ℕ) × Due o at place limit × Faulty s (λ n. limit ≤ n) number place)
   unfolding readCover
   cover-fault o at number place =
       then-fault (readAs s (getElem? ms) at) _
@@ -228,25 +204,28 @@ module _ (s : Buffer) (variables : ℕ) (ms : List Located) (oks : (m : Located)
       let (g₂, (long, below)) = codes-exact s _ _ .sound a images b h₂ in
       let (k, q, t) = require-fault (holds? m images o) 9 at b h₃ in
       let i = getElem-mem ms n m numbered in
-      let c : Cover = record { member = n; images = images } in
       inl (
         k,
         q,
         record {
-          cover = c;
-          member = m;
-          numbered = numbered;
-          images = long;
-          below = below;
           next = b;
-          reads = more g₁ g₂;
+          begun = record { cover = record { member = n; images = images }; member = m; numbered = numbered; below = below; reads = more g₁ g₂ };
+          images = long;
           fails = λ h.
               let m-is : h .member ≡ m = cc in
               t (holds-reflects s variables ms oks m o images i long below .tests (rw m-is at (h .state), rw m-is at (h .embeds)));
         },
       ))
       (λ h₂.
-      let (n, g, _) = read-sound s (getElem? ms) at m a h₁ in
-      let (ns, r, f) = refused-number s (plain-many s (plain-read s (such (within 0 (size (o .shape))))) (size (m .shape))) a number place h₂ in
-      inr (n ∷ ns, more g r, f)))
-      (λ h₁. inr (refused-number s (plain-read s (getElem? ms)) at number place h₁))
+      let (n, g, numbered) = read-sound s (getElem? ms) at m a h₁ in
+      let (images, r, fewer, below, f) = codes-fault s (size (m .shape)) (size (o .shape)) a number place h₂ in
+      let c : Begun o at place = record { cover = record { member = n; images = images }; member = m; numbered = numbered; below = below; reads = more g r } in
+      inr (size (o .shape), image-owed c fewer refl, f)))
+      (λ h₁.
+      let (q, f) = read-fault s (getElem? ms) at number place h₁ in
+      inr (length ms, member-owed q refl, rw (← q) (faulty-map s (λ n. past-last ms n) f)))
+    where
+      past-last : (l : List Located) (n : ℕ) → getElem? l n ≡ none → length l ≤ n
+      past-last [] n e = omega arith
+      past-last (x ∷ l) zero e = let z : _≡_ {A = ℕ} 0 1 = cc in absurd (omega arith)
+      past-last (x ∷ l) (suc n) e = let h = past-last l n e in omega arith

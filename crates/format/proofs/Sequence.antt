@@ -1,16 +1,16 @@
 -- Numbers that stand one after the other in a buffer.
-use mathlib.Core.Bool.{cond}
 use mathlib.Core.List.{List, [], _∷_, _++_}
-use mathlib.Core.Path.{_≡_, refl, ap, _∙_}
+use mathlib.Core.Path.{_≡_, refl, ap, ap₂, _∙_}
 use Prim.Native.Nat.{ℕ, zero, suc, _+_, _-_, _≤_, _<_}
 use native.Mathlib.Omega.{arith}
-use borrow.Author.Tests.{lt-ltb, le-ltb}
-use lib.ListN.{length, getD}
-use Rattle.lists.proofs.Reflect.{r-le, r-lt, r-eq, cond-cases}
+use lib.ListN.{length}
+use Rattle.lists.proofs.Reflect.{r-lt, cond-cases}
 use Rattle.number.specs.Number.{numberIn, numberAt}
 use Rattle.number.specs.NumberList.{Listed, numbers, refused, before, followed, decodeFrom, decode}
 use Rattle.number.specs.declared.Read.{Read}
 use Rattle.number.specs.declared.Read.the-variants.{Number, Unreadable}
+use Rattle.number.proofs.Reading.{known-number}
+use Rattle.number.proofs.RoundTrip.{decode-more, decode-end}
 
 -- the numbers ns are read one after the other from a place to the next
 pub data Reads (s : List ℕ) : ℕ → List ℕ → ℕ → Type 0 where
@@ -41,74 +41,50 @@ module _ {s : List ℕ} where
       let (mid, a, b) = reads-split ns q in
       (mid, more g a, b)
 
--- a number has a byte of the buffer, and the next place is further on
-pub number-in : (at left a b c n next : ℕ) → numberIn at left a b c ≡ Number n next → (0 < left) × (at < next)
-unfolding numberIn
-number-in at left a b c n next =
-    cond-cases Q (r-le left 0) (λ _. unread)
-    (λ l. cond-cases Q (r-lt a 128) (λ _ e. let z : at + 1 ≡ next = cc in (omega arith, omega arith))
-    (λ _. cond-cases Q (r-le left 1) (λ _. unread)
-    (λ _. cond-cases Q (r-eq b 0) (λ _. unread)
-    (λ _. cond-cases Q (r-lt b 128) (λ _ e. let z : at + 2 ≡ next = cc in (omega arith, omega arith))
-    (λ _. cond-cases Q (r-le left 2) (λ _. unread)
-    (λ _. cond-cases Q (r-eq c 0) (λ _. unread)
-    (λ _. cond-cases Q (r-lt c 4) (λ _ e. let z : at + 3 ≡ next = cc in (omega arith, omega arith)) (λ _. unread))))))))
-  where
-    Q : Read → Type 0
-    Q r = r ≡ Number n next → (0 < left) × (at < next)
-
-    unread : Q (Unreadable at)
-    unread e = let z : _≡_ {A = ℕ} 0 1 = cc in absurd (omega arith)
+-- a number has a byte of the buffer, the next place is further on, and not past the end
+pub number-in : (at left a b c n next : ℕ) → numberIn at left a b c ≡ Number n next → (0 < left) × (at < next) × (next ≤ at + left)
+number-in at left a b c n next e = let t = known-number at left a b c n next e in (t .some, t .on, t .inside)
 
 pub reads-on : {s : List ℕ} {at next : ℕ} {ns : List ℕ} → Reads s at ns next → at ≤ next
 reads-on done = omega arith
-reads-on (more {at = a} {n = n} {mid = k} g r) = let (_, b) = number-in a _ _ _ _ n k g in let c = reads-on r in omega arith
+reads-on (more {at = a} {n = n} {mid = k} g r) = let (_, b, _) = number-in a _ _ _ _ n k g in let c = reads-on r in omega arith
 
--- what can't be read is refused at the place asked for
-pub unreadable-at : (s : List ℕ) (at p : ℕ) → numberAt s at ≡ Unreadable p → at ≡ p
-unfolding numberIn
-unreadable-at s at p =
-    cond-cases Q (r-le left 0) (λ _. unread)
-    (λ _. cond-cases Q (r-lt (getD s at 0) 128) (λ _. read)
-    (λ _. cond-cases Q (r-le left 1) (λ _. unread)
-    (λ _. cond-cases Q (r-eq (getD s (at + 1) 0) 0) (λ _. unread)
-    (λ _. cond-cases Q (r-lt (getD s (at + 1) 0) 128) (λ _. read)
-    (λ _. cond-cases Q (r-le left 2) (λ _. unread)
-    (λ _. cond-cases Q (r-eq (getD s (at + 2) 0) 0) (λ _. unread)
-    (λ _. cond-cases Q (r-lt (getD s (at + 2) 0) 4) (λ _. read) (λ _. unread))))))))
-  where
-    left : ℕ
-    left = length s - at
+-- what is read does not go past the end
+pub reads-inside : {s : List ℕ} {at next : ℕ} {ns : List ℕ} → Reads s at ns next → at ≤ length s → next ≤ length s
+reads-inside done i = i
+reads-inside (more {at = a} {n = n} {mid = k} g r) i = let (_, _, b) = number-in a _ _ _ _ n k g in reads-inside r (omega arith)
 
-    Q : Read → Type 0
-    Q r = r ≡ Unreadable p → at ≡ p
+-- the same numbers from one place end at one place
+pub reads-place : {s : List ℕ} {at p q : ℕ} {ns : List ℕ} → Reads s at ns p → Reads s at ns q → p ≡ q
+reads-place done r = reads-none r
+reads-place (more {mid = k} g r) q =
+    let (k′, g′, q′) = reads-first q in
+    let k-is : k′ ≡ k = cc in
+    reads-place r (rw k-is at q′)
 
-    unread : Q (Unreadable at)
-    unread e = cc
-
-    read : {n next : ℕ} → Q (Number n next)
-    read e = let z : _≡_ {A = ℕ} 0 1 = cc in absurd (omega arith)
+-- of two readings from one place, the one that goes further goes on where the other ends
+pub reads-further : {s : List ℕ} {at p q : ℕ} {ns ms : List ℕ} → Reads s at ns p → Reads s at ms q → p < q
+    → (n : ℕ) × (later : List ℕ) × (next : ℕ) × (ms ≡ ns ++ (n ∷ later)) × (numberAt s p ≡ Number n next)
+reads-further {at = at} done done h = absurd (omega arith)
+reads-further done (more {n = n} {mid = k} {ns = ns} g r) h = (n, ns, k, refl, g)
+reads-further (more {at = a} {n = n} {mid = k} g r) done h = let (_, b, _) = number-in a _ _ _ _ n k g in let c = reads-on r in absurd (omega arith)
+reads-further (more {n = n} {mid = k} g r) (more {n = n′} {mid = k′} g′ r′) h =
+    let k-is : k′ ≡ k = cc in
+    let n-is : n′ ≡ n = cc in
+    let (m, later, next, e, x) = reads-further r (rw k-is at r′) h in
+    (m, later, next, ap₂ {A = ℕ} {B = List ℕ} {C = List ℕ} (λ h l. h ∷ l) n-is e, x)
 
 module _ (s : List ℕ) where
-  decode-step : (turns at : ℕ) → at < length s → decodeFrom (suc turns) s at ≡ followed (decodeFrom turns s) (numberAt s at)
-  unfolding decodeFrom
-  decode-step turns at h = ap (λ b. cond b (followed (decodeFrom turns s) (numberAt s at)) (numbers [])) (lt-ltb at (length s) h)
-
-  decode-end : (turns at : ℕ) → length s ≤ at → decodeFrom turns s at ≡ numbers []
-  unfolding decodeFrom
-  decode-end zero at h = rw (le-ltb at (length s) h)
-  decode-end (suc turns) at h = rw (le-ltb at (length s) h)
-
   reads-from : (turns at : ℕ) (ns : List ℕ) (next : ℕ) → Reads s at ns next → length s ≤ next → length s - at ≤ turns → decodeFrom turns s at ≡ numbers ns
-  reads-from turns at [] next r h t = decode-end turns at (omega (arith, reads-none r))
+  reads-from turns at [] next r h t = decode-end turns s at (omega (arith, reads-none r))
   reads-from zero at (n ∷ ns) next r h t =
       let (mid, g, k) = reads-first r in
-      let (some-left, on) = number-in at (length s - at) _ _ _ n mid g in
+      let (some-left, on, _) = number-in at (length s - at) _ _ _ n mid g in
       absurd (omega arith)
   reads-from (suc turns) at (n ∷ ns) next r h t =
       let (mid, g, k) = reads-first r in
-      let (some-left, on) = number-in at (length s - at) _ _ _ n mid g in
-      decode-step turns at (omega arith) ∙ ap (followed (decodeFrom turns s)) g ∙ ap (before n) (reads-from turns mid ns next k h (omega arith))
+      let (some-left, on, _) = number-in at (length s - at) _ _ _ n mid g in
+      decode-more turns s at (omega arith) ∙ ap (followed (decodeFrom turns s)) g ∙ ap (before n) (reads-from turns mid ns next k h (omega arith))
 
   -- what is read to the end is the list of numbers
   pub reads-decode : (ns : List ℕ) (next : ℕ) → Reads s 0 ns next → length s ≤ next → decode s ≡ numbers ns

@@ -24,7 +24,7 @@ use Rattle.backward.specs.Predecessors.{predecessors}
 use Rattle.cover.specs.Cover.{predecessorsBy, owed, Cover, AllHold}
 use Rattle.cover.proofs.InRange.{predecessors-range}
 use Rattle.format.specs.JobNumbers.{JobFile, opNumbers, transitionNumbers, locatedNumbers, jobNumbers}
-use Rattle.format.specs.Numbers.{coverNumbers, certificateNumbers}
+use Rattle.format.specs.Numbers.{memberNumbers, coverNumbers, certificateNumbers}
 use Rattle.format.specs.Verdict.{accepted, verdict}
 use Rattle.format.specs.Conditions.{MembersInRange, ImageForEach, countsOf}
 use Rattle.format.specs.JobBytes.{LocatedInRange, TransitionInRange, JobInRange, IsJob}
@@ -105,7 +105,7 @@ module _ (most : ℕ) (enough : 64 ≤ most) where
 abbrev Small : List ℕ → Type 0
 Small = AtMost largest
 
-small-job : (f : JobFile) → JobInRange f → Small (jobNumbers f)
+pub small-job : (f : JobFile) → JobInRange f → Small (jobNumbers f)
 small-job f ok =
     let v = ok .variables .1 in
     let s = ok .states .1 in (
@@ -133,6 +133,15 @@ small-job f ok =
 pub written-job : (f : JobFile) → JobInRange f → IsJob (encode (jobNumbers f)) f
 written-job f ok = record { in-range = ok; reads = decode-encode (jobNumbers f) (small-job f ok) }
 
+pub small-members : (f : JobFile) (ms : List Located) → JobInRange f → MembersInRange f ms → Small (memberNumbers ms)
+small-members f ms ok oks = (
+  omega arith,
+  (
+    let n = oks .number .1 in omega arith,
+    at-most-all largest locatedNumbers ms (λ m i. located-at-most largest (omega arith) (f .job .variables) (f .states) m (ok .states .1) (oks .members m i)),
+  ),
+)
+
 number-below : {A : Type 0} (l : List A) (i : ℕ) (x : A) → getElem? l i ≡ some x → i < length l
 number-below [] i x e = let z : _≡_ {A = ℕ} 0 1 = cc in absurd (omega arith)
 number-below (y ∷ ys) zero x e = omega arith
@@ -154,15 +163,8 @@ module _ (f : JobFile) (ms : List Located) (cs : List Cover) (ok : JobInRange f)
     (images : (c : Cover) → c ∈ cs → ImageForEach ms c) (hold : AllHold ms cs (owed (f .job) ms)) where
   small-certificate : Small (certificateNumbers ms cs)
   small-certificate =
-      let n = oks .number .1 in (
-        omega arith,
-        (
-          omega arith,
-          at-most-append largest (concatMap locatedNumbers ms) (concatMap coverNumbers cs)
-              (at-most-all largest locatedNumbers ms (λ m i. located-at-most largest (omega arith) (f .job .variables) (f .states) m (ok .states .1) (oks .members m i)))
-              (small-covers ms n cs (owed (f .job) ms) hold images (λ o i. owed-range f ms ok oks o i .cells)),
-        ),
-      )
+      at-most-append largest (memberNumbers ms) (concatMap coverNumbers cs) (small-members f ms ok oks)
+      (small-covers ms (oks .number .1) cs (owed (f .job) ms) hold images (λ o i. owed-range f ms ok oks o i .cells))
 
   -- WRITTEN: they are accepted, if they are not too long
   pub written-accepted : ((m : Located) → m ∈ ms → m .state ≡ f .job .start → ¬ Satisfies empty (m .shape)) → length (encode (jobNumbers f)) ≤ 65536

@@ -42,3 +42,7 @@ pub record Conditions (job certificate : List ℕ) (counts : Counts) : Type 0 wh
   pub start : (m : Located) → m ∈ members → m .state ≡ file .job .start → ¬ Satisfies empty (m .shape)
   pub hold : AllHold members covers (owed (file .job) members)
   pub counts-due : counts ≡ countsOf (file .job) members
+
+-- the certificate is to be accepted, with some counts
+abbrev pub Acceptable : List ℕ → List ℕ → Type 0
+Acceptable job certificate = (counts : Counts) × Conditions job certificate counts

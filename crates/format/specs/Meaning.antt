@@ -1,8 +1,9 @@
--- What each refusal says. Document 01, "Refusals, in checking order".
+-- What each refusal says, without the parsers. Document 01, "Refusals, in checking order". `meaning` of the proofs says that the verdict is a
+-- refusal with a number at a place exactly if this holds of them.
 use mathlib.Core.List.{List, [], _∷_, _++_}
 use mathlib.Core.Option.{some}
 use mathlib.Core.Path.{_≡_}
-use Prim.Native.Nat.{ℕ, _<_}
+use Prim.Native.Nat.{ℕ, _≤_, _<_}
 use lib.ListN.{length, take, getElem?}
 use Rattle.lists.specs.List.{_∈_, concatMap}
 use Rattle.number.specs.Number.{numberAt}
@@ -12,31 +13,53 @@ use Rattle.heap.specs.Heap.{empty}
 use Rattle.shape.specs.Shape.{size, Satisfies, AllBelow}
 use Rattle.run.specs.Run.{Located}
 use Rattle.cover.specs.Cover.{Cover, owed, Holds, AllHold}
-use Rattle.format.specs.JobNumbers.{JobFile, locatedNumbers}
+use Rattle.format.specs.JobNumbers.{JobFile, locatedNumbers, jobNumbers}
 use Rattle.format.specs.Numbers.{memberNumbers, certificateNumbers}
-use Rattle.format.specs.Verdict.{Counts}
-use Rattle.format.specs.Conditions.{MembersInRange, ImageForEach, Conditions}
-use Rattle.format.specs.JobBytes.{Between, IsJob}
+use Rattle.format.specs.Conditions.{MembersInRange, ImageForEach}
+use Rattle.format.specs.JobBytes.{Between, JobInRange, IsJob}
 
 -- the bytes before the place are these numbers
 abbrev pub Before : List ℕ → ℕ → List ℕ → Type 0
-Before s place ns = decode (take place s) ≡ numbers ns
+Before s place ns = (place ≤ length s) × (decode (take place s) ≡ numbers ns)
 
--- a number starts at the place and ends before `next`
-pub record NumberStarts (s : List ℕ) (place next : ℕ) : Type 0 where
-  pub earlier : List ℕ
-  pub before : Before s place earlier
-  pub number : ℕ
-  pub reads : numberAt s place ≡ Number number next
+-- "the first faulty number", where L holds of the lists of numbers that may stand
+module _ (L : List ℕ → Type 0) (s : List ℕ) (place : ℕ) where
+  -- before the place all is well, and at the place a number is due: a list of which L holds begins with these numbers and goes on
+  pub record NumberDue : Type 0 where
+    pub earlier : List ℕ
+    pub before : Before s place earlier
+    pub number : ℕ
+    pub later : List ℕ
+    pub goes-on : L (earlier ++ (number ∷ later))
+
+  -- the number that is due "can't be read"
+  pub record Unread : Type 0 where
+    pub due : NumberDue
+    pub unread : numberAt s place ≡ Unreadable place
+
+  -- the number that is due "reads but breaks its range": no list of which L holds has it there
+  pub record OutOfRange : Type 0 where
+    pub due : NumberDue
+    pub number : ℕ
+    pub next : ℕ
+    pub reads : numberAt s place ≡ Number number next
+    pub none : (later : List ℕ) → ¬ L (due .earlier ++ (number ∷ later))
+
+-- the numbers of a job in range
+abbrev pub OfJob : List ℕ → Type 0
+OfJob ns = (f : JobFile) × JobInRange f × (jobNumbers f ≡ ns)
 
 pub data InJob (job : List ℕ) : ℕ → ℕ → Type 0 where
   -- "3. A number of the job can't be read: past the end, above 65,535, or longer than needed (place: its first byte)."
-  job-number : (earlier : List ℕ) (place : ℕ) → Before job place earlier → numberAt job place ≡ Unreadable place → InJob job 3 place
-  -- "4. A number of the job reads but breaks its range or the table of kinds (its first byte)." So no job begins with these bytes.
-  job-range : (place next : ℕ) → NumberStarts job place next → ((bytes : List ℕ) (f : JobFile) → take next bytes ≡ take next job → ¬ IsJob bytes f)
-      → InJob job 4 place
+  job-number : (place : ℕ) → Unread OfJob job place → InJob job 3 place
+  -- "4. A number of the job reads but breaks its range or the table of kinds (its first byte)."
+  job-range : (place : ℕ) → OutOfRange OfJob job place → InJob job 4 place
   -- "5. Bytes are left after the job (the first of them)."
   job-left : (f : JobFile) (place : ℕ) → IsJob (take place job) f → place < length job → InJob job 5 place
+
+-- "version 1; N 1..512; N members (state, shape)": the numbers of members in range
+abbrev pub OfMembers : JobFile → List ℕ → Type 0
+OfMembers f ns = (ms : List Located) × MembersInRange f ms × (memberNumbers ms ≡ ns)
 
 module _ (f : JobFile) (certificate : List ℕ) (place : ℕ) where
   -- the member at the place is the first at the start state that the empty heap satisfies
@@ -64,33 +87,49 @@ module _ (f : JobFile) (certificate : List ℕ) (place : ℕ) where
     pub owed-is : owed (f .job) members ≡ done ++ left
     pub hold : AllHold members covers done
 
-  -- the cover at the place reads and does not hold
-  pub record CoverFails : Type 0 where
+  -- the cover at the place begins, up to `next`: "a member number below N and one image for each of its cells, below the number of cells of
+  -- the covered shape", though images may still be owed
+  pub record CoverBegun (next : ℕ) : Type 0 where
     pub shape : Located
     pub later : List Located
     pub so-far : Covered (shape ∷ later)
     pub cover : Cover
     pub member : Located
     pub numbered : getElem? (so-far .members) (cover .member) ≡ some member
-    pub images : length (cover .images) ≡ size (member .shape)
     pub below : AllBelow (size (shape .shape)) (cover .images)
-    pub next : ℕ
     pub reads : Before certificate next (certificateNumbers (so-far .members) (so-far .covers ++ (cover ∷ [])))
-    pub fails : ¬ Holds (so-far .members) cover shape
 
-pub data InCertificate (job certificate : List ℕ) (f : JobFile) : ℕ → ℕ → Type 0 where
+  -- the cover at the place reads and does not hold
+  pub record CoverFails : Type 0 where
+    pub next : ℕ
+    pub cover : CoverBegun next
+    pub images : length (cover .cover .images) ≡ size (cover .member .shape)
+    pub fails : ¬ Holds (cover .so-far .members) (cover .cover) (cover .shape)
+
+-- "then cover by cover 6, 7, 9": at the place a number of the next cover is due, which has to be below the limit. (No cover need begin so and
+-- go on: where the covered shape has no cells, an image that is due has no number to be.)
+pub data CoverDue (f : JobFile) (certificate : List ℕ) (place limit : ℕ) : Type 0 where
+  -- "a member number below N"
+  member-due : (shape : Located) (later : List Located) (c : Covered f certificate place (shape ∷ later)) → limit ≡ length (c .members)
+      → CoverDue f certificate place limit
+  -- "one image for each of its cells, below the number of cells of the covered shape"
+  image-due : (first : ℕ) (c : CoverBegun f certificate first place) → length (c .cover .images) < size (c .member .shape)
+      → limit ≡ size (c .shape .shape) → CoverDue f certificate place limit
+
+pub data InCertificate (f : JobFile) (certificate : List ℕ) : ℕ → ℕ → Type 0 where
   -- "6. A number of the certificate can't be read, as in 3."
-  certificate-number : (earlier : List ℕ) (place : ℕ) → Before certificate place earlier → numberAt certificate place ≡ Unreadable place
-      → InCertificate job certificate f 6 place
-  -- "7. A number of the certificate breaks its range (its first byte)." So no certificate for the job begins with these bytes.
-  certificate-range : (place next : ℕ) → NumberStarts certificate place next
-      → ((bytes : List ℕ) (counts : Counts) → take next bytes ≡ take next certificate → ¬ Conditions job bytes counts) → InCertificate job certificate f 7 place
+  member-unread : (place : ℕ) → Unread (OfMembers f) certificate place → InCertificate f certificate 6 place
+  cover-unread : (place limit : ℕ) → CoverDue f certificate place limit → numberAt certificate place ≡ Unreadable place → InCertificate f certificate 6 place
+  -- "7. A number of the certificate breaks its range (its first byte)."
+  member-range : (place : ℕ) → OutOfRange (OfMembers f) certificate place → InCertificate f certificate 7 place
+  cover-range : (place limit : ℕ) → CoverDue f certificate place limit → (n next : ℕ) → numberAt certificate place ≡ Number n next → limit ≤ n
+      → InCertificate f certificate 7 place
   -- "8. A member at the start state is satisfied by the empty heap [..] (the member's first byte)."
-  member-satisfied : (place : ℕ) → StartSatisfied f certificate place → InCertificate job certificate f 8 place
+  member-satisfied : (place : ℕ) → StartSatisfied f certificate place → InCertificate f certificate 8 place
   -- "9. A cover that reads doesn't hold (the cover's first byte)."
-  cover-fails : (place : ℕ) → CoverFails f certificate place → InCertificate job certificate f 9 place
+  cover-fails : (place : ℕ) → CoverFails f certificate place → InCertificate f certificate 9 place
   -- "10. Bytes are left after the last cover (the first of them)."
-  certificate-left : (place : ℕ) → Covered f certificate place [] → place < length certificate → InCertificate job certificate f 10 place
+  certificate-left : (place : ℕ) → Covered f certificate place [] → place < length certificate → InCertificate f certificate 10 place
 
 pub data Meaning (job certificate : List ℕ) : ℕ → ℕ → Type 0 where
   -- "1. The job's length is 0 or above 65,536 (place 0)."
@@ -100,4 +139,4 @@ pub data Meaning (job certificate : List ℕ) : ℕ → ℕ → Type 0 where
   in-job : (number place : ℕ) → Between 1 65536 (length job) → Between 1 65536 (length certificate) → InJob job number place
       → Meaning job certificate number place
   in-certificate : (number place : ℕ) → Between 1 65536 (length job) → Between 1 65536 (length certificate) → (f : JobFile) → IsJob job f
-      → InCertificate job certificate f number place → Meaning job certificate number place
+      → InCertificate f certificate number place → Meaning job certificate number place

@@ -1,37 +1,128 @@
-// A reader that keeps a buffer together with the place it has reached. Its functions are thin: the work is the number reader's.
+// A reader that keeps a job together with the place it has reached, and the numbers of a job that are read by it. The functions over a
+// `Reader` are thin: the work is `read_on`'s.
 use number::Read;
 ghost use mathlib.Core.Path.{_≡_};
-ghost use Rattle.number.specs.Number.{numberAt};
+ghost use Rattle.format.specs.Parser.{jobBuffer, ranged};
+ghost use Rattle.jobreader.specs.Reader.{numberedOf, readOn, numberedAfter, numberedIn, frontRead};
 
+// The number read last and the place after it. Once a number is refused, `refusal` is the number of that refusal and not 0, and the
+// reader stays at the place of the number.
 pub struct Reader<'a> {
     pub src: &'a [u8],
     pub at: usize,
+    pub number: usize,
+    pub refusal: usize,
 }
 
-// The number reader, on the slice and the place.
-fn number_at(src: &[u8], at: usize) -> Read
-    ensures { λ r. ⌜ r ≡ numberAt (now (src .entry)) at ⌝ }
+// The same without the job.
+pub struct Numbered {
+    pub at: usize,
+    pub number: usize,
+    pub refusal: usize,
+}
+
+// The numbers of a job before its transitions, and the place after them; or a refusal, not 0, and its place.
+pub struct Front {
+    pub variables: usize,
+    pub states: usize,
+    pub start: usize,
+    pub transitions: usize,
+    pub at: usize,
+    pub refusal: usize,
+}
+
+// The number at a place, from `low` on and below `limit`, unless one was refused.
+fn read_on(job: &[u8], at: usize, refusal: usize, low: usize, limit: usize) -> Numbered
+    ensures { λ r. ⌜ r ≡ numberedOf (readOn at refusal (ranged (jobBuffer (now (job .entry))) low limit)) ⌝ }
 {
-    number::read_number(src, at)
+    if refusal != 0 {
+        return Numbered {
+            at,
+            number: 0,
+            refusal,
+        };
+    }
+    let r = number::read_number(job, at);
+    let Read::Number(n, next) = r else {
+        return Numbered {
+            at,
+            number: 0,
+            refusal: 3,
+        };
+    };
+    if n < low {
+        return Numbered {
+            at,
+            number: 0,
+            refusal: 4,
+        };
+    }
+    if limit <= n {
+        return Numbered {
+            at,
+            number: 0,
+            refusal: 4,
+        };
+    }
+    Numbered {
+        at: next,
+        number: n,
+        refusal: 0,
+    }
 }
 
-// A buffer and a place in it.
+// A reader at a place of a job.
 pub fn new<'a>(src: &'a [u8], at: usize) -> Reader<'a>
-    ensures { λ r. ⌜ (r .src ≡ src .entry) × (r .at ≡ at) ⌝ }
+    ensures { λ r. ⌜ (r .src ≡ src .entry) × (r .at ≡ at) × (r .number ≡ 0) × (r .refusal ≡ 0) ⌝ }
 {
-    Reader { src, at }
+    Reader {
+        src,
+        at,
+        number: 0,
+        refusal: 0,
+    }
 }
 
-// The number at the place that was reached.
-pub fn next<'a>(r: Reader<'a>) -> Read
-    ensures { λ s. ⌜ s ≡ numberAt (now (r .entry .src)) (r .entry .at) ⌝ }
+// The reader moved on by one number, from `low` on and below `limit`.
+pub fn next<'a>(r: Reader<'a>, low: usize, limit: usize) -> Reader<'a>
+    ensures { λ q. ⌜ (q .src ≡ r .entry .src) × (numberedIn q ≡ numberedAfter (numberedIn (r .entry)) (ranged (jobBuffer (now (r .entry .src))) low limit)) ⌝ }
 {
-    number_at(r.src, r.at)
+    let s = read_on(r.src, r.at, r.refusal, low, limit);
+    Reader {
+        src: r.src,
+        at: s.at,
+        number: s.number,
+        refusal: s.refusal,
+    }
 }
 
-// The number at a place, by a reader that stands there.
-pub fn read_at(src: &[u8], at: usize) -> Read
-    ensures { λ r. ⌜ r ≡ numberAt (now (src .entry)) at ⌝ }
+// One number of a job.
+pub fn read_at(job: &[u8], at: usize, low: usize, limit: usize) -> Numbered
+    ensures { λ r. ⌜ r ≡ numberedOf (ranged (jobBuffer (now (job .entry))) low limit at) ⌝ }
 {
-    next(new(src, at))
+    let r = next(new(job, at), low, limit);
+    Numbered {
+        at: r.at,
+        number: r.number,
+        refusal: r.refusal,
+    }
+}
+
+// The numbers of a job before its transitions: version, V, S, start, T.
+pub fn read_front(job: &[u8]) -> Front
+    ensures { λ r. ⌜ r ≡ frontRead (jobBuffer (now (job .entry))) ⌝ }
+{
+    let version = next(new(job, 0), 1, 2);
+    let variables = next(version, 1, 9);
+    let states = next(variables, 1, 65);
+    let start = next(states, 0, states.number);
+    let transitions = next(start, 0, 257);
+    Front {
+        variables: variables.number,
+        states: states.number,
+        start: start.number,
+        transitions: transitions.number,
+        at: transitions.at,
+        refusal: transitions.refusal,
+    }
 }

@@ -1,13 +1,17 @@
 -- The rows of the table of kinds, one by one.
 use mathlib.Core.Bool.{Bool, true, false, _&&_, cond}
+use mathlib.Core.List.{List, [], _∷_, map}
+use mathlib.Core.Logic.{_≢_}
 use mathlib.Core.Option.{Option, none, some}
-use mathlib.Core.Path.{_≡_, refl, ap, _∙_}
-use Prim.Native.Nat.{ℕ, zero, suc, _≤_}
-use native.Mathlib.Decide.{decLe}
+use mathlib.Core.Path.{_≡_, refl, ap, subst, _∙_}
+use Prim.Native.Nat.{ℕ, zero, suc, _+_, _≤_, _<_}
+use native.Mathlib.Decide.{decLe, decLt, ℕ-discrete}
 use native.Mathlib.Omega.{arith}
 use borrow.Author.Tests.{leb-true}
-use lib.Dec.{leb}
-use Rattle.heap.specs.Operation.{Op, Kind, kindOf, allowsA, allowsB, fromRow, operation}
+use lib.Dec.{eqb, leb}
+use lib.ListN.{length, getD, getElem?, drop}
+use Rattle.heap.specs.Operation.{Op, Kind, kinds, kindOf, allowsA, allowsB, fromRow, operation}
+use Rattle.lists.specs.Range.{range}
 use Rattle.lists.proofs.Test.{and-left, and-right}
 use Rattle.kinds.specs.Kinds.{leastA, leastB, mostB, isSome, allowed}
 
@@ -26,59 +30,59 @@ by-kind P p1 p2 p3 p4 p5 p6 p7 (suc (suc (suc (suc (suc (suc (suc (suc k))))))))
 -- no other number has a row
 pub no-kind : (k : ℕ) → (1 ≤ k → k ≤ 7 → ⊥) → kindOf k ≡ none
 no-kind zero h = refl
-no-kind (suc zero) h = absurd (h (omega arith) (omega arith))
-no-kind (suc (suc zero)) h = absurd (h (omega arith) (omega arith))
-no-kind (suc (suc (suc zero))) h = absurd (h (omega arith) (omega arith))
-no-kind (suc (suc (suc (suc zero)))) h = absurd (h (omega arith) (omega arith))
-no-kind (suc (suc (suc (suc (suc zero))))) h = absurd (h (omega arith) (omega arith))
-no-kind (suc (suc (suc (suc (suc (suc zero)))))) h = absurd (h (omega arith) (omega arith))
-no-kind (suc (suc (suc (suc (suc (suc (suc zero))))))) h = absurd (h (omega arith) (omega arith))
-no-kind (suc (suc (suc (suc (suc (suc (suc (suc k)))))))) h = refl
-
--- what holds where there is no row, and of the kinds 1 to 7, holds of every number
-every-kind : (P : ℕ → Type 0) → ((k : ℕ) → kindOf k ≡ none → P k) → P 1 → P 2 → P 3 → P 4 → P 5 → P 6 → P 7 → (k : ℕ) → P k
-every-kind P other p1 p2 p3 p4 p5 p6 p7 k = go (decLe 1 k) (decLe k 7)
+no-kind (suc k) h = none-past kinds k (omega (arith, past))
   where
-    go : Dec (1 ≤ k) → Dec (k ≤ 7) → P k
-    go (yes l) (yes h) = by-kind P p1 p2 p3 p4 p5 p6 p7 k l h
-    go (no l) d = other k (no-kind k (λ a b. l a))
-    go (yes l) (no h) = other k (no-kind k (λ a b. h b))
+    past : ¬ (k < 7)
+    past l = h (omega arith) (omega arith)
 
-pub least-a-some : (k : ℕ) → 3 ≤ k → k ≤ 7 → 1 ≡ leastA k
-unfolding leastA
-least-a-some k l h =
-    by-kind (λ k. 3 ≤ k → 1 ≡ leastA k) (λ l. absurd (omega arith)) (λ l. absurd (omega arith)) (λ l. refl) (λ l. refl) (λ l. refl) (λ l. refl)
-    (λ l. refl) k (omega arith) h l
+    none-past : (l : List Kind) (i : ℕ) → length l ≤ i → getElem? l i ≡ none
+    none-past [] i h = refl
+    none-past (x ∷ xs) zero h = absurd (omega arith)
+    none-past (x ∷ xs) (suc i) h = none-past xs i (omega arith)
 
-pub least-a-none : (k : ℕ) → (3 ≤ k → k ≤ 7 → ⊥) → 0 ≡ leastA k
-unfolding leastA
-least-a-none k h =
-    every-kind (λ k. (3 ≤ k → k ≤ 7 → ⊥) → 0 ≡ leastA k) (λ k e h. rw e refl) (λ h. refl) (λ h. refl)
-    (λ h. absurd (h (omega arith) (omega arith))) (λ h. absurd (h (omega arith) (omega arith))) (λ h. absurd (h (omega arith) (omega arith)))
-    (λ h. absurd (h (omega arith) (omega arith))) (λ h. absurd (h (omega arith) (omega arith))) k h
+-- and each of these has one
+pub is-kind : (k : ℕ) → 1 ≤ k → k ≤ 7 → (row : Kind) × (kindOf k ≡ some row)
+is-kind zero l h = absurd (omega arith)
+is-kind (suc k) l h = some-at kinds k (omega arith)
+  where
+    some-at : (l : List Kind) (i : ℕ) → i < length l → (row : Kind) × (getElem? l i ≡ some row)
+    some-at [] i h = absurd (omega arith)
+    some-at (x ∷ xs) zero h = (x, refl)
+    some-at (x ∷ xs) (suc i) h = some-at xs i (omega arith)
 
-pub least-b-none : (k : ℕ) → (k ≡ 4 → ⊥) → 0 ≡ leastB k
-unfolding leastB
-least-b-none k h =
-    every-kind (λ k. (k ≡ 4 → ⊥) → 0 ≡ leastB k) (λ k e h. rw e refl) (λ h. refl) (λ h. refl) (λ h. refl) (λ h. absurd (h refl)) (λ h. refl)
-    (λ h. refl) (λ h. refl) k h
+-- Two columns that agree entry by entry, by computation, agree at each entry: a table's rule, for every column.
+pub column : (f g : ℕ → ℕ) (n : ℕ) → map f (range 0 n) ≡ map g (range 0 n) → (k : ℕ) → k < n → f k ≡ g k
+column f g n e k h = from 0 n e (omega arith) (omega arith)
+  where
+    here-or-later : (i : ℕ) → Dec (i ≡ k) → f i ≡ g i → (i ≢ k → f k ≡ g k) → f k ≡ g k
+    here-or-later i (yes same) here later = subst (λ j. f j ≡ g j) same here
+    here-or-later i (no other) here later = later other
 
-pub least-b-some : (k : ℕ) → k ≡ 4 → 1 ≡ leastB k
-unfolding leastB
-least-b-some k e = rw e refl
+    from : (i n : ℕ) → map f (range i n) ≡ map g (range i n) → i ≤ k → k < i + n → f k ≡ g k
+    from i zero e l h = absurd (omega arith)
+    from i (suc n) e l h =
+        here-or-later i (ℕ-discrete i k) (ap (λ l. getD l 0 0) e) (λ other. from (suc i) n (ap (drop 1) e) (omega (arith, other)) (omega arith))
 
-pub most-b-all : (k n : ℕ) → 1 ≤ k → k ≤ 5 → n ≡ mostB k n
+-- the column of the most b: 1 where it is V, 0 where it is 0
+abbrev pub takes-b : List ℕ
+takes-b = 0 ∷ 1 ∷ 1 ∷ 1 ∷ 1 ∷ 1 ∷ 0 ∷ 0 ∷ []
+
+pub most-b-column : (n k : ℕ) → k < 8 → cond (eqb (getD takes-b k 0) 0) 0 n ≡ mostB k n
 unfolding mostB
-most-b-all k n l h =
-    by-kind (λ k. k ≤ 5 → n ≡ mostB k n) (λ h. refl) (λ h. refl) (λ h. refl) (λ h. refl) (λ h. refl) (λ h. absurd (omega arith))
-    (λ h. absurd (omega arith)) k l (omega arith) h
+most-b-column n = column (λ k. cond (eqb (getD takes-b k 0) 0) 0 n) (λ k. mostB k n) 8 refl
 
-pub most-b-none : (k n : ℕ) → (1 ≤ k → k ≤ 5 → ⊥) → 0 ≡ mostB k n
+-- no b is above V
+pub most-bound : (k n : ℕ) → mostB k n ≤ n
 unfolding mostB
-most-b-none k n h =
-    every-kind (λ k. (1 ≤ k → k ≤ 5 → ⊥) → 0 ≡ mostB k n) (λ k e h. rw e refl) (λ h. absurd (h (omega arith) (omega arith)))
-    (λ h. absurd (h (omega arith) (omega arith))) (λ h. absurd (h (omega arith) (omega arith))) (λ h. absurd (h (omega arith) (omega arith)))
-    (λ h. absurd (h (omega arith) (omega arith))) (λ h. refl) (λ h. refl) k h
+most-bound k n = go (decLt k 8)
+  where
+    none-or-all : (t : Bool) → cond t 0 n ≤ n
+    none-or-all true = omega arith
+    none-or-all false = omega arith
+
+    go : Dec (k < 8) → mostB k n ≤ n
+    go (yes h) = rw (← most-b-column n k h) (none-or-all (eqb (getD takes-b k 0) 0))
+    go (no h) = rw (no-kind k (λ l m. h (omega arith))) (omega arith)
 
 some-if : (b : Bool) (o : Op) → b ≡ isSome (cond b (some o) none)
 some-if true o = refl
@@ -87,9 +91,7 @@ some-if false o = refl
 -- a kind of the table allows the operands that its columns say
 pub allowed-row : (k n a b : ℕ) → 1 ≤ k → k ≤ 7 → (leb (leastA k) a && leb a n) && (leb (leastB k) b && leb b (mostB k n)) ≡ allowed n k a b
 unfolding leastA leastB mostB allowed
-allowed-row k n a b l h =
-    by-kind (λ k. (leb (leastA k) a && leb a n) && (leb (leastB k) b && leb b (mostB k n)) ≡ allowed n k a b)
-    (some-if _ _) (some-if _ _) (some-if _ _) (some-if _ _) (some-if _ _) (some-if _ _) (some-if _ _) k l h
+allowed-row k n a b l h = let (row, is) = is-kind k l h in rw is (some-if _ _)
 
 pub allowed-none : (k n a b : ℕ) → (1 ≤ k → k ≤ 7 → ⊥) → false ≡ allowed n k a b
 unfolding allowed

@@ -2,34 +2,55 @@
 ghost use mathlib.Core.Path.{_≡_};
 ghost use Rattle.kinds.specs.Kinds.{leastA, leastB, mostB, allowed};
 
+// The kinds of the table.
+pub const EQUAL: u8 = 1;
+
+pub const DIFFERENT: u8 = 2;
+
+pub const ASSIGN: u8 = 3;
+
+pub const LOAD: u8 = 4;
+
+pub const STORE: u8 = 5;
+
+pub const NEW: u8 = 6;
+
+pub const DELETE: u8 = 7;
+
+// The columns of the table, by kind: the least a, the least b, and 1 where b may be a variable. There is no kind 0.
+const LAST_KIND: usize = 7;
+
+const LEAST_A: [usize; 8] = [0, 0, 0, 1, 1, 1, 1, 1];
+
+const LEAST_B: [usize; 8] = [0, 0, 0, 0, 1, 0, 0, 0];
+
+const TAKES_B: [usize; 8] = [0, 1, 1, 1, 1, 1, 0, 0];
+
 pub fn least_a(kind: usize) -> usize
     ensures { λ r. ⌜ r ≡ leastA kind ⌝ }
 {
-    if kind < 3 {
+    if LAST_KIND < kind {
         return 0;
     }
-    if 7 < kind {
-        return 0;
-    }
-    1
+    LEAST_A[kind]
 }
 
 pub fn least_b(kind: usize) -> usize
     ensures { λ r. ⌜ r ≡ leastB kind ⌝ }
 {
-    if kind == 4 {
-        return 1;
+    if LAST_KIND < kind {
+        return 0;
     }
-    0
+    LEAST_B[kind]
 }
 
 pub fn most_b(kind: usize, variables: usize) -> usize
     ensures { λ r. ⌜ r ≡ mostB kind variables ⌝ }
 {
-    if kind < 1 {
+    if LAST_KIND < kind {
         return 0;
     }
-    if 5 < kind {
+    if TAKES_B[kind] == 0 {
         return 0;
     }
     variables
@@ -42,7 +63,7 @@ pub fn allows(variables: usize, kind: usize, a: usize, b: usize) -> bool
     if kind < 1 {
         return false;
     }
-    if 7 < kind {
+    if LAST_KIND < kind {
         return false;
     }
     if a < least_a(kind) {

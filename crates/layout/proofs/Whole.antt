@@ -1,18 +1,13 @@
 -- The test whether an entry stands whole.
-use mathlib.Core.Bool.{Bool, true, false}
+use mathlib.Core.Bool.{true, false}
 use mathlib.Core.List.{List}
 use mathlib.Core.Path.{_≡_, sym}
 use Prim.Native.Nat.{ℕ, _+_, _≤_}
 use native.Mathlib.Omega.{arith}
 use lib.Dec.{leb}
 use lib.ListN.{length, getD}
-use Rattle.lists.proofs.Reflect.{Reflect, r-and, r-iff, r-le, is-true, is-false, passes}
+use Rattle.lists.proofs.Reflect.{Reflect, r-and, r-iff, r-le, is-true, is-false, same-test, passes}
 use Rattle.layout.specs.Entries.{entryEnd, isWhole, Whole}
-
--- tests of facts that follow from each other
-same-test : {P Q : Type 0} {a b : Bool} → Reflect P a → Reflect Q b → (P → Q) → (Q → P) → a ≡ b
-same-test {a = true} {b = b} r s f g = sym (is-true b (s .tests (f (r .holds tt))))
-same-test {a = false} {b = b} r s f g = sym (is-false b (λ t. r .tests (g (s .holds t))))
 
 module _ (bytes : List ℕ) (variables at : ℕ) where
   r-whole : Reflect (Whole bytes variables at) (isWhole bytes variables at)

@@ -1,3 +1,3 @@
-pub mod Arrays
+pub mod ShapeArray
 pub mod Entries
 pub mod Transitions

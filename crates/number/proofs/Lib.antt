@@ -1,4 +1,5 @@
 pub mod Reading
 pub mod Writing
 pub mod RoundTrip
+pub mod WriterRoundTrip
 pub mod Encoding

@@ -1,12 +1,72 @@
 -- What stands at a place, case by case.
+use mathlib.Core.Bool.{Bool, true, false, cond}
 use mathlib.Core.List.{List}
-use mathlib.Core.Path.{_≡_}
+use mathlib.Core.Path.{_≡_, refl}
 use Prim.Native.Nat.{ℕ, _+_, _-_, _*_, _≤_, _<_}
 use native.Mathlib.Omega.{arith}
-use borrow.Author.Tests.{le-leb, lt-leb, lt-ltb, le-ltb, eq-eqb, ne-eqb}
+use borrow.Author.Tests.{ltb-true, ltb-false, leb-false, eqb-false, le-leb, lt-leb, lt-ltb, le-ltb, eq-eqb, ne-eqb}
+use lib.Dec.{eqb, leb, ltb}
 use lib.ListN.{length, getD}
 use Rattle.number.specs.Number.{numberIn, numberAt}
+use Rattle.number.specs.declared.Read.{Read}
 use Rattle.number.specs.declared.Read.the-variants.{Number, Unreadable}
+
+-- ---- the cases
+
+by-test : (P : Read → Type 0) (b : Bool) {x y : Read} → (b ≡ true → P x) → (b ≡ false → P y) → P (cond b x y)
+by-test P true f g = f refl
+by-test P false f g = g refl
+
+-- What holds of a number of one byte, of two and of three, and of what can't be read, holds of what is read.
+pub by-bytes : (at left a b c : ℕ) (P : Read → Type 0) → P (Unreadable at) → (0 < left → a < 128 → P (Number a (at + 1)))
+    → (1 < left → 128 ≤ a → (b ≡ 0 → ⊥) → b < 128 → P (Number (a - 128 + b * 128) (at + 2)))
+    → (2 < left → 128 ≤ a → (b ≡ 0 → ⊥) → 128 ≤ b → (c ≡ 0 → ⊥) → c < 4 → P (Number (a - 128 + (b - 128) * 128 + c * 16384) (at + 3)))
+    → P (numberIn at left a b c)
+unfolding numberIn
+by-bytes at left a b c P unread one two three =
+    by-test P (leb left 0) (λ _. unread)
+    (λ l₀. by-test P (ltb a 128) (λ h. one (leb-false left 0 l₀) (ltb-true a 128 h))
+    (λ a₀. by-test P (leb left 1) (λ _. unread)
+    (λ l₁. by-test P (eqb b 0) (λ _. unread)
+    (λ b₀. by-test P (ltb b 128) (λ h. two (leb-false left 1 l₁) (ltb-false a 128 a₀) (eqb-false b 0 b₀) (ltb-true b 128 h))
+    (λ b₁. by-test P (leb left 2) (λ _. unread)
+    (λ l₂. by-test P (eqb c 0) (λ _. unread)
+    (λ c₀. by-test P (ltb c 4)
+    (λ h. three (leb-false left 2 l₂) (ltb-false a 128 a₀) (eqb-false b 0 b₀) (ltb-false b 128 b₁) (eqb-false c 0 c₀) (ltb-true c 4 h)) (λ _. unread))))))))
+
+-- what is known of a number that was read, where a is the first of the bytes that are left
+pub record KnownNumber (at left a n next : ℕ) : Type 0 where
+  pub some : 0 < left
+  pub on : at < next
+  pub inside : next ≤ at + left
+  pub value : n < 128 → n ≡ a
+  pub after : n < 128 → next ≡ at + 1
+
+pub known-number : (at left a b c n next : ℕ) → numberIn at left a b c ≡ Number n next → KnownNumber at left a n next
+known-number at left a b c n next =
+    by-bytes at left a b c (λ r. r ≡ Number n next → KnownNumber at left a n next) (λ e. let z : _≡_ {A = ℕ} 0 1 = cc in absurd (omega arith))
+    (λ l h e.
+    let m : a ≡ n = cc in
+    let z : at + 1 ≡ next = cc in
+    record { some = l; on = omega arith; inside = omega arith; value = λ _. omega arith; after = λ _. omega arith })
+    (λ l h b₀ b₁ e.
+    let m : a - 128 + b * 128 ≡ n = cc in
+    let z : at + 2 ≡ next = cc in
+    record { some = omega arith; on = omega arith; inside = omega arith; value = λ k. absurd (omega arith); after = λ k. absurd (omega arith) })
+    (λ l h b₀ b₁ c₀ c₁ e.
+    let m : a - 128 + (b - 128) * 128 + c * 16384 ≡ n = cc in
+    let z : at + 3 ≡ next = cc in
+    record { some = omega arith; on = omega arith; inside = omega arith; value = λ k. absurd (omega arith); after = λ k. absurd (omega arith) })
+
+-- what can't be read is refused at the place asked for
+pub unreadable-at : (at left a b c p : ℕ) → numberIn at left a b c ≡ Unreadable p → at ≡ p
+unreadable-at at left a b c p =
+    by-bytes at left a b c (λ r. r ≡ Unreadable p → at ≡ p) (λ e. cc) (λ l h. read) (λ l h b₀ b₁. read) (λ l h b₀ b₁ c₀ c₁. read)
+  where
+    read : {n next : ℕ} → Number n next ≡ Unreadable p → at ≡ p
+    read e = let z : _≡_ {A = ℕ} 0 1 = cc in absurd (omega arith)
+
+-- ---- what is read in each case
 
 module _ (s : List ℕ) (at : ℕ) where
   pub past-end : length s ≤ at → Unreadable at ≡ numberAt s at

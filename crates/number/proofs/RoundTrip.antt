@@ -2,7 +2,7 @@
 use mathlib.Core.List.{List, [], _∷_, _++_}
 use mathlib.Core.Path.{_≡_, refl, sym, ap, _∙_}
 use Prim.Native.Nat.{ℕ, zero, suc, _+_, _-_, _*_, _/_, _%_, _≤_, _<_}
-use native.Mathlib.Decide.{ℕ-discrete, decLe, decLt}
+use native.Mathlib.Decide.{decLt}
 use native.Mathlib.Nat.{add-zero}
 use native.Mathlib.Numerals.{add-one, add-two, add-three}
 use native.Mathlib.Omega.{arith}
@@ -14,7 +14,7 @@ use Rattle.number.specs.NumberList.{encode, Listed, numbers, refused, be
 use Rattle.number.specs.Range.{AtMost, Stands}
 use Rattle.number.specs.declared.Read.{Read}
 use Rattle.number.specs.declared.Read.the-variants.{Number, Unreadable}
-use Rattle.number.proofs.Reading.{past-end, one-byte, cut-at-one, zero-second, two-bytes, cut-at-two, zero-third, three-bytes, too-large}
+use Rattle.number.proofs.Reading.{by-bytes, one-byte, two-bytes, three-bytes}
 use Rattle.number.proofs.Writing.{one, two, three, some-bytes}
 
 -- ---- one number
@@ -76,62 +76,46 @@ low-digit : (x y : ℕ) → x < 128 → (x + y * 128) % 128 ≡ x
 low-digit x y h = omega arith
 
 module _ (s : List ℕ) (at n next : ℕ) (e : numberAt s at ≡ Number n next) where
-  unread : Unreadable at ≡ numberAt s at → Stands s at n next
-  unread u = let z : _≡_ {A = Read} (Unreadable at) (Number n next) = u ∙ e in let q : _≡_ {A = ℕ} 0 1 = cc in absurd (omega arith)
-
-  standing : (m : ℕ) (vs : List ℕ) → Number m (at + length vs) ≡ numberAt s at → m ≤ largest → bytesOf m ≡ vs
+  -- bytes vs that stand at the place, and are those of a number
+  standing : (m : ℕ) (vs : List ℕ) → Number m (at + length vs) ≡ Number n next → m ≤ largest → bytesOf m ≡ vs
       → drop at s ≡ vs ++ drop (at + length vs) s → Stands s at n next
-  standing m vs r l b d =
-      let q : _≡_ {A = Read} (Number m (at + length vs)) (Number n next) = r ∙ e in
+  standing m vs q l b d =
       let m-is : m ≡ n = cc in
       let next-is : at + length vs ≡ next = cc in
       let b′ : bytesOf n ≡ vs = rw m-is at b in
       record { small = rw m-is at l; bytes = rw (b′, ← next-is) d; after = rw b′ (sym next-is) }
 
-  module _ (a b c : ℕ) (ea : a ≡ getD s at 0) (eb : b ≡ getD s (at + 1) 0) (ec : c ≡ getD s (at + 2) 0) (la : a ≤ 255) (lb : b ≤ 255) where
-    from-three : 128 ≤ a → (b ≡ 0 → ⊥) → 128 ≤ b → 2 < length s - at → Dec (c ≡ 0) → Dec (c < 4) → Stands s at n next
-    from-three ha nb hb h (yes z) d = unread (zero-third s at a ea ha b eb (omega arith) nb hb c ec h z)
-    from-three ha nb hb h (no nz) (no d) = unread (too-large s at a ea ha b eb (omega arith) nb hb c ec h nz (omega arith))
-    from-three ha nb hb h (no nz) (yes d) =
-        let m = a - 128 + (b - 128) * 128 + c * 16384 in
-        let b0 : m % 128 + 128 ≡ a = omega arith in
-        let q : m / 128 ≡ b - 128 + c * 128 = omega arith in
-        let b1 : m / 128 % 128 + 128 ≡ b = rw (q, low-digit (b - 128) c (omega arith)) (omega arith) in
-        let b2 : m / 16384 ≡ c = omega arith in
-        standing m (a ∷ b ∷ c ∷ []) (three-bytes s at a ea ha b eb (omega arith) nb hb c ec h nz d) (omega arith)
-        (three m (omega arith) ∙ rw (b0, b1, b2) refl) (rw (ea, eb, ec) (drop-three s at (omega arith)))
-
-    from-two : 128 ≤ a → 1 < length s - at → Dec (b ≡ 0) → Dec (b < 128) → Dec (length s - at ≤ 2) → Stands s at n next
-    from-two ha h (yes z) d k = unread (zero-second s at a ea ha b eb h z)
-    from-two ha h (no nz) (yes d) k =
-        let m = a - 128 + b * 128 in
-        let b0 : m % 128 + 128 ≡ a = omega arith in
-        let b1 : m / 128 ≡ b = omega arith in
-        standing m (a ∷ b ∷ []) (two-bytes s at a ea ha b eb h nz d) (omega arith)
-        (two m (omega arith) (omega arith) ∙ rw (b0, b1) refl) (rw (ea, eb) (drop-two s at (omega arith)))
-    from-two ha h (no nz) (no d) (yes k) = unread (cut-at-two s at a ea ha b eb h nz (omega arith) k)
-    from-two ha h (no nz) (no d) (no k) = from-three ha nz (omega arith) (omega arith) (ℕ-discrete c 0) (decLt c 4)
-
-    from-one : Dec (length s ≤ at) → Dec (a < 128) → Dec (length s - at ≤ 1) → Stands s at n next
-    from-one (yes h) d k = unread (past-end s at h)
-    from-one (no h) (yes d) k =
-        standing a (a ∷ []) (one-byte s at a ea (omega arith) d) (omega arith) (one a d) (rw ea (drop-one s at (omega arith)))
-    from-one (no h) (no d) (yes k) = unread (cut-at-one s at a ea (omega arith) (omega arith) k)
-    from-one (no h) (no d) (no k) = from-two (omega arith) (omega arith) (ℕ-discrete b 0) (decLt b 128) (decLe (length s - at) 2)
-
   -- the number that is read stands there
   pub stands : AtMost 255 s → Stands s at n next
   stands limit =
-      from-one (getD s at 0) (getD s (at + 1) 0) (getD s (at + 2) 0) refl refl refl (at-most 255 s at limit) (at-most 255 s (at + 1) limit)
-      (decLe (length s) at) (decLt (getD s at 0) 128) (decLe (length s - at) 1)
+      let a = getD s at 0 in
+      let b = getD s (at + 1) 0 in
+      let c = getD s (at + 2) 0 in
+      let la : a ≤ 255 = at-most 255 s at limit in
+      let lb : b ≤ 255 = at-most 255 s (at + 1) limit in
+      by-bytes at (length s - at) a b c (λ r. r ≡ Number n next → Stands s at n next) (λ z. let q : _≡_ {A = ℕ} 0 1 = cc in absurd (omega arith))
+      (λ h d q. standing a (a ∷ []) q (omega arith) (one a d) (drop-one s at (omega arith)))
+      (λ h ha nz d q.
+      let m = a - 128 + b * 128 in
+      let b0 : m % 128 + 128 ≡ a = omega arith in
+      let b1 : m / 128 ≡ b = omega arith in
+      standing m (a ∷ b ∷ []) q (omega arith) (two m (omega arith) (omega arith) ∙ rw (b0, b1) refl) (drop-two s at (omega arith)))
+      (λ h ha nz hb nc d q.
+      let m = a - 128 + (b - 128) * 128 + c * 16384 in
+      let b0 : m % 128 + 128 ≡ a = omega arith in
+      let q′ : m / 128 ≡ b - 128 + c * 128 = omega arith in
+      let b1 : m / 128 % 128 + 128 ≡ b = rw (q′, low-digit (b - 128) c (omega arith)) (omega arith) in
+      let b2 : m / 16384 ≡ c = omega arith in
+      standing m (a ∷ b ∷ c ∷ []) q (omega arith) (three m (omega arith) ∙ rw (b0, b1, b2) refl) (drop-three s at (omega arith)))
+      e
 
 -- ---- lists
 
-decode-more : (turns : ℕ) (s : List ℕ) (at : ℕ) → at < length s → decodeFrom (suc turns) s at ≡ followed (decodeFrom turns s) (numberAt s at)
+pub decode-more : (turns : ℕ) (s : List ℕ) (at : ℕ) → at < length s → decodeFrom (suc turns) s at ≡ followed (decodeFrom turns s) (numberAt s at)
 unfolding decodeFrom
 decode-more turns s at h = simp (lt-ltb at (length s) h)
 
-decode-end : (turns : ℕ) (s : List ℕ) (at : ℕ) → length s ≤ at → decodeFrom turns s at ≡ numbers []
+pub decode-end : (turns : ℕ) (s : List ℕ) (at : ℕ) → length s ≤ at → decodeFrom turns s at ≡ numbers []
 unfolding decodeFrom
 decode-end zero s at h = simp (le-ltb at (length s) h)
 decode-end (suc turns) s at h = simp (le-ltb at (length s) h)

@@ -7,5 +7,7 @@ pub mod Bytes
 pub mod Standing
 pub mod WholeJob
 pub mod Testing
+pub mod Quick
 pub mod Noting
 pub mod Loading
+pub mod Loaded

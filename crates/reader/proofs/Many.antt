@@ -36,7 +36,7 @@ module _ {A : Type 0} (p : Parser A) where
   unfolding many
   many-suc k at = refl
 
-  more : (k at next : ℕ) → withoutValue (p at) ≡ parsed tt next → withoutValue (many (suc k) p at) ≡ withoutValue (many k p next)
+  pub more : (k at next : ℕ) → withoutValue (p at) ≡ parsed tt next → withoutValue (many (suc k) p at) ≡ withoutValue (many k p next)
   more k at next e =
       let (x, g) = remembered (p at) next e in
       rw (many-suc k at, g) (sym (without-value-made (many k p next) (λ (xs : List A). x ∷ xs)))

@@ -14,18 +14,17 @@ use Rattle.run.specs.Run.{Transition, Located}
 use Rattle.number.specs.Number.{numberAt}
 use Rattle.number.specs.declared.Read.the-variants.{Number}
 use Rattle.kinds.specs.Kinds.{mostB, isSome, allowed}
-use Rattle.kinds.proofs.Rows.{known}
+use Rattle.kinds.proofs.Rows.{known, most-bound}
 use Rattle.format.specs.Certificate.{Member, readMember}
 use Rattle.format.specs.Job.{readLocated, readTransition}
 use Rattle.format.specs.Parser.{parsed, many, Buffer}
 use Rattle.format.proofs.Files.{in-table, op-numbers, located-exact, transition-exact}
 use Rattle.format.proofs.Parsing.{then}
-use Rattle.format.proofs.Sequence.{Reads, reads-first, reads-one, reads-split}
+use Rattle.format.proofs.Sequence.{Reads, reads-first, reads-one, reads-split, reads-inside}
 use Rattle.layout.specs.Entries.{locatedAt, EntryInRange, entryEnd, entriesAt, placesAt, EntriesIn}
 use Rattle.layout.specs.Transitions.{opOf, transitionAt}
 use Rattle.reader.specs.Job.{TransitionIn}
-use Rattle.reader.proofs.Bytes.{Single, single, reads-inside, reads-bytes}
-use Rattle.reader.proofs.Transitions.{most-bound}
+use Rattle.reader.proofs.Bytes.{Single, single, reads-bytes}
 
 -- ---- an entry by the place after its state
 
@@ -216,19 +215,23 @@ module _ (s : Buffer) (variables states : ℕ) (few : states ≤ 64) where
         → many k (readTransition s variables states) at ≡ parsed ts next
         → (ts ≡ map (λ i. transitionAt (s .bytes) (base + 5 * i)) (range j k))
         × ((i : ℕ) → j ≤ i → i < j + k → TransitionIn (s .bytes) variables states (base + 5 * i))
+        × (next ≡ base + 5 * (j + k))
     unfolding many
     transitions-read base zero j at ts next at-is h =
         let ts-are : [] ≡ ts = cc in
-        (sym ts-are, λ i l b. absurd (omega arith))
+        let next-is : at ≡ next = cc in
+        (sym ts-are, (λ i l b. absurd (omega arith)), omega arith)
     transitions-read base (suc k) j at ts next at-is h =
         then (readTransition s variables states at) _
         (λ t mid h₁. then (many k (readTransition s variables states) mid) _
         (λ rest last h₂ r.
         let e = transition-read at t mid h₁ in
-        let (same, each) = transitions-read base k (suc j) mid rest last (omega (arith, e .after)) h₂ in
-        let ts-are : t ∷ rest ≡ ts = cc in (
+        let (same, each, end) = transitions-read base k (suc j) mid rest last (omega (arith, e .after)) h₂ in
+        let ts-are : t ∷ rest ≡ ts = cc in
+        let next-is : last ≡ next = cc in (
           sym ts-are ∙ ap₂ _∷_ (e .same ∙ ap (transitionAt (s .bytes)) at-is) same,
-          λ i l b. by-index i l b (ℕ-discrete j i) (subst (TransitionIn (s .bytes) variables states) at-is (e .transition)) each,
+          (λ i l b. by-index i l b (ℕ-discrete j i) (subst (TransitionIn (s .bytes) variables states) at-is (e .transition)) each),
+          omega arith,
         )))
         h
       where

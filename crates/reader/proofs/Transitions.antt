@@ -3,16 +3,14 @@ use mathlib.Core.Bool.{Bool, _&&_}
 use mathlib.Core.Logic.{inl, inr}
 use mathlib.Core.Option.{none, some}
 use mathlib.Core.Path.{_≡_, refl, sym, ap, _∙_}
-use Prim.Native.Nat.{ℕ, _+_, _≤_, _<_}
-use native.Mathlib.Decide.{decLe}
+use Prim.Native.Nat.{ℕ, _+_}
 use native.Mathlib.Omega.{arith}
-use borrow.Author.Tests.{le-leb, lt-leb, lt-ltb, le-ltb}
 use lib.Dec.{leb, ltb}
-use Rattle.lists.proofs.Reflect.{r-le, r-lt, r-and, cond-true}
+use Rattle.lists.proofs.Reflect.{r-le, r-lt, r-and, same-test, cond-true}
 use Rattle.heap.specs.Operation.{Kind, kindOf, allowsA, allowsB}
 use Rattle.run.specs.Run.{Transition}
 use Rattle.kinds.specs.Kinds.{leastA, leastB, mostB}
-use Rattle.kinds.proofs.Rows.{by-kind, no-kind, most-b-all, most-b-none}
+use Rattle.kinds.proofs.Rows.{is-kind, no-kind}
 use Rattle.format.specs.Job.{readTransition}
 use Rattle.format.specs.Parser.{parsed, fault, Buffer, within, such, meant, readAs, ranged}
 use Rattle.format.proofs.Parsing.{read-complete, read-outside, read-fault, Faulty, ranged-exact}
@@ -22,15 +20,11 @@ use Rattle.reader.proofs.Many.{without-value-made}
 
 -- ---- a kind
 
-row-of : (k : ℕ) → 1 ≤ k → k < 8 → (row : Kind) × (kindOf k ≡ some row)
-row-of k l h =
-    by-kind (λ k. (row : Kind) × (kindOf k ≡ some row)) (_, refl) (_, refl) (_, refl) (_, refl) (_, refl) (_, refl) (_, refl) k l (omega arith)
-
 module _ (s : Buffer) (at : ℕ) where
   pub kind-got : (kind next : ℕ) → ranged s 1 8 at ≡ parsed kind next → (row : Kind) × (kindOf kind ≡ some row) × (readAs s kindOf at ≡ parsed row next)
   kind-got kind next e =
       let (g, (l, h)) = ranged-exact s 1 8 .sound at kind next e in
-      let (row, r) = row-of kind l h in
+      let (row, r) = is-kind kind l (omega arith) in
       (row, r, read-complete s kindOf at kind next row (reads-one g) r)
 
   pub kind-lost : (number place : ℕ) → ranged s 1 8 at ≡ fault number place → readAs s kindOf at ≡ fault number place
@@ -49,24 +43,12 @@ module _ (s : Buffer) (at : ℕ) where
 
 -- ---- an operand
 
-pub most-bound : (kind n : ℕ) → mostB kind n ≤ n
-most-bound kind n = go (decLe 1 kind) (decLe kind 5)
-  where
-    go : Dec (1 ≤ kind) → Dec (kind ≤ 5) → mostB kind n ≤ n
-    go (yes l) (yes h) = omega (arith, most-b-all kind n l h)
-    go (yes l) (no h) = omega (arith, most-b-none kind n (λ p q. h q))
-    go (no l) d = omega (arith, most-b-none kind n (λ p q. l p))
-
-same-test : (a n : ℕ) → leb a n ≡ ltb a (n + 1)
-same-test a n = go (decLe a n)
-  where
-    go : Dec (a ≤ n) → leb a n ≡ ltb a (n + 1)
-    go (yes h) = le-leb a n h ∙ sym (lt-ltb a (n + 1) (omega arith))
-    go (no h) = lt-leb a n (omega arith) ∙ sym (le-ltb a (n + 1) (omega arith))
+most-limit : (a n : ℕ) → leb a n ≡ ltb a (n + 1)
+most-limit a n = same-test (r-le a n) (r-lt a (n + 1)) (λ h. omega arith) (λ h. omega arith)
 
 module _ (s : Buffer) (n kind : ℕ) (row : Kind) (r : kindOf kind ≡ some row) (at : ℕ) where
   operand : (low most low′ : ℕ) → low′ ≡ low → ranged s low′ (most + 1) at ≡ readAs s (such (λ a. leb low a && leb a most)) at
-  operand low most low′ e = rw e (ap (λ (test : ℕ → Bool). readAs s (such test) at) (λ i a. leb low a && sym (same-test a most) i))
+  operand low most low′ e = rw e (ap (λ (test : ℕ → Bool). readAs s (such test) at) (λ i a. leb low a && sym (most-limit a most) i))
 
   pub operand-a : ranged s (leastA kind) (n + 1) at ≡ readAs s (such (allowsA n row)) at
   unfolding leastA

@@ -1,7 +1,7 @@
 -- A job is read by its parts.
 use mathlib.Core.List.{List}
 use mathlib.Core.Path.{_≡_, refl, sym, ap, _∙_}
-use Prim.Native.Nat.{ℕ, _≤_}
+use Prim.Native.Nat.{ℕ, _+_, _*_, _≤_}
 use native.Mathlib.Omega.{arith}
 use lib.ListN.{length}
 use Rattle.run.specs.Run.{Transition, Located}
@@ -10,14 +10,16 @@ use Rattle.format.specs.JobNumbers.{JobFile}
 use Rattle.format.specs.Parser.{Parsed, parsed, fault, Parser, onward, _>>=_, _>>_, return, many, jobBuffer, ranged, end}
 use Rattle.format.proofs.Files.{located-exact, transition-exact, job-exact, whole-sound, end-sound, end-complete}
 use Rattle.format.proofs.Parsing.{then, many-exact, ranged-exact}
-use Rattle.format.proofs.Sequence.{reads-one}
-use Rattle.reader.specs.Job.{readCounts, readFront, readRest, RestAnswered, JobRead, JobAnswered}
+use Rattle.format.proofs.Sequence.{reads-one, reads-inside}
+use Rattle.jobreader.proofs.FrontNumbers.{readFront}
+use Rattle.jobreader.specs.declared.Front.{Front}
+use Rattle.reader.specs.Job.{readRest, RestAnswered, JobRead, JobAnswered}
 use Rattle.reader.specs.Number.{withoutValue}
-use Rattle.reader.specs.declared.Front.{Front}
 use Rattle.reader.specs.declared.Header.{Header}
 use Rattle.reader.specs.declared.JobAnswer.{JobAnswer}
 use Rattle.reader.specs.declared.JobAnswer.the-variants.{Job, Refused}
-use Rattle.reader.proofs.Bytes.{reads-inside, number-inside}
+use Rattle.reader.proofs.Bytes.{number-inside}
+use Rattle.reader.proofs.Jobs.{front-place}
 use Rattle.reader.proofs.Many.{remembered, without-value-fault, without-value-onward, bind-assoc}
 use Rattle.reader.proofs.Standing.{entries-read, transitions-read}
 
@@ -36,7 +38,7 @@ module _ (job : List ℕ) where
   parts : readWholeJob (jobBuffer job) 0
       ≡ onward (readFront (jobBuffer job) 0)
       (λ f p. onward (many (f .transitions) (readTransition (jobBuffer job) (f .variables) (f .states)) p) (fileRest f))
-  unfolding readWholeJob readJob readFront readCounts fileRest
+  unfolding readWholeJob readJob readFront fileRest
   parts = simp bind-assoc
 
   -- the rest is read alike, whatever is made of it
@@ -91,9 +93,11 @@ module _ (job : List ℕ) where
           let last-is : last ≡ length job = omega (arith, reads-inside reads (omega arith)) in
           let (_, (count-is, _)) = many-exact s (transition-exact s (f .variables) (f .states)) (f .transitions) .sound (f .at) ts at g in
           let (_, (bads-are, _)) = many-exact s (located-exact s (f .variables) (f .states)) bads .sound p ms last h₂ in
-          let (ts-are, each) =
+          let (ts-are, each, ts-end) =
           transitions-read s (f .variables) (f .states) (ok .states .1) (ok .variables .1) (f .at) (f .transitions) 0 (f .at) ts at (omega arith) g in
-          let p-inside : p ≤ length job = number-inside job at bads p (reads-one (ranged-exact s 1 65 .sound at bads p h₁ .0)) in
+          let at-is : at ≡ f .at + 5 * f .transitions = omega arith in
+          let bads-read = reads-one (ranged-exact s 1 65 .sound at bads p h₁ .0) in
+          let p-inside : p ≤ length job = number-inside job at bads p bads-read in
           let es = entries-read s (f .variables) (f .states) (ok .states .1) bads p ms last p-inside h₂ in
           record {
             file = file;
@@ -107,8 +111,10 @@ module _ (job : List ℕ) where
             states = ok .states;
             start = ok .start;
             transitions-number = omega (arith, ok .transitions-number);
+            transitions-place = front-place s 0 f (f .at) e₁;
             transitions = λ i b. each i (omega arith) (omega arith);
             bads-number = rw bads-are at (ok .forbidden-number);
+            bads-place = rw at-is at bads-read;
             bads = es .entries;
           }
 

@@ -8,37 +8,17 @@ use Rattle.lists.specs.Range.{range}
 use Rattle.format.specs.JobBytes.{Between}
 use Rattle.format.specs.Job.{readLocated, readWholeJob}
 use Rattle.format.specs.JobNumbers.{JobFile}
-use Rattle.format.specs.Parser.{Parsed, parsed, fault, Parser, _>>=_, _>>_, return, here, many, Buffer, jobBuffer, ranged, end}
+use Rattle.format.specs.Parser.{parsed, fault, Parser, _>>=_, _>>_, return, here, many, jobBuffer, ranged, end}
 use Rattle.kinds.specs.Kinds.{allowed}
 use Rattle.layout.specs.Entries.{entriesAt, EntriesIn}
 use Rattle.layout.specs.Transitions.{transitionAt}
+use Rattle.number.specs.Number.{numberAt}
+use Rattle.number.specs.declared.Read.the-variants.{Number}
 use Rattle.verdict.specs.Verdict.{refusalNumber}
-use Rattle.reader.specs.declared.Front.{Front}
-use Rattle.reader.specs.declared.FrontAnswer.{FrontAnswer}
-use Rattle.reader.specs.declared.FrontAnswer.the-variants.{Read as FrontRead, Refused as FrontRefused}
+use Rattle.jobreader.specs.declared.Front.{Front}
 use Rattle.reader.specs.declared.Header.{Header}
 use Rattle.reader.specs.declared.JobAnswer.{JobAnswer}
 use Rattle.reader.specs.declared.JobAnswer.the-variants.{Job, Refused}
-
--- the number of states, the start state and the number of transitions, after the number of variables; and the place after them
-unfoldable pub readCounts : Buffer → ℕ → Parser Front
-readCounts s variables = do
-  states ← ranged s 1 65
-  start ← ranged s 0 states
-  transitions ← ranged s 0 257
-  at ← here
-  return (record { variables = variables; states = states; start = start; transitions = transitions; at = at })
-
--- the numbers of a job before its transitions
-unfoldable pub readFront : Buffer → Parser Front
-readFront s = do
-  ranged s 1 2
-  variables ← ranged s 1 9
-  readCounts s variables
-
-abbrev pub frontOf : FrontAnswer → Parsed Front
-frontOf (FrontRead f) = parsed f (f .at)
-frontOf (FrontRefused r place) = fault (refusalNumber r) place
 
 -- the transition at a place is whole and in range
 pub record TransitionIn (bytes : List ℕ) (variables states at : ℕ) : Type 0 where
@@ -61,8 +41,11 @@ pub record JobRead (job : List ℕ) (h : Header) : Type 0 where
   pub states : Between 1 64 (h .states)
   pub start : h .start < h .states
   pub transitions-number : h .transitions ≤ 256
+  -- version, V, S and the start state are one byte each, so the number of transitions stands at place 4, and they follow it
+  pub transitions-place : numberAt job 4 ≡ Number (h .transitions) (h .«transitions_at»)
   pub transitions : (i : ℕ) → i < h .transitions → TransitionIn job (h .variables) (h .states) (h .«transitions_at» + 5 * i)
   pub bads-number : Between 1 64 (h .bads)
+  pub bads-place : numberAt job (h .«transitions_at» + 5 * h .transitions) ≡ Number (h .bads) (h .«bads_at»)
   pub bads : EntriesIn job (h .variables) (h .«bads_at») (h .bads)
 
 -- what follows the transitions: the forbidden shapes, and nothing after them; with the numbers before, it makes a header

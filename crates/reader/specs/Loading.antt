@@ -1,4 +1,4 @@
--- Entries loaded into two arrays (layout/specs/Arrays.antt), of 10 and of 14 places.
+-- Entries loaded into the array of a shape under work (layout/specs/ShapeArray.antt).
 use mathlib.Core.Bool.{cond}
 use mathlib.Core.List.{List}
 use Prim.Native.Nat.{ℕ, _+_}
@@ -7,15 +7,11 @@ use lib.Seq.{paste}
 use Rattle.heap.specs.Place.{null}
 use Rattle.layout.specs.Entries.{isWhole}
 
--- the number of cells of the entry at a place; 0 where it is not whole
-abbrev pub loadedCells : List ℕ → ℕ → ℕ → ℕ
-loadedCells bytes variables at = cond (isWhole bytes variables at) (getD bytes (at + 1) 0) 0
-
--- the first array with # at 0 and then the places of its variables; as it was where the entry is not whole
-abbrev pub loadedVars : List ℕ → ℕ → ℕ → List ℕ → List ℕ
-loadedVars bytes variables at vars = cond (isWhole bytes variables at) (paste (set vars 0 null) 1 (drop (at + 2) bytes) variables) vars
-
--- the second array with its links; as it was where the entry is not whole
-abbrev pub loadedLinks : List ℕ → ℕ → ℕ → List ℕ → List ℕ
-loadedLinks bytes variables at links =
-    cond (isWhole bytes variables at) (paste links 0 (drop (at + 2 + variables) bytes) (getD bytes (at + 1) 0)) links
+-- The array with the shape of the entry at a place: the number of its cells, # for null, the places of its variables and of its links. What stands
+-- above them stays, and so does all of it where the entry is not whole.
+abbrev pub loadedShape : List ℕ → ℕ → ℕ → List ℕ → List ℕ
+loadedShape bytes variables at s =
+    let n = getD bytes (at + 1) 0 in
+    let vars = drop (at + 2) bytes in
+    let links = drop (at + 2 + variables) bytes in
+    cond (isWhole bytes variables at) (paste (paste (set (set s 0 n) 17 null) 18 vars variables) 3 links n) s

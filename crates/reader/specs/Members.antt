@@ -1,15 +1,13 @@
 -- What reading the members of a certificate answers.
-use mathlib.Core.List.{List, map}
+use mathlib.Core.List.{List, [], _∷_, _++_, map}
 use mathlib.Core.Path.{_≡_}
-use Prim.Native.Nat.{ℕ, _≤_}
+use Prim.Native.Nat.{ℕ, zero, suc, _%_, _≤_}
 use lib.ListN.{length, take, drop}
-use Rattle.format.specs.Certificate.{Member, withoutPlaces, readMembers, testStart}
+use Rattle.format.specs.Certificate.{Member, withoutPlaces, readMember, readMembers, testStart}
 use Rattle.format.specs.JobBytes.{Between}
-use Rattle.format.specs.Parser.{parsed, fault, Parser, _>>=_, _>>_, return, each, Buffer, certificateBuffer}
-use Rattle.layout.specs.Entries.{placesAt, membersAt, Table}
+use Rattle.format.specs.Parser.{Parsed, parsed, fault, Parser, _>>=_, _>>_, return, here, each, Buffer, certificateBuffer, ranged}
+use Rattle.layout.specs.Entries.{membersAt, Table}
 use Rattle.verdict.specs.Verdict.{refusalNumber}
-use Rattle.verdict.specs.declared.Reached.{Reached}
-use Rattle.verdict.specs.declared.Reached.the-variants.{At, Refused as ReachedRefused}
 use Rattle.reader.specs.declared.MembersAnswer.{MembersAnswer}
 use Rattle.reader.specs.declared.MembersAnswer.the-variants.{Members, Refused}
 
@@ -19,15 +17,38 @@ pub record Bounds (cert : List ℕ) (variables states : ℕ) : Type 0 where
   pub states-most : states ≤ 64
   pub fits : length cert ≤ 65536
 
--- the table has the first places of so many entries, the first of them at a place; what it held behind them stays
-pub record Noted (cert : List ℕ) (variables states first count : ℕ) (before after : List ℕ) : Type 0 where
-  pub size : length after ≡ length before
-  pub places : Bounds cert variables states → take count after ≡ placesAt cert variables first count
-  pub rest : drop count after ≡ drop count before
+-- ---- the table of the members' first places
 
-abbrev pub NotedBy : List ℕ → ℕ → ℕ → ℕ → ℕ → List ℕ → List ℕ → Reached → Type 0
-NotedBy cert variables states first count before after (At next) = Noted cert variables states first count before after
-NotedBy cert variables states first count before after (ReachedRefused r place) = length after ≡ length before
+-- what comes after a value that was read; nothing after a refusal
+abbrev pub placesAfter : {A : Type 0} → Parsed A → (ℕ → List ℕ) → List ℕ
+placesAfter (parsed x next) rest = rest next
+placesAfter (fault number place) rest = []
+
+-- the places at which so many values are read, one after the other; where one is refused, its place is the last
+unfoldable pub placesRead : {A : Type 0} → ℕ → Parser A → ℕ → List ℕ
+placesRead zero p at = []
+placesRead (suc left) p at = at ∷ placesAfter (p at) (placesRead left p)
+
+abbrev pub placesOf : Parsed (List ℕ) → List ℕ
+placesOf (parsed places next) = places
+placesOf (fault number place) = []
+
+-- the places at which members of a certificate are read; none where the version or the number of members is refused
+unfoldable pub memberPlaces : Buffer → ℕ → ℕ → List ℕ
+memberPlaces s variables states =
+    placesOf
+    ((do
+      ranged s 1 2
+      count ← ranged s 1 513
+      first ← here
+      return (placesRead count (readMember s variables states) first))
+    0)
+
+-- A table with places in its first slots, each less a multiple of 65,536, so that it fits 16 bits. What it held behind them stays.
+abbrev pub noted : List ℕ → List ℕ → List ℕ
+noted places before = map (λ at. at % 65536) places ++ drop (length places) before
+
+-- ---- the members
 
 -- members that were read, once each has passed the test of refusal 8
 abbrev pub tested : ℕ → List Member → Parser (List Member)
@@ -41,22 +62,19 @@ readTested s variables states start = do
   members ← readMembers s variables states
   tested start members
 
--- The certificate's first bytes are read as members that pass the test, and the table has their first places. What the table held behind
--- them stays.
-pub record MembersRead (cert : List ℕ) (variables states start : ℕ) (before after : List ℕ) (count next : ℕ) : Type 0 where
+-- The certificate's first bytes are read as members that pass the test, and the table has their first places.
+pub record MembersRead (cert : List ℕ) (variables states start : ℕ) (table : List ℕ) (count next : ℕ) : Type 0 where
   pub members : List Member
   pub read : readTested (certificateBuffer cert) variables states start 0 ≡ parsed members next
   pub number : length members ≡ count
   pub number-range : Between 1 512 count
   pub inside : next ≤ length cert
-  pub size : length after ≡ length before
-  pub places-are : Bounds cert variables states → map (λ m. m .first) members ≡ take count after
-  pub members-are : Bounds cert variables states → withoutPlaces members ≡ membersAt cert variables (take count after)
-  pub table : Bounds cert variables states → Table cert variables (take count after)
-  pub rest : drop count after ≡ drop count before
+  pub size : length table ≡ 512
+  pub places-are : Bounds cert variables states → map (λ m. m .first) members ≡ take count table
+  pub members-are : Bounds cert variables states → withoutPlaces members ≡ membersAt cert variables (take count table)
+  pub table-is : Bounds cert variables states → Table cert variables (take count table)
 
--- After a refusal what the table holds is the program's choice; its length is the same.
-abbrev pub MembersAnswered : List ℕ → ℕ → ℕ → ℕ → List ℕ → List ℕ → MembersAnswer → Type 0
-MembersAnswered cert variables states start before after (Members count next) = MembersRead cert variables states start before after count next
-MembersAnswered cert variables states start before after (Refused r place) =
-    (readTested (certificateBuffer cert) variables states start 0 ≡ fault (refusalNumber r) place) × (length after ≡ length before)
+abbrev pub MembersAnswered : List ℕ → ℕ → ℕ → ℕ → List ℕ → MembersAnswer → Type 0
+MembersAnswered cert variables states start table (Members count next) = MembersRead cert variables states start table count next
+MembersAnswered cert variables states start table (Refused r place) =
+    readTested (certificateBuffer cert) variables states start 0 ≡ fault (refusalNumber r) place

@@ -1,22 +1,27 @@
 // Reads the numbers of a job and of the members of a certificate, each held to its range.
 use crate::start::test_members;
+use jobreader::Front;
+use jobreader::read_front;
 use kinds::least_a;
 use kinds::least_b;
 use kinds::most_b;
 use number::Read;
 use verdict::Reached;
 use verdict::Refusal;
+ghost use mathlib.Core.Bool.{cond};
 ghost use mathlib.Core.List.{List, []};
 ghost use mathlib.Core.Path.{_≡_};
-ghost use Prim.Native.Nat.{ℕ, _≤_};
-ghost use lib.ListN.{length};
+ghost use Prim.Native.Nat.{ℕ, _-_, _≤_};
+ghost use lib.Dec.{eqb, ltb};
+ghost use lib.ListN.{length, getD};
+ghost use Rattle.lists.specs.Test.{allFrom};
 ghost use Rattle.format.specs.Certificate.{readMember};
 ghost use Rattle.format.specs.Job.{readLocated, readTransition};
-ghost use Rattle.format.specs.Parser.{jobBuffer, certificateBuffer, many, ranged};
+ghost use Rattle.format.specs.Parser.{parsed, jobBuffer, certificateBuffer, many, ranged};
 ghost use Rattle.number.specs.Number.{numberAt};
 ghost use Rattle.verdict.specs.Verdict.{refusalNumber, reachedOf};
-ghost use Rattle.reader.specs.Job.{readCounts, readFront, frontOf, RestAnswered, JobAnswered};
-ghost use Rattle.reader.specs.Members.{NotedBy, MembersAnswered};
+ghost use Rattle.reader.specs.Job.{RestAnswered, JobAnswered};
+ghost use Rattle.reader.specs.Members.{placesRead, memberPlaces, noted, MembersAnswered};
 ghost use Rattle.reader.specs.Number.{bufferOf, rangedOf, withoutValue};
 
 pub mod load;
@@ -31,20 +36,6 @@ pub enum Side {
 // A number in its range and the place after it, or a refusal with its place.
 pub enum Ranged {
     Value(usize, usize),
-    Refused(Refusal, usize),
-}
-
-// The numbers of a job before its transitions, and the place after them.
-struct Front {
-    variables: usize,
-    states: usize,
-    start: usize,
-    transitions: usize,
-    at: usize,
-}
-
-enum FrontAnswer {
-    Read(Front),
     Refused(Refusal, usize),
 }
 
@@ -115,11 +106,26 @@ pub fn read_ranged(side: Side, bytes: &[u8], at: usize, low: usize, limit: usize
     held(side, number::read_number(bytes, at), at, low, limit)
 }
 
-// The same of a job, by the reader that keeps the buffer together with the place.
+// The refusal of a job's number that has the number 3 or 4.
+fn job_refusal(number: usize) -> Refusal
+    ensures { λ r. ⌜ refusalNumber r ≡ cond (eqb number 3) 3 4 ⌝ }
+{
+    if number == 3 {
+        Refusal::JobUnreadable
+    } else {
+        Refusal::JobRange
+    }
+}
+
+// The number at a place of a job, by the reader that keeps the job together with the place.
 fn job_ranged(job: &[u8], at: usize, low: usize, limit: usize) -> Ranged
     ensures { λ r. ⌜ rangedOf r ≡ ranged (jobBuffer (now (job .entry))) low limit at ⌝ }
 {
-    held(Side::Job, jobreader::read_at(job, at), at, low, limit)
+    let s = jobreader::read_at(job, at, low, limit);
+    if s.refusal != 0 {
+        return Ranged::Refused(job_refusal(s.refusal), s.at);
+    }
+    Ranged::Value(s.number, s.at)
 }
 
 // The place after a number, or the refusal that it ended in.
@@ -240,57 +246,11 @@ fn read_forbidden(
     Reached::At(at)
 }
 
-// The number of states, the start state and the number of transitions, after the number of variables.
-fn read_counts(job: &[u8], variables: usize, first: usize) -> FrontAnswer
-    ensures { λ r. ⌜ frontOf r ≡ readCounts (jobBuffer (now (job .entry))) variables first ⌝ }
-{
-    let r = read_ranged(Side::Job, job, first, 1, 65);
-    match r {
-        Ranged::Refused(why, place) => FrontAnswer::Refused(why, place),
-        Ranged::Value(states, start_at) => {
-            let r = read_ranged(Side::Job, job, start_at, 0, states);
-            match r {
-                Ranged::Refused(why, place) => FrontAnswer::Refused(why, place),
-                Ranged::Value(start, count_at) => {
-                    let r = read_ranged(Side::Job, job, count_at, 0, 257);
-                    match r {
-                        Ranged::Refused(why, place) => FrontAnswer::Refused(why, place),
-                        Ranged::Value(transitions, at) => FrontAnswer::Read(Front {
-                            variables,
-                            states,
-                            start,
-                            transitions,
-                            at,
-                        }),
-                    }
-                }
-            }
-        }
-    }
-}
-
-// The numbers of a job before its transitions.
-fn read_front(job: &[u8]) -> FrontAnswer
-    ensures { λ r. ⌜ frontOf r ≡ readFront (jobBuffer (now (job .entry))) 0 ⌝ }
-{
-    let version = job_ranged(job, 0, 1, 2);
-    match version {
-        Ranged::Refused(why, place) => FrontAnswer::Refused(why, place),
-        Ranged::Value(_, variables_at) => {
-            let r = job_ranged(job, variables_at, 1, 9);
-            match r {
-                Ranged::Refused(why, place) => FrontAnswer::Refused(why, place),
-                Ranged::Value(variables, at) => read_counts(job, variables, at),
-            }
-        }
-    }
-}
-
 // What stands in a job after its transitions, and nothing behind it.
 fn read_rest(job: &[u8], front: Front, at: usize) -> JobAnswer
     ensures { λ r. ⌜ RestAnswered (now (job .entry)) front at r ⌝ }
 {
-    let number = read_ranged(Side::Job, job, at, 1, 65);
+    let number = job_ranged(job, at, 1, 65);
     match number {
         Ranged::Refused(why, place) => JobAnswer::Refused(why, place),
         Ranged::Value(bads, bads_at) => {
@@ -320,23 +280,83 @@ fn read_rest(job: &[u8], front: Front, at: usize) -> JobAnswer
 pub fn read_job(job: &[u8]) -> JobAnswer
     ensures { λ r. ⌜ JobAnswered (now (job .entry)) r ⌝ }
 {
-    let first = read_front(job);
-    match first {
-        FrontAnswer::Refused(why, place) => JobAnswer::Refused(why, place),
-        FrontAnswer::Read(front) => {
-            let r = read_transitions(
-                job,
-                front.at,
-                front.transitions,
-                front.variables,
-                front.states,
-            );
-            match r {
-                Reached::Refused(why, place) => JobAnswer::Refused(why, place),
-                Reached::At(at) => read_rest(job, front, at),
-            }
-        }
+    let front = read_front(job);
+    if front.refusal != 0 {
+        return JobAnswer::Refused(job_refusal(front.refusal), front.at);
     }
+    let r = read_transitions(
+        job,
+        front.at,
+        front.transitions,
+        front.variables,
+        front.states,
+    );
+    match r {
+        Reached::Refused(why, place) => JobAnswer::Refused(why, place),
+        Reached::At(at) => read_rest(job, front, at),
+    }
+}
+
+// Whether all bytes from a place up to another are below a limit.
+fn all_below(bytes: &[u8], first: usize, end: usize, limit: u8) -> bool
+    requires { ⌜ end ≤ length (now bytes) ⌝ }
+    ensures { λ r. ⌜ r ≡ allFrom (end - first) first (λ i. ltb (getD (now (bytes .entry)) i 0) limit) ⌝ }
+{
+    let mut i = first;
+    while i < end {
+        if limit <= bytes[i] {
+            return false;
+        }
+        i += 1;
+    }
+    true
+}
+
+// The place after a member's entry, if each of its numbers is one byte and in range; else 0, and the exact reader decides.
+fn quick_entry(cert: &[u8], at: usize, variables: usize, states: usize) -> usize
+    ensures { λ r. ⌜ ((r ≡ 0 → ⊥) → withoutValue (readLocated (certificateBuffer (now (cert .entry))) variables states at) ≡ parsed tt r) ⌝ }
+{
+    if cert.len() <= at {
+        return 0;
+    }
+    let left = cert.len() - at;
+    if left < 2 {
+        return 0;
+    }
+    let state = cert[at];
+    if 127 < state {
+        return 0;
+    }
+    if states <= state as usize {
+        return 0;
+    }
+    let n = cert[at + 1];
+    if 12 < n {
+        return 0;
+    }
+    let cells = n as usize;
+    if left - 2 < cells {
+        return 0;
+    }
+    if left - 2 - cells < variables {
+        return 0;
+    }
+    let end = at + 2 + variables + cells;
+    if all_below(cert, at + 2, end, 3 + n) {
+        return end;
+    }
+    0
+}
+
+// A member's entry.
+fn read_member(cert: &[u8], at: usize, variables: usize, states: usize) -> Reached
+    ensures { λ r. ⌜ reachedOf r ≡ withoutValue (readLocated (certificateBuffer (now (cert .entry))) variables states at) ⌝ }
+{
+    let next = quick_entry(cert, at, variables, states);
+    if next == 0 {
+        return read_entry(Side::Certificate, cert, at, variables, states);
+    }
+    Reached::At(next)
 }
 
 // The members of a certificate; the place where each starts goes to the table.
@@ -349,14 +369,15 @@ fn note_members(
     starts: &mut [u16],
 ) -> Reached
     requires { ⌜ count ≤ length (now starts) ⌝ }
-    ensures { λ r. ⌜ (reachedOf r ≡ withoutValue (many count (readMember (certificateBuffer (now (cert .entry))) variables states) first)) × NotedBy (now (cert .entry)) variables states first count (now (starts .entry)) (now (starts .exit)) r ⌝ }
+    ensures answer { λ r. ⌜ reachedOf r ≡ withoutValue (many count (readMember (certificateBuffer (now (cert .entry))) variables states) first) ⌝ }
+    ensures starts { λ r. ⌜ now (starts .exit) ≡ noted (placesRead count (readMember (certificateBuffer (now (cert .entry))) variables states) first) (now (starts .entry)) ⌝ }
 {
     let mut at = first;
     let mut i = 0;
     while i < count {
         // every place of a certificate of up to 65,536 bytes fits
         starts[i] = (at % 65536) as u16;
-        let r = read_entry(Side::Certificate, cert, at, variables, states);
+        let r = read_member(cert, at, variables, states);
         let Reached::At(next) = r else {
             return r;
         };
@@ -374,7 +395,8 @@ pub fn read_members(
     start: usize,
     starts: &mut [u16; 512],
 ) -> MembersAnswer
-    ensures { λ r. ⌜ MembersAnswered (now (cert .entry)) variables states start (now (starts .entry)) (now (starts .exit)) r ⌝ }
+    ensures answer { λ r. ⌜ MembersAnswered (now (cert .entry)) variables states start (now (starts .exit)) r ⌝ }
+    ensures starts { λ r. ⌜ now (starts .exit) ≡ noted (memberPlaces (certificateBuffer (now (cert .entry))) variables states) (now (starts .entry)) ⌝ }
 {
     let version = read_ranged(Side::Certificate, cert, 0, 1, 2);
     let at = match version {

@@ -4,7 +4,7 @@ use crate::Side;
 use crate::reached;
 use crate::read_ranged;
 use place::Place;
-use places::none_at;
+use place::none_at;
 use verdict::Reached;
 use verdict::Refusal;
 ghost use mathlib.Core.List.{List};

@@ -1,12 +1,12 @@
 -- What an operation does on a well formed table, in the terms in which the code does it.
 use mathlib.Core.Bool.{Bool, true, false, _&&_}
 use mathlib.Core.List.{List, [], _∷_}
-use mathlib.Core.Logic.{if-pos, if-neg, _≢_}
+use mathlib.Core.Logic.{if-pos, if-neg, _≢_, _⊎_, inl, inr}
 use mathlib.Core.Path.{_≡_, refl, sym, ap, ap₂, _∙_}
 use Prim.Native.Nat.{ℕ, zero, suc, _-_, _≤_, _<_}
 use native.Mathlib.Decide.{decLt}
 use native.Mathlib.Omega.{arith}
-use borrow.Author.Tests.{lt-leb, lt-ltb}
+use borrow.Author.Tests.{leb-false, lt-leb, lt-ltb}
 use lib.Dec.{leb}
 use lib.ListN.{length, getD, set, length-map, List·getD-eq-default}
 use lib.Seq.{getD-set-same}
@@ -17,12 +17,12 @@ use Rattle.heap.specs.Place.{nowhere, dangling, cell}
 use Rattle.place.specs.Place.{placeOf, cellPlace, codes}
 use Rattle.place.specs.declared.Place.{Place}
 use Rattle.stepper.specs.Step.{stays, lowestUnused, allocates, comparison, tableAfter, perform}
-use Rattle.stepper.specs.Table.{heapOf, tableOf, Sized, standing, dangleVars, dangleLinks}
+use Rattle.stepper.specs.Table.{heapOf, tableOf, Sized, standing, Ready, dangleVars, dangleLinks}
 use Rattle.stepper.specs.declared.Heap64.{Heap64}
 use Rattle.stepper.specs.declared.Outcome.the-variants.{Moved, Blocked, Refused}
 use Rattle.stepper.specs.declared.StepRefusal.the-variants.{Full}
 use Rattle.stepper.proofs.Change.{withVar, sized-with-var, heap-with-var, formed-with-var, withLink, sized-with-link, heap-with-link, formed-with-link, withCell, sized-with-cell, formed-with-cell, withoutCell, sized-without, heap-without, formed-without}
-use Rattle.stepper.proofs.Formed.{Formed, table-of, var-stands, link-stands, link-empty}
+use Rattle.stepper.proofs.Formed.{Formed, formed, table-of, var-stands, link-stands, link-empty}
 use Rattle.stepper.proofs.Places.{by-code}
 
 -- ---- lowest unused cell
@@ -155,17 +155,19 @@ module _ (t : Heap64) (s : Sized t) (f : Formed t) where
         heap = heap-with-link t s (l .number) p (l .inside) ∙ rw (e, ← l .is-cell) refl;
       })
 
+  new-enabled : (a i : ℕ) → i ≡ lowestUnused (t .used) → i < 64 → Enabled (new a) i (heapOf t)
+  new-enabled a i e h = link-empty t f i h (rw e (lowest-free (t .used) (omega (arith, s .used))))
+
   pub taken : (a i : ℕ) → i ≡ lowestUnused (t .used) → i < 64 → 1 ≤ a → a ≤ t .variables
       → Changes t (new a) (withVar (withCell t i) (a - 1) (cellPlace i))
   unfolding standing
   taken a i e h l m =
       let a-is : suc (a - 1) ≡ a = omega arith in
-      let free : getD (t .used) i false ≡ false = rw e (lowest-free (t .used) (omega (arith, s .used))) in
       let place-is : cellPlace i ≡ placeOf (cell i) = simp (lt-ltb i 253 (omega arith)) (ap placeOf (omega arith)) in
       let cell-sized = sized-with-cell t s i in
       rw place-is
       (record {
-        enabled = rw (← e) (link-empty t f i h free);
+        enabled = rw (← e) (new-enabled a i e h);
         room = rw (← e) (lt-leb 64 i h);
         sized = sized-with-var (withCell t i) cell-sized (a - 1) (placeOf (cell i));
         formed =
@@ -195,3 +197,17 @@ module _ (t : Heap64) (s : Sized t) (f : Formed t) where
             variables = refl;
             heap = heap-without t s i (l .inside) ∙ rw a-is refl;
           })
+
+-- new, which is enabled "always", is never blocked: it moves or, where all cells are used, is refused
+pub new-not-blocked : (t : Heap64) → Ready t → (a : ℕ) → (perform t (new a) .outcome ≡ Moved) ⊎ (perform t (new a) .outcome ≡ Refused Full)
+unfolding perform
+new-not-blocked t r a = by-room (leb 64 x) refl
+  where
+    x : ℕ
+    x = lowestUnused (t .used)
+
+    by-room : (b : Bool) → leb 64 x ≡ b → (perform t (new a) .outcome ≡ Moved) ⊎ (perform t (new a) .outcome ≡ Refused Full)
+    by-room true e = inr (rw e refl)
+    by-room false e =
+        let enabled = new-enabled t (r .sized) (formed t (r .formed)) a x refl (leb-false 64 x e) in
+        inl (rw (e, if-pos (enabled? (new a) x (heapOf t)) enabled (stays (tableAfter t (new a)) Moved) (stays t Blocked)) refl)

@@ -1,5 +1,6 @@
 -- The stepper's promise, from the definition of a step.
-use mathlib.Core.Bool.{Bool, true, false, _&&_}
+use mathlib.Core.Bool.{Bool, true, false, _&&_, cond}
+use mathlib.Core.Logic.{ite}
 use mathlib.Core.Option.{Option, none, some}
 use mathlib.Core.Path.{_≡_, refl, sym, ap, _∙_, subst}
 use Prim.Native.Nat.{ℕ, _-_, _≤_}
@@ -11,8 +12,8 @@ use Rattle.heap.specs.Operation.{Op, equal, different, assign, load, store, new
 use Rattle.kinds.specs.Kinds.{isSome, allowed}
 use Rattle.kinds.proofs.Rows.{by-kind, known, row-of}
 use Rattle.place.specs.Place.{placeOf, cellPlace, codes}
-use Rattle.stepper.specs.Step.{stays, lowestUnused, allocates, perform, performNamed, stepOf, Steps}
-use Rattle.stepper.specs.Table.{heapOf, Sized, wellFormed}
+use Rattle.stepper.specs.Step.{stays, lowestUnused, allocates, tableAfter, perform, performNamed, stepOf, Steps}
+use Rattle.stepper.specs.Table.{heapOf, tableOf, Sized, wellFormed}
 use Rattle.stepper.specs.declared.Heap64.{Heap64}
 use Rattle.stepper.specs.declared.Outcome.{Outcome}
 use Rattle.stepper.specs.declared.Outcome.the-variants.{Moved, Blocked, Refused}
@@ -122,6 +123,22 @@ module _ (t : Heap64) (s : Sized t) (kind a b : ℕ) where
           let same : stays t (Refused BadOperation) ≡ stepOf t kind a b = rw (w, e) refl in
           promised (stays t (Refused BadOperation)) same (stayed t kind a b (Refused BadOperation) (refused-stays BadOperation) same)
       by-form true w (some o) e = by-operation (formed t w) o e (rw (w, e) refl)
+
+-- a step keeps the lengths of the arrays
+pub sized-step : (t : Heap64) (kind a b : ℕ) → Sized t → Sized (stepOf t kind a b .heap)
+unfolding stepOf perform tableOf
+sized-step t kind a b s = by-form (wellFormed t) (operation (t .variables) kind a b)
+  where
+    by-room : {P : Type 0} (o : Op) (full? : Bool) (d : Dec P)
+        → Sized (cond full? (stays t (Refused Full)) (ite d (stays (tableAfter t o) Moved) (stays t Blocked)) .heap)
+    by-room o true d = s
+    by-room o false (yes p) = record { vars = refl; used = refl; links = refl }
+    by-room o false (no n) = s
+
+    by-form : (w : Bool) (o : Option Op) → Sized (cond w (performNamed t o) (stays t (Refused IllFormed)) .heap)
+    by-form false o = s
+    by-form true none = s
+    by-form true (some o) = by-room o (allocates o && leb 64 (lowestUnused (t .used))) (enabled? o (lowestUnused (t .used)) (heapOf t))
 
 -- ---- a step in the order in which the code takes it
 

@@ -1,4 +1,7 @@
 // The stepper: one operation on a heap of up to 64 cells.
+use place::DANGLING;
+use place::FIRST_CELL;
+use place::NOWHERE;
 use place::Place;
 ghost use mathlib.Core.Bool.{true};
 ghost use mathlib.Core.Path.{_≡_};
@@ -58,13 +61,13 @@ fn is_aimed(used: &[bool; 64], code: u8) -> bool
     requires { ⌜ length (now used) ≡ 64 ⌝ }
     ensures { λ r. ⌜ r ≡ aimed (now (used .entry)) code ⌝ }
 {
-    if code < 3 {
+    if code < FIRST_CELL {
         return true;
     }
     if 66 < code {
         return false;
     }
-    let i = (code - 3) as usize;
+    let i = (code - FIRST_CELL) as usize;
     used[i]
 }
 
@@ -144,13 +147,13 @@ impl Heap64 {
         ensures { λ r. ⌜ r .code ≡ linkIn (codes (self .links)) (p .code) ⌝ }
     {
         let code = p.code;
-        if code < 3 {
+        if code < FIRST_CELL {
             return Place::NOWHERE;
         }
         if 66 < code {
             return Place::NOWHERE;
         }
-        let i = (code - 3) as usize;
+        let i = (code - FIRST_CELL) as usize;
         self.links[i]
     }
 
@@ -203,13 +206,13 @@ impl Heap64 {
     {
         let p = self.place_of(a);
         let q = self.place_of(b);
-        if p.code == 2 {
+        if p.code == DANGLING {
             return Stepped {
                 heap: self,
                 outcome: Outcome::Blocked,
             };
         }
-        if q.code == 2 {
+        if q.code == DANGLING {
             return Stepped {
                 heap: self,
                 outcome: Outcome::Blocked,
@@ -245,7 +248,7 @@ impl Heap64 {
         ensures { λ r. ⌜ r ≡ perform self (assign a b) ⌝ }
     {
         let p = self.place_of(b);
-        if p.code == 2 {
+        if p.code == DANGLING {
             return Stepped {
                 heap: self,
                 outcome: Outcome::Blocked,
@@ -266,13 +269,13 @@ impl Heap64 {
     {
         let at = self.place_of(b);
         let p = self.link_of(at);
-        if p.code == 0 {
+        if p.code == NOWHERE {
             return Stepped {
                 heap: self,
                 outcome: Outcome::Blocked,
             };
         }
-        if p.code == 2 {
+        if p.code == DANGLING {
             return Stepped {
                 heap: self,
                 outcome: Outcome::Blocked,
@@ -293,20 +296,20 @@ impl Heap64 {
     {
         let at = self.place_of(a);
         let link = self.link_of(at);
-        if link.code == 0 {
+        if link.code == NOWHERE {
             return Stepped {
                 heap: self,
                 outcome: Outcome::Blocked,
             };
         }
         let p = self.place_of(b);
-        if p.code == 2 {
+        if p.code == DANGLING {
             return Stepped {
                 heap: self,
                 outcome: Outcome::Blocked,
             };
         }
-        let i = (at.code - 3) as usize;
+        let i = (at.code - FIRST_CELL) as usize;
         let mut next = self;
         next.links[i] = p;
         Stepped {
@@ -345,14 +348,14 @@ impl Heap64 {
     {
         let at = self.place_of(a);
         let link = self.link_of(at);
-        if link.code == 0 {
+        if link.code == NOWHERE {
             return Stepped {
                 heap: self,
                 outcome: Outcome::Blocked,
             };
         }
         let code = at.code;
-        let i = (code - 3) as usize;
+        let i = (code - FIRST_CELL) as usize;
         let mut next = self.dangle_vars(code).dangle_links(code);
         next.used[i] = false;
         next.links[i] = Place::NOWHERE;

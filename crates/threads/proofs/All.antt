@@ -1,4 +1,4 @@
--- Every row, by computation; P10 and P11 by the test of one cover.
+-- The rows, each by computation; P10 and P11 by the test of one cover.
 use mathlib.Core.List.{List, [], _∷_, List·Memᴰ·not-nil}
 use mathlib.Core.Path.{_≡_, refl}
 use Prim.Native.Nat.{ℕ, suc, _<_}
@@ -17,7 +17,7 @@ use Rattle.format.specs.Parser.{many, each, readAs, end}
 use Rattle.format.specs.Job.{readShape, readLocated, readTransition, readJob, readWholeJob}
 use Rattle.format.specs.Certificate.{readMember, readMembers, readCover}
 use Rattle.format.specs.Verdict.{readCertificate, readBoth, verdict}
-use Rattle.threads.specs.Rows.{P1, P2, P3, P4, P5, P6, P7, P8, P9, P10, P11, P12, shape, meeting, pair, four, All}
+use Rattle.threads.specs.Rows.{P10, P11, shape, twoLinks, oneLink, fourCells, rows, Conjunction}
 
 below : (k : ℕ) (l : List ℕ) → AtMost k l → AllBelow (suc k) l
 below k [] t = λ x i. absurd (List·Memᴰ·not-nil i)
@@ -37,17 +37,19 @@ closed n links long codes =
 images-below : (k : ℕ) (images : List ℕ) → AtMost k images → (i : ℕ) → i < length images → getD images i 0 < suc k
 images-below k images t i b = below k images t (getD images i 0) (getD-mem images i b)
 
-pub all : All
+P10-holds : P10
+unfolding allFrom
+P10-holds =
+    embeds-reflects twoLinks fourCells (0 ∷ 1 ∷ 3 ∷ []) (closed 3 (5 ∷ 5 ∷ 0 ∷ []) refl (omega arith)) refl
+    (images-below 3 (0 ∷ 1 ∷ 3 ∷ []) (omega arith)) .tests
+
+P11-holds : P11
+unfolding allFrom
+P11-holds =
+    embeds-reflects oneLink fourCells (0 ∷ 3 ∷ []) (closed 2 (4 ∷ 0 ∷ []) refl (omega arith)) refl
+    (images-below 3 (0 ∷ 3 ∷ []) (omega arith)) .holds tt
+
+-- the twelve rows
+pub all-rows : Conjunction rows
 unfolding allFrom numberIn many each readAs end readShape readLocated readTransition readJob readWholeJob readMember readMembers readCover readCertificate readBoth verdict
-all P1 = refl
-all P2 = refl
-all P3 = refl
-all P4 = refl
-all P5 = refl
-all P6 = refl
-all P7 = refl
-all P8 = refl
-all P9 = refl
-all P10 = embeds-reflects meeting four (0 ∷ 1 ∷ 3 ∷ []) (closed 3 (5 ∷ 5 ∷ 0 ∷ []) refl (omega arith)) refl (images-below 3 (0 ∷ 1 ∷ 3 ∷ []) (omega arith)) .tests
-all P11 = embeds-reflects pair four (0 ∷ 3 ∷ []) (closed 2 (4 ∷ 0 ∷ []) refl (omega arith)) refl (images-below 3 (0 ∷ 3 ∷ []) (omega arith)) .holds tt
-all P12 = refl
+all-rows = (refl, (refl, (refl, (refl, (refl, (refl, (refl, (refl, (refl, (P10-holds, (P11-holds, (refl, tt))))))))))))

@@ -1,18 +1,13 @@
 -- The tests whether bytes are there.
-use mathlib.Core.Bool.{Bool, true, false}
+use mathlib.Core.Bool.{true, false}
 use mathlib.Core.List.{List}
 use mathlib.Core.Path.{_≡_, refl, sym}
 use Prim.Native.Nat.{ℕ, _+_, _-_, _*_, _≤_, _<_}
 use lib.Dec.{leb}
 use lib.ListN.{length, getD}
 use native.Mathlib.Omega.{arith}
-use Rattle.lists.proofs.Reflect.{Reflect, r-and, r-le, is-true, is-false}
+use Rattle.lists.proofs.Reflect.{Reflect, r-and, r-le, is-true, is-false, same-test}
 use Rattle.transitions.specs.Transitions.{transitionBytes, areThere}
-
--- tests of facts that follow from each other
-same-test : {P Q : Type 0} {a b : Bool} → Reflect P a → Reflect Q b → (P → Q) → (Q → P) → a ≡ b
-same-test {a = true} {b = b} r s f g = sym (is-true b (s .tests (f (r .holds tt))))
-same-test {a = false} {b = b} r s f g = sym (is-false b (λ t. r .tests (g (s .holds t))))
 
 module _ (at size most : ℕ) where
   pub beyond : most < at → false ≡ leb (at + size) most

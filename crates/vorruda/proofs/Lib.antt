@@ -1,3 +1,3 @@
-pub mod Bytes
+pub mod Judging
 pub mod Lending
 pub mod Telling

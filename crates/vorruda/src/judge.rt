@@ -1,15 +1,20 @@
+// The calls of the checker.
 use crate::lend::lend;
 use verdict::Verdict;
+ghost use mathlib.Core.Logic.{_↔_};
 ghost use mathlib.Core.Path.{_≡_};
+ghost use Rattle.format.specs.Conditions.{Conditions, Acceptable};
 ghost use Rattle.format.specs.JobBytes.{SafeBytes};
-ghost use Rattle.format.specs.Verdict.{verdict};
+ghost use Rattle.format.specs.Verdict.{Counts, accepted, verdict};
 ghost use Rattle.number.specs.CallResult.{lent};
 ghost use Rattle.verdict.specs.Verdict.{verdictResult};
 
-// The verdict on a job and a certificate: 0 for accepted, or the refusal's number. 0 carries the run guarantee.
+// The verdict on a job and a certificate: 0 for accepted, exactly if the conditions of document 01 hold, or the refusal's number. 0 carries the
+// run guarantee.
 #[no_mangle]
 pub extern "C" fn vorruda_check(job: &[u8], cert: &[u8]) -> u32
     ensures number { λ r. ⌜ r ≡ verdictResult (verdict (now (job .entry)) (now (cert .entry))) .code ⌝ }
+    ensures accepted { λ r. ⌜ (r ≡ 0) ↔ Acceptable (now (job .entry)) (now (cert .entry)) ⌝ }
     ensures safe { λ r. ⌜ (r ≡ 0 → SafeBytes (now (job .entry))) ⌝ }
 {
     let judged = checker::check(job, cert);
@@ -24,6 +29,8 @@ pub extern "C" fn vorruda_check(job: &[u8], cert: &[u8]) -> u32
 pub extern "C" fn vorruda_verdict(job: &[u8], cert: &[u8], out: &mut [u64]) -> u32
     ensures number { λ r. ⌜ r ≡ verdictResult (verdict (now (job .entry)) (now (cert .entry))) .code ⌝ }
     ensures values { λ r. ⌜ now (out .exit) ≡ lent (verdictResult (verdict (now (job .entry)) (now (cert .entry))) .values) (now (out .entry)) ⌝ }
+    ensures counts { λ r. ⌜ ((c : Counts) → Conditions (now (job .entry)) (now (cert .entry)) c → now (out .exit) ≡ lent (verdictResult (accepted c) .values) (now (out .entry))) ⌝ }
+    ensures accepted { λ r. ⌜ (r ≡ 0) ↔ Acceptable (now (job .entry)) (now (cert .entry)) ⌝ }
     ensures safe { λ r. ⌜ (r ≡ 0 → SafeBytes (now (job .entry))) ⌝ }
 {
     match checker::check(job, cert) {

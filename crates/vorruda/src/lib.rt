@@ -1,6 +1,6 @@
 // The calls for a host in C: include/vorruda.h declares them.
 mod forbid;
-mod heap;
 mod judge;
 mod lend;
 mod numbers;
+mod step;

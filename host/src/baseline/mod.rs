@@ -4,6 +4,7 @@
 pub mod checker;
 pub mod embedding;
 pub mod number;
+pub mod operations;
 pub mod predecessor;
 mod reader;
 pub mod shape;

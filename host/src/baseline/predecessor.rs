@@ -2,7 +2,7 @@
 //! dropped.
 
 use super::shape::{Shape, CELL, DANGLING, HELPER, NOWHERE, NULL};
-use crate::reference::operation::{Operation, ASSIGN, DELETE, DIFFERENT, EQUAL, FOLLOW, LINK, NEW};
+use crate::reference::operation::{Operation, ASSIGN, DELETE, DIFFERENT, EQUAL, LOAD, NEW, STORE};
 
 /// A choice for a variable that is placed.
 #[derive(Clone, Copy, PartialEq, Eq)]
@@ -66,14 +66,14 @@ pub fn each_predecessor<E>(
             }
             visit(&before)
         }),
-        FOLLOW if a == b => each_follow(shape, a, HELPER, &mut |follow| {
+        LOAD if a == b => each_load(shape, a, HELPER, &mut |follow| {
             let mut before = *follow;
             before.variables[a] = before.variables[HELPER];
             before.variables[HELPER] = NOWHERE;
             visit(&before)
         }),
-        FOLLOW => each_follow(shape, a, b, visit),
-        LINK => each_link(shape, a, b, visit),
+        LOAD => each_load(shape, a, b, visit),
+        STORE => each_store(shape, a, b, visit),
         NEW => each_new(shape, a, visit),
         DELETE => before_delete(shape, a).map_or(Ok(()), |before| visit(&before)),
         _ => unreachable!("an operation has a kind of the table"),
@@ -136,7 +136,7 @@ fn each_elsewhere<E>(
 }
 
 /// Both placed, the link of b's cell at a's place, a nowhere.
-fn each_follow<E>(
+fn each_load<E>(
     shape: &Shape,
     a: usize,
     b: usize,
@@ -162,7 +162,7 @@ fn each_follow<E>(
 }
 
 /// Both placed, the link of a's cell nowhere after it was nowhere or at b's place.
-fn each_link<E>(
+fn each_store<E>(
     shape: &Shape,
     a: usize,
     b: usize,

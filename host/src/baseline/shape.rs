@@ -1,5 +1,6 @@
 //! Shapes as codes in fixed arrays.
 
+use super::operations;
 use crate::reference::heap::Place;
 use crate::reference::shape as reference;
 
@@ -104,5 +105,41 @@ impl Shape {
             &codes(&self.variables[1..=variables]),
             &codes(&self.links[..self.cells.into()]),
         )
+    }
+}
+
+/// A shape in which nothing stands nowhere is a heap; its cells are the first codes.
+impl operations::Heap for Shape {
+    fn variable(&self, variable: usize) -> u8 {
+        self.variables[variable]
+    }
+
+    fn set_variable(&mut self, variable: usize, place: u8) {
+        self.variables[variable] = place;
+    }
+
+    fn link(&self, cell: u8) -> u8 {
+        self.link_of(cell)
+    }
+
+    fn set_link(&mut self, cell: u8, place: u8) {
+        self.set_link_of(cell, place);
+    }
+
+    fn add(&mut self) -> Option<u8> {
+        let cell = self.fresh();
+        (usize::from(self.cells) < CELLS).then(|| {
+            self.add_cell(DANGLING);
+            cell
+        })
+    }
+
+    fn delete(&mut self, cell: u8) {
+        for place in self.variables.iter_mut().chain(&mut self.links) {
+            if *place == cell {
+                *place = DANGLING;
+            }
+        }
+        self.remove_cell(cell);
     }
 }

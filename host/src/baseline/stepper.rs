@@ -1,13 +1,11 @@
 //! The stepper, fast: on the bytes themselves.
 
+use super::operations;
 use super::shape::{CELL, DANGLING, NOWHERE, NULL};
-use crate::reference::operation::{operation, ASSIGN, DELETE, DIFFERENT, EQUAL, FOLLOW, LINK, NEW};
+use crate::reference::operation::operation;
 use crate::reference::stepper::{CELLS, HEAP_BYTES, LINKS, MARKS, SLOTS};
 
 type Heap = [u8; HEAP_BYTES];
-
-const MOVED: u32 = 0;
-const BLOCKED: u32 = 100;
 
 /// One step on the bytes of a heap, with the answer for a host in C.
 #[inline(never)]
@@ -18,10 +16,10 @@ pub fn step(bytes: &mut [u8], kind: u32, a: u32, b: u32) -> u32 {
     if !is_well_formed(heap) {
         return 13;
     }
-    match operation(kind.into(), a.into(), b.into(), heap[0].into()) {
-        Some(operation) => enabled_step(heap, kind.into(), operation.a, operation.b),
-        None => 14,
-    }
+    let Some(operation) = operation(kind.into(), a.into(), b.into(), heap[0].into()) else {
+        return 14;
+    };
+    operations::apply(heap, operation) as u32
 }
 
 fn is_well_formed(heap: &Heap) -> bool {
@@ -48,61 +46,50 @@ fn is_place(heap: &Heap, place: u8) -> bool {
     }
 }
 
-fn enabled_step(heap: &mut Heap, kind: u64, a: usize, b: usize) -> u32 {
-    let place = |operand: usize| if operand == 0 { NULL } else { heap[operand] };
-    let (at_a, at_b) = (place(a), place(b));
-    match kind {
-        EQUAL if at_a != DANGLING && at_a == at_b => MOVED,
-        DIFFERENT if at_a != DANGLING && at_b != DANGLING && at_a != at_b => MOVED,
-        ASSIGN if at_b != DANGLING => {
-            heap[a] = at_b;
-            MOVED
+impl operations::Heap for Heap {
+    fn variable(&self, variable: usize) -> u8 {
+        self[variable]
+    }
+
+    fn set_variable(&mut self, variable: usize, place: u8) {
+        self[variable] = place;
+    }
+
+    fn link(&self, cell: u8) -> u8 {
+        self[link_of(cell)]
+    }
+
+    fn set_link(&mut self, cell: u8, place: u8) {
+        self[link_of(cell)] = place;
+    }
+
+    /// The lowest unused cell.
+    #[inline(always)]
+    fn add(&mut self) -> Option<u8> {
+        let cell = self[MARKS].iter().position(|&mark| mark == 0)?;
+        self[MARKS.start + cell] = 1;
+        self[LINKS.start + cell] = DANGLING;
+        Some(CELL + cell as u8)
+    }
+
+    #[inline(always)]
+    fn delete(&mut self, place: u8) {
+        let cell = usize::from(place - CELL);
+        let (slots, rest) = self.split_at_mut(MARKS.start);
+        let (marks, links) = rest.split_at_mut(CELLS);
+        marks[cell] = 0;
+        links[cell] = NOWHERE;
+        for stands in slots[1..].iter_mut().chain(links) {
+            if *stands == place {
+                *stands = DANGLING;
+            }
         }
-        FOLLOW if at_b >= CELL && heap[link_of(at_b)] != DANGLING => {
-            heap[a] = heap[link_of(at_b)];
-            MOVED
-        }
-        LINK if at_a >= CELL && at_b != DANGLING => {
-            heap[link_of(at_a)] = at_b;
-            MOVED
-        }
-        NEW => new(heap, a),
-        DELETE if at_a >= CELL => {
-            delete(heap, at_a);
-            MOVED
-        }
-        _ => BLOCKED,
     }
 }
 
 /// Where the link of a cell is.
 fn link_of(cell: u8) -> usize {
     LINKS.start + usize::from(cell - CELL)
-}
-
-fn new(heap: &mut Heap, a: usize) -> u32 {
-    match heap[MARKS].iter().position(|&mark| mark == 0) {
-        None => 15,
-        Some(cell) => {
-            heap[MARKS.start + cell] = 1;
-            heap[LINKS.start + cell] = DANGLING;
-            heap[a] = CELL + cell as u8;
-            MOVED
-        }
-    }
-}
-
-fn delete(heap: &mut Heap, place: u8) {
-    let cell = usize::from(place - CELL);
-    let (slots, rest) = heap.split_at_mut(MARKS.start);
-    let (marks, links) = rest.split_at_mut(CELLS);
-    marks[cell] = 0;
-    links[cell] = NOWHERE;
-    for stands in slots[1..].iter_mut().chain(links) {
-        if *stands == place {
-            *stands = DANGLING;
-        }
-    }
 }
 
 #[cfg(test)]

@@ -3,6 +3,7 @@
 use super::suite::{Case, Suite};
 use super::{calls, time, Cost, Work};
 use crate::baseline::checker::check;
+use crate::text::thousands;
 use crate::verdict::Verdict;
 
 /// How many of the largest ratios are shown, among pairs of so many instructions.
@@ -87,10 +88,10 @@ fn with_time(cases: &[Case], in_all: bool) {
 
 /// Members, covers and bytes of an accepted pair.
 fn sizes(case: &Case) -> String {
-    let bytes = thousands((case.pair.job.len() + case.pair.certificate.len()) as f64);
+    let bytes = thousands((case.pair.job.len() + case.pair.certificate.len()) as u64);
     match check(&case.pair.job, &case.pair.certificate) {
         Verdict::Accepted(counts) => {
-            let covers = thousands(counts.covers as f64);
+            let covers = thousands(counts.covers);
             format!("{} | {covers} | {bytes}", counts.members)
         }
         Verdict::Refused(_) => format!("- | - | {bytes}"),
@@ -98,7 +99,10 @@ fn sizes(case: &Case) -> String {
 }
 
 fn instructions(cost: Cost) -> String {
-    let (proved, baseline) = (thousands(cost.proved), thousands(cost.baseline));
+    let (proved, baseline) = (
+        thousands(cost.proved as u64),
+        thousands(cost.baseline as u64),
+    );
     format!("{proved} | {baseline} | {:.2}", cost.ratio())
 }
 
@@ -157,32 +161,5 @@ fn other_calls(costs: &[Cost]) {
     for ((name, work), cost) in calls::works().iter().zip(costs) {
         let time = time::measure(work);
         println!("| {name} | {:.2} | {:.2} |", cost.ratio(), time.ratio());
-    }
-}
-
-/// A whole number with commas.
-fn thousands(number: f64) -> String {
-    let digits = format!("{number:.0}");
-    let mut text = String::new();
-    for (index, digit) in digits.chars().enumerate() {
-        if index > 0 && (digits.len() - index) % 3 == 0 {
-            text.push(',');
-        }
-        text.push(digit);
-    }
-    text
-}
-
-#[cfg(test)]
-mod tests {
-    use super::thousands;
-
-    #[test]
-    fn whole_numbers_have_commas() {
-        let rows = [(0.0, "0"), (999.0, "999"), (1000.0, "1,000")];
-        for (number, text) in rows {
-            assert_eq!(thousands(number), text);
-        }
-        assert_eq!(thousands(1_234_567.0), "1,234,567");
     }
 }

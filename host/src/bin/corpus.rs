@@ -3,11 +3,8 @@
 
 use std::process::ExitCode;
 
-use vorruda_host::check::check;
 use vorruda_host::corpus::{self, Entry, Expected};
-use vorruda_host::reference::job::Job;
-use vorruda_host::search::{search, Outcome};
-use vorruda_host::verdict::Verdict;
+use vorruda_host::judge::judge;
 
 fn main() -> ExitCode {
     let entries = match corpus::read() {
@@ -38,57 +35,12 @@ fn main() -> ExitCode {
     ExitCode::from(u8::from(unexpected > 0))
 }
 
-/// How a routine ended.
-struct Ending {
-    /// Nothing where it is none of the ends that a routine may have.
-    expected: Option<Expected>,
-    members: String,
-    covers: String,
-    bytes: String,
-    verdict: String,
-}
-
-impl Ending {
-    fn without_certificate(expected: Option<Expected>, verdict: String) -> Ending {
-        let none = || "-".to_string();
-        Ending {
-            expected,
-            members: none(),
-            covers: none(),
-            bytes: none(),
-            verdict,
-        }
-    }
-}
-
-fn ending(job: &Job) -> Ending {
-    match search(job) {
-        Outcome::Certified(certificate) => {
-            let bytes = certificate.bytes();
-            let verdict = check(&job.bytes(), &bytes);
-            Ending {
-                expected: matches!(verdict, Verdict::Accepted(_)).then_some(Expected::Certified),
-                members: certificate.members.len().to_string(),
-                covers: certificate.covers.len().to_string(),
-                bytes: bytes.len().to_string(),
-                verdict: verdict.to_string(),
-            }
-        }
-        Outcome::Impossible(chain) if chain.is_a_run => {
-            Ending::without_certificate(Some(Expected::Wrong), "none: a run meets it".to_string())
-        }
-        Outcome::Impossible(_) => Ending::without_certificate(
-            Some(Expected::Beyond),
-            "none: beyond the rules".to_string(),
-        ),
-        Outcome::Undecided(limit) => Ending::without_certificate(None, format!("none: {limit}")),
-    }
-}
-
 /// Prints a routine's row.
 fn as_expected(entry: &Entry) -> bool {
     let job = &entry.routine.job;
-    let ending = ending(job);
+    let ending = judge(job).ending;
+    let certificate = ending.certificate();
+    let or_none = |count: Option<usize>| count.map_or("-".to_string(), |count| count.to_string());
     println!(
         "| {} | {} | {} | {} | {} | {} | {} | {} | {} | {} |",
         entry.name,
@@ -96,11 +48,11 @@ fn as_expected(entry: &Entry) -> bool {
         job.states,
         job.transitions.len(),
         job.forbidden.len(),
-        ending.members,
-        ending.covers,
+        or_none(certificate.map(|certificate| certificate.members.len())),
+        or_none(certificate.map(|certificate| certificate.covers.len())),
         job.bytes().len(),
-        ending.bytes,
-        ending.verdict,
+        or_none(certificate.map(|certificate| certificate.bytes().len())),
+        ending.words(),
     );
-    ending.expected == Some(entry.expected)
+    ending.expected() == Some(entry.expected)
 }

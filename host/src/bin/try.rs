@@ -2,87 +2,132 @@
 //!
 //! `try ROUTINE [FOLDER]`: a file, or the name of a routine of the corpus. With a folder, job.bin and
 //! cert.bin are written there. The exit status is 0 where the certificate is accepted, 1 where there
-//! is none, 2 for a mistake in the file.
+//! is none, 2 for a mistake in the file. `try` alone lists the routines of the corpus.
 
-use std::path::{Path, PathBuf};
+use std::fmt::Write as _;
+use std::io::{self, Write as _};
+use std::path::Path;
 use std::process::ExitCode;
 use std::{env, fs};
 
-use vorruda_host::check::check;
 use vorruda_host::corpus;
 use vorruda_host::draw;
+use vorruda_host::judge::{judge, Ending};
 use vorruda_host::reference::certificate::Certificate;
-use vorruda_host::routine::{parse, Routine};
-use vorruda_host::search::{search, Outcome};
+use vorruda_host::routine::Routine;
+use vorruda_host::search::run::Run;
+use vorruda_host::text::counted;
 use vorruda_host::verdict::Verdict;
+
+/// What is printed, and the exit status.
+type Answer = (String, ExitCode);
 
 fn main() -> ExitCode {
     let arguments: Vec<String> = env::args().skip(1).collect();
-    let (name, folder) = match &arguments[..] {
-        [name] => (name, None),
-        [name, folder] => (name, Some(Path::new(folder))),
-        _ => return wrong("usage: try ROUTINE [FOLDER]"),
+    let answer = match &arguments[..] {
+        [] => list(),
+        [name] => try_one(name, None),
+        [name, folder] => try_one(name, Some(Path::new(folder))),
+        _ => Err("usage: try [ROUTINE [FOLDER]]".to_string()),
     };
-    let text = match fs::read_to_string(file_of(name)) {
-        Ok(text) => text,
-        Err(error) => return wrong(&format!("{name}: {error}")),
+    match answer {
+        Ok((text, status)) => {
+            // Whoever reads may stop early.
+            let _ = io::stdout().write_all(text.as_bytes());
+            status
+        }
+        Err(what) => {
+            eprintln!("{what}");
+            ExitCode::from(2)
+        }
+    }
+}
+
+/// The routines of the corpus with their titles.
+fn list() -> Result<Answer, String> {
+    let mut text = "Routines to try, by name; or give a file of your own.\n\n".to_string();
+    for entry in corpus::read()? {
+        text += &format!("  {:<24} {}\n", entry.name, entry.routine.title);
+    }
+    Ok((text, ExitCode::SUCCESS))
+}
+
+fn try_one(name: &str, folder: Option<&Path>) -> Result<Answer, String> {
+    let routine = corpus::find(name)?.routine;
+    let ending = judge(&routine.job).ending;
+    if let (Some(folder), Ending::Certified(certificate, _)) = (folder, &ending) {
+        write(&routine, certificate, folder)?;
+    }
+    let status = match ending {
+        Ending::Certified(_, Verdict::Accepted(_)) => ExitCode::SUCCESS,
+        _ => ExitCode::FAILURE,
     };
-    match parse(&text) {
-        Ok(routine) => {
-            println!("{name}: {}", routine.title);
-            judge(&routine, folder)
+    let mut text = format!("{name}: {}\n", routine.title);
+    for warning in &routine.warnings {
+        text += &format!("Warning: {warning}\n");
+    }
+    tell(&mut text, &routine, &ending).expect("a string takes all");
+    Ok((text, status))
+}
+
+/// Tells how a routine ends, and why.
+fn tell(text: &mut String, routine: &Routine, ending: &Ending) -> std::fmt::Result {
+    match ending {
+        Ending::Certified(_, verdict) => writeln!(text, "{verdict}"),
+        Ending::Wrong(run) => tell_run(text, routine, run),
+        Ending::Beyond(chain, bound) => {
+            writeln!(
+                text,
+                "No certificate exists: the rules forget too much on the way."
+            )?;
+            writeln!(
+                text,
+                "No run was found that meets what is forbidden, among {bound}."
+            )?;
+            writeln!(
+                text,
+                "From a forbidden shape back to the empty heap (-> is a link or a path):\n"
+            )?;
+            text.push_str(&draw::chain(chain, routine));
+            writeln!(
+                text,
+                "\nThat is the start, and the empty heap satisfies the last shape."
+            )
         }
-        Err(mistake) => wrong(&format!("{name}: {mistake}")),
+        Ending::Undecided(limit, bound) => {
+            writeln!(text, "No certificate found: {limit}.")?;
+            writeln!(
+                text,
+                "No run was found that meets what is forbidden, among {bound}."
+            )
+        }
     }
 }
 
-/// The routine of the corpus with this name where there is one, else the file.
-fn file_of(name: &str) -> PathBuf {
-    let known = corpus::folder().join(format!("{name}.routine"));
-    match known.is_file() {
-        true => known,
-        false => PathBuf::from(name),
+fn tell_run(text: &mut String, routine: &Routine, run: &Run) -> std::fmt::Result {
+    let steps = counted(run.transitions.len(), "step");
+    writeln!(
+        text,
+        "Wrong: a run of {steps} meets what is forbidden (# is null, * dangling).\n"
+    )?;
+    text.push_str(&draw::run(run, routine));
+    let bad = &routine.job.forbidden[run.forbidden];
+    let origin = &routine.origins[run.forbidden];
+    let state = &routine.states[bad.state as usize];
+    writeln!(
+        text,
+        "\nThat is at {state}, where line {} forbids `{}`. What is met (-> is a link or a path):\n",
+        origin.line, origin.text
+    )?;
+    for line in draw::shape(&bad.shape, &routine.variables) {
+        writeln!(text, "       {line}")?;
     }
+    Ok(())
 }
 
-fn wrong(what: &str) -> ExitCode {
-    eprintln!("{what}");
-    ExitCode::from(2)
-}
-
-fn judge(routine: &Routine, folder: Option<&Path>) -> ExitCode {
-    match search(&routine.job) {
-        Outcome::Certified(certificate) => checked(routine, &certificate, folder),
-        Outcome::Impossible(chain) => {
-            match chain.is_a_run {
-                true => println!("No certificate: a run meets what is forbidden."),
-                false => println!("No certificate: the rules forget too much to rule this out."),
-            }
-            println!("From the forbidden shape back to the empty heap (-> is a link or a path):\n");
-            print!("{}", draw::chain(&chain, routine));
-            println!("\nThat is the start, and the empty heap satisfies the last shape.");
-            ExitCode::FAILURE
-        }
-        Outcome::Undecided(limit) => {
-            println!("No certificate found: {limit}.");
-            ExitCode::FAILURE
-        }
-    }
-}
-
-fn checked(routine: &Routine, certificate: &Certificate, folder: Option<&Path>) -> ExitCode {
-    let (job, certificate) = (routine.job.bytes(), certificate.bytes());
-    if let Some(folder) = folder {
-        let written = fs::write(folder.join("job.bin"), &job)
-            .and_then(|()| fs::write(folder.join("cert.bin"), &certificate));
-        if let Err(error) = written {
-            return wrong(&format!("{}: {error}", folder.display()));
-        }
-    }
-    let verdict = check(&job, &certificate);
-    println!("{verdict}");
-    match verdict {
-        Verdict::Accepted(_) => ExitCode::SUCCESS,
-        Verdict::Refused(_) => ExitCode::FAILURE,
-    }
+/// Writes job.bin and cert.bin.
+fn write(routine: &Routine, certificate: &Certificate, folder: &Path) -> Result<(), String> {
+    fs::write(folder.join("job.bin"), routine.job.bytes())
+        .and_then(|()| fs::write(folder.join("cert.bin"), certificate.bytes()))
+        .map_err(|error| format!("{}: {error}", folder.display()))
 }

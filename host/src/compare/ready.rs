@@ -7,7 +7,7 @@ use crate::library;
 use crate::pairs::{accepted_pairs, Pair, Pairs};
 use crate::random::Random;
 use crate::reference::job::{Job, Located, Transition, MOST_FORBIDDEN};
-use crate::reference::operation::{Operation, ASSIGN, FOLLOW, LINK};
+use crate::reference::operation::{Operation, ASSIGN, LOAD, STORE};
 use crate::reference::ready::{forbid, Refused, Set};
 use crate::reference::shape::Shape;
 
@@ -88,7 +88,7 @@ fn job(variables: u64, forbidden: u64, steps: usize, others: usize) -> Job {
         },
         to: (number as u64 + 7) % 64,
     };
-    let stepping = (0..steps).map(|number| transition(number, [FOLLOW, LINK][number % 2]));
+    let stepping = (0..steps).map(|number| transition(number, [LOAD, STORE][number % 2]));
     let other = (0..others).map(|number| transition(number, ASSIGN));
     let nothing = vec![0; variables as usize];
     Job {

@@ -2,7 +2,7 @@
 
 use std::collections::BTreeMap;
 
-use super::operation::{Operation, ASSIGN, DELETE, DIFFERENT, EQUAL, FOLLOW, LINK, NEW};
+use super::operation::{Operation, ASSIGN, DELETE, DIFFERENT, EQUAL, LOAD, NEW, STORE};
 
 /// Where a variable or a link stands.
 #[derive(Clone, Copy, Debug, PartialEq, Eq, PartialOrd, Ord, Hash)]
@@ -70,13 +70,13 @@ impl Heap {
             EQUAL => (neither_dangles && at_a == at_b).then(|| self.clone()),
             DIFFERENT => (neither_dangles && at_a != at_b).then(|| self.clone()),
             ASSIGN => (at_b != Dangling).then(|| self.with_variable(a, at_b)),
-            FOLLOW => match at_b {
+            LOAD => match at_b {
                 Cell(cell) if self.links[&cell] != Dangling => {
                     Some(self.with_variable(a, self.links[&cell]))
                 }
                 _ => None,
             },
-            LINK => match at_a {
+            STORE => match at_a {
                 Cell(cell) if at_b != Dangling => Some(self.with_link(cell, at_b)),
                 _ => None,
             },
@@ -166,17 +166,17 @@ mod tests {
         assert_eq!(after(&before, ASSIGN, 1, 0), at(&[Null, Cell(1), Dangling]));
         assert_eq!(after(&before, ASSIGN, 1, 3), None);
         assert_eq!(
-            after(&before, FOLLOW, 1, 1),
+            after(&before, LOAD, 1, 1),
             at(&[Cell(1), Cell(1), Dangling])
         );
-        assert_eq!(after(&before, FOLLOW, 1, 2), at(&[Null, Cell(1), Dangling]));
-        assert_eq!(after(&before, FOLLOW, 1, 3), None);
+        assert_eq!(after(&before, LOAD, 1, 2), at(&[Null, Cell(1), Dangling]));
+        assert_eq!(after(&before, LOAD, 1, 3), None);
     }
 
     #[test]
     fn following_a_dangling_link_is_blocked() {
         let before = heap(&[Cell(0)], &[(0, Dangling)]);
-        assert_eq!(after(&before, FOLLOW, 1, 1), None);
+        assert_eq!(after(&before, LOAD, 1, 1), None);
     }
 
     #[test]
@@ -186,11 +186,11 @@ mod tests {
             &before.variables,
             &[(0, Cell(1)), (1, Cell(0)), (2, Cell(1))],
         );
-        assert_eq!(after(&before, LINK, 2, 1), Some(expected));
-        assert_eq!(after(&before, LINK, 1, 3), None);
-        assert_eq!(after(&before, LINK, 3, 1), None);
+        assert_eq!(after(&before, STORE, 2, 1), Some(expected));
+        assert_eq!(after(&before, STORE, 1, 3), None);
+        assert_eq!(after(&before, STORE, 3, 1), None);
         let at_null = heap(&[Null], &[]);
-        assert_eq!(after(&at_null, LINK, 1, 0), None);
+        assert_eq!(after(&at_null, STORE, 1, 0), None);
     }
 
     #[test]

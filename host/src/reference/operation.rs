@@ -5,8 +5,8 @@ use std::ops::RangeInclusive;
 pub const EQUAL: u64 = 1;
 pub const DIFFERENT: u64 = 2;
 pub const ASSIGN: u64 = 3;
-pub const FOLLOW: u64 = 4;
-pub const LINK: u64 = 5;
+pub const LOAD: u64 = 4;
+pub const STORE: u64 = 5;
 pub const NEW: u64 = 6;
 pub const DELETE: u64 = 7;
 
@@ -32,8 +32,8 @@ pub fn range_of_a(kind: u64, variables: u64) -> RangeInclusive<u64> {
 /// The operands a kind takes second.
 pub fn range_of_b(kind: u64, variables: u64) -> RangeInclusive<u64> {
     match kind {
-        EQUAL | DIFFERENT | ASSIGN | LINK => 0..=variables,
-        FOLLOW => 1..=variables,
+        EQUAL | DIFFERENT | ASSIGN | STORE => 0..=variables,
+        LOAD => 1..=variables,
         _ => 0..=0,
     }
 }

@@ -1,7 +1,7 @@
 //! The predecessors of a shape under an operation, in their order.
 
 use super::heap::Place;
-use super::operation::{Operation, ASSIGN, DELETE, DIFFERENT, EQUAL, FOLLOW, LINK, NEW};
+use super::operation::{Operation, ASSIGN, DELETE, DIFFERENT, EQUAL, LOAD, NEW, STORE};
 use super::shape::Shape;
 
 /// All predecessors: every placing is made, and the ones that don't fit are dropped.
@@ -15,14 +15,14 @@ pub fn predecessors(shape: &Shape, operation: Operation) -> Vec<Shape> {
             (placed.place(a) != placed.place(b)).then_some(placed)
         }),
         ASSIGN => from_placings(shape, a, b, |placed| before_assign(placed, a, b)),
-        FOLLOW if a == b => {
+        LOAD if a == b => {
             let helper = shape.variables.len() + 1;
             from_placings(&with_helper(shape), a, helper, |placed| {
-                before_follow(placed, a, helper).map(|shape| helper_becomes(shape, a))
+                before_load(placed, a, helper).map(|shape| helper_becomes(shape, a))
             })
         }
-        FOLLOW => from_placings(shape, a, b, |placed| before_follow(placed, a, b)),
-        LINK => from_placings(shape, a, b, |placed| before_link(placed, a, b)),
+        LOAD => from_placings(shape, a, b, |placed| before_load(placed, a, b)),
+        STORE => from_placings(shape, a, b, |placed| before_store(placed, a, b)),
         NEW => placings(shape, a)
             .into_iter()
             .filter_map(|placed| before_new(placed, a))
@@ -102,7 +102,7 @@ fn cell_that_may_link(shape: &Shape, operand: usize, place: Option<Place>) -> Op
     }
 }
 
-fn before_follow(mut shape: Shape, a: usize, b: usize) -> Option<Shape> {
+fn before_load(mut shape: Shape, a: usize, b: usize) -> Option<Shape> {
     let place = shape.place(a);
     let cell = cell_that_may_link(&shape, b, place)?;
     shape.links[cell] = place;
@@ -123,7 +123,7 @@ fn helper_becomes(mut shape: Shape, a: usize) -> Shape {
     shape
 }
 
-fn before_link(mut shape: Shape, a: usize, b: usize) -> Option<Shape> {
+fn before_store(mut shape: Shape, a: usize, b: usize) -> Option<Shape> {
     let cell = cell_that_may_link(&shape, a, shape.place(b))?;
     shape.links[cell] = None;
     Some(shape)
@@ -221,31 +221,31 @@ mod tests {
 
     #[test]
     fn following_with_one_variable() {
-        assert_eq!(before(&[1], &[], FOLLOW, 1, 1), shapes(&[(&[3], &[1])]));
+        assert_eq!(before(&[1], &[], LOAD, 1, 1), shapes(&[(&[3], &[1])]));
         let own_or_fresh = shapes(&[(&[3], &[3]), (&[4], &[0, 3])]);
-        assert_eq!(before(&[3], &[0], FOLLOW, 1, 1), own_or_fresh);
+        assert_eq!(before(&[3], &[0], LOAD, 1, 1), own_or_fresh);
     }
 
     #[test]
     fn following_with_two_variables() {
         let expected = shapes(&[(&[0, 3], &[1]), (&[0, 4], &[1, 1])]);
         assert_eq!(
-            before(&[1, 0], &[1], FOLLOW, 1, 2),
+            before(&[1, 0], &[1], LOAD, 1, 2),
             [&expected[..], &shapes(&[(&[0, 4], &[4, 1])])].concat()
         );
-        assert_eq!(before(&[1, 3], &[2], FOLLOW, 1, 2), vec![]);
+        assert_eq!(before(&[1, 3], &[2], LOAD, 1, 2), vec![]);
     }
 
     #[test]
     fn linking() {
         assert_eq!(
-            before(&[3, 1], &[1], LINK, 1, 2),
+            before(&[3, 1], &[1], STORE, 1, 2),
             shapes(&[(&[3, 1], &[0])])
         );
-        assert_eq!(before(&[3, 1], &[2], LINK, 1, 2), vec![]);
-        assert_eq!(before(&[1, 1], &[], LINK, 1, 2), vec![]);
+        assert_eq!(before(&[3, 1], &[2], STORE, 1, 2), vec![]);
+        assert_eq!(before(&[1, 1], &[], STORE, 1, 2), vec![]);
         let b_in_the_link = shapes(&[(&[3, 1], &[0]), (&[3, 4], &[0, 1])]);
-        assert_eq!(before(&[3, 0], &[1], LINK, 1, 2), b_in_the_link);
+        assert_eq!(before(&[3, 0], &[1], STORE, 1, 2), b_in_the_link);
     }
 
     #[test]

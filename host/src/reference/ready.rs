@@ -2,7 +2,7 @@
 
 use super::checker::check_length;
 use super::job::{Job, Located, MOST_FORBIDDEN};
-use super::operation::{FOLLOW, LINK};
+use super::operation::{LOAD, STORE};
 use super::shape::Shape;
 
 /// Codes of places.
@@ -106,8 +106,8 @@ fn bad_steps(job: &Job) -> Vec<Located> {
     let mut all = Vec::new();
     for transition in &job.transitions {
         let through = match transition.operation.kind {
-            FOLLOW => transition.operation.b,
-            LINK => transition.operation.a,
+            LOAD => transition.operation.b,
+            STORE => transition.operation.a,
             _ => continue,
         };
         for place in [NULL, DANGLING] {

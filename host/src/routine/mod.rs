@@ -24,16 +24,19 @@
 //! [`sets`].
 
 mod mistake;
+mod names;
+mod operation_text;
 mod parse;
 mod ready;
 pub mod sets;
 mod shape_text;
+mod words;
 
 pub use mistake::Mistake;
 pub use parse::parse;
 
 use crate::reference::job::Job;
-use crate::reference::operation::{Operation, ASSIGN, DELETE, DIFFERENT, EQUAL, FOLLOW, LINK, NEW};
+use crate::reference::operation::{Operation, ASSIGN, DELETE, DIFFERENT, EQUAL, LOAD, NEW, STORE};
 
 /// A job with the names that a person gave.
 #[derive(Clone, Debug)]
@@ -43,6 +46,19 @@ pub struct Routine {
     pub variables: Vec<String>,
     pub states: Vec<String>,
     pub job: Job,
+    /// Where each of the job's forbidden shapes comes from.
+    pub origins: Vec<Origin>,
+    /// What is allowed but may be misspelt.
+    pub warnings: Vec<Mistake>,
+}
+
+/// The line that forbids a shape.
+#[derive(Clone, Debug, PartialEq, Eq)]
+pub struct Origin {
+    /// From 1.
+    pub line: usize,
+    /// What stands there behind the state.
+    pub text: String,
 }
 
 impl Routine {
@@ -64,11 +80,12 @@ impl Routine {
 pub fn words<'a>(operation: Operation, name: impl Fn(usize) -> &'a str) -> String {
     let (a, b) = (name(operation.a), name(operation.b));
     match operation.kind {
+        EQUAL if operation.a == 0 && operation.b == 0 => "skip".to_string(),
         EQUAL => format!("{a} = {b}"),
         DIFFERENT => format!("{a} != {b}"),
         ASSIGN => format!("{a} := {b}"),
-        FOLLOW => format!("{a} := {b}.next"),
-        LINK => format!("{a}.next := {b}"),
+        LOAD => format!("{a} := {b}.next"),
+        STORE => format!("{a}.next := {b}"),
         NEW => format!("new({a})"),
         DELETE => format!("delete({a})"),
         _ => unreachable!("an operation has a kind of the table"),

@@ -1,270 +1,322 @@
 //! From the text of a routine to its job.
 
 use super::mistake::Mistake;
-use super::{ready, sets, shape_text, Routine};
+use super::names::Names;
+use super::words::{is_of_name, Word, Words};
+use super::{operation_text, ready, sets, shape_text, Origin, Routine};
 use crate::reference::job::{
     Job, Located, Transition, MOST_FORBIDDEN, MOST_STATES, MOST_TRANSITIONS, MOST_VARIABLES,
 };
-use crate::reference::operation::{
-    operation, Operation, ASSIGN, DELETE, DIFFERENT, EQUAL, FOLLOW, LINK, NEW,
-};
 use crate::reference::shape::Shape;
+use crate::text::nearest;
 
 /// Words that name no variable.
 const RESERVED: [&str; 4] = ["null", "skip", "new", "delete"];
 
+/// The words that begin a line which is no transition.
+const HEADS: [&str; 3] = ["variables", "start", "forbidden"];
+
+/// The ready sets of [`sets`] that are of variables at a state.
+const SETS: [&str; 5] = ["no list", "lost block", "ring", "no ring", "shared"];
+
 /// The state that nothing has to leave.
 const LAST: &str = "end";
 
-/// Reads a routine, or names the first line that has a mistake.
+/// Reads a routine, or gives the first mistake.
 pub fn parse(text: &str) -> Result<Routine, Mistake> {
-    let mut parser = Parser::default();
-    for line in text.lines() {
-        parser.line += 1;
+    let mut parser = Parser::new();
+    for (index, line) in text.lines().enumerate() {
         let (content, comment) = line.split_once("--").unwrap_or((line, ""));
         if parser.title.is_empty() {
             parser.title = comment.trim().to_string();
         }
-        if !content.trim().is_empty() {
-            let read = parser.read(content.trim());
-            read.map_err(|what| parser.mistake(what))?;
+        parser.lines = index + 1;
+        let words = Words::of(parser.lines, content);
+        if !words.is_empty() {
+            parser.read(words, content.trim())?;
         }
     }
     parser.finish()
 }
 
-#[derive(Default)]
 struct Parser {
-    /// The line that is read, from 1.
-    line: usize,
+    /// How many lines are read.
+    lines: usize,
     title: String,
-    variables: Vec<String>,
-    states: Vec<String>,
-    /// The line that names each state first.
-    named: Vec<usize>,
-    start: Option<u64>,
+    variables: Names,
+    states: Names,
+    /// Where each state is named first.
+    named: Vec<(usize, usize)>,
+    start: Option<usize>,
     transitions: Vec<Transition>,
     /// Nothing until the line `forbidden`.
     forbidden: Option<Vec<Located>>,
+    origins: Vec<Origin>,
 }
 
 impl Parser {
-    fn mistake(&self, what: String) -> Mistake {
-        let line = self.line.max(1);
-        Mistake { line, what }
+    fn new() -> Parser {
+        Parser {
+            lines: 0,
+            title: String::new(),
+            variables: Names::of("variable"),
+            states: Names::of("state"),
+            named: Vec::new(),
+            start: None,
+            transitions: Vec::new(),
+            forbidden: None,
+            origins: Vec::new(),
+        }
     }
 
-    fn read(&mut self, line: &str) -> Result<(), String> {
-        let (word, rest) = line.split_once(char::is_whitespace).unwrap_or((line, ""));
-        match (word, self.forbidden.is_some()) {
-            ("variables", false) => self.name_variables(rest),
-            ("start", false) => self.name_start(rest),
-            ("forbidden", false) if rest.is_empty() => {
+    fn read(&mut self, mut words: Words, content: &str) -> Result<(), Mistake> {
+        let first = words.take();
+        match (first.text, self.forbidden.is_some()) {
+            ("variables", false) => self.name_variables(first, words),
+            ("start", false) => self.name_start(first, words),
+            ("forbidden", false) if words.is_empty() => {
                 self.forbidden = Some(Vec::new());
                 Ok(())
             }
-            (from, false) => self.transition(from, rest.trim()),
-            ("steps", true) if rest.is_empty() => {
-                self.forbid(sets::steps(self.variables.len(), &self.transitions))
+            (_, false) => self.transition(first, words),
+            ("steps", true) if words.is_empty() => {
+                let shapes = sets::steps(self.variables.all.len(), &self.transitions);
+                self.forbid(first, shapes, "steps")
             }
-            (state, true) => self.forbidden_at(state, rest.trim()),
+            (_, true) => {
+                let shapes = self.forbidden_at(first, words)?;
+                let text = content[first.text.len()..].trim();
+                self.forbid(first, shapes, text)
+            }
         }
     }
 
-    fn name_variables(&mut self, names: &str) -> Result<(), String> {
-        if !self.variables.is_empty() {
-            return Err("the variables are named twice".to_string());
+    fn name_variables(&mut self, head: Word, mut words: Words) -> Result<(), Mistake> {
+        if !self.variables.all.is_empty() {
+            return Err(Mistake::at(head, "the variables are named already"));
         }
-        for name in names.split_whitespace() {
-            check_name(name, |c| c.is_ascii_alphanumeric() || c == '_')?;
-            if RESERVED.contains(&name) || self.variables.iter().any(|other| other == name) {
-                return Err(format!("{name} can't be a variable, the word is taken"));
+        if words.is_empty() {
+            return Err(Mistake::at(words.peek(), "expected the names of variables"));
+        }
+        while !words.is_empty() {
+            let word = words.take();
+            let name = word.text;
+            if !name.chars().all(|c| c.is_ascii_alphanumeric() || c == '_') {
+                let what = "expected a name of letters, digits and _";
+                return Err(Mistake::at(word, what));
             }
-            self.variables.push(name.to_string());
+            if RESERVED.contains(&name) || self.variables.number(name).is_some() {
+                return Err(Mistake::at(
+                    word,
+                    "the word is taken: expected another name",
+                ));
+            }
+            if self.variables.all.len() as u64 == MOST_VARIABLES {
+                let what = format!("a routine has at most {MOST_VARIABLES} variables");
+                return Err(Mistake::at(word, what));
+            }
+            self.variables.all.push(name.to_string());
         }
-        match self.variables.len() as u64 {
-            1..=MOST_VARIABLES => Ok(()),
-            _ => Err(format!("there must be 1 to {MOST_VARIABLES} variables")),
-        }
-    }
-
-    fn name_start(&mut self, name: &str) -> Result<(), String> {
-        if self.start.is_some() {
-            return Err("the start is named twice".to_string());
-        }
-        self.start = Some(self.state(name.trim())?);
         Ok(())
     }
 
-    fn transition(&mut self, from: &str, rest: &str) -> Result<(), String> {
-        let Some((operation, to)) = rest.rsplit_once("->") else {
-            return Err("expected: state, operation, ->, state".to_string());
+    fn name_start(&mut self, head: Word, mut words: Words) -> Result<(), Mistake> {
+        if self.start.is_some() {
+            return Err(Mistake::at(head, "the start is named already"));
+        }
+        self.start = Some(self.state(words.take())?);
+        words.finish()
+    }
+
+    fn transition(&mut self, from: Word, words: Words) -> Result<(), Mistake> {
+        let Some((operation, mut to)) = words.split_at_last("->") else {
+            return Err(no_transition(from, words));
         };
         let transition = Transition {
-            from: self.state(from)?,
-            operation: self.operation(operation.trim())?,
-            to: self.state(to.trim())?,
+            from: self.state(from)? as u64,
+            operation: operation_text::operation(operation, &self.variables)?,
+            to: self.state(to.take())? as u64,
         };
-        self.transitions.push(transition);
-        match self.transitions.len() as u64 {
-            0..=MOST_TRANSITIONS => Ok(()),
-            _ => Err(format!("more than {MOST_TRANSITIONS} transitions")),
+        to.finish()?;
+        if self.transitions.len() as u64 == MOST_TRANSITIONS {
+            let what = format!("a routine has at most {MOST_TRANSITIONS} transitions");
+            return Err(Mistake::at(from, what));
         }
+        self.transitions.push(transition);
+        Ok(())
     }
 
     /// The number of a state, which is the next one where the name is new.
-    fn state(&mut self, name: &str) -> Result<u64, String> {
-        check_name(name, |c| c.is_ascii_alphanumeric() || "_.'".contains(c))?;
-        if let Some(number) = self.states.iter().position(|state| state == name) {
-            return Ok(number as u64);
+    fn state(&mut self, word: Word) -> Result<usize, Mistake> {
+        if word.text.is_empty() || !word.text.chars().all(is_of_name) {
+            return Err(Mistake::at(word, "expected the name of a state"));
         }
-        if self.states.len() as u64 == MOST_STATES {
-            return Err(format!("more than {MOST_STATES} states"));
+        if let Some(number) = self.states.number(word.text) {
+            return Ok(number);
         }
-        self.states.push(name.to_string());
-        self.named.push(self.line);
-        Ok(self.states.len() as u64 - 1)
+        if self.states.all.len() as u64 == MOST_STATES {
+            let what = format!("a routine has at most {MOST_STATES} states");
+            return Err(Mistake::at(word, what));
+        }
+        self.states.all.push(word.text.to_string());
+        self.named.push((word.line, word.column));
+        Ok(self.states.all.len() - 1)
     }
 
-    /// Finds states that are probably misspelt: nothing leads there, or nothing leaves and nothing
-    /// is forbidden there.
-    fn check_states(&self) -> Result<(), Mistake> {
-        for (state, (name, &line)) in self.states.iter().zip(&self.named).enumerate() {
-            let state = state as u64;
-            let led_to =
-                self.start == Some(state) || self.transitions.iter().any(|t| t.to == state);
-            let left = self.transitions.iter().any(|t| t.from == state);
-            let forbidden = self
-                .forbidden
-                .iter()
-                .flatten()
-                .any(|bad| bad.state == state);
-            if !led_to {
-                let what = format!("nothing leads to state {name}");
-                return Err(Mistake { line, what });
+    fn forbidden_at(&self, state: Word, words: Words) -> Result<Vec<Located>, Mistake> {
+        let number = self.states.find(state, state.text, "")?;
+        let shapes = match words.split_at_first(":") {
+            Some((set, names)) => self.ready_set(set, names)?,
+            None if words.is_empty() => {
+                let what = "expected a shape, as `x at #`, or a ready set, as `no list: x`";
+                return Err(Mistake::at(words.peek(), what));
             }
-            if !left && !forbidden && name != LAST {
-                let what = format!("nothing leaves state {name} and nothing is forbidden there");
-                return Err(Mistake { line, what });
-            }
-        }
-        Ok(())
-    }
-
-    fn operation(&self, text: &str) -> Result<Operation, String> {
-        let close: String = text.split_whitespace().collect();
-        let (kind, a, b) = split_operation(&close).ok_or(format!("no operation: {text}"))?;
-        let (a, b) = (self.operand(a)?, self.operand(b)?);
-        let variables = self.variables.len() as u64;
-        operation(kind, a, b, variables).ok_or(format!("null can't stand there: {text}"))
-    }
-
-    fn operand(&self, name: &str) -> Result<u64, String> {
-        if name == "null" {
-            return Ok(0);
-        }
-        let number = self.variables.iter().position(|variable| variable == name);
-        let number = number.ok_or(format!("no variable is named '{name}'"))?;
-        Ok(number as u64 + 1)
-    }
-
-    fn forbidden_at(&mut self, state: &str, rest: &str) -> Result<(), String> {
-        let number = self.states.iter().position(|other| other == state);
-        let state = number.ok_or(format!("no state is named {state}"))? as u64;
-        let shapes = match rest.split_once(':') {
-            Some((set, names)) => self.ready_set(set.trim(), names)?,
-            None => vec![shape_text::shape(rest, &self.variables)?],
+            None => vec![shape_text::shape(words, &self.variables)?],
         };
-        let located = shapes.into_iter().map(|shape| Located { state, shape });
-        self.forbid(located.collect())
+        let located = shapes.into_iter().map(|shape| Located {
+            state: number as u64,
+            shape,
+        });
+        Ok(located.collect())
     }
 
-    fn ready_set(&self, set: &str, names: &str) -> Result<Vec<Shape>, String> {
-        let of_names = names.split_whitespace().map(|name| self.operand(name));
-        let from: Vec<u64> = of_names.collect::<Result<_, _>>()?;
-        let from: Vec<usize> = from.into_iter().map(|number| number as usize).collect();
-        if from.contains(&0) {
-            return Err("null is no variable".to_string());
+    /// The shapes of a ready set of the variables that are named.
+    fn ready_set(&self, mut set: Words, mut names: Words) -> Result<Vec<Shape>, Mistake> {
+        let first = set.peek();
+        let mut words = Vec::new();
+        while !set.is_empty() {
+            words.push(set.take().text);
         }
-        let variables = self.variables.len();
-        match (set, &from[..]) {
+        let mut from = Vec::new();
+        while !names.is_empty() {
+            let word = names.take();
+            from.push(1 + self.variables.find(word, word.text, "")?);
+        }
+        let set = words.join(" ");
+        let variables = self.variables.all.len();
+        match (&set[..], &from[..]) {
             ("no list", &[x]) => Ok(ready::not_list(variables, x)),
             ("ring", &[x]) => Ok(sets::ring(variables, x)),
             ("no ring", &[x]) => Ok(sets::no_ring(variables, x)),
             ("shared", &[x, y]) => Ok(sets::shared(variables, x, y)),
             ("lost block", [_, ..]) => Ok(sets::lost_block(variables, &from)),
-            _ => Err(format!("no ready set '{set}' of {} variables", from.len())),
+            (known, _) if SETS.contains(&known) => {
+                let what = match known {
+                    "shared" => "expected two variables",
+                    "lost block" => "expected one or more variables",
+                    _ => "expected one variable",
+                };
+                Err(Mistake::at(names.peek(), what))
+            }
+            (other, _) => {
+                let what = match nearest(other, SETS)[..] {
+                    [near, ..] => format!("did you mean `{near}`?"),
+                    [] => format!("expected a ready set, one of {}", SETS.join(", ")),
+                };
+                Err(Mistake {
+                    word: set,
+                    ..Mistake::at(first, what)
+                })
+            }
         }
     }
 
-    fn forbid(&mut self, shapes: Vec<Located>) -> Result<(), String> {
+    fn forbid(&mut self, at: Word, shapes: Vec<Located>, text: &str) -> Result<(), Mistake> {
         let forbidden = self.forbidden.get_or_insert_with(Vec::new);
+        let origin = Origin {
+            line: at.line,
+            text: text.to_string(),
+        };
+        self.origins.extend(shapes.iter().map(|_| origin.clone()));
         forbidden.extend(shapes);
         match forbidden.len() as u64 {
             0..=MOST_FORBIDDEN => Ok(()),
-            _ => Err(format!("more than {MOST_FORBIDDEN} forbidden shapes")),
+            _ => {
+                let what = format!("more than {MOST_FORBIDDEN} forbidden shapes up to here");
+                Err(Mistake::at(at, what))
+            }
         }
     }
 
     fn finish(self) -> Result<Routine, Mistake> {
+        let at_the_end = |what: &str| Mistake {
+            line: self.lines.max(1),
+            column: 1,
+            word: String::new(),
+            what: what.to_string(),
+        };
         let Some(start) = self.start else {
-            return Err(self.mistake("no line names the start".to_string()));
+            let what = "no line names the start; expected `start` and a state above";
+            return Err(at_the_end(what));
         };
         let Some(forbidden) = self.forbidden.clone().filter(|all| !all.is_empty()) else {
-            return Err(self.mistake("nothing is forbidden".to_string()));
+            let what = "nothing is forbidden; expected a line `forbidden` and shapes below it";
+            return Err(at_the_end(what));
         };
-        self.check_states()?;
+        if self.variables.all.is_empty() {
+            let what = "no line names the variables; expected `variables` and names above";
+            return Err(at_the_end(what));
+        }
         Ok(Routine {
+            warnings: self.warnings(&forbidden),
             title: self.title,
             job: Job {
-                variables: self.variables.len() as u64,
-                states: self.states.len() as u64,
-                start,
+                variables: self.variables.all.len() as u64,
+                states: self.states.all.len() as u64,
+                start: start as u64,
                 transitions: self.transitions,
                 forbidden,
             },
-            variables: self.variables,
-            states: self.states,
+            variables: self.variables.all,
+            states: self.states.all,
+            origins: self.origins,
         })
     }
+
+    /// States that may be misspelt: nothing leads there, or nothing leaves and nothing is forbidden
+    /// there.
+    fn warnings(&self, forbidden: &[Located]) -> Vec<Mistake> {
+        let mut warnings = Vec::new();
+        for (number, (name, &(line, column))) in self.states.all.iter().zip(&self.named).enumerate()
+        {
+            let state = number as u64;
+            let is_led_to =
+                self.start == Some(number) || self.transitions.iter().any(|t| t.to == state);
+            let is_left = self.transitions.iter().any(|t| t.from == state);
+            let is_watched = forbidden.iter().any(|bad| bad.state == state);
+            let what = match (is_led_to, is_left || is_watched || name == LAST) {
+                (false, _) => "nothing leads to this state",
+                (true, false) => "nothing leaves this state and nothing is forbidden there",
+                (true, true) => continue,
+            };
+            let others = self.states.all.iter().filter(|&other| other != name);
+            let meant = match nearest(name, others.map(String::as_str))[..] {
+                [near, ..] if !name.contains('.') => format!("; did you mean `{near}`?"),
+                _ => String::new(),
+            };
+            warnings.push(Mistake {
+                line,
+                column,
+                word: name.clone(),
+                what: format!("{what}{meant}"),
+            });
+        }
+        warnings
+    }
 }
 
-fn check_name(name: &str, allowed: impl Fn(char) -> bool) -> Result<(), String> {
-    match !name.is_empty() && name.chars().all(allowed) {
-        true => Ok(()),
-        false => Err(format!("'{name}' is no name")),
+/// What is wrong with a line that has no arrow.
+fn no_transition(first: Word, mut words: Words) -> Mistake {
+    if let [near, ..] = nearest(first.text, HEADS)[..] {
+        if near != first.text {
+            return Mistake::at(first, format!("did you mean `{near}`?"));
+        }
     }
-}
-
-/// The kind and the names of the operands of an operation written without blanks.
-fn split_operation(text: &str) -> Option<(u64, &str, &str)> {
-    let of_call = |name| {
-        text.strip_prefix(name)?
-            .strip_prefix('(')?
-            .strip_suffix(')')
-    };
-    if text == "skip" {
-        return Some((EQUAL, "null", "null"));
+    while !words.is_empty() {
+        words.take();
     }
-    if let Some(a) = of_call("new") {
-        return Some((NEW, a, "null"));
-    }
-    if let Some(a) = of_call("delete") {
-        return Some((DELETE, a, "null"));
-    }
-    if let Some((a, b)) = text.split_once(":=") {
-        return Some(match (a.strip_suffix(".next"), b.strip_suffix(".next")) {
-            (None, None) => (ASSIGN, a, b),
-            (None, Some(b)) => (FOLLOW, a, b),
-            (Some(a), None) => (LINK, a, b),
-            (Some(_), Some(_)) => return None,
-        });
-    }
-    if let Some((a, b)) = text.split_once("!=") {
-        return Some((DIFFERENT, a, b));
-    }
-    let (a, b) = text.split_once('=')?;
-    Some((EQUAL, a, b))
+    let what = "expected `->` and a state: a line is a state, an operation, `->` and a state";
+    Mistake::at(words.peek(), what)
 }
 
 #[cfg(test)]
@@ -291,6 +343,7 @@ steps
         let routine = parse(SMALL).unwrap();
         assert_eq!(routine.title, "Makes one cell.");
         assert_eq!(routine.states, ["begin", "linked", "end"]);
+        assert_eq!(routine.warnings, []);
         let job = &routine.job;
         let bytes = [
             1, 2, 3, 0, 4, // two variables, three states, start 0, four transitions
@@ -305,79 +358,119 @@ steps
         ];
         assert_eq!(job.bytes(), bytes);
         assert_eq!(Job::read(&bytes), Ok(job.clone()));
-        let texts = ["new(x)", "x.next := null", "y := x.next", "null = null"];
+        let texts = ["new(x)", "x.next := null", "y := x.next", "skip"];
         for (transition, text) in job.transitions.iter().zip(texts) {
             assert_eq!(routine.operation(transition.operation), text);
         }
     }
 
     #[test]
-    fn mistakes_name_their_line() {
+    fn forbidden_shapes_know_their_line() {
+        let routine = parse(SMALL).unwrap();
+        let origins: Vec<(usize, &str)> = routine
+            .origins
+            .iter()
+            .map(|origin| (origin.line, &origin.text[..]))
+            .collect();
+        let shape = "x at c, c -> d, d -> *, cell e";
+        let steps = (12, "steps");
+        assert_eq!(origins, [(11, shape), steps, steps, steps, steps]);
+    }
+
+    /// The mistake after a change of the small routine.
+    fn mistake(old: &str, new: &str) -> String {
+        assert!(SMALL.contains(old), "{old}");
+        parse(&SMALL.replacen(old, new, 1)).unwrap_err().to_string()
+    }
+
+    #[test]
+    fn mistakes_in_operations() {
         let rows = [
-            ("y := x.next", "y := z.next", 7, "no variable is named 'z'"),
+            ("x.next    ->", "x.nxt     ->", "line 7, column 16: `x.nxt`: did you mean `x.next`?"),
             (
-                "new(x)",
-                "new(null)",
-                5,
-                "null can't stand there: new(null)",
+                "y := x.next",
+                "yy := x.next",
+                "line 7, column 11: `yy`: no variable has this name; did you mean `y`?",
             ),
-            ("new(x)", "make(x)", 5, "no operation: make(x)"),
+            (
+                "y := x.next",
+                "y := next.next",
+                "line 7, column 16: `next.next`: expected a variable, one of x, y",
+            ),
+            ("y := x.next", "y.next := x.next", "line 7, column 21: `x.next`: only one side can be a link: load it into a variable first"),
+            ("y := x.next", "y = x.next", "line 7, column 15: `x.next`: a test is of variables and null: load the link into one first"),
+            ("y := x.next", "y == x", "line 7, column 13: `==`: expected `:=`, which sets, or `=` or `!=`, which test"),
+            ("y := x.next", "y := x z", "line 7, column 18: `z`: expected the end of the line"),
+            ("y := x.next", "null := x", "line 7, column 11: `null`: can't be set: expected a variable or its link"),
+            ("y := x.next", "y := null.next", "line 7, column 16: `null.next`: null has no link"),
+            ("new(x)", "nwe(x)", "line 5, column 11: `nwe`: did you mean `new`?"),
+            ("new(x)", "new(null)", "line 5, column 15: `null`: expected a variable"),
+            ("new(x)", "new(x", "line 5, column 25: `->`: expected `)`"),
+            ("skip  ", "sikp  ", "line 8, column 11: `sikp`: expected one of `a = b`, `a != b`, `a := b`, `a := b.next`, `a.next := b`, `new(a)`, `delete(a)`, `skip`"),
+        ];
+        for (old, new, what) in rows {
+            assert_eq!(mistake(old, new), what);
+        }
+    }
+
+    #[test]
+    fn mistakes_in_lines() {
+        let rows = [
+            ("x.next := null -> end", "x.next := null", "line 6, column 26: expected `->` and a state: a line is a state, an operation, `->` and a state"),
+            ("-> linked", "->", "line 5, column 29: expected the name of a state"),
+            ("forbidden", "forbid", "line 10, column 1: `forbid`: did you mean `forbidden`?"),
+            ("variables x y", "variable x y", "line 2, column 1: `variable`: did you mean `variables`?"),
+            ("variables x y", "variables x x", "line 2, column 13: `x`: the word is taken: expected another name"),
+            ("variables x y", "", "line 5, column 15: `x`: expected a variable, but none is named above"),
+            ("start     begin", "", "line 12, column 1: no line names the start; expected `start` and a state above"),
+            ("start     begin", "start", "line 3, column 7: expected the name of a state"),
+        ];
+        for (old, new, what) in rows {
+            assert_eq!(mistake(old, new), what);
+        }
+    }
+
+    #[test]
+    fn mistakes_in_what_is_forbidden() {
+        let rows = [
+            ("end       x at c", "enb       x at c", "line 11, column 1: `enb`: no state has this name; did you mean `end`?"),
+            ("end       x at c", "middle    x at c", "line 11, column 1: `middle`: expected a state, one of begin, linked, end"),
+            ("x at c", "x ta c", "line 11, column 13: `ta`: did you mean `at`?"),
+            ("x at c", "x within c", "line 11, column 13: `within`: expected `x at p`, `c -> p` or `cell c`, where p is a cell, # or *"),
+            ("d -> *", "c -> *", "line 11, column 27: `c`: is told twice"),
+            ("d -> *", "x -> *", "line 11, column 27: `x`: is a variable, so no cell can have its name"),
+            ("d -> *", "d -> ?", "line 11, column 32: `?`: expected the name of a cell, # or *"),
+            ("steps", "end lost block:", "line 12, column 17: expected one or more variables"),
+            ("steps", "end lost blok: x", "line 12, column 5: `lost blok`: did you mean `lost block`?"),
+            ("steps", "end sorted: x", "line 12, column 5: `sorted`: expected a ready set, one of no list, lost block, ring, no ring, shared"),
+            ("steps", "end", "line 12, column 5: expected a shape, as `x at #`, or a ready set, as `no list: x`"),
+        ];
+        for (old, new, what) in rows {
+            assert_eq!(mistake(old, new), what);
+        }
+    }
+
+    /// A job with a dead end, or with a state that no run comes to, is a right one.
+    #[test]
+    fn states_that_may_be_misspelt_are_warnings() {
+        let rows = [
             (
                 "x.next := null -> end",
-                "x.next := null",
-                6,
-                "expected: state, operation, ->, state",
-            ),
-            (
-                "end       x at c",
-                "stop      x at c",
-                11,
-                "no state is named stop",
-            ),
-            (
-                "x at c",
-                "x in c",
-                11,
-                "'x in c' is none of 'x at p', 'c -> p' and 'cell c'",
-            ),
-            ("d -> *", "c -> *", 11, "c is told twice"),
-            (
-                "d -> *",
-                "x -> *",
-                11,
-                "x is a variable, so no cell can have its name",
-            ),
-            (
-                "x.next := null -> end",
-                "x.next := null -> ende",
-                6,
-                "nothing leaves state ende and nothing is forbidden there",
+                "x.next := null -> edn",
+                "line 6, column 29: `edn`: nothing leaves this state and nothing is forbidden \
+                 there; did you mean `end`?",
             ),
             (
                 "end       skip",
                 "stop      skip",
-                8,
-                "nothing leads to state stop",
-            ),
-            ("start     begin", "", 12, "no line names the start"),
-            (
-                "forbidden",
-                "forbid",
-                10,
-                "expected: state, operation, ->, state",
-            ),
-            (
-                "steps",
-                "end lost block:",
-                12,
-                "no ready set 'lost block' of 0 variables",
+                "line 8, column 1: `stop`: nothing leads to this state",
             ),
         ];
-        for (old, new, line, what) in rows {
-            let text = SMALL.replacen(old, new, 1);
-            let mistake = parse(&text).unwrap_err();
-            let what = what.to_string();
-            assert_eq!(mistake, Mistake { line, what });
+        for (old, new, what) in rows {
+            let routine = parse(&SMALL.replacen(old, new, 1)).unwrap();
+            let warnings: Vec<String> = routine.warnings.iter().map(Mistake::to_string).collect();
+            assert_eq!(warnings.last().unwrap(), what);
+            assert!(Job::read(&routine.job.bytes()).is_ok());
         }
     }
 }

@@ -21,9 +21,6 @@ pub struct Link {
 /// start state and satisfied by the empty heap.
 pub struct Chain {
     pub links: Vec<Link>,
-    /// Whether a run reaches a heap that satisfies the forbidden shape. Otherwise the rules forget
-    /// too much on the way to tell.
-    pub is_a_run: bool,
 }
 
 /// The chain through an obstruction; nothing where a step was made more general on the way, so that
@@ -37,10 +34,7 @@ pub fn chain(
     let mut links = to_forbidden(closure, obstruction)?;
     links.reverse();
     links.extend(to_start(job, reached, obstruction));
-    Some(Chain {
-        links,
-        is_a_run: obstruction.because.is_none() && obstruction.heap < reached.of_runs,
-    })
+    Some(Chain { links })
 }
 
 /// From the shape after the obstructed one to the forbidden one.

@@ -5,9 +5,10 @@ use std::collections::HashMap;
 
 use super::images::{features, find_images, Features};
 use super::smaller::{without_middle, without_unmet};
+use crate::baseline::operations::{self, Applied};
 use crate::baseline::shape::{Located, Shape, CELL, DANGLING, HELPER, NOWHERE, NULL};
 use crate::reference::job::Job;
-use crate::reference::operation::{Operation, ASSIGN, DELETE, DIFFERENT, EQUAL, FOLLOW, LINK, NEW};
+use crate::reference::operation::{Operation, DELETE};
 
 /// How a heap was reached; the numbers are of the heap before and of the transition.
 #[derive(Clone, Copy, PartialEq, Eq)]
@@ -31,34 +32,38 @@ pub struct Exploration<'a> {
     pub most_cells: u8,
     most_heaps: usize,
     pub reached: Vec<Reached>,
-    /// How many of the reached heaps are those of runs.
-    pub of_runs: usize,
+    /// Whether there are no more of at most so many cells.
+    pub is_complete: bool,
     by_state: Vec<Vec<usize>>,
     known: HashMap<Located, usize>,
 }
 
 impl<'a> Exploration<'a> {
-    /// Explores heaps of at most so many cells, until there are `most_heaps`: first those of runs,
-    /// then with them what the rules can't tell apart from them.
-    pub fn new(job: &'a Job, most_cells: u8, most_heaps: usize) -> Exploration<'a> {
+    /// Explores the heaps of at most so many cells that runs reach, those of shorter runs first,
+    /// until there are `most_heaps`.
+    pub fn of_runs(job: &'a Job, most_cells: u8, most_heaps: usize) -> Exploration<'a> {
         let mut exploration = Exploration {
             job,
             most_cells,
             most_heaps,
             reached: Vec::new(),
-            of_runs: 0,
+            is_complete: false,
             by_state: vec![Vec::new(); job.states as usize],
             known: HashMap::new(),
         };
         exploration.add(job.start as u8, empty_heap(job), Step::Start);
         exploration.explore(Exploration::take_steps);
-        exploration.of_runs = exploration.reached.len();
-        exploration.explore(|exploration, number| {
+        exploration
+    }
+
+    /// With the heaps of runs also what the rules can't tell apart from them.
+    pub fn widened(mut self) -> Exploration<'a> {
+        self.explore(|exploration, number| {
             exploration.take_parts(number);
             exploration.take_steps(number);
             exploration.take_forgetful_deletes(number);
         });
-        exploration
+        self
     }
 
     fn explore(&mut self, mut take: impl FnMut(&mut Self, usize)) {
@@ -67,6 +72,7 @@ impl<'a> Exploration<'a> {
             take(self, next);
             next += 1;
         }
+        self.is_complete = next == self.reached.len();
     }
 
     /// Adds what the transitions lead to.
@@ -152,43 +158,13 @@ fn empty_heap(job: &Job) -> Shape {
     heap
 }
 
-/// The heap after an operation, nothing where it isn't enabled.
+/// The heap after an operation, nothing where it isn't enabled or the heap is full.
 pub fn after(heap: &Shape, operation: Operation) -> Option<Shape> {
-    let Operation { kind, a, b } = operation;
-    let (at_a, at_b) = (heap.variables[a], heap.variables[b]);
     let mut after = *heap;
-    let enabled = match kind {
-        EQUAL => at_a != DANGLING && at_a == at_b,
-        DIFFERENT => at_a != DANGLING && at_b != DANGLING && at_a != at_b,
-        ASSIGN => at_b != DANGLING,
-        FOLLOW => at_b >= CELL && heap.link_of(at_b) != DANGLING,
-        LINK => at_a >= CELL && at_b != DANGLING,
-        NEW => true,
-        DELETE => at_a >= CELL,
-        _ => unreachable!("an operation has a kind of the table"),
-    };
-    if !enabled {
-        return None;
+    match operations::apply(&mut after, operation) {
+        Applied::Moved => Some(after),
+        Applied::Blocked | Applied::Full => None,
     }
-    match kind {
-        ASSIGN => after.variables[a] = at_b,
-        FOLLOW => after.variables[a] = heap.link_of(at_b),
-        LINK => after.set_link_of(at_a, at_b),
-        NEW => {
-            after.variables[a] = heap.fresh();
-            after.add_cell(DANGLING);
-        }
-        DELETE => {
-            for place in after.variables.iter_mut().chain(&mut after.links) {
-                if *place == at_a {
-                    *place = DANGLING;
-                }
-            }
-            after.remove_cell(at_a);
-        }
-        _ => {}
-    }
-    Some(after)
 }
 
 /// The heap with its cells numbered in the order that following links from the variables meets

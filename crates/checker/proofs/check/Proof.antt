@@ -1,5 +1,5 @@
 use mathlib.Core.Path.{_∙_, sym}
-use Rattle.checker.proofs.Verdicts.{job-length, certificate-length, job-refused, job-read, with-safe}
+use Rattle.checker.proofs.Verdicts.{job-length, certificate-length, job-refused, job-read, promised}
 use borrow.Author.Tests.{not-true, not-false}
 use Rattle.checker.proofs.Verdicts.{fits-most}
 use borrow.Author.Needs.{needs}
@@ -12,7 +12,7 @@ fits-requires c κs = search needs
 returns : tie.Need-returns
 returns c =
     let a = c .before .before .before .before .args in
-    with-safe (a .job .now) (a .cert .now) _ (job-length (a .job .now) (a .cert .now) (sym (c .before .fits2 .ensures) ∙ not-true _ (c .if1 .taken)))
+    promised (a .job .now) (a .cert .now) _ (job-length (a .job .now) (a .cert .now) (sym (c .before .fits2 .ensures) ∙ not-true _ (c .if1 .taken)))
 
 fits-requires-2 : tie.Need-fits-requires-2
 fits-requires-2 c κs = search needs
@@ -20,7 +20,7 @@ fits-requires-2 c κs = search needs
 returns-2 : tie.Need-returns-2
 returns-2 c =
     let a = c .before .before .before .before .before .before .args in
-    with-safe (a .job .now) (a .cert .now) _ (certificate-length (a .job .now) (a .cert .now) (sym (c .before .before .before .fits2 .ensures) ∙ not-false _ (c .before .before .if1 .left)) (sym (c .before .fits3 .ensures) ∙ not-true _ (c .if2 .taken)))
+    promised (a .job .now) (a .cert .now) _ (certificate-length (a .job .now) (a .cert .now) (sym (c .before .before .before .fits2 .ensures) ∙ not-false _ (c .before .before .if1 .left)) (sym (c .before .fits3 .ensures) ∙ not-true _ (c .if2 .taken)))
 
 read-job-requires : tie.Need-read-job-requires
 read-job-requires c κs = search needs
@@ -41,13 +41,13 @@ returns-3 : tie.Need-returns-3
 returns-3 c =
     let a = c .before .before .before .before .before .before .before .before .before .before .args in
     let v = c .before .r .given in
-    with-safe (a .job .now) (a .cert .now) _ (job-refused (a .job .now) (a .cert .now) (sym (c .before .before .before .before .before .before .before .fits2 .ensures) ∙ not-false _ (c .before .before .before .before .before .before .if1 .left)) (sym (c .before .before .before .before .before .fits3 .ensures) ∙ not-false _ (c .before .before .before .before .if2 .left)) _ _ (rw (v .1) at (c .before .before .before .read-job .ensures)))
+    promised (a .job .now) (a .cert .now) _ (job-refused (a .job .now) (a .cert .now) (sym (c .before .before .before .before .before .before .before .fits2 .ensures) ∙ not-false _ (c .before .before .before .before .before .before .if1 .left)) (sym (c .before .before .before .before .before .fits3 .ensures) ∙ not-false _ (c .before .before .before .before .if2 .left)) _ _ (rw (v .1) at (c .before .before .before .read-job .ensures)))
 
 returns-4 : tie.Need-returns-4
 returns-4 c =
     let a = c .before .before .before .before .before .before .before .before .before .before .before .args in
     let v = c .before .before .r2 .given in
-    with-safe (a .job .now) (a .cert .now) _ (c .check-certificate .ensures ∙ job-read (a .job .now) (a .cert .now) (sym (c .before .before .before .before .before .before .before .before .fits2 .ensures) ∙ not-false _ (c .before .before .before .before .before .before .before .if1 .left)) (sym (c .before .before .before .before .before .before .fits3 .ensures) ∙ not-false _ (c .before .before .before .before .before .if2 .left)) (v .0 .0) (rw (v .1) at (c .before .before .before .before .read-job .ensures)))
+    promised (a .job .now) (a .cert .now) _ (c .check-certificate .ensures ∙ job-read (a .job .now) (a .cert .now) (sym (c .before .before .before .before .before .before .before .before .fits2 .ensures) ∙ not-false _ (c .before .before .before .before .before .before .before .if1 .left)) (sym (c .before .before .before .before .before .before .fits3 .ensures) ∙ not-false _ (c .before .before .before .before .before .if2 .left)) (v .0 .0) (rw (v .1) at (c .before .before .before .before .read-job .ensures)))
 
 pub check-spec : {M : Type 1} → statement M
 check-spec =

@@ -18,32 +18,32 @@ enum-known-r-2 : tie.Need-enum-known-r-2
 enum-known-r-2 c = search needs
 
 slice-aggregate-all : tie.Need-slice-aggregate-all
-slice-aggregate-all c = sym ((rw (c .before .before .r2 .given .1) at (c .before .before .before .before .read-members .ensures)) .size)
+slice-aggregate-all c = sym ((rw (c .before .before .r2 .given .1) at (c .before .before .before .before .read-members .ensures .0)) .size)
 
 slice-aggregate-check-covers : tie.Need-slice-aggregate-check-covers
 slice-aggregate-check-covers c =
-    let m = rw (c .before .before .before .r2 .given .1) at (c .before .before .before .before .before .read-members .ensures) in
+    let m = rw (c .before .before .before .r2 .given .1) at (c .before .before .before .before .before .read-members .ensures .0) in
     sym (length-take-le _ _ (omega (arith, m .size, m .number-range .1)))
 
 check-covers-requires : tie.Need-check-covers-requires
 check-covers-requires c κs =
     let a = c .before .before .before .before .before .before .before .before .before .args in
     let p = c .before .before .before .before .before .before .before .before .before .pre in
-    let m = rw (c .before .before .before .r2 .given .1) at (c .before .before .before .before .before .read-members .ensures) in
-    (p .0, m .table (bounds (a .job .now) (a .cert .now) (a .h) (p .0) (p .1)), m .inside, p .1)
+    let m = rw (c .before .before .before .r2 .given .1) at (c .before .before .before .before .before .read-members .ensures .0) in
+    (p .0, m .table-is (bounds (a .job .now) (a .cert .now) (a .h) (p .0) (p .1)), m .inside, p .1)
 
 returns : tie.Need-returns
 returns c =
     let a = c .before .before .before .before .before .before .before .args in
     let v = c .before .r .given in
-    certificate-refused (a .cert .now) (fileIn (a .job .now) (a .h)) _ _ (rw (v .1) at (c .before .before .before .read-members .ensures) .0)
+    certificate-refused (a .cert .now) (fileIn (a .job .now) (a .h)) _ _ (rw (v .1) at (c .before .before .before .read-members .ensures .0))
 
 returns-2 : tie.Need-returns-2
 returns-2 c =
     let a = c .before .before .before .before .before .before .before .before .before .before .args in
     let p = c .before .before .before .before .before .before .before .before .before .before .pre in
     let v = c .before .before .before .before .r2 .given in
-    let m = rw (v .1) at (c .before .before .before .before .before .before .read-members .ensures) in
+    let m = rw (v .1) at (c .before .before .before .before .before .before .read-members .ensures .0) in
     let b = bounds (a .job .now) (a .cert .now) (a .h) (p .0) (p .1) in
     let f = fileIn (a .job .now) (a .h) in
     c .check-covers .ensures

@@ -8,8 +8,8 @@ use borrow.Author.Needs.{needs}
 use Rattle.checker.proofs.check_covers.Statement.{statement}
 use Rattle.checker.proofs.check_covers.Tie as tie
 
-take-covers-requires : tie.Need-take-covers-requires
-take-covers-requires c κs = c .before .before .before .pre
+check-owed-requires : tie.Need-check-owed-requires
+check-owed-requires c κs = c .before .before .before .pre
 
 enum-known-g : tie.Need-enum-known-g
 enum-known-g c = search needs
@@ -21,7 +21,7 @@ returns : tie.Need-returns
 returns c =
     let a = c .before .before .before .before .before .before .before .before .before .args in
     let v = c .before .before .before .g2 .given in
-    covers-left (a .cert .now) (fileIn (a .job .now) (a .h) .job) (membersAt (a .cert .now) (a .h .variables) (a .starts .now)) (a .at) _ (c .before .before .before .before .before .take-covers .ensures) (v .0 .0) (v .1) (omega arith)
+    covers-left (a .cert .now) (fileIn (a .job .now) (a .h) .job) (membersAt (a .cert .now) (a .h .variables) (a .starts .now)) (a .at) _ (c .before .before .before .before .before .check-owed .ensures) (v .0 .0) (v .1) (omega arith)
 
 cast-t14 : tie.Need-cast-t14
 cast-t14 c = omega (arith, c .before .before .before .before .before .before .before .before .before .before .pre .0 .bads-number)
@@ -33,19 +33,19 @@ returns-2 : tie.Need-returns-2
 returns-2 c =
     let a = c .before .before .before .before .before .before .before .args in
     let v = c .before .g .given in
-    covers-refused (a .cert .now) (fileIn (a .job .now) (a .h) .job) (membersAt (a .cert .now) (a .h .variables) (a .starts .now)) (a .at) _ (c .before .before .before .take-covers .ensures) (v .0 .0) (v .0 .1 .0) (v .1)
+    covers-refused (a .cert .now) (fileIn (a .job .now) (a .h) .job) (membersAt (a .cert .now) (a .h .variables) (a .starts .now)) (a .at) _ (c .before .before .before .check-owed .ensures) (v .0 .0) (v .0 .1 .0) (v .1)
 
 returns-3 : tie.Need-returns-3
 returns-3 c =
     let a = c .before .before .before .before .before .before .before .before .before .before .args in
     let v = c .before .before .before .before .g2 .given in
-    covers-taken (a .cert .now) (fileIn (a .job .now) (a .h) .job) (membersAt (a .cert .now) (a .h .variables) (a .starts .now)) (a .at) _ (c .before .before .before .before .before .before .take-covers .ensures) (v .0 .0) (v .1) (a .h .bads) _ (omega arith) (entries-number (a .job .now) (a .h .variables) (a .h .«bads_at») (a .h .bads)) (sym (length-map (a .starts .now) (locatedAt (a .cert .now) (a .h .variables))))
+    covers-taken (a .cert .now) (fileIn (a .job .now) (a .h) .job) (membersAt (a .cert .now) (a .h .variables) (a .starts .now)) (a .at) _ (c .before .before .before .before .before .before .check-owed .ensures) (v .0 .0) (v .1) (a .h .bads) _ (omega arith) (entries-number (a .job .now) (a .h .variables) (a .h .«bads_at») (a .h .bads)) (sym (length-map (a .starts .now) (locatedAt (a .cert .now) (a .h .variables))))
 
 pub check-covers-spec : {M : Type 1} → statement M
 check-covers-spec =
     tie.close
     (tie.spec
-    take-covers-requires
+    check-owed-requires
     enum-known-g
     enum-known-g-2
     returns

@@ -1,16 +1,12 @@
+-- Each return is the case of `readCover` that the tests before it leave.
 use Prim.Native.Nat.{_<_}
-use mathlib.Core.Path.{_≡_, _∙_, sym}
+use mathlib.Core.Path.{_∙_, sym}
 use native.Mathlib.Omega.{arith}
 use borrow.Author.Needs.{needs}
 use borrow.Author.Tests.{not-true, not-false}
-use lib.ListN.{getD}
-use Rattle.cover.specs.Test.{embeds?}
-use Rattle.layout.specs.Arrays.{shapeIn}
-use Rattle.layout.specs.Entries.{locatedAt}
-use Rattle.embedding.specs.Images.{imagesIn}
-use Rattle.embedding.proofs.Images.{images-none}
-use Rattle.covering.specs.Reading.{cellsAt}
-use Rattle.covering.proofs.Taking.{held, take-refused, other-state, no-embedding, take-embedding}
+use Rattle.layout.specs.ShapeArray.{shapeIn}
+use Rattle.covering.proofs.Images.{images-none}
+use Rattle.covering.proofs.Taking.{take-refused, other-state, no-embedding, take-embedding}
 use Rattle.covering.proofs.take_cover.Statement.{statement}
 use Rattle.covering.proofs.take_cover.Tie as tie
 
@@ -33,7 +29,7 @@ returns : tie.Need-returns
 returns c =
     let a = c .before .before .before .before .before .before .before .before .args in
     let h = c .before .before .before .before .before .cells-held .ensures in
-    let shape = shapeIn (a .variables) (a .n) (a .vars .now) (a .links .now) in
+    let shape = shapeIn (a .variables) (a .s .now) in
     let byte : a .state < 256 = omega (arith, c .before .before .before .before .before .before .before .before .fits .state) in
     take-refused _ _ _ _ _ byte shape _ (sym (h .2)) _ _ (c .before .before .before .read-cover .ensures) _ _ _ (c .refused .ensures) (c .before .enum-told .given .1)
 
@@ -53,7 +49,7 @@ returns-2 : tie.Need-returns-2
 returns-2 c =
     let a = c .before .before .before .before .before .before .before .before .before .before .before .args in
     let h = c .before .before .before .before .before .before .before .before .cells-held .ensures in
-    let shape = shapeIn (a .variables) (a .n) (a .vars .now) (a .links .now) in
+    let shape = shapeIn (a .variables) (a .s .now) in
     let byte : a .state < 256 = omega (arith, c .before .before .before .before .before .before .before .before .before .before .before .fits .state) in
     other-state _ _ _ _ _ byte shape _ (sym (h .2)) _ _ (c .before .before .before .before .before .before .read-cover .ensures) _ _ (c .before .before .before .before .r .given .1) (c .if1 .taken)
 
@@ -62,35 +58,25 @@ embeds-requires c κs =
     let h = c .before .before .before .before .before .before .before .before .before .cells-held .ensures in
     let k = c .before .before .before .before .before .before .before .read-cover .ensures in
     let e = c .before .before .before .before .before .r .given .1 in
-    (k .whole _ _ e, h .0, h .1, k .images _ _ e)
-
--- what the test of the embedding says of the shape itself
-says : (c : tie.After-embeds) → let a = c .before .before .before .before .before .before .before .before .before .before .before .before .before .args in
-    let m = c .before .before .before .before .before .before .r .given .0 .0 in
-    c .embeds .result
-    ≡ embeds? (locatedAt (a .cert .now) (a .variables) (getD (a .starts .now) m 0) .shape) (shapeIn (a .variables) (a .n) (a .vars .now) (a .links .now))
-    (imagesIn (cellsAt (a .cert .now) (a .variables) (a .starts .now) m) (c .before .before .before .before .before .before .before .before .read-cover .last .1 .1 .1 .1 .1 .0))
-says c =
-    let a = c .before .before .before .before .before .before .before .before .before .before .before .before .before .args in
-    rw (c .before .before .before .before .before .before .before .before .before .before .cells-held .ensures .2, held (a .n) (a .links .now)) at (c .embeds .ensures)
+    (k .whole _ _ e, h .0, sym (h .2), k .images _ _ e)
 
 returns-3 : tie.Need-returns-3
 returns-3 c =
     let a = c .before .before .before .before .before .before .before .before .before .before .before .before .before .before .args in
     let h = c .before .before .before .before .before .before .before .before .before .before .before .cells-held .ensures in
-    let shape = shapeIn (a .variables) (a .n) (a .vars .now) (a .links .now) in
+    let shape = shapeIn (a .variables) (a .s .now) in
     let byte : a .state < 256 = omega (arith, c .before .before .before .before .before .before .before .before .before .before .before .before .before .before .fits .state) in
     no-embedding _ _ _ _ _ byte shape _ (sym (h .2)) _ _ (c .before .before .before .before .before .before .before .before .before .read-cover .ensures) _ _ (c .before .before .before .before .before .before .before .r .given .1) (c .before .before .before .if1 .left)
-    (sym (says (c .before)) ∙ not-true _ (c .if2 .taken))
+    (sym (c .before .embeds .ensures) ∙ not-true _ (c .if2 .taken))
 
 returns-4 : tie.Need-returns-4
 returns-4 c =
     let a = c .before .before .before .before .before .before .before .before .before .before .before .before .before .before .args in
     let h = c .before .before .before .before .before .before .before .before .before .before .before .cells-held .ensures in
-    let shape = shapeIn (a .variables) (a .n) (a .vars .now) (a .links .now) in
+    let shape = shapeIn (a .variables) (a .s .now) in
     let byte : a .state < 256 = omega (arith, c .before .before .before .before .before .before .before .before .before .before .before .before .before .before .fits .state) in
     take-embedding _ _ _ _ _ byte shape _ (sym (h .2)) _ _ (c .before .before .before .before .before .before .before .before .before .read-cover .ensures) _ _ (c .before .before .before .before .before .before .before .r .given .1) (c .before .before .before .if1 .left)
-    (sym (says (c .before)) ∙ not-false _ (c .if2 .left))
+    (sym (c .before .embeds .ensures) ∙ not-false _ (c .if2 .left))
 
 pub take-cover-spec : {M : Type 1} → statement M
 take-cover-spec =

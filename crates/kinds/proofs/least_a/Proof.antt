@@ -1,16 +1,27 @@
+-- The column of the code is that of the table.
+use mathlib.Core.List.{[], _∷_}
+use mathlib.Core.Path.{refl}
 use native.Mathlib.Omega.{arith}
-use Rattle.kinds.proofs.Rows.{least-a-some, least-a-none}
+use lib.ListN.{getD}
+use Rattle.kinds.specs.Kinds.{leastA}
+use Rattle.kinds.proofs.Rows.{no-kind, column}
+use borrow.Author.Needs.{needs}
 use Rattle.kinds.proofs.least_a.Statement.{statement}
 use Rattle.kinds.proofs.least_a.Tie as tie
 
 returns : tie.Need-returns
-returns c = least-a-none (c .before .args .kind) (λ l h. omega arith)
+unfolding leastA
+returns c = rw (no-kind (c .before .args .kind) (λ l h. omega arith)) refl
+
+mul-result : tie.Need-mul-result
+mul-result c = search needs
+
+array-read-result : tie.Need-array-read-result
+array-read-result c = search needs
 
 returns-2 : tie.Need-returns-2
-returns-2 c = least-a-none (c .before .before .args .kind) (λ l h. omega arith)
-
-returns-3 : tie.Need-returns-3
-returns-3 c = least-a-some (c .before .before .args .kind) (omega arith) (omega arith)
+unfolding leastA
+returns-2 c = column (λ k. getD (0 ∷ 0 ∷ 0 ∷ 1 ∷ 1 ∷ 1 ∷ 1 ∷ 1 ∷ []) k 0) leastA 8 refl (c .before .args .kind) (omega arith)
 
 pub least-a-spec : {M : Type 1} → statement M
-least-a-spec = tie.close (tie.spec returns returns-2 returns-3)
+least-a-spec = tie.close (tie.spec returns mul-result array-read-result returns-2)

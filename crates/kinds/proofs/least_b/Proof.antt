@@ -1,12 +1,27 @@
-use Rattle.kinds.proofs.Rows.{least-b-some, least-b-none}
+-- The column of the code is that of the table.
+use mathlib.Core.List.{[], _∷_}
+use mathlib.Core.Path.{refl}
+use native.Mathlib.Omega.{arith}
+use lib.ListN.{getD}
+use Rattle.kinds.specs.Kinds.{leastB}
+use Rattle.kinds.proofs.Rows.{no-kind, column}
+use borrow.Author.Needs.{needs}
 use Rattle.kinds.proofs.least_b.Statement.{statement}
 use Rattle.kinds.proofs.least_b.Tie as tie
 
 returns : tie.Need-returns
-returns c = least-b-some (c .before .args .kind) (c .if1 .taken)
+unfolding leastB
+returns c = rw (no-kind (c .before .args .kind) (λ l h. omega arith)) refl
+
+mul-result : tie.Need-mul-result
+mul-result c = search needs
+
+array-read-result : tie.Need-array-read-result
+array-read-result c = search needs
 
 returns-2 : tie.Need-returns-2
-returns-2 c = least-b-none (c .before .args .kind) (c .if1 .left)
+unfolding leastB
+returns-2 c = column (λ k. getD (0 ∷ 0 ∷ 0 ∷ 0 ∷ 1 ∷ 0 ∷ 0 ∷ 0 ∷ []) k 0) leastB 8 refl (c .before .args .kind) (omega arith)
 
 pub least-b-spec : {M : Type 1} → statement M
-least-b-spec = tie.close (tie.spec returns returns-2)
+least-b-spec = tie.close (tie.spec returns mul-result array-read-result returns-2)

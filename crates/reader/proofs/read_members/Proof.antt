@@ -1,10 +1,12 @@
-use mathlib.Core.Path.{refl}
+-- `reader::read_members`: a return for each number that is refused, for a member that is refused, for the test at the start state, and for success; with each, what the table holds.
+use mathlib.Core.Path.{refl, sym, ap, _∙_}
 use native.Mathlib.Omega.{arith}
 use Rattle.format.specs.Certificate.{readMember}
 use Rattle.format.specs.Parser.{certificateBuffer, many}
+use Rattle.reader.specs.Members.{noted}
 use Rattle.reader.proofs.Answers.{got, lost, reached-got, reached-lost, in-range}
 use Rattle.reader.proofs.Many.{remembered}
-use Rattle.reader.proofs.Noting.{lost-version, lost-number, lost-member, lost-test, members-made}
+use Rattle.reader.proofs.Noting.{lost-version, lost-number, places-are, lost-member, lost-test, members-made}
 use borrow.Author.Needs.{needs}
 use Rattle.reader.proofs.read_members.Statement.{statement}
 use Rattle.reader.proofs.read_members.Tie as tie
@@ -18,7 +20,8 @@ enum-known-version c = search needs
 returns : tie.Need-returns
 returns c =
     let a = c .before .before .before .before .before .args in
-    (lost-version (a .cert .now) (a .variables) (a .states) (a .start) (lost (c .before .before .before .read-ranged .ensures) (c .before .version .given .1)), refl)
+    let (e, none) = lost-version (a .cert .now) (a .variables) (a .states) (a .start) (lost (c .before .before .before .read-ranged .ensures) (c .before .version .given .1)) in
+    (e, rw none refl)
 
 enum-known-version-2 : tie.Need-enum-known-version-2
 enum-known-version-2 c = search needs
@@ -59,27 +62,42 @@ enum-known-r-3 c = search needs
 returns-2 : tie.Need-returns-2
 returns-2 c =
     let a = c .before .before .before .before .before .before .before .before .before .args in
-    (lost-number (a .cert .now) (a .variables) (a .states) (a .start) (got (c .before .before .before .before .before .before .before .read-ranged .ensures) (c .before .before .before .before .before .version2 .given .1)) (lost (c .before .before .before .read-ranged2 .ensures) (c .before .number .given .1)), refl)
+    let e₁ = got (c .before .before .before .before .before .before .before .read-ranged .ensures) (c .before .before .before .before .before .version2 .given .1) in
+    let (e, none) = lost-number (a .cert .now) (a .variables) (a .states) (a .start) e₁ (lost (c .before .before .before .read-ranged2 .ensures) (c .before .number .given .1)) in
+    (e, rw none refl)
 
 returns-3 : tie.Need-returns-3
 returns-3 c =
-    let a = c .before .before .before .before .before .before .before .before .before .before .before .before .before .before .args in (
-      lost-member (a .cert .now) (a .variables) (a .states) (a .start) (got (c .before .before .before .before .before .before .before .before .before .before .before .before .read-ranged .ensures) (c .before .before .before .before .before .before .before .before .before .before .version2 .given .1)) (got (c .before .before .before .before .before .before .before .before .read-ranged2 .ensures) (c .before .before .before .before .before .before .number2 .given .1)) (reached-lost (c .before .before .before .note-members .ensures .0) (c .before .r .given .1)),
-      rw (c .before .r .given .1) at (c .before .before .before .note-members .ensures .1),
+    let a = c .before .before .before .before .before .before .before .before .before .before .before .before .before .before .args in
+    let e₁ = got (c .before .before .before .before .before .before .before .before .before .before .before .before .read-ranged .ensures) (c .before .before .before .before .before .before .before .before .before .before .version2 .given .1) in
+    let e₂ = got (c .before .before .before .before .before .before .before .before .read-ranged2 .ensures) (c .before .before .before .before .before .before .number2 .given .1) in
+    let n = c .before .before .before .note-members .ensures in (
+      lost-member (a .cert .now) (a .variables) (a .states) (a .start) e₁ e₂ (reached-lost (n .0) (c .before .r .given .1)),
+      n .1 ∙ ap (λ ps. noted ps (a .starts .now)) (sym (places-are (a .cert .now) (a .variables) (a .states) (a .start) e₁ e₂)),
     )
 
 returns-4 : tie.Need-returns-4
 returns-4 c =
     let a = c .before .before .before .before .before .before .before .before .before .before .before .before .before .before .before .before .before .args in
-    let n = rw (c .before .before .before .before .enum-told .given .1) at (c .before .before .before .before .before .before .note-members .ensures .1) in
-    (lost-test (a .cert .now) (a .variables) (a .states) (a .start) (got (c .before .before .before .before .before .before .before .before .before .before .before .before .before .before .before .read-ranged .ensures) (c .before .before .before .before .before .before .before .before .before .before .before .before .before .version2 .given .1)) (got (c .before .before .before .before .before .before .before .before .before .before .before .read-ranged2 .ensures) (c .before .before .before .before .before .before .before .before .before .number2 .given .1)) (reached-lost (c .before .before .before .test-members .ensures) (c .before .r2 .given .1)), n .size)
+    let e₁ = got (c .before .before .before .before .before .before .before .before .before .before .before .before .before .before .before .read-ranged .ensures) (c .before .before .before .before .before .before .before .before .before .before .before .before .before .version2 .given .1) in
+    let e₂ = got (c .before .before .before .before .before .before .before .before .before .before .before .read-ranged2 .ensures) (c .before .before .before .before .before .before .before .before .before .number2 .given .1) in
+    let n = c .before .before .before .before .before .before .note-members .ensures in (
+      lost-test (a .cert .now) (a .variables) (a .states) (a .start) e₁ e₂ (reached-lost (c .before .before .before .test-members .ensures) (c .before .r2 .given .1)),
+      n .1 ∙ ap (λ ps. noted ps (a .starts .now)) (sym (places-are (a .cert .now) (a .variables) (a .states) (a .start) e₁ e₂)),
+    )
 
 returns-5 : tie.Need-returns-5
 returns-5 c =
     let a = c .before .before .before .before .before .before .before .before .before .before .before .before .before .before .before .before .before .args in
-    let n = rw (c .before .before .before .before .enum-told .given .1) at (c .before .before .before .before .before .before .note-members .ensures .1) in
-    members-made (a .cert .now) (a .variables) (a .states) (a .start) (got (c .before .before .before .before .before .before .before .before .before .before .before .before .before .before .before .read-ranged .ensures) (c .before .before .before .before .before .before .before .before .before .before .before .before .before .version2 .given .1)) (got (c .before .before .before .before .before .before .before .before .before .before .before .read-ranged2 .ensures) (c .before .before .before .before .before .before .before .before .before .number2 .given .1)) (a .starts .now) _ _ _ (reached-got (c .before .before .before .before .before .before .note-members .ensures .0) (c .before .before .before .before .enum-told .given .1)) n
-    (reached-got (c .before .before .before .test-members .ensures) (c .before .r3 .given .1)) (c .before .before .before .before .before .before .before .note-members-arg .given .0 .1)
+    let e₁ = got (c .before .before .before .before .before .before .before .before .before .before .before .before .before .before .before .read-ranged .ensures) (c .before .before .before .before .before .before .before .before .before .before .before .before .before .version2 .given .1) in
+    let e₂ = got (c .before .before .before .before .before .before .before .before .before .before .before .read-ranged2 .ensures) (c .before .before .before .before .before .before .before .before .before .number2 .given .1) in
+    let n = c .before .before .before .before .before .before .note-members .ensures in (
+      members-made (a .cert .now) (a .variables) (a .states) (a .start) e₁ e₂ (a .starts .now) _ _ _
+          (reached-got (n .0) (c .before .before .before .before .enum-told .given .1)) (n .1)
+          (reached-got (c .before .before .before .test-members .ensures) (c .before .r3 .given .1))
+          (c .before .before .before .before .before .before .before .note-members-arg .given .0 .1),
+      n .1 ∙ ap (λ ps. noted ps (a .starts .now)) (sym (places-are (a .cert .now) (a .variables) (a .states) (a .start) e₁ e₂)),
+    )
 
 pub read-members-spec : {M : Type 1} → statement M
 read-members-spec =

@@ -1,3 +1,4 @@
+-- `reader::read_rest`: B is refused, or a forbidden shape, or bytes are left, or the header is made.
 use native.Mathlib.Omega.{arith}
 use Rattle.reader.proofs.Answers.{got, lost, reached-got, reached-lost}
 use Rattle.reader.proofs.Jobs.{lost-bads, lost-forbidden, left-over, rest-made}
@@ -5,8 +6,8 @@ use borrow.Author.Needs.{needs}
 use Rattle.reader.proofs.read_rest.Statement.{statement}
 use Rattle.reader.proofs.read_rest.Tie as tie
 
-read-ranged-requires : tie.Need-read-ranged-requires
-read-ranged-requires c κs = search needs
+job-ranged-requires : tie.Need-job-ranged-requires
+job-ranged-requires c κs = search needs
 
 enum-known-number : tie.Need-enum-known-number
 enum-known-number c = search needs
@@ -27,19 +28,19 @@ returns : tie.Need-returns
 returns c =
     let a = c .before .before .before .before .before .before .before .before .before .before .args in
     left-over (a .job .now) (a .front) (a .at)
-    (got (c .before .before .before .before .before .before .before .before .read-ranged .ensures) (c .before .before .before .before .before .before .number2 .given .1))
+    (got (c .before .before .before .before .before .before .before .before .job-ranged .ensures) (c .before .before .before .before .before .before .number2 .given .1))
     (reached-got (c .before .before .before .before .read-forbidden .ensures) (c .before .before .r2 .given .1)) (omega arith)
 
 returns-2 : tie.Need-returns-2
 returns-2 c =
     let a = c .before .before .before .before .before .args in
-    lost-bads (a .job .now) (a .front) (a .at) (lost (c .before .before .before .read-ranged .ensures) (c .before .number .given .1))
+    lost-bads (a .job .now) (a .front) (a .at) (lost (c .before .before .before .job-ranged .ensures) (c .before .number .given .1))
 
 returns-3 : tie.Need-returns-3
 returns-3 c =
     let a = c .before .before .before .before .before .before .before .before .before .args in
     lost-forbidden (a .job .now) (a .front) (a .at)
-    (got (c .before .before .before .before .before .before .before .read-ranged .ensures) (c .before .before .before .before .before .number2 .given .1))
+    (got (c .before .before .before .before .before .before .before .job-ranged .ensures) (c .before .before .before .before .before .number2 .given .1))
     (reached-lost (c .before .before .before .read-forbidden .ensures) (c .before .r .given .1))
 
 returns-4 : tie.Need-returns-4
@@ -47,7 +48,7 @@ returns-4 c =
     let a = c .before .before .before .before .before .before .before .before .before .before .args in (
       _,
       rest-made (a .job .now) (a .front) (a .at)
-          (got (c .before .before .before .before .before .before .before .before .read-ranged .ensures) (c .before .before .before .before .before .before .number2 .given .1))
+          (got (c .before .before .before .before .before .before .before .before .job-ranged .ensures) (c .before .before .before .before .before .before .number2 .given .1))
           (reached-got (c .before .before .before .before .read-forbidden .ensures) (c .before .before .r2 .given .1)) (omega arith),
     )
 
@@ -55,7 +56,7 @@ pub read-rest-spec : {M : Type 1} → statement M
 read-rest-spec =
     tie.close
     (tie.spec
-    read-ranged-requires
+    job-ranged-requires
     enum-known-number
     enum-known-number-2
     read-forbidden-requires

@@ -3,7 +3,8 @@ use native.Mathlib.Omega.{arith}
 use Rattle.format.specs.Parser.{jobBuffer}
 use Rattle.reader.proofs.Answers.{got, lost, passed}
 use Rattle.reader.specs.Number.{withoutValue}
-use Rattle.reader.proofs.Transitions.{most-bound, lost-from, lost-kind, lost-a, lost-b, to-last}
+use Rattle.kinds.proofs.Rows.{most-bound}
+use Rattle.reader.proofs.Transitions.{lost-from, lost-kind, lost-a, lost-b, to-last}
 use borrow.Author.Needs.{needs}
 use Rattle.reader.proofs.read_transition.Statement.{statement}
 use Rattle.reader.proofs.read_transition.Tie as tie

@@ -1,6 +1,6 @@
 use mathlib.Core.Path.{sym}
 use native.Mathlib.Omega.{arith}
-use Rattle.embedding.proofs.Images.{image-read, image-past}
+use Rattle.covering.proofs.Images.{image-read, image-past}
 use borrow.Author.Needs.{needs}
 use Rattle.covering.proofs.fitting.image_of.Statement.{statement}
 use Rattle.covering.proofs.fitting.image_of.Tie as tie

@@ -1,22 +1,23 @@
+-- The loop follows the paths of the links in turn: those of the cells before i fit, and are marked (`Fitting`).
 use Prim.Native.Nat.{_-_, _≤_}
 use mathlib.Core.Logic.{⊎-elim}
-use mathlib.Core.Path.{_∙_}
+use mathlib.Core.Path.{_∙_, sym}
 use native.Mathlib.Omega.{arith}
 use Rattle.shape.specs.Shape.{Shape}
-use Rattle.embedding.specs.Marks.{Linking}
-use Rattle.embedding.proofs.Fitting.{Fitting, fit-none, fit-all, fit-skip, fit-walk, fit-good, fit-bad}
+use Rattle.covering.specs.Marks.{Linking}
+use Rattle.covering.proofs.Links.{Fitting, fit-none, fit-all, fit-skip, fit-walk, fit-good, fit-bad}
 use borrow.Author.Needs.{needs}
 use Rattle.covering.proofs.fitting.links_fit.Statement.{statement}
 use Rattle.covering.proofs.fitting.links_fit.Tie as tie
 
 abbrev Inv-loop : tie.InvT-loop
-Inv-loop cert first count images marks₀ n links i₀ marks i =
+Inv-loop cert first count images marks₀ n s i₀ marks i =
     (i ≤ count)
-    × ((member covered : Shape) (l : Linking member covered cert first count images marks₀ n links)
-    → Fitting member covered cert first count images marks₀ n links l marks i)
+    × ((member covered : Shape) (l : Linking member covered cert first count images marks₀ n s)
+    → Fitting member covered cert first count images marks₀ n s l marks i)
 
 abbrev μ-loop : tie.MeasureT-loop
-μ-loop cert first count images marks₀ n links i₀ marks i = count - i
+μ-loop cert first count images marks₀ n s i₀ marks i = count - i
 
 loop-holds : tie.Need-loop-holds Inv-loop μ-loop
 loop-holds c = (omega arith, λ m p l. fit-none _ _ _ _ _ _ _ _ _ l)
@@ -56,7 +57,19 @@ returns c = λ m p l.
     let e = c .before .before .before .before .before .before .before .before .wide .ensures .0 in
     let s = c .before .before .before .before .before .wide2 .ensures .0 in
     fit-bad _ _ _ _ _ _ _ _ _ l _ _ f (omega arith) _ e _ s (c .before .before .before .before .before .before .before .if1 .taken) _ (c .before .before .before .wide3 .ensures .0 ∙ c .before .before .before .before .image-of .ensures) _ _
-    (c .before .walk .ensures _ _ _ (fit-walk _ _ _ _ _ _ _ _ _ l _ _ f (omega arith) _ e _ s)) (c .if2 .taken)
+    (c .before .walk .ensures _ _ _ (fit-walk _ _ _ _ _ _ _ _ _ l _ _ f (omega arith) _ e _ s)) (λ _. c .if2 .taken)
+
+mark-at-requires : tie.Need-mark-at-requires Inv-loop μ-loop
+mark-at-requires c κs = let (m, p, l) = c .before .before .before .before .before .before .before .before .before .before .before .before .before .before .pre in omega (arith, l .covered-cells, l .linked .fit)
+
+returns-2 : tie.Need-returns-2 Inv-loop μ-loop
+returns-2 c = λ m p l.
+    let f = c .before .before .before .before .before .before .before .before .before .before .before .before .before .before .loop .inv .1 m p l in
+    let e = c .before .before .before .before .before .before .before .before .before .before .before .wide .ensures .0 in
+    let s = c .before .before .before .before .before .before .before .before .wide2 .ensures .0 in
+    let v = c .before .before .before .before .walk .ensures _ _ _ (fit-walk _ _ _ _ _ _ _ _ _ l _ _ f (omega arith) _ e _ s) in
+    fit-bad _ _ _ _ _ _ _ _ _ l _ _ f (omega arith) _ e _ s (c .before .before .before .before .before .before .before .before .before .before .if1 .taken) _ (c .before .before .before .before .before .before .wide3 .ensures .0 ∙ c .before .before .before .before .before .before .before .image-of .ensures) _ _ v
+    (λ stop _. c .if3 .taken (c .before .mark-at .ensures ∙ (rw (l .covered-cells) at (v .stop-marked stop))))
 
 add-i : tie.Need-add-i Inv-loop μ-loop
 add-i c = search needs
@@ -71,15 +84,16 @@ loop-again c = (
       let f = c .before .before .before .before .loop .inv .1 m p l in
       let e = c .before .wide .ensures .0 in
       ⊎-elim
-      (λ (n, _, s, q, t, _, w, z, y).
+      (λ (n, _, s, q, t, _, w, z, _, k, h, y).
+      let v = w .ensures _ _ _ (fit-walk _ _ _ _ _ _ _ _ _ l _ _ f (omega arith) _ e _ (s .ensures .0)) in
       rw y
-      (fit-good _ _ _ _ _ _ _ _ _ l _ _ f (omega arith) _ e _ (s .ensures .0) (n .taken) _ (t .ensures .0 ∙ q .ensures) _ _
-      (w .ensures _ _ _ (fit-walk _ _ _ _ _ _ _ _ _ l _ _ f (omega arith) _ e _ (s .ensures .0))) (z .left)))
+      (fit-good _ _ _ _ _ _ _ _ _ l _ _ f (omega arith) _ e _ (s .ensures .0) (n .taken) _ (t .ensures .0 ∙ q .ensures) _ _ v (z .left)
+      (v .marked-stop (rw (l .covered-cells) (sym (k .ensures) ∙ h .left)))))
       (λ (n, y). fit-skip _ _ _ _ _ _ _ _ _ l _ _ f (omega arith) _ e _ y (n .left)) (c .if1 .came),
 )
 
-returns-2 : tie.Need-returns-2 Inv-loop μ-loop
-returns-2 c = λ m p l. fit-all _ _ _ _ _ _ _ _ _ l _ _ (c .before .loop .inv .1 m p l) (omega arith)
+returns-3 : tie.Need-returns-3 Inv-loop μ-loop
+returns-3 c = λ m p l. fit-all _ _ _ _ _ _ _ _ _ l _ _ (c .before .loop .inv .1 m p l) (omega arith)
 
 pub links-fit-spec : {M : Type 1} → statement M
 links-fit-spec =
@@ -98,7 +112,9 @@ links-fit-spec =
     wide-requires-3
     walk-requires
     returns
+    mark-at-requires
+    returns-2
     add-i
     loop-less
     loop-again
-    returns-2)
+    returns-3)

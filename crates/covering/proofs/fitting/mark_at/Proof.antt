@@ -1,6 +1,6 @@
 use mathlib.Core.Path.{sym}
 use native.Mathlib.Omega.{arith}
-use Rattle.embedding.proofs.Follow.{mark-read, mark-past}
+use Rattle.covering.proofs.Follow.{mark-read, mark-past}
 use borrow.Author.Needs.{needs}
 use Rattle.covering.proofs.fitting.mark_at.Statement.{statement}
 use Rattle.covering.proofs.fitting.mark_at.Tie as tie

@@ -1,17 +1,18 @@
+-- The loop tests the variables in turn: those before i fit (`Passing`).
 use Prim.Native.Nat.{_-_}
 use mathlib.Core.Logic.{⊎-elim}
 use native.Mathlib.Omega.{arith}
-use Rattle.embedding.specs.Images.{varFitsIn}
-use Rattle.embedding.proofs.Variables.{unplaced, at-image, elsewhere, Passing, pass-none, pass-more, pass-failed, pass-all}
+use Rattle.covering.specs.Images.{varFitsIn}
+use Rattle.covering.proofs.Variables.{unplaced, at-image, elsewhere, Passing, pass-none, pass-more, pass-failed, pass-all}
 use borrow.Author.Needs.{needs}
 use Rattle.covering.proofs.fitting.vars_fit.Statement.{statement}
 use Rattle.covering.proofs.fitting.vars_fit.Tie as tie
 
 abbrev Inv-loop : tie.InvT-loop
-Inv-loop cert first count images vars i₀ i = Passing (varFitsIn cert first images vars) count i
+Inv-loop cert first count images s i₀ i = Passing (varFitsIn cert first images s) count i
 
 abbrev μ-loop : tie.MeasureT-loop
-μ-loop cert first count images vars i₀ i = count - i
+μ-loop cert first count images s i₀ i = count - i
 
 loop-holds : tie.Need-loop-holds Inv-loop μ-loop
 loop-holds c = pass-none _ _
@@ -39,7 +40,7 @@ returns c =
     let a = c .before .before .before .before .before .before .before .before .before .args in
     let i = c .before .before .before .before .before .before .before .loop .i in
     pass-failed _ _ i (c .before .before .before .before .before .before .before .loop .inv) (omega arith)
-    (elsewhere (a .cert .now) (a .first) (a .images .now) (a .vars .now) i (c .before .before .before .before .wide .result) (c .before .before .before .before .wide .ensures .0) (c .before .before .image-of .result)
+    (elsewhere (a .cert .now) (a .first) (a .images .now) (a .s .now) i (c .before .before .before .before .wide .result) (c .before .before .before .before .wide .ensures .0) (c .before .before .image-of .result)
     (c .before .before .image-of .ensures) (c .before .before .before .if1 .taken) (c .if2 .taken))
 
 add-i : tie.Need-add-i Inv-loop μ-loop
@@ -54,8 +55,8 @@ loop-again c =
     let i = c .before .before .before .before .loop .i in
     let e = c .before .wide .ensures .0 in
     pass-more _ _ i (c .before .before .before .before .loop .inv) (omega arith)
-    (⊎-elim (λ (_, m, _, z). at-image (a .cert .now) (a .first) (a .images .now) (a .vars .now) i (c .before .wide .result) e (m .result) (m .ensures) (z .left))
-    (λ n. unplaced (a .cert .now) (a .first) (a .images .now) (a .vars .now) i (c .before .wide .result) e (n .left)) (c .if1 .came))
+    (⊎-elim (λ (_, m, _, z). at-image (a .cert .now) (a .first) (a .images .now) (a .s .now) i (c .before .wide .result) e (m .result) (m .ensures) (z .left))
+    (λ n. unplaced (a .cert .now) (a .first) (a .images .now) (a .s .now) i (c .before .wide .result) e (n .left)) (c .if1 .came))
 
 returns-2 : tie.Need-returns-2 Inv-loop μ-loop
 returns-2 c = pass-all _ _ _ (c .before .loop .inv) (omega arith)

@@ -1,3 +1,4 @@
+-- Each return is the case of `readCover` that the reading so far leaves.
 use mathlib.Core.Path.{_∙_, sym}
 use native.Mathlib.Omega.{arith}
 use lib.ListN.{getD}

@@ -1,7 +1,8 @@
+-- The loop reads the images in turn: those before i are in the array (`Reading`).
 use Prim.Native.Nat.{ℕ, _-_}
 use mathlib.Core.Path.{_≡_, _∙_, sym}
 use native.Mathlib.Omega.{arith}
-use Rattle.embedding.proofs.Reading.{Reading, reading-none, reading-all, reading-unreadable, reading-outside, reading-more}
+use Rattle.covering.proofs.ReadImages.{Reading, reading-none, reading-all, reading-unreadable, reading-outside, reading-more}
 use borrow.Author.Needs.{needs}
 use Rattle.covering.proofs.reading.read_images.Statement.{statement}
 use Rattle.covering.proofs.reading.read_images.Tie as tie

@@ -1,3 +1,4 @@
+-- The two copies after the two stores are `loadedShape`, where the entry stands whole.
 use mathlib.Core.Bool.{true}
 use mathlib.Core.Path.{_≡_, refl, sym, _∙_}
 use native.Mathlib.Omega.{arith}
@@ -12,7 +13,7 @@ is-whole-requires : tie.Need-is-whole-requires
 is-whole-requires c κs = search needs
 
 returns : tie.Need-returns
-returns c = rw (sym (c .before .is-whole .ensures) ∙ not-true _ (c .if1 .taken)) (refl, (refl, refl))
+returns c = rw (sym (c .before .is-whole .ensures) ∙ not-true _ (c .if1 .taken)) refl
 
 -- the entry is whole
 passed : (c : tie.Else1) → let a = c .before .before .before .args in isWhole (a .bytes .now) (a .variables) (a .at) ≡ true
@@ -27,26 +28,32 @@ add-n c = let w = stands c in omega arith
 shared-slice-read-n : tie.Need-shared-slice-read-n
 shared-slice-read-n c = let w = stands (c .before) in omega arith
 
-add-load-vars : tie.Need-add-load-vars
-add-load-vars c = let w = stands (c .before) in omega arith
+element-write-s : tie.Need-element-write-s
+element-write-s c = search needs
 
-load-vars-requires : tie.Need-load-vars-requires
-load-vars-requires c κs = let w = stands (c .before .before) in omega (arith, c .load-vars-arg .given .0 .1)
+element-write-s-2 : tie.Need-element-write-s-2
+element-write-s-2 c = search needs
 
-add-load-links : tie.Need-add-load-links
-add-load-links c = let w = stands (c .before .before .before) in omega arith
+add-copy-bytes : tie.Need-add-copy-bytes
+add-copy-bytes c = let w = stands (c .before) in omega arith
 
-add-load-links-2 : tie.Need-add-load-links-2
-add-load-links-2 c = let w = stands (c .before .before .before) in omega arith
+copy-bytes-requires : tie.Need-copy-bytes-requires
+copy-bytes-requires c κs = let w = stands (c .before .before) in omega (arith, c .copy-bytes-arg .given .0 .1)
 
-cast-load-links : tie.Need-cast-load-links
-cast-load-links c = let w = stands (c .before .before .before) in omega arith
+add-copy-bytes-2 : tie.Need-add-copy-bytes-2
+add-copy-bytes-2 c = let w = stands (c .before .before .before) in omega arith
 
-load-links-requires : tie.Need-load-links-requires
-load-links-requires c κs = let w = stands (c .before .before .before .before) in omega (arith, c .load-links-arg .given .0 .1)
+add-copy-bytes-3 : tie.Need-add-copy-bytes-3
+add-copy-bytes-3 c = let w = stands (c .before .before .before) in omega arith
+
+cast-copy-bytes : tie.Need-cast-copy-bytes
+cast-copy-bytes c = let w = stands (c .before .before .before) in omega arith
+
+copy-bytes-requires-2 : tie.Need-copy-bytes-requires-2
+copy-bytes-requires-2 c κs = let w = stands (c .before .before .before .before) in omega (arith, c .copy-bytes-arg2 .given .0 .1)
 
 returns-2 : tie.Need-returns-2
-returns-2 c = rw (passed (c .before .before .before .before .before)) (refl, (c .before .before .load-vars .ensures, c .load-links .ensures))
+returns-2 c = rw (passed (c .before .before .before .before .before)) (c .copy-bytes2 .ensures ∙ rw (c .before .before .copy-bytes .ensures) refl)
 
 pub load-shape-spec : {M : Type 1} → statement M
 load-shape-spec =
@@ -56,10 +63,12 @@ load-shape-spec =
     returns
     add-n
     shared-slice-read-n
-    add-load-vars
-    load-vars-requires
-    add-load-links
-    add-load-links-2
-    cast-load-links
-    load-links-requires
+    element-write-s
+    element-write-s-2
+    add-copy-bytes
+    copy-bytes-requires
+    add-copy-bytes-2
+    add-copy-bytes-3
+    cast-copy-bytes
+    copy-bytes-requires-2
     returns-2)

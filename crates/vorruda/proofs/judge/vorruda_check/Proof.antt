@@ -1,6 +1,5 @@
 use mathlib.Core.Path.{refl}
-use native.Mathlib.Omega.{arith}
-use Rattle.verdict.proofs.Numbers.{numbered}
+use Rattle.vorruda.proofs.Judging.{told-accepted, told-refused}
 use borrow.Author.Needs.{needs}
 use Rattle.vorruda.proofs.judge.vorruda_check.Statement.{statement}
 use Rattle.vorruda.proofs.judge.vorruda_check.Tie as tie
@@ -19,17 +18,15 @@ refusal-number-requires c κs = search needs
 
 returns : tie.Need-returns
 returns c =
-    let k = c .before .before .check in
+    let k = c .before .before .check .ensures in
     let r-is = c .enum-told .given .1 in
-    (rw (← k .ensures .0, r-is) refl, λ z. k .ensures .1 _ r-is)
+    (rw (← k .0, r-is) refl, told-accepted _ _ _ (k .0) (k .1 .0) (k .1 .1) _ r-is)
 
 returns-2 : tie.Need-returns-2
 returns-2 c =
-    let k = c .before .before .before .before .check in
-    let r-is = c .before .before .judged .given .1 in (
-      rw (← k .ensures .0, r-is) (c .refusal-number .ensures),
-      λ z. absurd (omega (arith, numbered (c .before .before .judged .given .0 .0), c .refusal-number .ensures)),
-    )
+    let k = c .before .before .before .before .check .ensures in
+    let r-is = c .before .before .judged .given .1 in
+    (rw (← k .0, r-is) (c .refusal-number .ensures), told-refused _ _ _ (k .0) (k .1 .0) (k .1 .1) _ _ _ r-is (c .refusal-number .ensures))
 
 pub vorruda-check-spec : {M : Type 1} → statement M
 vorruda-check-spec =

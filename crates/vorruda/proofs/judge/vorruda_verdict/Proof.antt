@@ -1,6 +1,5 @@
 use mathlib.Core.Path.{refl}
-use native.Mathlib.Omega.{arith}
-use Rattle.verdict.proofs.Numbers.{numbered}
+use Rattle.vorruda.proofs.Judging.{told-accepted, told-refused, told-values}
 use borrow.Author.Needs.{needs}
 use Rattle.vorruda.proofs.judge.vorruda_verdict.Statement.{statement}
 use Rattle.vorruda.proofs.judge.vorruda_verdict.Tie as tie
@@ -43,23 +42,24 @@ same-length c = search needs
 
 returns : tie.Need-returns
 returns c =
-    let k = c .before .before .before .before .before .before .before .before .before .before .before .check in
-    let r-is = c .before .before .before .before .before .before .before .before .before .counts .given .1 in
-    (rw (← k .ensures .0, r-is) refl, (rw (← k .ensures .0, r-is) (c .before .before .lend .ensures), λ z. k .ensures .1 _ r-is))
+    let k = c .before .before .before .before .before .before .before .before .before .before .before .check .ensures in
+    let r-is = c .before .before .before .before .before .before .before .before .before .counts .given .1 in (
+      rw (← k .0, r-is) refl,
+      told-values _ _ _ (k .0) (k .1 .0) (k .1 .1) _ _ _ (told-accepted _ _ _ (k .0) (k .1 .0) (k .1 .1) _ r-is)
+          (rw (← k .0, r-is) (c .before .before .lend .ensures)),
+    )
 
 same-length-2 : tie.Need-same-length-2
 same-length-2 c = search needs
 
 returns-2 : tie.Need-returns-2
 returns-2 c =
-    let k = c .before .before .before .before .before .before .before .before .before .check in
+    let k = c .before .before .before .before .before .before .before .before .before .check .ensures in
     let r-is = c .before .before .before .before .before .before .before .refusal .given .1 in (
-      rw (← k .ensures .0, r-is) (c .refusal-number .ensures),
-      (
-        rw (← k .ensures .0, r-is) (c .before .before .before .lend2 .ensures),
-        λ z. absurd
-            (omega (arith, numbered (c .before .before .before .before .before .before .before .refusal .given .0 .0), c .refusal-number .ensures)),
-      ),
+      rw (← k .0, r-is) (c .refusal-number .ensures),
+      told-values _ _ _ (k .0) (k .1 .0) (k .1 .1) _ _ _
+          (told-refused _ _ _ (k .0) (k .1 .0) (k .1 .1) _ _ _ r-is (c .refusal-number .ensures))
+          (rw (← k .0, r-is) (c .before .before .before .lend2 .ensures)),
     )
 
 pub vorruda-verdict-spec : {M : Type 1} → statement M

@@ -1,0 +1,82 @@
+use Prim.Native.Nat.{ℕ, _+_, _-_, _<_}
+use mathlib.Core.Path.{_≡_}
+use native.Mathlib.Omega.{arith}
+use native.Mathlib.Numerals.{add-one}
+use lib.ListN.{length, getD, drop, drop-of-length-le}
+use lib.Seq.{drop-cons}
+use mathlib.Core.List.{List, _∷_}
+use Rattle.lists.specs.List.{concatMap}
+use Rattle.layout.specs.Entries.{locatedAt, membersAt}
+use Rattle.covering.specs.Members.{membersFrom}
+use Rattle.checker.specs.Jobs.{owedBy}
+use Rattle.checker.proofs.Checking.{Progress, begin, advance, halt, finish}
+use borrow.Author.Needs.{needs}
+use Rattle.checker.proofs.owed.check_members.Statement.{statement}
+use Rattle.checker.proofs.owed.check_members.Tie as tie
+
+abbrev Inv-loop : tie.InvT-loop
+Inv-loop job h heads nexts cert starts t₀ m₀ t m =
+    Progress cert (membersFrom cert (h .variables) starts) (concatMap (owedBy job h) (membersAt cert (h .variables) starts)) t₀
+    (concatMap (owedBy job h) (membersAt cert (h .variables) (drop m starts))) t
+
+abbrev μ-loop : tie.MeasureT-loop
+μ-loop job h heads nexts cert starts t₀ m₀ t m = length starts - m
+
+-- member m is the next
+next : (starts : List ℕ) (m : ℕ) → m < length starts → drop m starts ≡ getD starts m 0 ∷ drop (m + 1) starts
+next starts m b = rw (add-one m) (drop-cons starts m 0 b)
+
+loop-holds : tie.Need-loop-holds Inv-loop μ-loop
+loop-holds c = begin (c .before .before .before .pre .3)
+
+check-member-requires : tie.Need-check-member-requires Inv-loop μ-loop
+check-member-requires c κs =
+    let p = c .before .before .before .before .before .pre in
+    let l = c .before .loop in
+    (p .0, p .1, p .2, omega arith, l .inv .within)
+
+enum-known-g : tie.Need-enum-known-g Inv-loop μ-loop
+enum-known-g c = search needs
+
+enum-told : tie.Need-enum-told Inv-loop μ-loop
+enum-told c = search needs
+
+returns : tie.Need-returns Inv-loop μ-loop
+returns c =
+    let a = c .before .before .before .before .before .before .before .before .args in
+    let l = c .before .before .before .before .loop in
+    halt (owedBy (a .job .now) (a .h) (locatedAt (a .cert .now) (a .h .variables) (getD (a .starts .now) (l .m) 0))) _ (rw (next (a .starts .now) (l .m) (omega arith)) at (l .inv)) (c .before .before .check-member .ensures) (c .enum-told .given .1)
+
+add-m : tie.Need-add-m Inv-loop μ-loop
+add-m c = search needs
+
+loop-less : tie.Need-loop-less Inv-loop μ-loop
+loop-less c = search needs
+
+loop-again : tie.Need-loop-again Inv-loop μ-loop
+loop-again c =
+    let a = c .before .before .before .before .before .before .before .before .before .args in
+    let l = c .before .before .before .before .before .loop in
+    advance (owedBy (a .job .now) (a .h) (locatedAt (a .cert .now) (a .h .variables) (getD (a .starts .now) (l .m) 0))) _ (rw (next (a .starts .now) (l .m) (omega arith)) at (l .inv)) (c .before .before .before .check-member .ensures) (c .before .g .given .1)
+
+returns-2 : tie.Need-returns-2 Inv-loop μ-loop
+returns-2 c =
+    let a = c .before .before .before .before .before .args in
+    let l = c .before .loop in
+    finish (rw (drop-of-length-le (a .starts .now) {i = l .m} (omega arith)) at (l .inv))
+
+pub check-members-spec : {M : Type 1} → statement M
+check-members-spec =
+    tie.close
+    (tie.spec
+    Inv-loop
+    μ-loop
+    loop-holds
+    check-member-requires
+    enum-known-g
+    enum-told
+    returns
+    add-m
+    loop-less
+    loop-again
+    returns-2)

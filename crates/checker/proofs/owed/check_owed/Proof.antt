@@ -1,0 +1,58 @@
+use mathlib.Core.Path.{_∙_}
+use native.Mathlib.Omega.{arith}
+use Rattle.lists.specs.List.{concatMap}
+use Rattle.layout.specs.Entries.{entriesAt, membersAt}
+use Rattle.checker.specs.Jobs.{owedBy}
+use Rattle.checker.proofs.Indexed.{linked-job}
+use Rattle.checker.proofs.Members.{from-table}
+use Rattle.checker.proofs.Checking.{begin, advance, halt}
+use borrow.Author.Needs.{needs}
+use Rattle.checker.proofs.owed.check_owed.Statement.{statement}
+use Rattle.checker.proofs.owed.check_owed.Tie as tie
+
+index-transitions-requires : tie.Need-index-transitions-requires
+index-transitions-requires c κs = search needs
+
+check-forbidden-requires : tie.Need-check-forbidden-requires
+check-forbidden-requires c κs =
+    let p = c .before .before .before .before .before .before .pre in
+    (p .0 .bads, p .1 .variables-most, record { counted = omega arith; inside = p .2; fits = p .3 })
+
+enum-known-g : tie.Need-enum-known-g
+enum-known-g c = search needs
+
+enum-told : tie.Need-enum-told
+enum-told c = search needs
+
+returns : tie.Need-returns
+returns c =
+    let a = c .before .before .before .before .before .before .before .before .before .args in
+    let p = c .before .before .before .before .before .before .before .before .before .pre in
+    rw (from-table (a .cert .now) (a .h .variables) (a .starts .now) (p .1)) at
+    (halt (entriesAt (a .job .now) (a .h .variables) (a .h .«bads_at») (a .h .bads)) (concatMap (owedBy (a .job .now) (a .h)) (membersAt (a .cert .now) (a .h .variables) (a .starts .now))) (begin (record { counted = omega arith; inside = p .2; fits = p .3 })) (c .before .before .check-forbidden .ensures) (c .enum-told .given .1) .0)
+
+check-members-requires : tie.Need-check-members-requires
+check-members-requires c κs =
+    let p = c .before .before .before .before .before .before .before .before .before .before .before .before .pre in
+    let v = c .before .before .before .g .given in
+    let e = c .before .before .before .before .before .before .index-transitions .ensures in
+    (p .0, rw (e .0, e .1) (linked-job (p .0)), p .1, rw (v .1) at (c .before .before .before .before .before .check-forbidden .ensures .1))
+
+returns-2 : tie.Need-returns-2
+returns-2 c =
+    let a = c .before .before .before .before .before .before .before .before .before .before .before .before .before .args in
+    let p = c .before .before .before .before .before .before .before .before .before .before .before .before .before .pre in
+    rw (from-table (a .cert .now) (a .h .variables) (a .starts .now) (p .1)) at
+    (c .check-members .ensures .0 ∙ advance (entriesAt (a .job .now) (a .h .variables) (a .h .«bads_at») (a .h .bads)) (concatMap (owedBy (a .job .now) (a .h)) (membersAt (a .cert .now) (a .h .variables) (a .starts .now))) (begin (record { counted = omega arith; inside = p .2; fits = p .3 })) (c .before .before .before .before .before .before .check-forbidden .ensures) (c .before .before .before .before .g .given .1) .left)
+
+pub check-owed-spec : {M : Type 1} → statement M
+check-owed-spec =
+    tie.close
+    (tie.spec
+    index-transitions-requires
+    check-forbidden-requires
+    enum-known-g
+    enum-told
+    returns
+    check-members-requires
+    returns-2)

@@ -1,0 +1,72 @@
+// Kinds 1 to 5: the shape under work, changed in place.
+use transitions::Transition;
+ghost use mathlib.Core.Path.{_≡_};
+ghost use Prim.Native.Nat.{_+_, _≤_, _<_};
+ghost use Rattle.layout.specs.ShapeArray.{cellCount, operandAt};
+ghost use Rattle.shapes.specs.Change.{placedIn, undoneIn};
+
+// Places operand x by choice k: 0 .. n - 1 a cell, n #, n + 1 a fresh cell, n + 2 + j a fresh cell in the middle of the link of cell j. Nothing
+// changes where it has a place.
+pub(crate) fn place_operand(s: &mut [u8; 28], x: u8, k: u8)
+    requires { ⌜ (x ≤ 9) × (cellCount (now s) ≤ 13) × (k < cellCount (now s) + (2 + cellCount (now s))) ⌝ }
+    ensures { λ r. ⌜ now (s .exit) ≡ placedIn (now (s .entry)) x k ⌝ }
+{
+    let n = s[0];
+    let slot = 17 + x as usize;
+    if s[slot] != 0 {
+        return;
+    }
+    if k < n {
+        s[slot] = 3 + k;
+        return;
+    }
+    if k == n {
+        s[slot] = 1;
+        return;
+    }
+    let fresh = 3 + n;
+    if k == n + 1 {
+        s[0] = n + 1;
+        s[fresh as usize] = 0;
+        s[slot] = fresh;
+        return;
+    }
+    let from = (k - n + 1) as usize;
+    let link = s[from];
+    s[0] = n + 1;
+    s[fresh as usize] = link;
+    s[from] = fresh;
+    s[slot] = fresh;
+}
+
+// What the operation changes is put back, both operands being placed. Where b is above the variables it is the helper of kind 4.
+pub(crate) fn undo(variables: usize, by: Transition, s: &mut [u8; 28])
+    requires { ⌜ (by .a ≤ 9) × (by .b ≤ 9) × (operandAt (now s) (by .a) < 17) × (operandAt (now s) (by .b) < 17) ⌝ }
+    ensures { λ r. ⌜ now (s .exit) ≡ undoneIn variables (by .kind) (by .a) (by .b) (now (s .entry)) ⌝ }
+{
+    if by.kind < 3 {
+        return;
+    }
+    let to = 17 + by.a as usize;
+    if by.kind == 3 {
+        if by.a == by.b {
+            return;
+        }
+        s[to] = 0;
+        return;
+    }
+    let x = s[to];
+    if by.kind == 5 {
+        s[x as usize] = 0;
+        return;
+    }
+    let from = 17 + by.b as usize;
+    let y = s[from];
+    s[y as usize] = x;
+    if variables < by.b as usize {
+        s[to] = y;
+        s[from] = 0;
+        return;
+    }
+    s[to] = 0;
+}

@@ -1,0 +1,54 @@
+// Checking one cover.
+use crate::outcome::Outcome;
+use crate::outcome::Position;
+use covering::quick_cover;
+use covering::take_cover;
+use verdict::Reached;
+ghost use mathlib.Core.List.{[], _∷_};
+ghost use Rattle.checker.specs.Checking.{Within, Checks};
+ghost use Rattle.layout.specs.ShapeArray.{shapeIn};
+ghost use Rattle.covering.specs.Members.{membersFrom};
+
+// Checks the cover of a shape and counts it, by the exact test.
+pub(crate) fn check_cover(
+    cert: &[u8],
+    starts: &[u16],
+    variables: usize,
+    state: u8,
+    s: &[u8; 28],
+    t: Position,
+) -> Outcome
+    requires { ⌜ Within (now cert) t ⌝ }
+    ensures { λ r. ⌜ Checks (now (cert .entry)) (membersFrom (now (cert .entry)) variables (now (starts .entry))) state (shapeIn variables (now (s .entry)) ∷ []) t r ⌝ }
+{
+    let r = take_cover(cert, starts, variables, t.at, state, s);
+    match r {
+        Reached::At(at) => Outcome::Upto(Position {
+            at,
+            covers: t.covers + 1,
+        }),
+        Reached::Refused(refusal, place) => Outcome::Refused(refusal, place),
+    }
+}
+
+// The same, where the quick test decides first. Called from one place, so that the quick test is compiled into the loop there.
+pub(crate) fn check_quickly(
+    cert: &[u8],
+    starts: &[u16],
+    variables: usize,
+    state: u8,
+    s: &[u8; 28],
+    t: Position,
+) -> Outcome
+    requires { ⌜ Within (now cert) t ⌝ }
+    ensures { λ r. ⌜ Checks (now (cert .entry)) (membersFrom (now (cert .entry)) variables (now (starts .entry))) state (shapeIn variables (now (s .entry)) ∷ []) t r ⌝ }
+{
+    let next = quick_cover(cert, starts, variables, t.at, state, s);
+    if next == 0 {
+        return check_cover(cert, starts, variables, state, s, t);
+    }
+    Outcome::Upto(Position {
+        at: next,
+        covers: t.covers + 1,
+    })
+}

@@ -1,0 +1,57 @@
+// Which choices of its operands an operation of kinds 1 to 5 retains, in the shape of an array.
+use place::Place;
+use placing::Wanted;
+use placing::is_wanted;
+use placing::wanted_first;
+use placing::wanted_second;
+use transitions::Transition;
+ghost use mathlib.Core.Path.{_≡_};
+ghost use Prim.Native.Nat.{_≤_};
+ghost use Rattle.layout.specs.ShapeArray.{cellCount, operandAt, linksIn};
+ghost use Rattle.place.specs.Place.{placeOf};
+ghost use Rattle.placing.specs.Wanted.{fitsIn};
+ghost use Rattle.shapes.specs.Operands.{wantedA, wantedB};
+
+// Where an operand stands.
+fn place_of(s: &[u8; 28], operand: u8) -> Place
+    requires { ⌜ operand ≤ 9 ⌝ }
+    ensures { λ r. ⌜ r ≡ placeOf (operandAt (now (s .entry)) operand) ⌝ }
+{
+    Place {
+        code: s[17 + operand as usize],
+    }
+}
+
+// What is wanted of a.
+pub(crate) fn wanted_of_a(by: Transition, s: &[u8; 28]) -> Wanted
+    requires { ⌜ (by .a ≤ 9) × (by .b ≤ 9) × (cellCount (now s) ≤ 14) ⌝ }
+    ensures { λ r. ⌜ r ≡ wantedA (by .kind) (by .a) (by .b) (now (s .entry)) ⌝ }
+{
+    let x = place_of(s, by.a);
+    let y = place_of(s, by.b);
+    let n = s[0] as usize;
+    let all = &s[..];
+    wanted_first(by.kind, by.a == by.b, &all[3..3 + n], x, y)
+}
+
+// What is wanted of b, where a is placed.
+pub(crate) fn wanted_of_b(by: Transition, s: &[u8; 28]) -> Wanted
+    requires { ⌜ (by .a ≤ 9) × (by .b ≤ 9) × (cellCount (now s) ≤ 14) ⌝ }
+    ensures { λ r. ⌜ r ≡ wantedB (by .kind) (by .a) (by .b) (now (s .entry)) ⌝ }
+{
+    let x = place_of(s, by.a);
+    let y = place_of(s, by.b);
+    let n = s[0] as usize;
+    let all = &s[..];
+    wanted_second(by.kind, &all[3..3 + n], x, y)
+}
+
+// Whether choice k is wanted.
+pub(crate) fn is_wanted_in(s: &[u8; 28], wanted: Wanted, k: u8) -> bool
+    requires { ⌜ cellCount (now s) ≤ 14 ⌝ }
+    ensures { λ r. ⌜ r ≡ fitsIn (linksIn (now (s .entry))) wanted k ⌝ }
+{
+    let n = s[0] as usize;
+    let all = &s[..];
+    is_wanted(&all[3..3 + n], wanted, k as usize)
+}

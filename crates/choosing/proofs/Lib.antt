@@ -1,6 +1,0 @@
-pub mod Tests
-pub mod Ranges
-pub mod Retaining
-pub mod Wants
-pub mod ByNumber
-pub mod Steps

@@ -1,0 +1,144 @@
+-- A path as it is followed with marks.
+use mathlib.Core.List.{List, [], _∷_, _++_, List·Memᴰ·head, List·Memᴰ·tail, Memᴰ·append-left, Memᴰ·append-right, List·Memᴰ·append-cases, List·Memᴰ·eq-of-singleton}
+use mathlib.Core.Bool.{true, false}
+use mathlib.Core.Logic.{_≢_, _⊎_, inl, ⊎-elim}
+use mathlib.Core.Path.{_≡_, refl, sym, _∙_}
+use Prim.Native.Nat.{ℕ, _≤_, _<_}
+use native.Mathlib.Omega.{arith}
+use native.Mathlib.Decide.{decLt}
+use borrow.Author.Tests.{lt-ltb, le-ltb}
+use lib.ListN.{length, getD, set}
+use Rattle.lists.specs.List.{_∈_, absent, disjoint}
+use Rattle.lists.proofs.List.{mem?}
+use Rattle.lists.proofs.Reflect.{is-true, passes, r-absent, r-disjoint}
+use Rattle.heap.specs.Codes.{linkIn}
+use Rattle.heap.specs.Place.{nowhere, cell}
+use Rattle.shape.proofs.Laws.{CellOf, by-number}
+use Rattle.cover.specs.Test.{stops}
+use Rattle.covering.specs.Marks.{mark, markIn, Marks, LinksIn, Walking, endFrom, pathFrom, Followed}
+use Rattle.covering.proofs.Marks.{mark-free, mark-stop, marks-like, marks-use}
+use Rattle.covering.proofs.Trail.{free-low, Trail, trail-none, trail-more, trail-past, trail-found, trail-lost}
+
+-- ---- links
+
+module _ (links s : List ℕ) (l : LinksIn links s) where
+  pub link-read : (p : ℕ) → CellOf (length links) p → getD s p 0 ≡ linkIn links p
+  link-read p (a, b) = by-number (length links) (λ p. getD s p 0 ≡ linkIn links p) (l .same) p (a, b)
+
+-- ---- the loop
+
+-- the path from a cell has been followed to a place, and what was passed is marked
+pub record Following (links images used : List ℕ) (from : ℕ) (marks : List ℕ) (p : ℕ) : Type 0 where
+  pub path : List ℕ
+  pub trail : Trail links images used from path p
+  pub marked : Marks images (path ++ used) marks
+
+-- ---- a mark
+
+module _ (n : ℕ) (marks : List ℕ) (p : ℕ) where
+  pub mark-read : p < cell n → markIn n marks p ≡ getD marks p 0
+  unfolding markIn
+  mark-read b = rw (lt-ltb p (cell n) b) refl
+
+  pub mark-past : cell n ≤ p → markIn n marks p ≡ 2
+  unfolding markIn
+  mark-past b = rw (le-ltb p (cell n) b) refl
+
+  pub mark-in : markIn n marks p ≡ 0 → (p < cell n) × (getD marks p 0 ≡ 0)
+  mark-in z = go (decLt p (cell n))
+    where
+      go : Dec (p < cell n) → (p < cell n) × (getD marks p 0 ≡ 0)
+      go (yes b) = (b, sym (mark-read b) ∙ z)
+      go (no b) = absurd (omega (arith, mark-past (omega arith)))
+
+module _ (links images used s marks₀ : List ℕ) (n from : ℕ) (w : Walking links images used s marks₀ n from) where
+  pub follow-none : Following links images used from marks₀ (getD s from 0)
+  follow-none =
+      record {
+        path = [];
+        trail = rw (link-read links s (w .linked) from (w .low, w .high)) (trail-none links images used from);
+        marked = w .marked;
+      }
+
+  module _ (marks : List ℕ) (p : ℕ) (f : Following links images used from marks p) where
+    module _ (here : p < cell n) where
+      pub here-in : p < 28
+      here-in = omega (arith, here, w .cells, w .linked .fit)
+
+      here-marked : getD marks p 0 ≡ mark (stops images p) (absent p (f .path ++ used))
+      here-marked = f .marked .marked p here-in
+
+      pub here-cell : getD marks p 0 ≡ 0 → CellOf (length links) p
+      here-cell e = (free-low images p (mark-free (stops images p) (absent p (f .path ++ used)) (sym here-marked ∙ e) .0), omega (arith, here, w .cells))
+
+      pub follow-more : getD marks p 0 ≡ 0 → Following links images used from (set marks p 2) (getD s p 0)
+      follow-more e =
+          let (free, new) = mark-free (stops images p) (absent p (f .path ++ used)) (sym here-marked ∙ e) in
+          let out : ¬ (p ∈ (f .path ++ used)) = r-absent p (f .path ++ used) .holds (passes (absent p (f .path ++ used)) new) in
+          record {
+            path = f .path ++ (p ∷ []);
+            trail =
+                rw (link-read links s (w .linked) p (here-cell e))
+                (trail-more links images used from (f .path) p (f .trail) (w .low, w .high) (w .image) (omega (arith, here, w .cells)) free
+                (λ m. out (Memᴰ·append-left used m)) (λ m. out (Memᴰ·append-right (f .path) m)));
+            marked =
+                marks-like images (p ∷ (f .path ++ used)) (set marks p 2) (marks-use images (f .path ++ used) marks (f .marked) p here-in free)
+                ((f .path ++ (p ∷ [])) ++ used) inward outward;
+          }
+        where
+          inward : (x : ℕ) → x ∈ (p ∷ (f .path ++ used)) → x ∈ ((f .path ++ (p ∷ [])) ++ used)
+          inward x (List·Memᴰ·head z) = Memᴰ·append-left used (Memᴰ·append-right (f .path) (List·Memᴰ·head z))
+          inward x (List·Memᴰ·tail m) =
+              ⊎-elim (λ i. Memᴰ·append-left used (Memᴰ·append-left (p ∷ []) i)) (λ i. Memᴰ·append-right (f .path ++ (p ∷ [])) i)
+              (List·Memᴰ·append-cases (f .path) m)
+
+          outward : (x : ℕ) → x ∈ ((f .path ++ (p ∷ [])) ++ used) → x ∈ (p ∷ (f .path ++ used))
+          outward x m =
+              ⊎-elim (λ i. ⊎-elim (λ j. List·Memᴰ·tail (Memᴰ·append-left used j)) (λ j. List·Memᴰ·head (List·Memᴰ·eq-of-singleton j)) (List·Memᴰ·append-cases (f .path) i))
+              (λ i. List·Memᴰ·tail (Memᴰ·append-right (f .path) i)) (List·Memᴰ·append-cases (f .path ++ (p ∷ [])) m)
+
+    -- an end is met
+    met-end : stops images p ≡ true → (endFrom links images from ≡ p) × (pathFrom links images from ≡ f .path)
+    met-end stop = trail-found links images used from (f .path) p (f .trail) (w .low, w .high) (w .image) stop
+
+    -- a place past the cells is met, or a used cell
+    met-none : markIn n marks p ≢ 0 → stops images p ≡ false
+        → (endFrom links images from ≡ nowhere) ⊎ (disjoint (pathFrom links images from) used ≡ false)
+    met-none o free = go (decLt p (cell n))
+      where
+        used-cell : Dec (p ∈ (f .path ++ used)) → getD marks p 0 ≡ mark false (absent p (f .path ++ used)) → getD marks p 0 ≢ 0
+            → (p ∈ f .path) ⊎ (p ∈ used)
+        used-cell (yes m) e k = List·Memᴰ·append-cases (f .path) m
+        used-cell (no m) e k = absurd (k (e ∙ rw (is-true (absent p (f .path ++ used)) (r-absent p (f .path ++ used) .tests m)) refl))
+
+        go : Dec (p < cell n) → (endFrom links images from ≡ nowhere) ⊎ (disjoint (pathFrom links images from) used ≡ false)
+        go (yes b) =
+            trail-lost links images used from (f .path) p (f .trail) (w .low, w .high) (w .image) free
+            (used-cell (mem? p (f .path ++ used)) (rw free at (here-marked b)) (λ z. o (mark-read n marks p b ∙ z)))
+        go (no b) = inl (trail-past links images used from (f .path) p (f .trail) (omega (arith, w .cells)) free)
+
+    -- exactly an end is marked as one
+    met-stop : markIn n marks p ≡ 1 → stops images p ≡ true
+    met-stop e = go (decLt p (cell n))
+      where
+        go : Dec (p < cell n) → stops images p ≡ true
+        go (yes b) =
+            let here : mark (stops images p) (absent p (f .path ++ used)) ≡ 1 = sym (here-marked b) ∙ sym (mark-read n marks p b) ∙ e in
+            mark-stop (stops images p) (absent p (f .path ++ used)) here
+        go (no b) = absurd (omega (arith, mark-past n marks p (omega arith)))
+
+    met-marked : stops images p ≡ true → markIn n marks p ≡ 1
+    met-marked stop =
+        let here : p < cell n = omega (arith, w .cells, w .ends-in p stop) in
+        mark-read n marks p here ∙ here-marked here ∙ rw stop refl
+
+    pub follow-met : markIn n marks p ≢ 0 → Followed links images used from p marks
+    follow-met o =
+        record {
+          ends = λ stop. met-end stop .0;
+          unshared = λ stop. rw (met-end stop .1) (is-true (disjoint (f .path) used) (r-disjoint (f .path) used .tests (f .trail .unused)));
+          marked = λ stop. rw (met-end stop .1) (f .marked);
+          lost = met-none o;
+          marked-stop = rw (w .cells) met-stop;
+          stop-marked = rw (w .cells) met-marked;
+        }

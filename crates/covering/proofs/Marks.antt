@@ -1,0 +1,103 @@
+-- Laws of marks.
+use mathlib.Core.Bool.{Bool, true, false, cond, _||_}
+use mathlib.Core.List.{List, [], _∷_, _++_}
+use mathlib.Core.Logic.{_≢_}
+use mathlib.Core.Path.{_≡_, refl, sym, ap, _∙_}
+use Prim.Native.Nat.{ℕ, zero, suc, _<_}
+use native.Mathlib.Decide.{ℕ-discrete}
+use native.Mathlib.Omega.{arith}
+use borrow.Author.Tests.{eq-eqb, ne-eqb, le-ltb}
+use lib.Dec.{eqb, eqb-refl, ltb}
+use lib.ListN.{length, getD, set, length-set, replicate, getD-replicate}
+use lib.Seq.{getD-set-same, getD-set-other}
+use Rattle.lists.specs.List.{_∈_, absent}
+use Rattle.lists.proofs.Reflect.{Reflect, is-true, is-false, r-iff, r-absent}
+use Rattle.heap.specs.Place.{cell}
+use Rattle.cover.specs.Test.{isImage, stops}
+use Rattle.covering.specs.Marks.{mark, Marks}
+
+-- ---- one mark
+
+pub mark-free : (a b : Bool) → mark a b ≡ 0 → (a ≡ false) × (b ≡ true)
+mark-free true b e = absurd (omega arith)
+mark-free false true e = (refl, refl)
+mark-free false false e = absurd (omega arith)
+
+pub mark-stop : (a b : Bool) → mark a b ≡ 1 → a ≡ true
+mark-stop true b e = refl
+mark-stop false true e = absurd (omega arith)
+mark-stop false false e = absurd (omega arith)
+
+-- ---- nothing is marked yet
+
+pub marks-none : Marks [] [] (1 ∷ 1 ∷ 1 ∷ replicate 25 0)
+marks-none = record { room = refl; marked = go }
+  where
+    go : (p : ℕ) → p < 28 → getD (1 ∷ 1 ∷ 1 ∷ replicate 25 0) p 0 ≡ mark (stops [] p) true
+    go zero b = refl
+    go (suc zero) b = refl
+    go (suc (suc zero)) b = refl
+    go (suc (suc (suc i))) b = getD-replicate 25 i 0 0 (omega arith) ∙ rw (le-ltb (cell i) (cell 0) (omega arith)) refl
+
+-- ---- how many places are free
+
+unfoldable pub frees : List ℕ → ℕ
+frees [] = 0
+frees (m ∷ ms) = cond (eqb m 0) (suc (frees ms)) (frees ms)
+
+pub frees-less : (ms : List ℕ) (p v : ℕ) → p < length ms → getD ms p 0 ≡ 0 → v ≢ 0 → frees (set ms p v) < frees ms
+unfolding frees
+frees-less [] p v b e n = absurd (omega arith)
+frees-less (m ∷ ms) zero v b e n = simp (eq-eqb m 0 e, ne-eqb v 0 n) (omega arith)
+frees-less (m ∷ ms) (suc p) v b e n = go (eqb m 0) (frees-less ms p v (omega arith) e n)
+  where
+    go : (z : Bool) → frees (set ms p v) < frees ms → cond z (suc (frees (set ms p v))) (frees (set ms p v)) < cond z (suc (frees ms)) (frees ms)
+    go true h = omega arith
+    go false h = h
+
+-- ---- one place more is marked
+
+same-test : {P : Type 0} (a b : Bool) → Reflect P a → Reflect P b → a ≡ b
+same-test true b r s = sym (is-true b (s .tests (r .holds tt)))
+same-test false b r s = sym (is-false b (λ t. r .tests (s .holds t)))
+
+module _ (images used marks : List ℕ) (m : Marks images used marks) where
+  -- the same, where the same cells are used
+  pub marks-like : (used′ : List ℕ) → ((x : ℕ) → x ∈ used → x ∈ used′) → ((x : ℕ) → x ∈ used′ → x ∈ used) → Marks images used′ marks
+  marks-like used′ f g =
+      record {
+        room = m .room;
+        marked = λ p b.
+            m .marked p b
+            ∙ ap (mark (stops images p))
+            (same-test (absent p used) (absent p used′) (r-absent p used) (r-iff (λ o k. o (f p k)) (λ o k. o (g p k)) (r-absent p used′)));
+      }
+
+  pub marks-use : (q : ℕ) → q < 28 → stops images q ≡ false → Marks images (q ∷ used) (set marks q 2)
+  marks-use q b e = record { room = length-set marks q 2 ∙ m .room; marked = λ p c. go p c (ℕ-discrete p q) }
+    where
+      go : (p : ℕ) → p < 28 → Dec (p ≡ q) → getD (set marks q 2) p 0 ≡ mark (stops images p) (absent p (q ∷ used))
+      go p c (yes z) =
+          rw z (getD-set-same marks q 2 0 (omega (arith, m .room)) ∙ rw (e, is-true (eqb q q) (eqb-refl q)) refl)
+      go p c (no n) = getD-set-other marks q p 2 0 n ∙ m .marked p c ∙ rw (ne-eqb q p (λ z. n (sym z))) refl
+
+image-other : (xs : List ℕ) (y p : ℕ) → p ≢ cell y → isImage (xs ++ (y ∷ [])) p ≡ isImage xs p
+image-other [] y p n = rw (ne-eqb p (cell y) n) refl
+image-other (x ∷ xs) y p n = ap (λ (b : Bool). eqb p (cell x) || b) (image-other xs y p n)
+
+pub or-true : (b : Bool) → b || true ≡ true
+or-true true = refl
+or-true false = refl
+
+image-same : (xs : List ℕ) (y : ℕ) → isImage (xs ++ (y ∷ [])) (cell y) ≡ true
+image-same [] y = rw (is-true (eqb (cell y) (cell y)) (eqb-refl (cell y))) refl
+image-same (x ∷ xs) y = ap (λ (b : Bool). eqb (cell y) (cell x) || b) (image-same xs y) ∙ or-true (eqb (cell y) (cell x))
+
+pub marks-stop : (images marks : List ℕ) (y : ℕ) → Marks images [] marks → cell y < 28 → Marks (images ++ (y ∷ [])) [] (set marks (cell y) 1)
+marks-stop images marks y m b = record { room = length-set marks (cell y) 1 ∙ m .room; marked = λ p c. go p c (ℕ-discrete p (cell y)) }
+  where
+    go : (p : ℕ) → p < 28 → Dec (p ≡ cell y) → getD (set marks (cell y) 1) p 0 ≡ mark (stops (images ++ (y ∷ [])) p) true
+    go p c (yes z) =
+        rw z (getD-set-same marks (cell y) 1 0 (omega (arith, m .room)) ∙ rw (image-same images y, or-true (ltb (cell y) (cell 0))) refl)
+    go p c (no n) =
+        getD-set-other marks (cell y) p 1 0 n ∙ m .marked p c ∙ ap (λ (k : Bool). mark (ltb p (cell 0) || k) true) (sym (image-other images y p n))

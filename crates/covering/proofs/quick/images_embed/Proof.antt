@@ -1,0 +1,66 @@
+-- Where all three tests pass, the images are read and `embeds?` holds.
+use Prim.Native.Nat.{ℕ}
+use mathlib.Core.Path.{_≡_, refl, sym}
+use native.Mathlib.Omega.{arith}
+use borrow.Author.Needs.{needs}
+use borrow.Author.Tests.{not-false}
+use Rattle.covering.proofs.Images.{images-none}
+use Rattle.covering.proofs.TakeImages.{taken-linking, taken-embed}
+use Rattle.covering.proofs.quick.images_embed.Statement.{statement}
+use Rattle.covering.proofs.quick.images_embed.Tie as tie
+
+cells-held-requires : tie.Need-cells-held-requires
+cells-held-requires c κs = search needs
+
+take-images-requires : tie.Need-take-images-requires
+take-images-requires c κs =
+    let (w, e, inside) = c .before .before .before .before .pre in
+    (inside, omega (arith, w .cells), c .before .before .cells-held .ensures .1, images-none _, refl)
+
+returns : tie.Need-returns
+returns c = λ z. let v : _≡_ {A = ℕ} 0 1 = cc in absurd (omega arith)
+
+add-quick-vars : tie.Need-add-quick-vars
+add-quick-vars c = search needs
+
+quick-vars-requires : tie.Need-quick-vars-requires
+quick-vars-requires c κs = search needs
+
+returns-2 : tie.Need-returns-2
+returns-2 c = λ z. let v : _≡_ {A = ℕ} 0 1 = cc in absurd (omega arith)
+
+add-quick-links : tie.Need-add-quick-links
+add-quick-links c = search needs
+
+add-quick-links-2 : tie.Need-add-quick-links-2
+add-quick-links-2 c = search needs
+
+quick-links-requires : tie.Need-quick-links-requires
+quick-links-requires c κs =
+    let (w, e, _) = c .before .before .before .before .before .before .before .before .before .before .before .pre in
+    let h = c .before .before .before .before .before .before .before .before .before .cells-held .ensures in
+    let t = c .before .before .before .before .before .before .take-images .ensures (not-false _ (c .before .before .before .before .before .if1 .left)) in
+    (_, _, taken-linking _ _ _ (h .0) (sym (h .2)) _ _ w _ _ e _ _ t)
+
+returns-3 : tie.Need-returns-3
+returns-3 c = λ z.
+    let (w, e, _) = c .before .before .before .before .before .before .before .before .before .before .before .before .pre in
+    let h = c .before .before .before .before .before .before .before .before .before .before .cells-held .ensures in
+    let t = c .before .before .before .before .before .before .before .take-images .ensures (not-false _ (c .before .before .before .before .before .before .if1 .left)) in
+    let l = taken-linking _ _ _ (h .0) (sym (h .2)) _ _ w _ _ e _ _ t in
+    taken-embed _ _ _ (h .0) (sym (h .2)) _ _ w _ _ e _ _ t (c .before .before .before .before .quick-vars .ensures (not-false _ (c .before .before .before .if2 .left))) (c .quick-links .ensures _ _ l z)
+
+pub images-embed-spec : {M : Type 1} → statement M
+images-embed-spec =
+    tie.close
+    (tie.spec
+    cells-held-requires
+    take-images-requires
+    returns
+    add-quick-vars
+    quick-vars-requires
+    returns-2
+    add-quick-links
+    add-quick-links-2
+    quick-links-requires
+    returns-3)

@@ -1,0 +1,113 @@
+-- The loop follows the paths in turn, as `links_fit` does. The image of a place that the member has is an end, so what is met there is one.
+use Prim.Native.Nat.{ℕ, _-_, _≤_}
+use mathlib.Core.Logic.{⊎-elim}
+use mathlib.Core.Path.{_≡_, sym, _∙_}
+use native.Mathlib.Omega.{arith}
+use Rattle.shape.specs.Shape.{Shape}
+use Rattle.covering.specs.Marks.{Linking}
+use Rattle.covering.proofs.Images.{image-read, image-stops}
+use Rattle.covering.proofs.Links.{Fitting, fit-none, fit-all, fit-skip, fit-walk, fit-good}
+use borrow.Author.Needs.{needs}
+use Rattle.covering.proofs.quick.quick_links.Statement.{statement}
+use Rattle.covering.proofs.quick.quick_links.Tie as tie
+
+abbrev Inv-loop : tie.InvT-loop
+Inv-loop cert first count images marks₀ n s i₀ marks i =
+    (i ≤ count)
+    × ((member covered : Shape) (l : Linking member covered cert first count images marks₀ n s)
+    → Fitting member covered cert first count images marks₀ n s l marks i)
+
+abbrev μ-loop : tie.MeasureT-loop
+μ-loop cert first count images marks₀ n s i₀ marks i = count - i
+
+loop-holds : tie.Need-loop-holds Inv-loop μ-loop
+loop-holds c = (omega arith, λ m p l. fit-none _ _ _ _ _ _ _ _ _ l)
+
+add-wide : tie.Need-add-wide Inv-loop μ-loop
+add-wide c = let (m, p, l) = c .before .before .before .pre in omega (arith, l .inside)
+
+shared-slice-read-wide : tie.Need-shared-slice-read-wide Inv-loop μ-loop
+shared-slice-read-wide c = let (m, p, l) = c .before .before .before .before .pre in omega (arith, l .inside)
+
+wide-requires : tie.Need-wide-requires Inv-loop μ-loop
+wide-requires c κs = search needs
+
+add-if2 : tie.Need-add-if2 Inv-loop μ-loop
+add-if2 c = let (m, p, l) = c .before .before .before .before .before .before .pre in omega (arith, l .images .few)
+
+returns : tie.Need-returns Inv-loop μ-loop
+returns c = λ m p l z. let v : _≡_ {A = ℕ} 0 1 = cc in absurd (omega arith)
+
+add-wide-2 : tie.Need-add-wide-2 Inv-loop μ-loop
+add-wide-2 c = search needs
+
+element-copy-out-wide : tie.Need-element-copy-out-wide Inv-loop μ-loop
+element-copy-out-wide c = let (m, p, l) = c .before .before .before .before .before .before .before .pre in omega (arith, l .images .few)
+
+wide-requires-2 : tie.Need-wide-requires-2 Inv-loop μ-loop
+wide-requires-2 c κs = search needs
+
+walk-requires : tie.Need-walk-requires Inv-loop μ-loop
+walk-requires c κs =
+    let (m, p, l) = c .before .before .before .before .before .before .before .before .before .before .pre in
+    (p .links, _, _, fit-walk _ _ _ _ _ _ _ _ _ l _ _ (c .before .before .before .before .before .before .before .before .loop .inv .1 m p l) (omega arith) _ (c .before .before .before .before .before .wide .ensures .0) _ (c .before .wide2 .ensures .0))
+
+element-copy-out-wide-2 : tie.Need-element-copy-out-wide-2 Inv-loop μ-loop
+element-copy-out-wide-2 c = let (m, p, l) = c .before .before .before .before .before .before .before .before .before .before .before .pre in omega (arith, l .images .few)
+
+wide-requires-3 : tie.Need-wide-requires-3 Inv-loop μ-loop
+wide-requires-3 c κs = search needs
+
+returns-2 : tie.Need-returns-2 Inv-loop μ-loop
+returns-2 c = λ m p l z. let v : _≡_ {A = ℕ} 0 1 = cc in absurd (omega arith)
+
+add-i : tie.Need-add-i Inv-loop μ-loop
+add-i c = search needs
+
+loop-less : tie.Need-loop-less Inv-loop μ-loop
+loop-less c = search needs
+
+loop-again : tie.Need-loop-again Inv-loop μ-loop
+loop-again c = (
+  omega arith,
+  λ m p l.
+      let f = c .before .before .before .before .loop .inv .1 m p l in
+      let e = c .before .wide .ensures .0 in
+      ⊎-elim
+      (λ (n, b, _, s, _, w, _, t, z, y).
+      let images = c .before .before .before .before .before .before .args .images .now in
+      let q = c .before .wide .result in
+      let read = image-read images q (omega (arith, b .left, l .images .few)) in
+      let v = w .ensures _ _ _ (fit-walk _ _ _ _ _ _ _ _ _ l _ _ f (omega arith) _ e _ (s .ensures .0)) in
+      rw y
+      (fit-good _ _ _ _ _ _ _ _ _ l _ _ f (omega arith) _ e _ (s .ensures .0) (n .taken) _ (t .ensures .0 ∙ sym read) _ _ v (z .left)
+      (rw (z .left, t .ensures .0, ← read) (image-stops _ _ images (l .images) q (omega (arith, b .left))))))
+      (λ (n, y). fit-skip _ _ _ _ _ _ _ _ _ l _ _ f (omega arith) _ e _ y (n .left)) (c .if1 .came),
+)
+
+returns-3 : tie.Need-returns-3 Inv-loop μ-loop
+returns-3 c = λ m p l _. sym (fit-all _ _ _ _ _ _ _ _ _ l _ _ (c .before .loop .inv .1 m p l) (omega arith))
+
+pub quick-links-spec : {M : Type 1} → statement M
+quick-links-spec =
+    tie.close
+    (tie.spec
+    Inv-loop
+    μ-loop
+    loop-holds
+    add-wide
+    shared-slice-read-wide
+    wide-requires
+    add-if2
+    returns
+    add-wide-2
+    element-copy-out-wide
+    wide-requires-2
+    walk-requires
+    element-copy-out-wide-2
+    wide-requires-3
+    returns-2
+    add-i
+    loop-less
+    loop-again
+    returns-3)

@@ -1,0 +1,25 @@
+-- What the quick test of a cover says where it accepts.
+use mathlib.Core.Bool.{true}
+use mathlib.Core.List.{List, []}
+use mathlib.Core.Path.{_≡_}
+use Prim.Native.Nat.{ℕ, _+_}
+use Rattle.shape.specs.Shape.{size}
+use Rattle.cover.specs.Test.{embeds?}
+use Rattle.verdict.specs.declared.Reached.the-variants.{At}
+use Rattle.layout.specs.Entries.{locatedAt}
+use Rattle.layout.specs.ShapeArray.{shapeIn}
+use Rattle.covering.specs.Images.{imagesIn, once}
+use Rattle.covering.specs.Marks.{Marks}
+use Rattle.covering.specs.Reading.{ImagesRead}
+
+-- so many images of one byte are read from a place on into an array; they differ, and are marked
+pub record ImagesTaken (cert : List ℕ) (first n count : ℕ) (codes marks : List ℕ) : Type 0 where
+  pub read : ImagesRead cert first n count (At (first + count)) codes
+  pub apart : once (imagesIn count codes) ≡ true
+  pub marked : Marks (imagesIn count codes) [] marks
+
+-- so many images are read from a place on, and embed the member that starts at a place in the shape in an array
+pub record ImagesEmbed (cert : List ℕ) (start variables first count : ℕ) (s : List ℕ) : Type 0 where
+  pub codes : List ℕ
+  pub read : ImagesRead cert first (size (shapeIn variables s)) count (At (first + count)) codes
+  pub embeds : embeds? (locatedAt cert variables start .shape) (shapeIn variables s) (imagesIn count codes) ≡ true

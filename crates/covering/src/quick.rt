@@ -1,0 +1,134 @@
+// A quick test that images embed a member in a shape. It takes images of one byte only, and marks each of them as it is read.
+use crate::fitting::FREE;
+use crate::fitting::NO_IMAGES;
+use crate::fitting::STOP;
+use crate::fitting::cells_held;
+use crate::fitting::walk;
+use crate::fitting::wide;
+ghost use mathlib.Core.Bool.{true};
+ghost use mathlib.Core.Path.{_≡_};
+ghost use Prim.Native.Nat.{_+_, _≤_};
+ghost use lib.ListN.{length, getD, replicate};
+ghost use Rattle.lists.specs.Test.{allFrom};
+ghost use Rattle.shape.specs.Shape.{Shape};
+ghost use Rattle.layout.specs.Entries.{Whole};
+ghost use Rattle.covering.specs.Images.{imagesIn, ImageCodes, varFitsIn, pathFits};
+ghost use Rattle.covering.specs.Marks.{Linking};
+ghost use Rattle.covering.specs.Quick.{ImagesTaken, ImagesEmbed};
+
+// Takes so many images, each one byte and below n, and marks them as stops, as well as nowhere, # and *. False where an image is not so, or
+// two are the same.
+fn take_images(
+    cert: &[u8],
+    first: usize,
+    count: usize,
+    n: usize,
+    images: &mut [u8; 15],
+    marks: &mut [u8; 28],
+) -> bool
+    requires { ⌜ (first + count ≤ length (now cert)) × (count ≤ 12) × (n ≤ 25) × ImageCodes 0 n (now images) × (now marks ≡ replicate 28 0) ⌝ }
+    ensures { λ r. ⌜ (r ≡ true → ImagesTaken (now (cert .entry)) first n count (now (images .exit)) (now (marks .exit))) ⌝ }
+{
+    marks[0] = STOP;
+    marks[1] = STOP;
+    marks[2] = STOP;
+    let mut i = 0;
+    while i < count {
+        let c = cert[first + i];
+        if n <= wide(c) {
+            return false;
+        }
+        let p = wide(c) + 3;
+        if marks[p] != FREE {
+            return false;
+        }
+        marks[p] = STOP;
+        images[i + 3] = c + 3;
+        i += 1;
+    }
+    true
+}
+
+// Whether each variable that the member places stands at the image of that place. False also where a place is no cell that a member may have.
+fn quick_vars(cert: &[u8], first: usize, count: usize, images: &[u8; 15], s: &[u8; 28]) -> bool
+    requires { ⌜ (first + count ≤ length (now cert)) × (count ≤ 9) ⌝ }
+    ensures { λ r. ⌜ (r ≡ true → allFrom count 0 (varFitsIn (now (cert .entry)) first (now (images .entry)) (now (s .entry))) ≡ true) ⌝ }
+{
+    let mut i = 0;
+    while i < count {
+        let p = wide(cert[first + i]);
+        if p != 0 {
+            if 15 <= p {
+                return false;
+            }
+            if images[p] != s[i + 18] {
+                return false;
+            }
+        }
+        i += 1;
+    }
+    true
+}
+
+// Whether the paths of the member's links end where they should and share no cell: a path that meets a used cell ends there, which is no image.
+// False also where a link is to a cell that the member lacks.
+fn quick_links(
+    cert: &[u8],
+    first: usize,
+    count: usize,
+    images: &[u8; 15],
+    marks: &mut [u8; 28],
+    n: usize,
+    s: &[u8; 28],
+) -> bool
+    requires { ⌜ ((member : Shape) × (covered : Shape) × Linking member covered (now cert) first count (now images) (now marks) n (now s)) ⌝ }
+    ensures { λ r. ⌜ ((member covered : Shape) → Linking member covered (now (cert .entry)) first count (now (images .entry)) (now (marks .entry)) n (now (s .entry)) → r ≡ true → allFrom count 0 (pathFits member covered (imagesIn count (now (images .entry)))) ≡ true) ⌝ }
+{
+    let mut i = 0;
+    while i < count {
+        let p = wide(cert[first + i]);
+        if p != 0 {
+            if count + 3 <= p {
+                return false;
+            }
+            let from = wide(images[i + 3]);
+            if walk(n, s, marks, from) != wide(images[p]) {
+                return false;
+            }
+        }
+        i += 1;
+    }
+    true
+}
+
+// Whether so many images from a place on embed the member that starts at a place in a shape. False also where the test is left open.
+pub(crate) fn images_embed(
+    cert: &[u8],
+    start: usize,
+    variables: usize,
+    first: usize,
+    count: usize,
+    s: &[u8; 28],
+) -> bool
+    requires { ⌜ (Whole (now cert) variables start) × (count ≡ getD (now cert) (start + 1) 0) × (first + count ≤ length (now cert)) ⌝ }
+    ensures { λ r. ⌜ (r ≡ true → ImagesEmbed (now (cert .entry)) start variables first count (now (s .entry))) ⌝ }
+{
+    let n = cells_held(s);
+    let mut images = NO_IMAGES;
+    let mut marks = [0u8; 28];
+    if !take_images(cert, first, count, n, &mut images, &mut marks) {
+        return false;
+    }
+    if !quick_vars(cert, start + 2, variables, &images, s) {
+        return false;
+    }
+    quick_links(
+        cert,
+        start + 2 + variables,
+        count,
+        &images,
+        &mut marks,
+        n,
+        s,
+    )
+}

@@ -1,1 +1,0 @@
-// How a cover is tested by marks: definitions and theorems alone.

@@ -1,0 +1,268 @@
+-- Where what document 01 says of a refusal's number holds at a place, the verdict is that refusal.
+use mathlib.Core.Bool.{not}
+use mathlib.Core.List.{List, [], _∷_, _++_, append-nil, List·Memᴰ·head, Memᴰ·append-left, Memᴰ·append-right}
+use mathlib.Core.Logic.{inl, inr}
+use mathlib.Core.Option.{none, some}
+use mathlib.Core.Path.{_≡_, refl, sym, ap, ap₂, subst, subst₂, _∙_}
+use Prim.Native.Nat.{ℕ, zero, suc, _≤_, _<_}
+use native.Mathlib.Omega.{arith}
+use lib.Dec.{T}
+use lib.ListN.{length, getElem?}
+use Rattle.lists.specs.List.{_∈_, concatMap}
+use Rattle.lists.proofs.List.{concatMap-append}
+use Rattle.lists.proofs.Reflect.{r-le, r-lt, r-and, cond-true, cond-false}
+use Rattle.shape.specs.Shape.{size, InRange}
+use Rattle.run.specs.Run.{Located}
+use Rattle.run.proofs.Runs.{getElem-mem}
+use Rattle.cover.specs.Cover.{owed, Holds, holds?}
+use Rattle.format.specs.Parser.{parsed, fault, Parser, onward, return, each, Buffer, within, such, readAs, ranged, jobBuffer, certificateBuffer, end}
+use Rattle.format.specs.Job.{readWholeJob}
+use Rattle.format.specs.JobNumbers.{JobFile, locatedNumbers}
+use Rattle.format.specs.Certificate.{Member, withoutPlaces, readMembers, atStart, testStart, readCover}
+use Rattle.format.specs.Verdict.{Counts, refused, readCertificate, readBoth, fits, verdict}
+use Rattle.format.specs.Conditions.{MembersInRange, countsOf}
+use Rattle.format.specs.JobBytes.{LocatedInRange, JobInRange}
+use Rattle.format.specs.Numbers.{memberNumbers, coverNumbers}
+use Rattle.format.specs.Meaning.{InJob, job-number, job-range, job-left, StartSatisfied, Covered, CoverBegun, CoverDue, member-due, image-due}
+use Rattle.format.specs.Meaning.{InCertificate, member-unread, cover-unread, member-range, cover-range, member-satisfied, cover-fails, certificate-left}
+use Rattle.format.specs.Meaning.{Meaning, job-length, certificate-length, in-job, in-certificate}
+use Rattle.format.proofs.Sequence.{Reads, reads-first, reads-append, reads-split, reads-place}
+use Rattle.format.proofs.Parsing.{then, require-refuses, Faulty, faulty-map, read-complete, read-refuses, codes-exact, codes-refuses}
+use Rattle.format.proofs.Files.{end-refuses, job-exact}
+use Rattle.format.proofs.Covers.{members-complete, Avoids, Every, r-avoids, tests-complete, holds-reflects, covers-complete}
+use Rattle.format.proofs.Exact.{r-fits, job-read}
+use Rattle.format.proofs.Local.{before-reads}
+use Rattle.format.proofs.Completing.{job-faults, members-faults}
+use Rattle.format.proofs.Refusals.{member-first}
+
+-- after those that are read, the next is refused
+each-refuses : {A B : Type 0} (p : A → Parser B) (xs : List A) (y : A) (ys : List A) (at : ℕ) {vs : List B} {mid number place : ℕ}
+    → each p xs at ≡ parsed vs mid → p y mid ≡ fault number place → each p (xs ++ (y ∷ ys)) at ≡ fault number place
+unfolding each
+each-refuses p [] y ys at {vs} {mid} {number} {place} h f =
+    let mid-is : mid ≡ at = cc in
+    let e : p y at ≡ fault number place = ap (p y) (sym mid-is) ∙ f in
+    rw e
+each-refuses p (x ∷ xs) y ys at {vs} {mid} {number} {place} h f =
+    then (p x at) _
+    (λ v a h₁. then (each p xs a) _
+    (λ ws b h₂ r.
+    let b-is : mid ≡ b = cc in
+    let e : each p (xs ++ (y ∷ ys)) a ≡ fault number place = each-refuses p xs y ys a h₂ (ap (p y) (sym b-is) ∙ f) in
+    rw (h₁, e))) h
+
+-- ---- the job
+
+job-refused : (job : List ℕ) (number place : ℕ) → InJob job number place → readWholeJob (jobBuffer job) 0 ≡ fault number place
+unfolding readWholeJob
+job-refused job number place (job-number at f) = rw (job-faults job 3 at .1 (inl (refl, f)))
+job-refused job number place (job-range at f) = rw (job-faults job 4 at .1 (inr (refl, f)))
+job-refused job number place (job-left f at i more) =
+    let inside : at ≤ length job = omega arith in
+    let r = before-reads job (inside, i .reads) in
+    rw (job-exact (jobBuffer job) .complete 0 f at r (i .in-range), end-refuses (jobBuffer job) at more)
+
+-- ---- the certificate
+
+-- members with their places, split as those without
+split-places : (l : List Member) (xs : List Located) (y : Located) (ys : List Located) → withoutPlaces l ≡ xs ++ (y ∷ ys)
+    → (a : List Member) × (b : Member) × (c : List Member) × (l ≡ a ++ (b ∷ c)) × (withoutPlaces a ≡ xs) × (b .located ≡ y)
+split-places [] [] y ys e = let z : _≡_ {A = ℕ} 0 1 = cc in absurd (omega arith)
+split-places [] (x ∷ xs) y ys e = let z : _≡_ {A = ℕ} 0 1 = cc in absurd (omega arith)
+split-places (m ∷ l) [] y ys e = ([], m, l, refl, refl, cc)
+split-places (m ∷ l) (x ∷ xs) y ys e =
+    let e₁ : m .located ≡ x = cc in
+    let e₂ : withoutPlaces l ≡ xs ++ (y ∷ ys) = cc in
+    let (a, b, c, i, j, k) = split-places l xs y ys e₂ in
+    (m ∷ a, b, c, ap (λ t. m ∷ t) {y = a ++ (b ∷ c)} i, ap₂ {A = Located} {B = List Located} {C = List Located} (λ h t. h ∷ t) e₁ j, k)
+
+-- past the last member there is none
+past-last : (l : List Located) (n : ℕ) → length l ≤ n → getElem? l n ≡ none
+past-last [] n h = refl
+past-last (x ∷ l) zero h = absurd (omega arith)
+past-last (x ∷ l) (suc n) h = past-last l n (omega arith)
+
+module _ (certificate : List ℕ) (f : JobFile) (ok : JobInRange f) where
+  abbrev s : Buffer
+  s = certificateBuffer certificate
+
+  -- what comes after the members
+  abbrev afterMembers : List Located → Parser Counts
+  afterMembers ms at = onward (each (readCover s ms) (owed (f .job) ms) at) (λ vs at. onward (end s at) (λ u. return (countsOf (f .job) ms)))
+
+  -- members in range that the empty heap does not satisfy at the start state are read, and what comes after them decides
+  to-covers : (ms : List Located) → MembersInRange f ms → ((m : Located) → m ∈ ms → Avoids (f .job .start) m) → (next : ℕ)
+      → Reads certificate 0 (memberNumbers ms) next → readCertificate s f 0 ≡ afterMembers ms next
+  unfolding readCertificate
+  to-covers ms oks start next r =
+      let (members, same, h₂) = members-complete s (f .job .variables) (f .states) 0 ms next r (oks .number) (oks .members) in
+      let ranges : Every members (LocatedInRange (f .job .variables) (f .states)) = rw same (oks .members) in
+      let avoid : Every members (Avoids (f .job .start)) = rw same start in
+      let (us, h₃) = tests-complete (f .job .variables) (f .states) (f .job .start) members ranges next avoid in
+      rw (h₂, h₃) (ap (λ l. afterMembers l next) same)
+
+  -- ---- covers
+
+  -- what has been covered is read, up to a place
+  module _ {place : ℕ} {left : List Located} (c : Covered f certificate place left) where
+    shapes : (m : Located) → m ∈ c .members → InRange (f .job .variables) 12 (m .shape)
+    shapes m i = c .members-range .members m i .shape
+
+    covered-read : (next : ℕ) × (vs : List (Unit {0})) × (readCertificate s f 0 ≡ afterMembers (c .members) next)
+        × (each (readCover s (c .members)) (c .done) next ≡ parsed vs place)
+    covered-read =
+        let (next, r₁, r₂) = reads-split (memberNumbers (c .members)) (before-reads certificate (c .before)) in
+        let (vs, h) = covers-complete s (f .job .variables) (c .members) shapes (c .done) (c .covers) next place r₂ (c .hold) (c .images) in
+        (next, vs, to-covers (c .members) (c .members-range) (c .start) next r₁, h)
+
+  -- the next cover is refused
+  cover-refused : {first : ℕ} {shape : Located} {later : List Located} (c : Covered f certificate first (shape ∷ later)) (number place : ℕ)
+      → readCover s (c .members) shape first ≡ fault number place → readCertificate s f 0 ≡ fault number place
+  cover-refused {shape = shape} {later = later} c number place h =
+      let (next, vs, e, g) = covered-read c in
+      let stops : each (readCover s (c .members)) (owed (f .job) (c .members)) next ≡ fault number place =
+      rw (c .owed-is) (each-refuses (readCover s (c .members)) (c .done) shape later next g h) in
+      e ∙ rw stops
+
+  -- its member number is refused
+  member-refused : (members : List Located) (shape : Located) (first number : ℕ) → readAs s (getElem? members) first ≡ fault number first
+      → readCover s members shape first ≡ fault number first
+  unfolding readCover
+  member-refused members shape first number h = rw h
+
+  -- a cover that is read up to a place
+  module _ {first next : ℕ} (c : CoverBegun f certificate first next) where
+    abbrev ms : List Located
+    ms = c .so-far .members
+
+    cover-numbers : Reads certificate first (coverNumbers (c .cover)) next
+    cover-numbers =
+        let r = before-reads certificate (c .reads) in
+        let (p₂, r₁, r₂) = reads-split (memberNumbers ms) r in
+        let one-more : concatMap coverNumbers (c .so-far .covers ++ (c .cover ∷ [])) ≡ concatMap coverNumbers (c .so-far .covers) ++ coverNumbers (c .cover) =
+        concatMap-append coverNumbers (c .so-far .covers) (c .cover ∷ [])
+        ∙ ap (λ (l : List ℕ). concatMap coverNumbers (c .so-far .covers) ++ l) (append-nil (coverNumbers (c .cover))) in
+        let (p₃, r₃, r₄) = reads-split (concatMap coverNumbers (c .so-far .covers)) (subst (λ (l : List ℕ). Reads certificate p₂ l next) one-more r₂) in
+        let first-is : p₃ ≡ first = reads-place (reads-append r₁ r₃) (before-reads certificate (c .so-far .before)) in
+        subst (λ (k : ℕ). Reads certificate k (coverNumbers (c .cover)) next) first-is r₄
+
+    -- the next image is refused
+    image-refused : (number : ℕ) → length (c .cover .images) < size (c .member .shape) → ranged s 0 (size (c .shape .shape)) next ≡ fault number next
+        → readCover s ms (c .shape) first ≡ fault number next
+    unfolding readCover
+    image-refused number fewer h =
+        let (a, g₁, g₂) = reads-first cover-numbers in
+        rw (
+          read-complete s (getElem? ms) first (c .cover .member) a (c .member) g₁ (c .numbered),
+          codes-refuses s (size (c .member .shape)) (size (c .shape .shape)) a (c .cover .images) next number next g₂ fewer (c .below) h,
+        )
+
+    -- the cover does not hold
+    holds-refused : length (c .cover .images) ≡ size (c .member .shape) → ¬ Holds ms (c .cover) (c .shape) → readCover s ms (c .shape) first ≡ fault 9 first
+    unfolding readCover
+    holds-refused long fails =
+        let (a, g₁, g₂) = reads-first cover-numbers in
+        let i = getElem-mem ms (c .cover .member) (c .member) (c .numbered) in
+        let reflects = holds-reflects s (f .job .variables) ms (shapes (c .so-far)) (c .member) (c .shape) (c .cover .images) i long (c .below) in
+        rw (
+          read-complete s (getElem? ms) first (c .cover .member) a (c .member) g₁ (c .numbered),
+          codes-exact s (size (c .member .shape)) (size (c .shape .shape)) .complete a (c .cover .images) next g₂ (long, c .below),
+        )
+        (require-refuses (holds? (c .member) (c .cover .images) (c .shape)) 9 first next
+        (λ t.
+        let (state, embeds) = reflects .holds t in
+        fails (record { member = c .member; numbered = c .numbered; state = state; embeds = embeds })))
+
+  -- the number that is due is refused
+  number-refused : (number place limit : ℕ) → CoverDue f certificate place limit → Faulty s (λ n. limit ≤ n) number place
+      → readCertificate s f 0 ≡ fault number place
+  number-refused number place limit (member-due shape later c e) w =
+      cover-refused c number place
+      (member-refused (c .members) shape place number
+      (read-refuses s (getElem? (c .members)) place number (faulty-map s (λ n h. past-last (c .members) n (omega arith)) w)))
+  number-refused number place limit (image-due first c fewer e) w =
+      cover-refused (c .so-far) number place
+      (image-refused c number fewer
+      (read-refuses s (such (within 0 (size (c .shape .shape)))) place number (faulty-map s (λ n h. outside n (omega arith)) w)))
+    where
+      outside : (n : ℕ) → size (c .shape .shape) ≤ n → such (within 0 (size (c .shape .shape))) n ≡ none
+      outside n h =
+          cond-false (within 0 (size (c .shape .shape)) n) (some n) none
+          (λ t. let (_, b) = r-and (r-le 0 n) (r-lt n (size (c .shape .shape))) .holds t in omega arith)
+
+  -- ---- members
+
+  module _ {place : ℕ} (w : StartSatisfied f certificate place) where
+    -- the members as they are read: the one at the place, with those before and after it
+    module _ (earlier : List Member) (member : Member) (later : List Member) (earlier-is : withoutPlaces earlier ≡ w .earlier)
+        (member-is : member .located ≡ w .member) (all-is : withoutPlaces (earlier ++ (member ∷ later)) ≡ w .earlier ++ (w .member ∷ w .later))
+        (h : readMembers s (f .job .variables) (f .states) 0 ≡ parsed (earlier ++ (member ∷ later)) (w .next)) where
+      place-is : member .first ≡ place
+      place-is =
+          reads-place
+          (subst₂ (λ (a b : List Located). Reads certificate 0 (1 ∷ length a ∷ concatMap locatedNumbers b) (member .first)) all-is earlier-is
+          (member-first s (f .job .variables) (f .states) 0 earlier member later (w .next) h))
+          (before-reads certificate (w .before))
+
+      range-earlier : Every earlier (LocatedInRange (f .job .variables) (f .states))
+      range-earlier m i = w .members-range .members m (Memᴰ·append-left (w .member ∷ w .later) (subst (λ (l : List Located). m ∈ l) earlier-is i))
+
+      avoid-earlier : Every earlier (Avoids (f .job .start))
+      avoid-earlier = rw earlier-is (w .unsatisfied)
+
+      test-fails : ¬ T (not (atStart (f .job .start) (member .located)))
+      test-fails t =
+          let ok = w .members-range .members (w .member) (Memᴰ·append-right (w .earlier) (List·Memᴰ·head refl)) in
+          r-avoids (f .job .variables) (f .states) (f .job .start) (w .member) ok .holds (rw member-is at t) (w .state) (w .satisfied)
+
+      member-fails : readCertificate s f 0 ≡ fault 8 place
+      unfolding readCertificate
+      member-fails =
+          let (us, h₃) = tests-complete (f .job .variables) (f .states) (f .job .start) earlier range-earlier (w .next) avoid-earlier in
+          let stops : each (testStart (f .job .start)) (earlier ++ (member ∷ later)) (w .next) ≡ fault 8 (member .first) =
+          each-refuses (testStart (f .job .start)) earlier member later (w .next) h₃
+          (require-refuses (not (atStart (f .job .start) (member .located))) 8 (member .first) (w .next) test-fails) in
+          rw (h, stops) (ap (fault 8) place-is)
+
+    start-refused : readCertificate s f 0 ≡ fault 8 place
+    start-refused =
+        let (members, same, h) =
+        members-complete s (f .job .variables) (f .states) 0 (w .earlier ++ (w .member ∷ w .later)) (w .next) (before-reads certificate (w .members-read))
+        (w .members-range .number) (w .members-range .members) in
+        let (earlier, member, later, all, earlier-is, member-is) = split-places members (w .earlier) (w .member) (w .later) same in
+        member-fails earlier member later earlier-is member-is (ap withoutPlaces (sym all) ∙ same) (h ∙ ap (λ l. parsed l (w .next)) all)
+
+  -- ---- the end
+
+  left-refused : (place : ℕ) → Covered f certificate place [] → place < length certificate → readCertificate s f 0 ≡ fault 10 place
+  left-refused place c more =
+      let (next, vs, e, g) = covered-read c in
+      let all : each (readCover s (c .members)) (owed (f .job) (c .members)) next ≡ parsed vs place =
+      ap (λ l. each (readCover s (c .members)) l next) (c .owed-is ∙ append-nil (c .done)) ∙ g in
+      e ∙ rw (all, end-refuses s place more)
+
+  certificate-refused : (number place : ℕ) → InCertificate f certificate number place → readCertificate s f 0 ≡ fault number place
+  unfolding readCertificate
+  certificate-refused number place (member-unread at w) = rw (members-faults f ok certificate 6 at .1 (inl (refl, w)))
+  certificate-refused number place (member-range at w) = rw (members-faults f ok certificate 7 at .1 (inr (refl, w)))
+  certificate-refused number place (cover-unread at limit d g) = number-refused 6 at limit d (inl (refl, g))
+  certificate-refused number place (cover-range at limit d n next g h) = number-refused 7 at limit d (inr (refl, (n, next, g, h)))
+  certificate-refused number place (member-satisfied at w) = start-refused w
+  certificate-refused number place (cover-fails at w) =
+      cover-refused (w .cover .so-far) 9 at (holds-refused (w .cover) (w .images) (w .fails))
+  certificate-refused number place (certificate-left at c more) = left-refused at c more
+
+-- ---- the verdict
+
+pub decided : (job certificate : List ℕ) (number place : ℕ) → Meaning job certificate number place → verdict job certificate ≡ refused number place
+unfolding verdict readBoth
+decided job certificate number place (job-length n) = cond-false (fits job) _ (refused 1 0) (λ t. n (r-fits job .holds t))
+decided job certificate number place (certificate-length i n) =
+    cond-true (fits job) _ (refused 1 0) (r-fits job .tests i) ∙ cond-false (fits certificate) _ (refused 2 0) (λ t. n (r-fits certificate .holds t))
+decided job certificate number place (in-job k q i j m) =
+    cond-true (fits job) _ (refused 1 0) (r-fits job .tests i) ∙ cond-true (fits certificate) _ (refused 2 0) (r-fits certificate .tests j)
+    ∙ rw (job-refused job k q m)
+decided job certificate number place (in-certificate k q i j f is m) =
+    let (next, h) = job-read job f is in
+    cond-true (fits job) _ (refused 1 0) (r-fits job .tests i) ∙ cond-true (fits certificate) _ (refused 2 0) (r-fits certificate .tests j)
+    ∙ rw (h, certificate-refused certificate f (is .in-range) k q m)

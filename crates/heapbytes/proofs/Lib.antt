@@ -1,0 +1,3 @@
+pub mod Bytes
+pub mod RoundTrip
+pub mod TwoSteps

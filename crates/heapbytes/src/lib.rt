@@ -1,0 +1,1 @@
+// A heap of 64 cells as bytes: definitions and laws alone, in specs/ and proofs/.

@@ -1,0 +1,103 @@
+-- What a reader reads, as the parsers say it: a number, and the numbers before the transitions, each after the one before it.
+use mathlib.Core.List.{List}
+use mathlib.Core.Logic.{_⊎_, inl, inr}
+use mathlib.Core.Option.{none}
+use mathlib.Core.Path.{_≡_, refl, ap, _∙_}
+use Prim.Native.Nat.{ℕ, zero, suc}
+use native.Mathlib.Omega.{arith}
+use Rattle.format.specs.Parser.{Parsed, parsed, fault, Parser, onward, _>>=_, _>>_, return, here, Buffer, jobBuffer, within, such, ranged}
+use Rattle.format.proofs.Parsing.{Faulty, read-fault}
+use Rattle.jobreader.specs.Reader.{numberedOf, readOn, numberedAfter, frontRead}
+use Rattle.jobreader.specs.declared.Front.{Front}
+use Rattle.jobreader.specs.declared.Numbered.{Numbered}
+
+-- a value with the place after it or, where the refusal is not 0, that refusal with its place
+abbrev pub unlessRefused : {A : Type 0} → ℕ → A → ℕ → Parsed A
+unlessRefused zero value at = parsed value at
+unlessRefused (suc k) value at = fault (suc k) at
+
+abbrev pub parsedNumbered : Numbered → Parsed ℕ
+parsedNumbered s = unlessRefused (s .refusal) (s .number) (s .at)
+
+abbrev pub parsedFront : Front → Parsed Front
+parsedFront f = unlessRefused (f .refusal) f (f .at)
+
+-- the numbers of a job before its transitions, and the place after them, as a parser of jobs reads them
+unfoldable pub readFront : Buffer → Parser Front
+readFront s = do
+  ranged s 1 2
+  variables ← ranged s 1 9
+  states ← ranged s 1 65
+  start ← ranged s 0 states
+  transitions ← ranged s 0 257
+  at ← here
+  return (record { variables = variables; states = states; start = start; transitions = transitions; at = at; refusal = 0 })
+
+-- ---- a number
+
+-- a number that is refused can't be read or breaks its range
+pub ranged-fault : (s : Buffer) (low limit at number place : ℕ) → ranged s low limit at ≡ fault number place
+    → (number ≡ s .unreadable) ⊎ (number ≡ s .outside)
+ranged-fault s low limit at number place e = go (read-fault s (such (within low limit)) at number place e .1)
+  where
+    go : Faulty s (λ n. such (within low limit) n ≡ none) number at → (number ≡ s .unreadable) ⊎ (number ≡ s .outside)
+    go (inl (k, _)) = inl k
+    go (inr (k, _)) = inr k
+
+as-parsed : (x : Parsed ℕ) → ((place : ℕ) → x ≡ fault 0 place → ⊥) → parsedNumbered (numberedOf x) ≡ x
+as-parsed (parsed n next) h = refl
+as-parsed (fault zero place) h = absurd (h place refl)
+as-parsed (fault (suc k) place) h = refl
+
+module _ (job : List ℕ) (low limit : ℕ) where
+  not-zero : (at place : ℕ) → ranged (jobBuffer job) low limit at ≡ fault 0 place → ⊥
+  not-zero at place e = go (ranged-fault (jobBuffer job) low limit at 0 place e)
+    where
+      go : _≡_ {A = ℕ} 0 3 ⊎ _≡_ {A = ℕ} 0 4 → ⊥
+      go (inl z) = omega arith
+      go (inr z) = omega arith
+
+  pub numbered-parsed : (at : ℕ) → parsedNumbered (numberedOf (ranged (jobBuffer job) low limit at)) ≡ ranged (jobBuffer job) low limit at
+  numbered-parsed at = as-parsed (ranged (jobBuffer job) low limit at) (not-zero at)
+
+  on-parsed : (at refusal : ℕ) → parsedNumbered (numberedOf (readOn at refusal (ranged (jobBuffer job) low limit))) ≡ readOn at refusal (ranged (jobBuffer job) low limit)
+  on-parsed at zero = numbered-parsed at
+  on-parsed at (suc k) = refl
+
+-- ---- one number after the other
+
+-- What is made of x, which was read from a place on, is made of what was read up to that place.
+earlier : {A : Type 0} (refusal number at : ℕ) (p : ℕ → Parser ℕ) {x : Parsed ℕ} {y : Parsed A} (k : ℕ → ℕ → Parser A) → x ≡ readOn at refusal (p number)
+    → y ≡ onward x (k number) → y ≡ onward (unlessRefused refusal number at) (λ n a. onward (p n a) (k n))
+earlier zero number at p k e h = h ∙ ap (λ x. onward x (k number)) e
+earlier (suc j) number at p k e h = h ∙ ap (λ x. onward x (k number)) e
+
+made : ℕ → ℕ → ℕ → ℕ → Parser Front
+made v s t n a = parsed (record { variables = v; states = s; start = t; transitions = n; at = a; refusal = 0 }) a
+
+front-made : (refusal v s t n a : ℕ)
+    → unlessRefused refusal (record { variables = v; states = s; start = t; transitions = n; at = a; refusal = refusal }) a
+    ≡ onward (unlessRefused refusal n a) (made v s t)
+unfolding made
+front-made zero v s t n a = refl
+front-made (suc k) v s t n a = refl
+
+pub front-parsed : (job : List ℕ) → parsedFront (frontRead (jobBuffer job)) ≡ readFront (jobBuffer job) 0
+unfolding made readFront frontRead
+front-parsed job =
+    let p = ranged (jobBuffer job) in
+    let version = numberedOf (p 1 2 0) in
+    let variables = numberedAfter version (p 1 9) in
+    let states = numberedAfter variables (p 1 65) in
+    let start = numberedAfter states (p 0 (states .number)) in
+    let transitions = numberedAfter start (p 0 257) in
+    let h₅ = front-made (transitions .refusal) (variables .number) (states .number) (start .number) (transitions .number) (transitions .at) in
+    let h₄ = earlier (start .refusal) (start .number) (start .at) (λ n. p 0 257) (λ t n a. made (variables .number) (states .number) t n a)
+    (on-parsed job 0 257 (start .at) (start .refusal)) h₅ in
+    let h₃ = earlier (states .refusal) (states .number) (states .at) (λ n. p 0 n) (λ s t a. onward (p 0 257 a) (made (variables .number) s t))
+    (on-parsed job 0 (states .number) (states .at) (states .refusal)) h₄ in
+    let h₂ = earlier (variables .refusal) (variables .number) (variables .at) (λ n. p 1 65)
+    (λ v s a. onward (p 0 s a) (λ t b. onward (p 0 257 b) (made v s t))) (on-parsed job 1 65 (variables .at) (variables .refusal)) h₃ in
+    let h₁ = earlier (version .refusal) (version .number) (version .at) (λ n. p 1 9)
+    (λ _ v a. onward (p 1 65 a) (λ s b. onward (p 0 s b) (λ t c. onward (p 0 257 c) (made v s t)))) (on-parsed job 1 9 (version .at) (version .refusal)) h₂ in
+    h₁ ∙ ap (λ x. onward x (λ _ a. onward (p 1 9 a) (λ v b. onward (p 1 65 b) (λ s c. onward (p 0 s c) (λ t d. onward (p 0 257 d) (made v s t)))))) (numbered-parsed job 1 2 0)

@@ -1,0 +1,3 @@
+pub mod FrontNumbers
+pub mod Readers
+pub mod OneNumber

@@ -1,4 +1,0 @@
-pub mod Loops
-pub mod Moves
-pub mod Free
-pub mod Made

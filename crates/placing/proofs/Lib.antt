@@ -1,0 +1,10 @@
+pub mod Lists
+pub mod Links
+pub mod Chosen
+pub mod Operations
+pub mod Putting
+pub mod Tests
+pub mod Retaining
+pub mod Wants
+pub mod ByNumber
+pub mod Ranges

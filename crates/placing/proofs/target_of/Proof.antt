@@ -1,0 +1,23 @@
+use native.Mathlib.Omega.{arith}
+use Rattle.placing.proofs.Tests.{target-none, target-free, target-linked}
+use borrow.Author.Needs.{needs}
+use Rattle.placing.proofs.target_of.Statement.{statement}
+use Rattle.placing.proofs.target_of.Tie as tie
+
+returns : tie.Need-returns
+returns c = let a = c .before .before .before .args in target-none (a .links .now) (a .q .code) (omega arith)
+
+link-at-requires : tie.Need-link-at-requires
+link-at-requires c κs = search needs
+
+returns-2 : tie.Need-returns-2
+returns-2 c = let a = c .before .before .before .before .before .before .args in target-free (a .links .now) (a .q .code) (omega arith) (c .before .before .link-at .result) (c .before .before .link-at .ensures) (omega arith)
+
+sub-t5 : tie.Need-sub-t5
+sub-t5 c = search needs
+
+returns-3 : tie.Need-returns-3
+returns-3 c = let a = c .before .before .before .before .before .before .before .args in target-linked (a .links .now) (a .q .code) (omega arith) (c .before .before .before .link-at .result) (c .before .before .before .link-at .ensures) (c .before .if2 .left)
+
+pub target-of-spec : {M : Type 1} → statement M
+target-of-spec = tie.close (tie.spec returns link-at-requires returns-2 sub-t5 returns-3)

@@ -1,0 +1,24 @@
+use mathlib.Core.Path.{_∙_}
+use native.Mathlib.Omega.{arith}
+use Rattle.placing.proofs.Tests.{beside-different, beside-equal, beside-source, beside-target}
+use borrow.Author.Needs.{needs}
+use Rattle.placing.proofs.wanted_beside.Statement.{statement}
+use Rattle.placing.proofs.wanted_beside.Tie as tie
+
+returns : tie.Need-returns
+returns c = let a = c .before .before .args in beside-different (a .starting) (a .kind) (a .links .now) (a .q) (omega arith)
+
+returns-2 : tie.Need-returns-2
+returns-2 c = let a = c .before .before .before .args in beside-equal (a .starting) (a .kind) (a .links .now) (a .q) (c .before .if1 .left) (omega arith)
+
+returns-3 : tie.Need-returns-3
+returns-3 c = let a = c .before .before .before .before .args in beside-source (a .starting) (a .kind) (a .links .now) (a .q) (omega arith) (omega arith)
+
+target-of-requires : tie.Need-target-of-requires
+target-of-requires c κs = search needs
+
+returns-4 : tie.Need-returns-4
+returns-4 c = let a = c .before .before .before .before .before .args in c .target-of .ensures ∙ beside-target (a .starting) (a .kind) (a .links .now) (a .q) (omega arith) (c .before .if3 .left)
+
+pub wanted-beside-spec : {M : Type 1} → statement M
+wanted-beside-spec = tie.close (tie.spec returns returns-2 returns-3 target-of-requires returns-4)

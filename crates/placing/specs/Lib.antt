@@ -1,0 +1,4 @@
+pub mod Choice
+pub mod Retained
+pub mod Wanted
+pub mod Chosen

@@ -1,0 +1,315 @@
+// Which choices of a placing an operation of kinds 1 to 5 retains. In a shape of n cells, whose links are lent, the choices are 0 .. n - 1 a
+// cell, n #, n + 1 a fresh cell, n + 2 + i a fresh cell in the middle of the link of cell i.
+use place::Place;
+ghost use mathlib.Core.Path.{_≡_};
+ghost use Prim.Native.Nat.{_<_};
+ghost use Rattle.heap.specs.Codes.{linkIn};
+ghost use Rattle.placing.specs.Choice.{choiceOf, exists};
+ghost use Rattle.placing.specs.Retained.{linkOpen, retained};
+ghost use Rattle.placing.specs.Wanted.{sourceFits, itselfFits, fitsIn, oneByOne, targetChoices, choicesOf, targetOf, beside, onceIf, wantedOne, wantedNowhere, wantedFirst, wantedSecond};
+
+// The choices of a variable that are retained.
+pub enum Wanted {
+    Nothing,
+    // choice 0, which changes nothing: the variable has a place
+    Once,
+    Any,
+    // the choice at this place
+    At(Place),
+    // all but the choice at this place
+    Off(Place),
+    // a cell whose link is nowhere or at this place
+    Source(Place),
+    // a cell whose link is nowhere or at that cell itself
+    Itself,
+    // the link of the cell with this number stands at this place: there, or in the middle of the link
+    Target(Place, u8),
+}
+
+// Choices from one on, in steps, before another.
+pub struct Choices {
+    pub from: usize,
+    pub step: usize,
+    pub to: usize,
+}
+
+// The link of the cell at p; nowhere if there is none.
+pub fn link_at(links: &[u8], p: Place) -> Place
+    ensures { λ r. ⌜ r .code ≡ linkIn (now (links .entry)) (p .code) ⌝ }
+{
+    if p.code <= 2 {
+        return Place::NOWHERE;
+    }
+    let i = (p.code - 3) as usize;
+    if i < links.len() {
+        return Place { code: links[i] };
+    }
+    Place::NOWHERE
+}
+
+// Whether p is a cell whose link is nowhere or at q.
+fn link_open(links: &[u8], p: Place, q: Place) -> bool
+    ensures { λ r. ⌜ r ≡ linkOpen (now (links .entry)) (p .code) (q .code) ⌝ }
+{
+    if p.code <= 2 {
+        return false;
+    }
+    let link = link_at(links, p);
+    if link.code == 0 {
+        return true;
+    }
+    link.code == q.code
+}
+
+// Whether the kind retains a at x and b at y.
+fn retains(kind: u8, links: &[u8], x: Place, y: Place) -> bool
+    ensures { λ r. ⌜ r ≡ retained kind (x .code) (y .code) (now (links .entry)) ⌝ }
+{
+    if kind == 2 {
+        return x.code != y.code;
+    }
+    if kind < 4 {
+        return x.code == y.code;
+    }
+    if kind == 4 {
+        return link_open(links, y, x);
+    }
+    link_open(links, x, y)
+}
+
+// The choice that puts a variable at # or at a cell.
+fn choice_of(n: usize, p: Place) -> usize
+    ensures { λ r. ⌜ r ≡ choiceOf n (p .code) ⌝ }
+{
+    if p.code == 1 {
+        return n;
+    }
+    if p.code < 3 {
+        return 0;
+    }
+    (p.code - 3) as usize
+}
+
+// Whether choice k is there: the link that it is within has a place.
+fn choice_exists(links: &[u8], k: usize) -> bool
+    ensures { λ r. ⌜ r ≡ exists (now (links .entry)) k ⌝ }
+{
+    let n = links.len();
+    if k <= n + 1 {
+        return true;
+    }
+    let i = k - n - 2;
+    if n <= i {
+        return false;
+    }
+    links[i] != 0
+}
+
+// Whether choice k puts a variable at a cell whose link is nowhere or at p.
+fn source_fits(links: &[u8], p: Place, k: usize) -> bool
+    ensures { λ r. ⌜ r ≡ sourceFits (now (links .entry)) (p .code) k ⌝ }
+{
+    let n = links.len();
+    if k < n {
+        let link = links[k];
+        if link == 0 {
+            return true;
+        }
+        return link == p.code;
+    }
+    if k <= n + 1 {
+        return k == n + 1;
+    }
+    let i = k - n - 2;
+    if n <= i {
+        return false;
+    }
+    let link = links[i];
+    if link == 0 {
+        return false;
+    }
+    link == p.code
+}
+
+fn wide(byte: u8) -> usize
+    ensures { λ r. ⌜ r ≡ byte ⌝ }
+{
+    byte as usize
+}
+
+// Whether choice k puts a variable at a cell whose link is nowhere or at that cell itself.
+fn itself_fits(links: &[u8], k: usize) -> bool
+    ensures { λ r. ⌜ r ≡ itselfFits (now (links .entry)) k ⌝ }
+{
+    let n = links.len();
+    if k < n {
+        let link = links[k];
+        if link == 0 {
+            return true;
+        }
+        return wide(link) == k + 3;
+    }
+    k == n + 1
+}
+
+// Whether choice k is wanted.
+pub fn is_wanted(links: &[u8], wanted: Wanted, k: usize) -> bool
+    ensures { λ r. ⌜ r ≡ fitsIn (now (links .entry)) wanted k ⌝ }
+{
+    let n = links.len();
+    match wanted {
+        Wanted::Nothing => false,
+        Wanted::Once => k == 0,
+        Wanted::Any => choice_exists(links, k),
+        Wanted::At(p) => k == choice_of(n, p),
+        Wanted::Off(p) => k != choice_of(n, p) && choice_exists(links, k),
+        Wanted::Source(p) => source_fits(links, p, k),
+        Wanted::Itself => itself_fits(links, k),
+        Wanted::Target(p, i) => k == n + 2 + i as usize || (p.code != 2 && k == choice_of(n, p)),
+    }
+}
+
+fn one_by_one(from: usize, to: usize) -> Choices
+    ensures { λ r. ⌜ r ≡ oneByOne from to ⌝ }
+{
+    Choices { from, step: 1, to }
+}
+
+// The choices of a target.
+fn target_choices(n: usize, p: Place, i: u8) -> Choices
+    requires { ⌜ n < 256 ⌝ }
+    ensures { λ r. ⌜ r ≡ targetChoices n (p .code) i ⌝ }
+{
+    let within = n + 2 + i as usize;
+    if p.code == 2 {
+        return one_by_one(within, within + 1);
+    }
+    let at = choice_of(n, p);
+    if within <= at {
+        return Choices {
+            from: at,
+            step: 0,
+            to: within + 1,
+        };
+    }
+    Choices {
+        from: at,
+        step: within - at,
+        to: within + 1,
+    }
+}
+
+// The choices to try, which have all that are wanted among them.
+pub fn choices_of(n: u8, wanted: Wanted) -> Choices
+    ensures { λ r. ⌜ r ≡ choicesOf n wanted ⌝ }
+{
+    let cells = n as usize;
+    let past = cells + (2 + cells);
+    match wanted {
+        Wanted::Nothing => one_by_one(0, 0),
+        Wanted::Once => one_by_one(0, 1),
+        Wanted::Any => one_by_one(0, past),
+        Wanted::At(p) => {
+            let k = choice_of(cells, p);
+            one_by_one(k, k + 1)
+        }
+        Wanted::Off(_) => one_by_one(0, past),
+        Wanted::Source(_) => one_by_one(0, past),
+        Wanted::Itself => one_by_one(0, past),
+        Wanted::Target(p, i) => target_choices(cells, p, i),
+    }
+}
+
+// What is wanted of a variable where the link of the cell at q is to end at it.
+fn target_of(links: &[u8], q: Place) -> Wanted
+    ensures { λ r. ⌜ r ≡ targetOf (now (links .entry)) (q .code) ⌝ }
+{
+    if q.code <= 2 {
+        return Wanted::Nothing;
+    }
+    let link = link_at(links, q);
+    if link.code == 0 {
+        return Wanted::Any;
+    }
+    Wanted::Target(link, q.code - 3)
+}
+
+// What is wanted of a variable that is nowhere, where the other one is at q. In an operation of kind `starting` the link starts at this one.
+fn wanted_beside(starting: u8, kind: u8, links: &[u8], q: Place) -> Wanted
+    ensures { λ r. ⌜ r ≡ beside starting kind (now (links .entry)) q ⌝ }
+{
+    if kind == 2 {
+        return Wanted::Off(q);
+    }
+    if kind < 4 {
+        return Wanted::At(q);
+    }
+    if kind == starting {
+        return Wanted::Source(q);
+    }
+    target_of(links, q)
+}
+
+fn once_if(test: bool) -> Wanted
+    ensures { λ r. ⌜ r ≡ onceIf test ⌝ }
+{
+    if test {
+        return Wanted::Once;
+    }
+    Wanted::Nothing
+}
+
+// What is wanted of a variable that is both a and b, and nowhere.
+fn wanted_of_one(kind: u8) -> Wanted
+    ensures { λ r. ⌜ r ≡ wantedOne kind ⌝ }
+{
+    if kind == 2 {
+        return Wanted::Nothing;
+    }
+    if kind == 5 {
+        return Wanted::Itself;
+    }
+    Wanted::Any
+}
+
+// What is wanted of a, which is nowhere, where b is at y; `same` says that b is the same variable.
+fn wanted_nowhere(kind: u8, same: bool, links: &[u8], y: Place) -> Wanted
+    ensures { λ r. ⌜ r ≡ wantedNowhere kind same (now (links .entry)) y ⌝ }
+{
+    if same {
+        return wanted_of_one(kind);
+    }
+    if y.code == 0 {
+        return Wanted::Any;
+    }
+    wanted_beside(5, kind, links, y)
+}
+
+// What is wanted of a, at x, where b is at y; `same` says that b is the same variable.
+pub fn wanted_first(kind: u8, same: bool, links: &[u8], x: Place, y: Place) -> Wanted
+    ensures { λ r. ⌜ r ≡ wantedFirst kind same (now (links .entry)) x y ⌝ }
+{
+    if x.code == 2 {
+        return Wanted::Nothing;
+    }
+    if y.code == 2 {
+        return Wanted::Nothing;
+    }
+    if x.code == 0 {
+        return wanted_nowhere(kind, same, links, y);
+    }
+    if y.code == 0 {
+        return Wanted::Once;
+    }
+    once_if(retains(kind, links, x, y))
+}
+
+// What is wanted of b, at y, where a is placed, at x.
+pub fn wanted_second(kind: u8, links: &[u8], x: Place, y: Place) -> Wanted
+    ensures { λ r. ⌜ r ≡ wantedSecond kind (now (links .entry)) x y ⌝ }
+{
+    if y.code == 0 {
+        return wanted_beside(4, kind, links, x);
+    }
+    once_if(retains(kind, links, x, y))
+}

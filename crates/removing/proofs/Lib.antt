@@ -1,3 +1,0 @@
-pub mod New
-pub mod Arrays
-pub mod Free

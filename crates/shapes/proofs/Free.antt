@@ -1,0 +1,130 @@
+-- The test for a free cell, one part after the other, and the tests of room.
+use mathlib.Core.Bool.{Bool, true, false, _&&_, _||_, cond}
+use mathlib.Core.List.{List, [], _∷_}
+use mathlib.Core.Logic.{_≢_}
+use mathlib.Core.Path.{_≡_, refl, sym, ap, _∙_}
+use Prim.Native.Nat.{ℕ, zero, suc, _+_, _-_, _≤_, _<_}
+use native.Mathlib.Omega.{arith}
+use borrow.Author.Tests.{lt-ltb, le-ltb, le-leb, ne-eqb}
+use lib.Dec.{eqb}
+use lib.ListN.{take, drop}
+use Rattle.lists.specs.List.{absent, keep}
+use Rattle.lists.proofs.Reflect.{Reflect, r-and, r-iff, r-le, r-lt, is-true, is-false, passes}
+use Rattle.heap.specs.Operation.{delete}
+use Rattle.heap.specs.Place.{nowhere, null, dangling, cell}
+use Rattle.shape.specs.Shape.{Shape, linkAt}
+use Rattle.backward.specs.Predecessors.{removeCell, predecessors}
+use Rattle.place.specs.Place.{cellPlace}
+use Rattle.place.specs.declared.Place.{Place}
+use Rattle.layout.specs.ShapeArray.{cellCount, operandAt, shapeIn, ShapeArray}
+use Rattle.shapes.specs.Change.{isFreeCell, arrayWithout, hasRoom, arrayRestored}
+use Rattle.shapes.specs.Without.{isFree, without}
+use Rattle.shapes.proofs.Remove.{holds-without}
+use Rattle.shapes.proofs.Restore.{delete-some}
+
+module _ (s : Shape) (c : ℕ) where
+  pub no-cell : c < 3 → false ≡ isFree c s
+  no-cell h = rw (le-ltb dangling c (omega arith)) refl
+
+  module _ (is-cell : 3 ≤ c) where
+    abbrev test : ℕ → Bool
+    test l = (eqb l nowhere || eqb l dangling) && (absent c (s .links) && absent c (s .vars))
+
+    by-link : isFree c s ≡ test (linkAt s c)
+    by-link = rw (lt-ltb dangling c (omega arith)) refl
+
+    pub to-null : linkAt s c ≡ null → false ≡ isFree c s
+    to-null e = sym (by-link ∙ ap test e)
+
+    pub to-cell : dangling < linkAt s c → false ≡ isFree c s
+    to-cell b =
+        let l : ℕ = linkAt s c in
+        sym (by-link ∙ rw (ne-eqb l nowhere (λ e. omega arith), ne-eqb l dangling (λ e. omega arith)) refl)
+
+    module _ (other : linkAt s c ≡ null → ⊥) (low : linkAt s c ≤ dangling) where
+      unlinked : isFree c s ≡ absent c (s .links) && absent c (s .vars)
+      unlinked = by-link ∙ go (linkAt s c) other low
+        where
+          go : (l : ℕ) → (l ≡ null → ⊥) → l ≤ dangling → test l ≡ absent c (s .links) && absent c (s .vars)
+          go zero z b = refl
+          go (suc zero) z b = absurd (z refl)
+          go (suc (suc zero)) z b = refl
+          go (suc (suc (suc l))) z b = absurd (omega arith)
+
+      pub link-at : absent c (s .links) ≡ false → false ≡ isFree c s
+      link-at e = rw (unlinked, e) refl
+
+      pub var-at : absent c (s .links) ≡ true → absent c (s .vars) ≡ isFree c s
+      var-at e = rw (unlinked, e) refl
+
+-- ---- the test for a cell that can be taken out
+
+-- what the test says
+pub record FreeCell (variables : ℕ) (s : List ℕ) (k : ℕ) : Type 0 where
+  pub variables-fit : variables ≤ 9
+  pub cells-fit : cellCount s ≤ 14
+  pub is-cell : k < cellCount s
+  pub free : isFree (cell k) (shapeIn variables s) ≡ true
+
+r-itself : (b : Bool) → Reflect (b ≡ true) b
+r-itself b = record { holds = is-true b; tests = passes b }
+
+module _ (variables : ℕ) (s : List ℕ) (k : ℕ) where
+  r-free-cell : Reflect (FreeCell variables s k) (isFreeCell variables s k)
+  unfolding isFreeCell
+  r-free-cell =
+      r-iff (λ (v, (c, (i, f))). record { variables-fit = v; cells-fit = c; is-cell = i; free = f })
+      (λ f. (f .variables-fit, (f .cells-fit, (f .is-cell, f .free))))
+      (r-and (r-le variables 9) (r-and (r-le (cellCount s) 14) (r-and (r-lt k (cellCount s)) (r-itself (isFree (cell k) (shapeIn variables s))))))
+
+  pub not-free-cell : (FreeCell variables s k → ⊥) → false ≡ isFreeCell variables s k
+  not-free-cell f = sym (is-false (isFreeCell variables s k) (λ t. f (r-free-cell .holds t)))
+
+  pub free-cell : isFreeCell variables s k ≡ true → FreeCell variables s k
+  free-cell e = r-free-cell .holds (passes (isFreeCell variables s k) e)
+
+  module _ (few : variables ≤ 9) (small : cellCount s ≤ 14) (is-cell : k < cellCount s) where
+    pub by-shape : isFree (cell k) (shapeIn variables s) ≡ isFreeCell variables s k
+    unfolding isFreeCell
+    by-shape = rw (le-leb variables 9 few, le-leb (cellCount s) 14 small, lt-ltb k (cellCount s) is-cell) refl
+
+    -- the test on parts of the array
+    pub by-parts : (p : Place) → p ≡ cellPlace k
+        → isFree (p .code) (record { vars = take (18 + variables - 18) (drop 18 s); links = take (3 + cellCount s - 3) (drop 3 s) }) ≡ isFreeCell variables s k
+    by-parts p is-k =
+        let code : p .code ≡ cell k = rw is-k (simp (lt-ltb k 253 (omega arith)) (omega arith)) in
+        let vars : 18 + variables - 18 ≡ variables = omega arith in
+        let links : 3 + cellCount s - 3 ≡ cellCount s = omega arith in
+        rw (code, vars, links) by-shape
+
+module _ (variables : ℕ) (s : List ℕ) (h : ShapeArray variables s) (k : ℕ) (is-cell : k < cellCount s) (r : Bool) (r-is : r ≡ isFreeCell variables s k) where
+  -- a cell that is not free gives nothing
+  pub without-none : r ≡ false → without (shapeIn variables s) k ≡ []
+  without-none e =
+      ap (λ (b : Bool). keep b (removeCell (cell k) (shapeIn variables s))) (by-shape variables s k (h .variables-fit) (h .cells-fit) is-cell ∙ sym r-is ∙ e)
+
+  -- one that is gives the shape in the array t
+  pub without-one : r ≡ true → (old t : List ℕ) → t ≡ cond r (arrayWithout s k) old → without (shapeIn variables s) k ≡ shapeIn variables t ∷ []
+  without-one e old t t-is =
+      let free = free-cell variables s k (sym r-is ∙ e) .free in
+      rw (t-is, e, holds-without variables s h k is-cell (passes (isFree (cell k) (shapeIn variables s)) free) .same, free) refl
+
+-- ---- the test for room
+
+module _ (s : List ℕ) (a : ℕ) where
+  r-room : Reflect ((cellCount s < 14) × (a < 10)) (hasRoom s a)
+  unfolding hasRoom
+  r-room = r-and (r-lt (cellCount s) 14) (r-lt a 10)
+
+  pub no-room : ((cellCount s < 14) × (a < 10) → ⊥) → hasRoom s a ≡ false
+  no-room f = is-false (hasRoom s a) (λ t. f (r-room .holds t))
+
+  pub room : cellCount s < 14 → a < 10 → hasRoom s a ≡ true
+  room b c = is-true (hasRoom s a) (r-room .tests (b, c))
+
+-- the predecessor by delete is the shape in the array t
+pub restored-one : (variables : ℕ) (s : List ℕ) → ShapeArray variables s → cellCount s ≤ 12 → (a : ℕ) → 1 ≤ a → a ≤ variables
+    → operandAt s a ≢ null → operandAt s a ≤ dangling → (old t : List ℕ) → t ≡ cond (hasRoom s a) (arrayRestored s a) old
+    → predecessors (delete a) (shapeIn variables s) ≡ shapeIn variables t ∷ []
+restored-one variables s h small a some most z b old t t-is =
+    rw (t-is, room s a (omega arith) (omega (arith, h .variables-fit))) (delete-some variables s h small a some most z b)

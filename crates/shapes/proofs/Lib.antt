@@ -1,0 +1,9 @@
+pub mod Slots
+pub mod Place
+pub mod Undo
+pub mod Steps
+pub mod Tables
+pub mod New
+pub mod Remove
+pub mod Restore
+pub mod Free

@@ -1,0 +1,159 @@
+// Shapes in arrays (layout/specs/ShapeArray.antt), undone by kinds 6 (new) and 7 (delete). Numbers that do not fit an array change nothing.
+use place::Place;
+use place::none_at;
+use placing::link_at;
+ghost use mathlib.Core.Bool.{cond};
+ghost use mathlib.Core.Path.{_≡_};
+ghost use Prim.Native.Nat.{_≤_, _<_};
+ghost use lib.ListN.{length};
+ghost use Rattle.backward.specs.Predecessors.{lower};
+ghost use Rattle.layout.specs.ShapeArray.{cellCount};
+ghost use Rattle.shapes.specs.Change.{isFreeCell, slotFrom, slotWithout, arrayWithout, hasRoom, slotForgotten, arrayForgotten, arrayRestored};
+ghost use Rattle.shapes.specs.Without.{isFree};
+
+// Whether p is a cell, nothing stands at it and its link is nowhere or *.
+fn is_free(vars: &[u8], links: &[u8], p: Place) -> bool
+    ensures { λ r. ⌜ r ≡ isFree (p .code) (record { vars = now (vars .entry); links = now (links .entry) }) ⌝ }
+{
+    if p.code < 3 {
+        return false;
+    }
+    let link = link_at(links, p);
+    if link.code == 1 {
+        return false;
+    }
+    if 2 < link.code {
+        return false;
+    }
+    if !none_at(links, p.code) {
+        return false;
+    }
+    none_at(vars, p.code)
+}
+
+// Whether the array has room for so many variables and for its cells, and cell k is one of them, and free.
+fn is_free_cell(variables: usize, s: &[u8; 28], k: u8) -> bool
+    ensures { λ r. ⌜ r ≡ isFreeCell variables (now (s .entry)) k ⌝ }
+{
+    if 9 < variables {
+        return false;
+    }
+    let n = s[0];
+    if 14 < n {
+        return false;
+    }
+    if n <= k {
+        return false;
+    }
+    let p = Place::cell(k);
+    let all = &s[..];
+    is_free(&all[18..18 + variables], &all[3..3 + n as usize], p)
+}
+
+// The slot from which slot i comes in a shape of n cells, once cell k is taken out.
+fn slot_from(n: u8, k: u8, i: usize) -> usize
+    requires { ⌜ (n ≤ 14) × (k < n) × (i < 28) ⌝ }
+    ensures { λ r. ⌜ r ≡ slotFrom n k i ⌝ }
+{
+    if i < 3 + k as usize {
+        return i;
+    }
+    if 2 + n as usize <= i {
+        return i;
+    }
+    i + 1
+}
+
+// A place, once the cell at `gone` is taken out.
+fn lowered(gone: u8, code: u8) -> u8
+    ensures { λ r. ⌜ r ≡ lower gone code ⌝ }
+{
+    if gone < code {
+        return code - 1;
+    }
+    code
+}
+
+// Slot i once cell k is taken out.
+fn slot_without(s: &[u8; 28], k: u8, i: usize) -> u8
+    requires { ⌜ (cellCount (now s) ≤ 14) × (k < cellCount (now s)) × (i < 28) ⌝ }
+    ensures { λ r. ⌜ r ≡ slotWithout (now (s .entry)) k i ⌝ }
+{
+    if i == 0 {
+        return s[0] - 1;
+    }
+    if i < 3 {
+        return s[i];
+    }
+    let from = slot_from(s[0], k, i);
+    lowered(3 + k, s[from])
+}
+
+// Makes t the shape of s without its cell k.
+fn take_out(s: &[u8; 28], k: u8, t: &mut [u8])
+    requires { ⌜ (cellCount (now s) ≤ 14) × (k < cellCount (now s)) × (length (now t) ≡ 28) ⌝ }
+    ensures { λ r. ⌜ now (t .exit) ≡ arrayWithout (now (s .entry)) k ⌝ }
+{
+    let mut i = 0;
+    while i < 28 {
+        t[i] = slot_without(s, k, i);
+        i += 1;
+    }
+}
+
+// Makes t the shape of s without its cell k, if that is free. Whether it is; without room for such a shape, it is not.
+pub fn remove_cell(variables: usize, s: &[u8; 28], k: u8, t: &mut [u8; 28]) -> bool
+    ensures free { λ r. ⌜ r ≡ isFreeCell variables (now (s .entry)) k ⌝ }
+    ensures shape { λ r. ⌜ now (t .exit) ≡ cond r (arrayWithout (now (s .entry)) k) (now (t .entry)) ⌝ }
+{
+    if !is_free_cell(variables, s, k) {
+        return false;
+    }
+    take_out(s, k, t);
+    true
+}
+
+// Slot i of a shape in which nothing stands at *.
+fn slot_forgotten(s: &[u8; 28], i: usize) -> u8
+    requires { ⌜ i < 28 ⌝ }
+    ensures { λ r. ⌜ r ≡ slotForgotten (now (s .entry)) i ⌝ }
+{
+    let code = s[i];
+    if i < 3 {
+        return code;
+    }
+    if code == 2 {
+        return 0;
+    }
+    code
+}
+
+// Makes t the shape of s in which nothing stands at *.
+fn forget_dangling(s: &[u8; 28], t: &mut [u8])
+    requires { ⌜ length (now t) ≡ 28 ⌝ }
+    ensures { λ r. ⌜ now (t .exit) ≡ arrayForgotten (now (s .entry)) ⌝ }
+{
+    let mut i = 0;
+    while i < 28 {
+        t[i] = slot_forgotten(s, i);
+        i += 1;
+    }
+}
+
+// Makes t the shape of s in which nothing stands at *, and a stands at a fresh cell without a link; without room for the cell or for a, t stays
+// as it is.
+pub fn restore_deleted(s: &[u8; 28], a: u8, t: &mut [u8; 28])
+    ensures { λ r. ⌜ now (t .exit) ≡ cond (hasRoom (now (s .entry)) a) (arrayRestored (now (s .entry)) a) (now (t .entry)) ⌝ }
+{
+    let n = s[0];
+    if 14 <= n {
+        return;
+    }
+    if 10 <= a {
+        return;
+    }
+    forget_dangling(s, t);
+    t[0] = n + 1;
+    t[3 + n as usize] = 0;
+    t[17 + a as usize] = 3 + n;
+}

@@ -1,0 +1,50 @@
+-- What a verdict tells a host.
+use mathlib.Core.List.{List}
+use mathlib.Core.Logic.{_↔_}
+use mathlib.Core.Path.{_≡_, refl, sym, ap, _∙_}
+use Prim.Native.Nat.{ℕ, _≤_}
+use native.Mathlib.Omega.{arith}
+use Rattle.format.specs.Conditions.{Conditions, Acceptable}
+use Rattle.format.specs.JobBytes.{SafeBytes}
+use Rattle.format.specs.Verdict.{Verdict, Counts, accepted, refused, verdict}
+use Rattle.number.specs.CallResult.{lent}
+use Rattle.verdict.specs.Verdict.{refusalNumber, verdictOf, verdictResult}
+use Rattle.verdict.specs.declared.Counts.{Counts as CountsAnswer}
+use Rattle.verdict.specs.declared.Refusal.{Refusal}
+use Rattle.verdict.specs.declared.Refusal.the-variants.{JobLength, CertificateLength, JobUnreadable, JobRange, JobLeft, CertificateUnreadable, CertificateRange, StartSatisfied, CoverFails, CertificateLeft}
+use Rattle.verdict.specs.declared.Verdict.{Verdict as Answer}
+use Rattle.verdict.specs.declared.Verdict.the-variants.{Accepted, Refused}
+use Rattle.verdict.proofs.Numbers.{numbered}
+
+-- What `check` promises of its answer r, as a host is told it.
+module _
+    (job cert : List ℕ)
+    (r : Answer)
+    (is : verdictOf r ≡ verdict job cert)
+    (exact : (c : Counts) → (verdictOf r ≡ accepted c) ↔ Conditions job cert c)
+    (safe : (c : CountsAnswer) → r ≡ Accepted c → SafeBytes job)
+  where
+    -- the number 0 says that the certificate is acceptable and the job safe
+    abbrev pub Told : ℕ → Type 0
+    Told code = ((code ≡ 0) ↔ Acceptable job cert) × (code ≡ 0 → SafeBytes job)
+
+    pub told-accepted : (c : CountsAnswer) → r ≡ Accepted c → Told 0
+    told-accepted c r-is =
+        let counts : Counts = record { bads = c .bads; members = c .members; covers = c .covers } in
+        ((λ z. (counts, exact counts .0 (ap verdictOf r-is)), λ d. refl), λ z. safe c r-is)
+
+    pub told-refused : (why : Refusal) (place code : ℕ) → r ≡ Refused why place → code ≡ refusalNumber why → Told code
+    told-refused why place code r-is code-is =
+        ((λ z. absurd (not-zero z), λ (c, d). absurd (not-accepted (sym (exact c .1 d) ∙ ap verdictOf r-is))), λ z. absurd (not-zero z))
+      where
+        not-zero : ¬ (code ≡ 0)
+        not-zero z = absurd (omega (arith, numbered why, code-is))
+
+        not-accepted : {c : Counts} {number at : ℕ} → ¬ (_≡_ {A = Verdict} (accepted c) (refused number at))
+        not-accepted e = let z : _≡_ {A = ℕ} 0 1 = cc in absurd (omega arith)
+
+    -- and the values told are the counts of the conditions
+    pub told-values : (code : ℕ) (out values : List ℕ) → Told code → values ≡ lent (verdictResult (verdict job cert) .values) out
+        → (values ≡ lent (verdictResult (verdict job cert) .values) out)
+        × (((c : Counts) → Conditions job cert c → values ≡ lent (verdictResult (accepted c) .values) out) × Told code)
+    told-values code out values told same = (same, (λ c d. same ∙ ap (λ v. lent (verdictResult v .values) out) (sym is ∙ exact c .1 d), told))

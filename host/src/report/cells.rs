@@ -1,0 +1,351 @@
+//! Heaps and shapes as pictures: a box for each cell in a row, variables above, links as arrows.
+
+use std::collections::{BTreeMap, BTreeSet};
+
+use super::html::escape;
+use super::svg::{lanes, width_of, Area, Picture, LINE};
+use crate::reference::heap::{Heap, Place};
+use crate::reference::shape::Shape;
+
+const BOX_WIDTH: i32 = 56;
+const BOX_HEIGHT: i32 = 34;
+/// Between the left sides of two boxes, if the names of variables leave it at that.
+const PITCH: i32 = 104;
+const TAG: i32 = 20;
+const LANE: i32 = 12;
+
+/// Cells, links (by the cell) and variables that are drawn in another colour.
+#[derive(Clone, Debug, Default, PartialEq, Eq)]
+pub struct Marks {
+    pub cells: BTreeSet<usize>,
+    pub links: BTreeSet<usize>,
+    pub variables: BTreeSet<usize>,
+}
+
+/// What is drawn. Cells are named by a number, which is drawn one higher.
+pub struct Scene<'a> {
+    pub names: &'a [String],
+    /// Where each variable stands; nothing is nowhere.
+    pub variables: Vec<Option<Place>>,
+    pub links: BTreeMap<usize, Option<Place>>,
+    /// The cells from left to right, and those that have a place though they aren't there.
+    pub columns: Vec<usize>,
+    /// Cells that were deleted.
+    pub gone: BTreeSet<usize>,
+    /// Whether an arrow may stand for several links.
+    pub has_paths: bool,
+    /// What is forbidden, and what has changed.
+    pub forbidden: Marks,
+    pub changed: Marks,
+}
+
+impl<'a> Scene<'a> {
+    pub fn of_heap(heap: &Heap, names: &'a [String], columns: &[usize]) -> Scene<'a> {
+        let links = heap.links.iter().map(|(&cell, &place)| (cell, Some(place)));
+        Scene {
+            names,
+            variables: heap.variables.iter().copied().map(Some).collect(),
+            links: links.collect(),
+            columns: columns.to_vec(),
+            gone: BTreeSet::new(),
+            has_paths: false,
+            forbidden: Marks::default(),
+            changed: Marks::default(),
+        }
+    }
+
+    pub fn of_shape(shape: &Shape, names: &'a [String]) -> Scene<'a> {
+        let links: BTreeMap<usize, Option<Place>> =
+            shape.links.iter().copied().enumerate().collect();
+        Scene {
+            names,
+            columns: in_order(&shape.variables, &links),
+            variables: shape.variables.clone(),
+            links,
+            gone: BTreeSet::new(),
+            has_paths: true,
+            forbidden: Marks::default(),
+            changed: Marks::default(),
+        }
+    }
+
+    /// The picture, with the variables that stand at no cell below it.
+    pub fn figure(&self, words: &str) -> String {
+        let picture = match self.is_drawn() {
+            true => self.picture().element("cells", words),
+            false => String::new(),
+        };
+        format!("<figure>\n{picture}{}</figure>\n", self.chips())
+    }
+
+    /// Whether there is a box to draw.
+    fn is_drawn(&self) -> bool {
+        let has_box = |cell| self.links.contains_key(cell) || self.gone.contains(cell);
+        self.columns.iter().any(has_box)
+    }
+
+    /// The class of something that may be marked.
+    fn class(&self, part: impl Fn(&Marks) -> bool) -> &'static str {
+        match (part(&self.forbidden), part(&self.changed)) {
+            (true, _) => "bad",
+            (false, true) => "new",
+            (false, false) => "plain",
+        }
+    }
+
+    /// Variables at # and *, and where there is nothing at all, that anything is meant.
+    fn chips(&self) -> String {
+        let mut chips = String::new();
+        for (variable, place) in self.variables.iter().enumerate() {
+            let place = match place {
+                Some(Place::Null) => "null",
+                Some(Place::Dangling) => "dangling",
+                _ => continue,
+            };
+            let class = self.class(|marks| marks.variables.contains(&variable));
+            let name = escape(&self.names[variable]);
+            chips += &format!("<span class=\"chip {class}\"><b>{name}</b> {place}</span>\n");
+        }
+        if chips.is_empty() && !self.is_drawn() {
+            chips = "<span class=\"chip plain\">anything</span>\n".to_string();
+        }
+        match chips.is_empty() {
+            true => chips,
+            false => format!("<figcaption>\n{chips}</figcaption>\n"),
+        }
+    }
+
+    pub fn picture(&self) -> Picture {
+        let mut picture = Picture::default();
+        let layout = Layout::of(self);
+        for &cell in &self.columns {
+            let area = layout.area(cell);
+            if self.links.contains_key(&cell) {
+                self.draw_cell(cell, area, &mut picture);
+            } else if self.gone.contains(&cell) {
+                picture.labelled(area, "gone", "gone");
+            }
+        }
+        self.draw_links(&layout, &mut picture);
+        if !self.has_paths {
+            // All heaps of a run are as wide, so that they are drawn to the same scale.
+            let right = layout.pitch * self.columns.len() as i32;
+            picture.reach(right, 0);
+        }
+        picture
+    }
+
+    /// The box with its number, and above it the variables at it.
+    fn draw_cell(&self, cell: usize, area: Area, picture: &mut Picture) {
+        let class = self.class(|marks| marks.cells.contains(&cell));
+        picture.labelled(area, &format!("cell {class}"), &(cell + 1).to_string());
+        for (row, variable) in self.standing_at(cell).enumerate() {
+            let name = &self.names[variable];
+            let class = self.class(|marks| marks.variables.contains(&variable));
+            let width = width_of(name) + 12;
+            let tag = Area {
+                x: area.x + (BOX_WIDTH - width) / 2,
+                y: area.y - TAG * (row as i32 + 1),
+                width,
+                height: TAG - 2,
+            };
+            picture.labelled(tag, &format!("tag {class}"), name);
+        }
+    }
+
+    fn standing_at(&self, cell: usize) -> impl Iterator<Item = usize> + '_ {
+        let at = Some(Place::Cell(cell));
+        (0..self.names.len()).filter(move |&variable| self.variables[variable] == at)
+    }
+
+    fn draw_links(&self, layout: &Layout, picture: &mut Picture) {
+        let path = if self.has_paths { " path" } else { "" };
+        for (&cell, &place) in &self.links {
+            let class = self.class(|marks| marks.links.contains(&cell));
+            let class = format!("{class}{path}");
+            let (x, y) = layout.dot(cell);
+            let end = x + BOX_WIDTH / 2 + 6;
+            match place {
+                None => continue,
+                Some(Place::Null) => {
+                    picture.arrow(&[(x, y), (end, y)], &class);
+                    picture.text(end + 4, y - LINE / 2, "end plain", "#");
+                }
+                Some(Place::Dangling) => {
+                    picture.arrow(&[(x, y), (end, y)], &class);
+                    let class = self.class(|marks| marks.links.contains(&cell));
+                    picture.text(end + 4, y - LINE / 2, &format!("end {class}"), "*");
+                }
+                Some(Place::Cell(target)) => {
+                    let area = layout.area(target);
+                    match layout.lane_of.get(&cell) {
+                        None => picture.arrow(&[(x, y), (area.x, y)], &class),
+                        Some(&lane) => {
+                            let level = area.y + BOX_HEIGHT + LANE * (lane as i32 + 1) + 2;
+                            let up = area.x + 14;
+                            let bottom = area.y + BOX_HEIGHT;
+                            let points = [(x, y), (x, level), (up, level), (up, bottom)];
+                            picture.arrow(&points, &class);
+                        }
+                    }
+                }
+            }
+            picture.dot(x, y, &class);
+        }
+    }
+}
+
+/// Where everything stands.
+struct Layout {
+    columns: Vec<usize>,
+    pitch: i32,
+    /// The upper side of the boxes.
+    top: i32,
+    /// The lanes of the links that run below the boxes.
+    lane_of: BTreeMap<usize, usize>,
+}
+
+impl Layout {
+    fn of(scene: &Scene) -> Layout {
+        let widest = scene.names.iter().map(|name| width_of(name)).max();
+        let rows = scene
+            .links
+            .keys()
+            .map(|&cell| scene.standing_at(cell).count());
+        let mut layout = Layout {
+            columns: scene.columns.clone(),
+            pitch: PITCH.max(widest.unwrap_or(0) + 20),
+            top: 8 + TAG * rows.max().unwrap_or(0) as i32,
+            lane_of: BTreeMap::new(),
+        };
+        let mut below = Vec::new();
+        for (&cell, &place) in &scene.links {
+            if let Some(Place::Cell(target)) = place {
+                if layout.column(target) != layout.column(cell) + 1 {
+                    let (from, to) = (layout.dot(cell).0, layout.area(target).x + 14);
+                    below.push((cell, (from.min(to), from.max(to))));
+                }
+            }
+        }
+        let intervals: Vec<(i32, i32)> = below.iter().map(|&(_, interval)| interval).collect();
+        let cells = below.iter().map(|&(cell, _)| cell);
+        layout.lane_of = cells.zip(lanes(&intervals)).collect();
+        layout
+    }
+
+    fn column(&self, cell: usize) -> i32 {
+        let column = self.columns.iter().position(|&other| other == cell);
+        column.expect("every cell has a column") as i32
+    }
+
+    fn area(&self, cell: usize) -> Area {
+        Area {
+            x: 8 + (self.pitch - PITCH) / 2 + self.pitch * self.column(cell),
+            y: self.top,
+            width: BOX_WIDTH,
+            height: BOX_HEIGHT,
+        }
+    }
+
+    /// Where a cell's link begins.
+    fn dot(&self, cell: usize) -> (i32, i32) {
+        let area = self.area(cell);
+        (area.x + BOX_WIDTH - 10, area.y + BOX_HEIGHT / 2)
+    }
+}
+
+/// The cells as they are met by following links from the variables, then those that aren't, each
+/// run from its first cell on.
+fn in_order(variables: &[Option<Place>], links: &BTreeMap<usize, Option<Place>>) -> Vec<usize> {
+    let targets: Vec<Place> = links.values().copied().flatten().collect();
+    let (inner, outer): (Vec<usize>, Vec<usize>) = links
+        .keys()
+        .partition(|&&cell| targets.contains(&Place::Cell(cell)));
+    let cells = outer.into_iter().chain(inner).map(Place::Cell);
+    let mut order = Vec::new();
+    for start in variables.iter().copied().flatten().chain(cells) {
+        let mut place = Some(start);
+        while let Some(Place::Cell(cell)) = place {
+            if order.contains(&cell) {
+                break;
+            }
+            order.push(cell);
+            place = links[&cell];
+        }
+    }
+    order
+}
+
+/// Columns for all cells of a run's heaps, such that most links lead to the next column.
+pub fn columns(heaps: &[Heap]) -> Vec<usize> {
+    let all: BTreeSet<usize> = heaps
+        .iter()
+        .flat_map(|heap| heap.links.keys().copied())
+        .collect();
+    let candidates = heaps.iter().map(|heap| {
+        let scene = Scene::of_heap(heap, &[], &[]);
+        let mut order = in_order(&scene.variables, &scene.links);
+        let others: Vec<usize> = all
+            .iter()
+            .copied()
+            .filter(|cell| !order.contains(cell))
+            .collect();
+        order.extend(others);
+        order
+    });
+    let neighbours = |order: &Vec<usize>| -> usize {
+        let pairs: Vec<(usize, Place)> = order
+            .windows(2)
+            .map(|pair| (pair[0], Place::Cell(pair[1])))
+            .collect();
+        let linked = |heap: &Heap| {
+            let is_linked = |(cell, next): &&(usize, Place)| heap.links.get(cell) == Some(next);
+            pairs.iter().filter(is_linked).count()
+        };
+        heaps.iter().map(linked).sum()
+    };
+    candidates.max_by_key(neighbours).unwrap_or_default()
+}
+
+#[cfg(test)]
+mod tests {
+    use super::*;
+    use crate::random::Random;
+
+    #[test]
+    fn nothing_overlaps_in_random_heaps() {
+        let mut random = Random::new(0x21_5eed);
+        let names = ["x", "a_long_name", "t"].map(str::to_string);
+        for _ in 0..500 {
+            let cells = random.below(8);
+            let mut codes = |count: usize| -> Vec<u64> {
+                (0..count).map(|_| random.below(3 + cells) as u64).collect()
+            };
+            let shape = Shape::of_codes(&codes(3), &codes(cells));
+            let areas = Scene::of_shape(&shape, &names).picture().areas;
+            assert!(areas.len() >= cells);
+            for (index, area) in areas.iter().enumerate() {
+                let others = &areas[..index];
+                assert!(
+                    others.iter().all(|other| !area.overlaps(other)),
+                    "{shape:?}"
+                );
+            }
+        }
+    }
+
+    #[test]
+    fn columns_follow_the_links() {
+        use Place::{Cell, Null};
+        let heap = |links: &[(usize, Place)]| Heap {
+            variables: vec![Cell(links[0].0)],
+            links: links.iter().copied().collect(),
+        };
+        let heaps = [
+            heap(&[(0, Null)]),
+            heap(&[(1, Cell(0)), (0, Null)]),
+            heap(&[(2, Cell(1)), (1, Cell(0)), (0, Null)]),
+        ];
+        assert_eq!(columns(&heaps), [2, 1, 0]);
+    }
+}

@@ -1,0 +1,260 @@
+//! The page of one routine.
+
+use std::collections::BTreeSet;
+
+use super::cells::{columns, Marks, Scene};
+use super::html::{escape, page};
+use super::{explain, graph};
+use crate::draw;
+use crate::judge::{Ending, Judged};
+use crate::reference::heap::Heap;
+use crate::routine::Routine;
+use crate::search::chain::Chain;
+use crate::search::run::Run;
+use crate::text::{counted, thousands};
+use crate::verdict::Verdict;
+
+pub fn routine_page(name: &str, routine: &Routine, judged: &Judged) -> String {
+    let mut body = format!(
+        "<h1>{}</h1>\n<p class=\"lead\">{}</p>\n",
+        escape(name),
+        escape(&routine.title)
+    );
+    for warning in &routine.warnings {
+        body += &format!(
+            "<p class=\"warning\">Warning: {}</p>\n",
+            escape(&warning.to_string())
+        );
+    }
+    let run: &[usize] = match &judged.ending {
+        Ending::Certified(_, verdict) => {
+            body += &certified(verdict);
+            &[]
+        }
+        Ending::Wrong(run) => {
+            body += &wrong(routine, run);
+            &run.transitions
+        }
+        Ending::Beyond(chain, bound) => {
+            body += &banner(
+                "open",
+                "No certificate exists",
+                &format!(
+                    "The rules by which certificates are made forget too much to tell that this \
+                     routine is right. No run was found that meets what is forbidden, among {bound}."
+                ),
+            );
+            body += &of_chain(routine, chain);
+            &[]
+        }
+        Ending::Undecided(limit, bound) => {
+            body += &banner(
+                "open",
+                "No certificate found",
+                &format!(
+                    "The search gave up: {limit}. No run was found that meets what is forbidden, \
+                     among {bound}."
+                ),
+            );
+            &[]
+        }
+    };
+    body += &counts(routine, judged);
+    body += &forbidden(routine);
+    body += &states(routine, run);
+    page(&format!("{name} - Vorruda"), &body)
+}
+
+/// The verdict, for who reads no further.
+fn banner(class: &str, heading: &str, text: &str) -> String {
+    format!(
+        "<section class=\"banner {class}\">\n<h2>{}</h2>\n<p>{}</p>\n</section>\n",
+        escape(heading),
+        escape(text)
+    )
+}
+
+fn certified(verdict: &Verdict) -> String {
+    match verdict {
+        Verdict::Accepted(_) => banner(
+            "good",
+            "Certified",
+            "No run of this routine, on lists of any length, meets what is forbidden below. The \
+             proved checker has accepted the certificate.",
+        ),
+        Verdict::Refused(_) => banner("bad", "The certificate is refused", &verdict.to_string()),
+    }
+}
+
+/// The run from the start on, with what it ends with.
+fn wrong(routine: &Routine, run: &Run) -> String {
+    let fault = explain::fault(routine, run);
+    let origin = &routine.origins[run.forbidden];
+    let mut text = banner("bad", &format!("Wrong: {}", fault.heading), &fault.meaning);
+    text += &format!(
+        "<h2>How it comes about</h2>\n<p>A run of {}. A box is a cell of the list, a pattern block; \
+         an arrow is its link to the next; <b>#</b> is null, the end of a list; <b>*</b> is dangling, no block at all. \
+         The names above are the routine's variables. \
+         <span class=\"swatch new\">This colour</span> is what a step changes, \
+         <span class=\"swatch bad\">this one</span> what is wrong at the end.</p>\n<ol class=\"run\">\n",
+        counted(run.transitions.len(), "step"),
+    );
+    let columns = columns(&run.heaps);
+    let mut gone = BTreeSet::new();
+    for (index, &number) in run.transitions.iter().enumerate() {
+        let (before, after) = (&run.heaps[index], &run.heaps[index + 1]);
+        let transition = &routine.job.transitions[number];
+        let removed = before
+            .links
+            .keys()
+            .filter(|cell| !after.links.contains_key(cell));
+        gone.extend(removed.copied());
+        let mut scene = Scene::of_heap(after, &routine.variables, &columns);
+        scene.gone = gone.clone();
+        scene.changed = changes(before, after);
+        let is_last = index + 1 == run.transitions.len();
+        if is_last {
+            scene.forbidden = fault.marks.clone();
+        }
+        let words = draw::heap(after, &routine.variables).join("; ");
+        let figure = match before == after && !is_last {
+            true => String::new(),
+            false => scene.figure(&words),
+        };
+        text += &format!(
+            "<li{}>\n<p><span class=\"where\">{}</span> <code>{}</code> <span class=\"what\">{}</span></p>\n{figure}</li>\n",
+            if is_last { " class=\"last\"" } else { "" },
+            escape(&routine.states[transition.from as usize]),
+            escape(&routine.operation(transition.operation)),
+            escape(&explain::operation(routine, transition.operation)),
+        );
+    }
+    let bad = &routine.job.forbidden[run.forbidden];
+    text += &format!(
+        "</ol>\n<p>That is at <b>{}</b>, where line {} of the routine forbids <code>{}</code>. \
+         The shape that is met:</p>\n{}",
+        escape(&routine.states[bad.state as usize]),
+        origin.line,
+        escape(&origin.text),
+        shape_figure(routine, run.forbidden),
+    );
+    text
+}
+
+/// What a step has changed.
+fn changes(before: &Heap, after: &Heap) -> Marks {
+    let cells = after.links.keys().copied();
+    let variables = 0..after.variables.len();
+    Marks {
+        cells: cells
+            .clone()
+            .filter(|cell| !before.links.contains_key(cell))
+            .collect(),
+        links: cells
+            .filter(|cell| before.links.get(cell) != after.links.get(cell))
+            .collect(),
+        variables: variables
+            .filter(|&variable| before.variables[variable] != after.variables[variable])
+            .collect(),
+    }
+}
+
+fn of_chain(routine: &Routine, chain: &Chain) -> String {
+    let mut text = "<h2>Why there is none</h2>\n<p>Each shape may come before the one above it, as \
+                    far as the rules can tell; the empty heap, with which every run begins, \
+                    satisfies the last. A dashed arrow is one link or several.</p>\n<ol class=\"run\">\n"
+        .to_string();
+    for link in &chain.links {
+        let shape = link.located.shape.to_reference(routine.variables.len());
+        let words = draw::shape(&shape, &routine.variables).join("; ");
+        let after = link.transition.map_or("the start".to_string(), |number| {
+            let operation = routine.operation(routine.job.transitions[number].operation);
+            format!("after <code>{}</code>", escape(&operation))
+        });
+        text += &format!(
+            "<li>\n<p><span class=\"where\">{}</span> {after}</p>\n{}</li>\n",
+            escape(&routine.states[usize::from(link.located.state)]),
+            Scene::of_shape(&shape, &routine.variables).figure(&words),
+        );
+    }
+    text + "</ol>\n"
+}
+
+fn counts(routine: &Routine, judged: &Judged) -> String {
+    let job = &routine.job;
+    let mut rows = vec![
+        ("variables", job.variables),
+        ("states", job.states),
+        ("transitions", job.transitions.len() as u64),
+        ("forbidden shapes", job.forbidden.len() as u64),
+        ("bytes of the job", job.bytes().len() as u64),
+    ];
+    if let Some(certificate) = judged.ending.certificate() {
+        rows.extend([
+            ("members", certificate.members.len() as u64),
+            ("covers", certificate.covers.len() as u64),
+            ("bytes of the certificate", certificate.bytes().len() as u64),
+        ]);
+    }
+    let cells: String = rows
+        .iter()
+        .map(|(name, count)| format!("<div><dt>{name}</dt><dd>{}</dd></div>\n", thousands(*count)))
+        .collect();
+    let time = super::milliseconds(judged.time);
+    format!(
+        "<h2>Counts</h2>\n<dl>\n{cells}<div><dt>time to search and check</dt><dd>{time} ms</dd></div>\n</dl>\n"
+    )
+}
+
+fn states(routine: &Routine, run: &[usize]) -> String {
+    let of_run = match run.is_empty() {
+        true => "",
+        false => " Thick transitions are those of the run.",
+    };
+    let words = format!(
+        "{} and {}",
+        counted(routine.states.len(), "state"),
+        counted(routine.job.transitions.len(), "transition")
+    );
+    format!(
+        "<section class=\"states\">\n<h2>States and transitions</h2>\n<p>The run begins at <b>{}</b>. At states with a thick \
+         frame something is forbidden.{of_run}</p>\n{}</section>\n",
+        escape(&routine.states[routine.job.start as usize]),
+        graph::picture(routine, run).element("graph", &words)
+    )
+}
+
+/// The forbidden shapes, a row for each line of the routine at a state.
+fn forbidden(routine: &Routine) -> String {
+    let mut text = "<h2>What is forbidden</h2>\n<p>A dashed arrow is one link or several. Of what \
+                    isn't drawn nothing is said. <code>steps</code> forbids to follow or set the \
+                    link of a variable that stands at no block.</p>\n"
+        .to_string();
+    let key = |number: usize| {
+        (
+            &routine.origins[number],
+            routine.job.forbidden[number].state,
+        )
+    };
+    let numbers: Vec<usize> = (0..routine.job.forbidden.len()).collect();
+    for group in numbers.chunk_by(|&one, &other| key(one) == key(other)) {
+        let (origin, state) = key(group[0]);
+        let figures: String = group
+            .iter()
+            .map(|&number| shape_figure(routine, number))
+            .collect();
+        text += &format!(
+            "<section class=\"forbidden\">\n<h3><span class=\"where\">{}</span> <code>{}</code></h3>\n\
+             <div class=\"shapes\">\n{figures}</div>\n</section>\n",
+            escape(&routine.states[state as usize]),
+            escape(&origin.text),
+        );
+    }
+    text
+}
+
+fn shape_figure(routine: &Routine, forbidden: usize) -> String {
+    let shape = &routine.job.forbidden[forbidden].shape;
+    let words = draw::shape(shape, &routine.variables).join("; ");
+    Scene::of_shape(shape, &routine.variables).figure(&words)
+}

@@ -1,0 +1,20 @@
+#!/usr/bin/env bash
+# Installs below build/installed, with and without DESTDIR, and builds and runs the host in C with what pkg-config says.
+set -euo pipefail
+cd "$(dirname "$0")/.."
+rm -rf build/installed
+PREFIX=$PWD/build/installed/usr scripts/install.sh > /dev/null
+PREFIX=/usr DESTDIR=$PWD/build/installed/staged scripts/install.sh > /dev/null
+
+cd build/installed
+(cd usr && find . -type f | sort) > files
+(cd staged/usr && find . -type f | sort) | cmp - files
+grep -q '^prefix=/usr$' staged/usr/lib/pkgconfig/vorruda.pc
+if ! command -v pkg-config > /dev/null; then
+    echo "pkg-config is not installed: the installed library is not tried"
+    exit 0
+fi
+export PKG_CONFIG_PATH=$PWD/usr/lib/pkgconfig
+read -r -a flags <<< "$(pkg-config --cflags --libs vorruda)"
+gcc -std=c11 -Wall -Wextra -Werror -O2 ../../examples/host.c "${flags[@]}" -o host
+./host | tail -n 1 | grep -q '^As expected\.$'
