@@ -30,11 +30,11 @@ install:
 # Status 1 says that there is no certificate, which is an answer.
 try:
 	@scripts/lib.sh
-	@scripts/tool.sh try $(ROUTINE) || [ $$? -eq 1 ]
+	@scripts/tool.sh try $(if $(ROUTINE),"$(ROUTINE)") || { status=$$?; [ $$status -eq 1 ] || exit $$status; }
 
 report:
 	@scripts/lib.sh
-	@scripts/tool.sh report $(ROUTINE)
+	@scripts/tool.sh report $(if $(ROUTINE),"$(ROUTINE)")
 
 bench:
 	@scripts/lib.sh

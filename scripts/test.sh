@@ -15,5 +15,6 @@ cargo test --offline --release --quiet --manifest-path host/Cargo.toml
 cargo run --offline --release --quiet --manifest-path host/Cargo.toml --bin compare
 scripts/valgrind.sh
 scripts/stack.sh
+scripts/report_test.sh
 
 tail -n 1 build/ci.log

@@ -11,9 +11,9 @@ use Rattle.reader.specs.declared.Header.{Header}
 use Rattle.verdict.specs.declared.Refusal.{Refusal}
 use Rattle.checker.specs.Jobs.{transitionIn, toState, owedBy}
 use Rattle.checker.specs.Checking.{Within, ChecksAll}
-use Rattle.checker.specs.declared.outcome.Outcome.{Outcome}
-use Rattle.checker.specs.declared.outcome.Outcome.the-variants.{Upto, Refused}
-use Rattle.checker.specs.declared.outcome.Position.{Position}
+use Rattle.checker.specs.declared.checked.Checked.{Checked}
+use Rattle.checker.specs.declared.checked.Checked.the-variants.{Upto, Refused}
+use Rattle.checker.specs.declared.checked.Position.{Position}
 use Rattle.checker.proofs.Checking.{Progress, begin, advance, halt, finish}
 
 -- how many transitions there are from the one that k names on
@@ -61,13 +61,13 @@ module _ {job : List ℕ} {h : Header} {cert : List ℕ} {ms : List Located} {m 
         let same : c .passed + (h .transitions - c .passed) - suc (k - 1) ≡ h .transitions - suc (k - 1) = omega (arith, c .inside) in
         rw same at (rw (first .owes) at (c .progress))
 
-    module _ {g : Outcome} (taken : ChecksAll cert ms here t g) where
+    module _ {g : Checked} (taken : ChecksAll cert ms here t g) where
       pub chain-halt : {r : Refusal} {place : ℕ} → g ≡ Refused r place → ChecksAll cert ms (owedBy job h m) from g
       chain-halt e = halt here rest left taken e
 
-      pub chain-more : (nexts : List ℕ) → Follows (toState job h) (h .transitions) 0 nexts → {u : Position} → g ≡ Upto u
-          → Chain job h cert ms m from (getD nexts (k - 1) 0) u
-      chain-more nexts follows e =
+      pub chain-more : (index : List ℕ) → Follows (toState job h) (h .transitions) 0 index → {u : Position} → g ≡ Upto u
+          → Chain job h cert ms m from (getD index (64 + (k - 1)) 0) u
+      chain-more index follows e =
           record {
             passed = suc (k - 1);
             inside = chain-below;
@@ -75,9 +75,9 @@ module _ {job : List ℕ} {h : Header} {cert : List ℕ} {ms : List Located} {m 
             progress = advance here rest left taken e;
           }
 
-    pub chain-less : (nexts : List ℕ) → Follows (toState job h) (h .transitions) 0 nexts → leftFrom (h .transitions) (getD nexts (k - 1) 0) < leftFrom (h .transitions) k
-    chain-less nexts follows =
-        rw (left-from (h .transitions) k some) (by-next (getD nexts (k - 1) 0) (follows (k - 1) (omega arith) chain-below))
+    pub chain-less : (index : List ℕ) → Follows (toState job h) (h .transitions) 0 index → leftFrom (h .transitions) (getD index (64 + (k - 1)) 0) < leftFrom (h .transitions) k
+    chain-less index follows =
+        rw (left-from (h .transitions) k some) (by-next (getD index (64 + (k - 1)) 0) (follows (k - 1) (omega arith) chain-below))
       where
         by-next : (next : ℕ) → next ≡ nextInto (toState job h) (toState job h (k - 1)) (h .transitions - suc (k - 1)) (suc (k - 1))
             → leftFrom (h .transitions) next < h .transitions - (k - 1)

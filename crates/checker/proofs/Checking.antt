@@ -10,10 +10,10 @@ use Rattle.format.specs.Parser.{Parsed, parsed, fault, onward, each, within, ce
 use Rattle.verdict.specs.declared.Refusal.{Refusal}
 use Rattle.format.proofs.Parsing.{then}
 use Rattle.checker.proofs.CoverPlace.{cover-place}
-use Rattle.checker.specs.Checking.{checkAll, outcomeOf, Within, StaysWithin, ChecksAll}
-use Rattle.checker.specs.declared.outcome.Outcome.{Outcome}
-use Rattle.checker.specs.declared.outcome.Outcome.the-variants.{Upto, Refused}
-use Rattle.checker.specs.declared.outcome.Position.{Position}
+use Rattle.checker.specs.Checking.{checkAll, checkedOf, Within, StaysWithin, ChecksAll}
+use Rattle.checker.specs.declared.checked.Checked.{Checked}
+use Rattle.checker.specs.declared.checked.Checked.the-variants.{Upto, Refused}
+use Rattle.checker.specs.declared.checked.Position.{Position}
 
 module _ (cert : List ℕ) (ms : List Located) where
   pub checkAll-none : (covers at : ℕ) → checkAll cert ms [] covers at ≡ parsed covers at
@@ -67,7 +67,7 @@ module _ (cert : List ℕ) (ms : List Located) where
       (λ u a h₁ h₂. let (p, q) = cover-place (certificateBuffer cert) ms o at h₁ in checkAll-inside os (suc covers) a c next h₂ (omega arith) q) e
 
   -- covers that were taken leave the next place within the certificate
-  pub stays : (os : List Located) (t : Position) → Within cert t → (g : Outcome) → outcomeOf g ≡ checkAll cert ms os (t .covers) (t .at) → StaysWithin cert g
+  pub stays : (os : List Located) (t : Position) → Within cert t → (g : Checked) → checkedOf g ≡ checkAll cert ms os (t .covers) (t .at) → StaysWithin cert g
   stays os t w (Upto u) e =
       let (p, q) = checkAll-inside os (t .covers) (t .at) (u .covers) (u .at) (sym e) (w .counted) (w .inside) in
       record { counted = p; inside = q; fits = w .fits }
@@ -93,8 +93,8 @@ module _ {cert : List ℕ} {ms all : List Located} {from : Position} where
     after : (r : Parsed ℕ) → r ≡ checkAll cert ms os (t .covers) (t .at) → onward r (checkAll cert ms rest) ≡ checkAll cert ms all (from .covers) (from .at)
     after r e = ap (λ q. onward q (checkAll cert ms rest)) e ∙ sym (checkAll-append cert ms os rest (t .covers) (t .at)) ∙ p .left
 
-    pub advance : {g : Outcome} {u : Position} → ChecksAll cert ms os t g → g ≡ Upto u → Progress cert ms all from rest u
-    advance {u = u} (e, w) g-is = record { within = rw g-is at w; left = after (outcomeOf (Upto u)) (rw g-is at e) }
+    pub advance : {g : Checked} {u : Position} → ChecksAll cert ms os t g → g ≡ Upto u → Progress cert ms all from rest u
+    advance {u = u} (e, w) g-is = record { within = rw g-is at w; left = after (checkedOf (Upto u)) (rw g-is at e) }
 
-    pub halt : {g : Outcome} {r : Refusal} {place : ℕ} → ChecksAll cert ms os t g → g ≡ Refused r place → ChecksAll cert ms all from g
-    halt {r = r} {place} (e, w) g-is = rw g-is (after (outcomeOf (Refused r place)) (rw g-is at e), tt)
+    pub halt : {g : Checked} {r : Refusal} {place : ℕ} → ChecksAll cert ms os t g → g ≡ Refused r place → ChecksAll cert ms all from g
+    halt {r = r} {place} (e, w) g-is = rw g-is (after (checkedOf (Refused r place)) (rw g-is at e), tt)

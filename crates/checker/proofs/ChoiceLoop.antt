@@ -12,10 +12,10 @@ use Rattle.run.specs.Run.{Located}
 use Rattle.verdict.specs.declared.Refusal.{Refusal}
 use Rattle.placing.specs.declared.Choices.{Choices}
 use Rattle.placing.proofs.Ranges.{stretch, Covers}
-use Rattle.checker.specs.Checking.{checkAll, outcomeOf, Within, located, ChecksAll, Checks}
-use Rattle.checker.specs.declared.outcome.Outcome.{Outcome}
-use Rattle.checker.specs.declared.outcome.Outcome.the-variants.{Upto, Refused}
-use Rattle.checker.specs.declared.outcome.Position.{Position}
+use Rattle.checker.specs.Checking.{checkAll, checkedOf, Within, located, ChecksAll, Checks}
+use Rattle.checker.specs.declared.checked.Checked.{Checked}
+use Rattle.checker.specs.declared.checked.Checked.the-variants.{Upto, Refused}
+use Rattle.checker.specs.declared.checked.Position.{Position}
 use Rattle.checker.proofs.Lists.{range-next, range-end}
 use Rattle.checker.proofs.Checking.{stays, Progress, begin, advance, halt, finish}
 
@@ -88,7 +88,7 @@ module _ {cert : List ℕ} {ms : List Located} {state : ℕ} {f : ℕ → List S
     next inside =
         rw (range-next past k (omega (arith, h .most)), map-append (located state) (f k) (concatMap f (range (k + 1) (past - (k + 1))))) at (now .progress)
 
-    checks : (g : Outcome) → outcomeOf g ≡ checkAll cert ms here (t .covers) (t .at) → ChecksAll cert ms here t g
+    checks : (g : Checked) → checkedOf g ≡ checkAll cert ms here (t .covers) (t .at) → ChecksAll cert ms here t g
     checks g taken = (taken, stays cert ms here t (now .progress .within) g taken)
 
     -- a choice that gives nothing is passed
@@ -99,7 +99,7 @@ module _ {cert : List ℕ} {ms : List Located} {state : ℕ} {f : ℕ → List S
           among = still h k inside (now .among) (ℕ-discrete (c .step) 1);
         }
 
-    module _ (inside : k < c .to) {g : Outcome} (taken : outcomeOf g ≡ checkAll cert ms here (t .covers) (t .at)) where
+    module _ (inside : k < c .to) {g : Checked} (taken : checkedOf g ≡ checkAll cert ms here (t .covers) (t .at)) where
       pub loop-more : {u : Position} → g ≡ Upto u → ChoiceLoop cert ms state f c start past t₀ (k + c .step) u
       loop-more e =
           record {

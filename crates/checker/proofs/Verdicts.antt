@@ -31,10 +31,10 @@ use Rattle.verdict.specs.declared.Counts.{Counts as CountsAnswer}
 use Rattle.verdict.specs.declared.Verdict.{Verdict as Answer}
 use Rattle.verdict.specs.declared.Verdict.the-variants.{Accepted}
 use Rattle.checker.specs.Jobs.{fileIn, readCovers}
-use Rattle.checker.specs.Checking.{checkAll, outcomeOf}
-use Rattle.checker.specs.declared.outcome.Outcome.{Outcome}
-use Rattle.checker.specs.declared.outcome.Outcome.the-variants.{Upto, Refused}
-use Rattle.checker.specs.declared.outcome.Position.{Position}
+use Rattle.checker.specs.Checking.{checkAll, checkedOf}
+use Rattle.checker.specs.declared.checked.Checked.{Checked}
+use Rattle.checker.specs.declared.checked.Checked.the-variants.{Upto, Refused}
+use Rattle.checker.specs.declared.checked.Position.{Position}
 use Rattle.checker.proofs.Checking.{checkAll-each}
 
 -- ---- lengths
@@ -51,29 +51,29 @@ fits-most s e = let h = ltb-true (length s) 65537 (and-right (leb 1 (length s)) 
 
 -- ---- the covers
 
-module _ (cert : List ℕ) (j : Job) (ms : List Located) (at : ℕ) (g : Outcome) (taken : outcomeOf g ≡ checkAll cert ms (owed j ms) 0 at) where
+module _ (cert : List ℕ) (j : Job) (ms : List Located) (at : ℕ) (g : Checked) (taken : checkedOf g ≡ checkAll cert ms (owed j ms) 0 at) where
   -- what is read after the covers
   abbrev after : List (Unit {0}) → Parser Counts
   after us place = onward (end (certificateBuffer cert) place) (λ u next. parsed (countsOf j ms) next)
 
-  by-each : (r : Parsed (List (Unit {0}))) → outcomeOf g ≡ onward r (λ us next. parsed (0 + length (owed j ms)) next)
+  by-each : (r : Parsed (List (Unit {0}))) → checkedOf g ≡ onward r (λ us next. parsed (0 + length (owed j ms)) next)
       → ((why : Refusal) (place : ℕ) → g ≡ Refused why place → onward r after ≡ fault (refusalNumber why) place)
       × ((t : Position) → g ≡ Upto t → (t .covers ≡ length (owed j ms)) × (onward r after ≡ after [] (t .at)))
   by-each (parsed us next) e = (
-    (λ why place g-is. let z : _≡_ {A = ℕ} 0 1 = cc (ap outcomeOf g-is) in absurd (omega arith)),
+    (λ why place g-is. let z : _≡_ {A = ℕ} 0 1 = cc (ap checkedOf g-is) in absurd (omega arith)),
     (λ t g-is.
-        let f : _≡_ {A = Parsed ℕ} (parsed (t .covers) (t .at)) (parsed (0 + length (owed j ms)) next) = sym (ap outcomeOf g-is) ∙ e in
+        let f : _≡_ {A = Parsed ℕ} (parsed (t .covers) (t .at)) (parsed (0 + length (owed j ms)) next) = sym (ap checkedOf g-is) ∙ e in
         let covers-is : t .covers ≡ 0 + length (owed j ms) = cc in
         let at-is : t .at ≡ next = cc in
         (covers-is ∙ omega arith, ap (after []) (sym at-is))),
   )
   by-each (fault number place) e = (
     (λ why q g-is.
-        let f : _≡_ {A = Parsed ℕ} (fault (refusalNumber why) q) (fault number place) = sym (ap outcomeOf g-is) ∙ e in
+        let f : _≡_ {A = Parsed ℕ} (fault (refusalNumber why) q) (fault number place) = sym (ap checkedOf g-is) ∙ e in
         let number-is : number ≡ refusalNumber why = cc in
         let place-is : place ≡ q = cc in
         ap₂ fault number-is place-is),
-    (λ t g-is. let z : _≡_ {A = ℕ} 0 1 = cc (ap outcomeOf g-is) in absurd (omega arith)),
+    (λ t g-is. let z : _≡_ {A = ℕ} 0 1 = cc (ap checkedOf g-is) in absurd (omega arith)),
   )
 
   pub covers-refused : (why : Refusal) (place : ℕ) → g ≡ Refused why place → refused (refusalNumber why) place ≡ conclude (readCovers cert j ms at)

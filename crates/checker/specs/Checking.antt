@@ -8,9 +8,9 @@ use Rattle.run.specs.Run.{Located}
 use Rattle.format.specs.Certificate.{readCover}
 use Rattle.format.specs.Parser.{Parsed, parsed, fault, Parser, _>>=_, _>>_, return, certificateBuffer}
 use Rattle.verdict.specs.Verdict.{refusalNumber}
-use Rattle.checker.specs.declared.outcome.Outcome.{Outcome}
-use Rattle.checker.specs.declared.outcome.Outcome.the-variants.{Upto, Refused}
-use Rattle.checker.specs.declared.outcome.Position.{Position}
+use Rattle.checker.specs.declared.checked.Checked.{Checked}
+use Rattle.checker.specs.declared.checked.Checked.the-variants.{Upto, Refused}
+use Rattle.checker.specs.declared.checked.Position.{Position}
 
 -- checks a cover of each shape, with members ms, and counts on
 unfoldable pub checkAll : List ℕ → List Located → List Located → ℕ → Parser ℕ
@@ -19,10 +19,10 @@ checkAll cert ms (o ∷ os) covers = do
   readCover (certificateBuffer cert) ms o
   checkAll cert ms os (suc covers)
 
--- how far the covers were taken, as the answer of a parser
-abbrev pub outcomeOf : Outcome → Parsed ℕ
-outcomeOf (Upto t) = parsed (t .covers) (t .at)
-outcomeOf (Refused r place) = fault (refusalNumber r) place
+-- how far the covers are checked, as the answer of a parser
+abbrev pub checkedOf : Checked → Parsed ℕ
+checkedOf (Upto t) = parsed (t .covers) (t .at)
+checkedOf (Refused r place) = fault (refusalNumber r) place
 
 -- a cover has at least one byte
 pub record Within (cert : List ℕ) (t : Position) : Type 0 where
@@ -31,7 +31,7 @@ pub record Within (cert : List ℕ) (t : Position) : Type 0 where
   pub fits : length cert ≤ 65536
 
 -- what goes on is within the certificate
-abbrev pub StaysWithin : List ℕ → Outcome → Type 0
+abbrev pub StaysWithin : List ℕ → Checked → Type 0
 StaysWithin cert (Upto t) = Within cert t
 StaysWithin cert (Refused r place) = Unit {0}
 
@@ -39,10 +39,10 @@ StaysWithin cert (Refused r place) = Unit {0}
 abbrev pub located : ℕ → Shape → Located
 located state s = record { state = state; shape = s }
 
--- g is how far the covers of all these are taken, from t on
-abbrev pub ChecksAll : List ℕ → List Located → List Located → Position → Outcome → Type 0
-ChecksAll cert ms os t g = (outcomeOf g ≡ checkAll cert ms os (t .covers) (t .at)) × StaysWithin cert g
+-- g is how far the covers of all these are checked, from t on
+abbrev pub ChecksAll : List ℕ → List Located → List Located → Position → Checked → Type 0
+ChecksAll cert ms os t g = (checkedOf g ≡ checkAll cert ms os (t .covers) (t .at)) × StaysWithin cert g
 
 -- and those of shapes at a state
-abbrev pub Checks : List ℕ → List Located → ℕ → List Shape → Position → Outcome → Type 0
+abbrev pub Checks : List ℕ → List Located → ℕ → List Shape → Position → Checked → Type 0
 Checks cert ms state ss t g = ChecksAll cert ms (map (located state) ss) t g

@@ -8,7 +8,7 @@ use Rattle.format.specs.Parser.{Parsed}
 use Rattle.covering.specs.Members.{membersFrom}
 use Rattle.transitions.specs.declared.Transition.{Transition}
 use Rattle.checker.specs.Checking.{checkAll, located}
-use Rattle.checker.specs.declared.outcome.Position.{Position}
+use Rattle.checker.specs.declared.checked.Position.{Position}
 
 abbrev pub checkShapes : List ℕ → ℕ → List ℕ → ℕ → List Shape → Position → Parsed ℕ
 checkShapes cert variables starts state shapes t =

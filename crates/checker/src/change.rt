@@ -1,4 +1,9 @@
 // Kinds 1 to 5: the shape under work, changed in place.
+use kinds::ASSIGN;
+use kinds::STORE;
+use place::FIRST_CELL;
+use place::NOWHERE;
+use place::NULL;
 use transitions::Transition;
 ghost use mathlib.Core.Path.{_≡_};
 ghost use Prim.Native.Nat.{_+_, _≤_, _<_};
@@ -13,21 +18,21 @@ pub(crate) fn place_operand(s: &mut [u8; 28], x: u8, k: u8)
 {
     let n = s[0];
     let slot = 17 + x as usize;
-    if s[slot] != 0 {
+    if s[slot] != NOWHERE {
         return;
     }
     if k < n {
-        s[slot] = 3 + k;
+        s[slot] = FIRST_CELL + k;
         return;
     }
     if k == n {
-        s[slot] = 1;
+        s[slot] = NULL;
         return;
     }
-    let fresh = 3 + n;
+    let fresh = FIRST_CELL + n;
     if k == n + 1 {
         s[0] = n + 1;
-        s[fresh as usize] = 0;
+        s[fresh as usize] = NOWHERE;
         s[slot] = fresh;
         return;
     }
@@ -44,20 +49,20 @@ pub(crate) fn undo(variables: usize, by: Transition, s: &mut [u8; 28])
     requires { ⌜ (by .a ≤ 9) × (by .b ≤ 9) × (operandAt (now s) (by .a) < 17) × (operandAt (now s) (by .b) < 17) ⌝ }
     ensures { λ r. ⌜ now (s .exit) ≡ undoneIn variables (by .kind) (by .a) (by .b) (now (s .entry)) ⌝ }
 {
-    if by.kind < 3 {
+    if by.kind < ASSIGN {
         return;
     }
     let to = 17 + by.a as usize;
-    if by.kind == 3 {
+    if by.kind == ASSIGN {
         if by.a == by.b {
             return;
         }
-        s[to] = 0;
+        s[to] = NOWHERE;
         return;
     }
     let x = s[to];
-    if by.kind == 5 {
-        s[x as usize] = 0;
+    if by.kind == STORE {
+        s[x as usize] = NOWHERE;
         return;
     }
     let from = 17 + by.b as usize;
@@ -65,8 +70,8 @@ pub(crate) fn undo(variables: usize, by: Transition, s: &mut [u8; 28])
     s[y as usize] = x;
     if variables < by.b as usize {
         s[to] = y;
-        s[from] = 0;
+        s[from] = NOWHERE;
         return;
     }
-    s[to] = 0;
+    s[to] = NOWHERE;
 }

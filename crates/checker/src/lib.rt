@@ -1,5 +1,5 @@
 // The checker: one verdict for the bytes of a job and of a certificate.
-use crate::outcome::Outcome;
+use crate::checked::Checked;
 use crate::owed::check_owed;
 use reader::Header;
 use reader::JobAnswer;
@@ -25,8 +25,8 @@ ghost use Rattle.verdict.specs.declared.Counts.{Counts as CountsAnswer};
 ghost use Rattle.verdict.specs.declared.Verdict.the-variants.{Accepted};
 
 mod change;
+mod checked;
 mod choices;
-mod outcome;
 mod owed;
 mod removal;
 mod single;
@@ -49,8 +49,8 @@ fn check_covers(job: &[u8], h: Header, cert: &[u8], starts: &[u16], at: usize) -
 {
     let g = check_owed(job, h, cert, starts, at);
     match g {
-        Outcome::Refused(why, place) => Verdict::Refused(why, place),
-        Outcome::Upto(t) => {
+        Checked::Refused(why, place) => Verdict::Refused(why, place),
+        Checked::Upto(t) => {
             if t.at < cert.len() {
                 return Verdict::Refused(Refusal::CertificateLeft, t.at);
             }

@@ -1,11 +1,13 @@
 // Checks the covers in their order: those of the forbidden shapes; then for each member, each transition into its state.
+use crate::checked::Checked;
+use crate::checked::Position;
 use crate::choices::check_first_choices;
 use crate::choices::with_helper;
-use crate::outcome::Outcome;
-use crate::outcome::Position;
 use crate::removal::check_delete;
 use crate::removal::check_new;
 use crate::single::check_cover;
+use kinds::DELETE;
+use kinds::NEW;
 use reader::Header;
 use reader::load::load_shape;
 use transitions::index_transitions;
@@ -18,13 +20,13 @@ ghost use Rattle.lists.specs.List.{concatMap};
 ghost use Rattle.backward.specs.Predecessors.{predecessors};
 ghost use Rattle.cover.specs.Cover.{owed};
 ghost use Rattle.checker.specs.Jobs.{toState, fileIn, owedBy};
-ghost use Rattle.checker.specs.Checking.{checkAll, outcomeOf, Within, located, ChecksAll, Checks};
+ghost use Rattle.checker.specs.Checking.{checkAll, checkedOf, Within, ChecksAll, Checks};
 ghost use Rattle.covering.specs.Members.{membersFrom};
 ghost use Rattle.kinds.specs.Kinds.{allowed};
 ghost use Rattle.layout.specs.ShapeArray.{cellCount, shapeIn, ShapeArray};
 ghost use Rattle.layout.specs.Entries.{locatedAt, entriesAt, EntriesIn, membersAt, Table};
 ghost use Rattle.layout.specs.Transitions.{transitionAt};
-ghost use Rattle.order.specs.Index.{nextInto, Follows, IndexedFrom};
+ghost use Rattle.order.specs.Index.{IndexedFrom};
 ghost use Rattle.reader.specs.Job.{JobRead};
 
 // Covers of so many forbidden shapes, from a place of the job on.
@@ -36,7 +38,7 @@ pub(crate) fn check_forbidden(
     starts: &[u16],
     variables: usize,
     from: Position,
-) -> Outcome
+) -> Checked
     requires { ⌜ (EntriesIn (now job) variables first bads) × (variables ≤ 8) × (Within (now cert) from) ⌝ }
     ensures { λ r. ⌜ ChecksAll (now (cert .entry)) (membersFrom (now (cert .entry)) variables (now (starts .entry))) (entriesAt (now (job .entry)) variables first bads) from r ⌝ }
 {
@@ -48,14 +50,14 @@ pub(crate) fn check_forbidden(
         load_shape(job, at, variables, &mut s);
         let n = s[0] as usize;
         let g = check_cover(cert, starts, variables, job[at], &s, t);
-        let Outcome::Upto(u) = g else {
+        let Checked::Upto(u) = g else {
             return g;
         };
         t = u;
         at += 2 + variables + n;
         i += 1;
     }
-    Outcome::Upto(t)
+    Checked::Upto(t)
 }
 
 // Covers of the predecessors of a shape by the transition at a place of the job.
@@ -67,114 +69,91 @@ fn check_transition(
     variables: usize,
     s: &[u8; 28],
     t: Position,
-) -> Outcome
+) -> Checked
     requires { ⌜ (at + 5 ≤ length (now job)) × (allowed variables (getD (now job) (at + 1) 0) (getD (now job) (at + 2) 0) (getD (now job) (at + 3) 0) ≡ true) × (variables ≤ 8) × (ShapeArray variables (now s)) × (cellCount (now s) ≤ 12) × (Within (now cert) t) ⌝ }
     ensures { λ r. ⌜ Checks (now (cert .entry)) (membersFrom (now (cert .entry)) variables (now (starts .entry))) (transitionAt (now (job .entry)) at .from) (predecessors (transitionAt (now (job .entry)) at .op) (shapeIn variables (now (s .entry)))) t r ⌝ }
 {
     let by = transition_at(job, at);
-    if by.kind == 7 {
+    if by.kind == DELETE {
         return check_delete(cert, starts, variables, by, s, t);
     }
-    if by.kind == 6 {
+    if by.kind == NEW {
         return check_new(cert, starts, variables, by, s, t);
     }
     let placed = with_helper(variables, by);
     check_first_choices(cert, starts, variables, placed, s, t)
 }
 
-// Covers of a shape's predecessors by each transition into its state; `head` is the first of them.
-fn check_transitions(
-    job: &[u8],
-    h: Header,
-    head: u16,
-    nexts: &[u16; 256],
-    cert: &[u8],
-    starts: &[u16],
-    state: u8,
-    s: &[u8; 28],
-    from: Position,
-) -> Outcome
-    requires { ⌜ (JobRead (now job) h) × (Follows (toState (now job) h) (h .transitions) 0 (now nexts)) × (head ≡ nextInto (toState (now job) h) state (h .transitions) 0) × (ShapeArray (h .variables) (now s)) × (cellCount (now s) ≤ 12) × (Within (now cert) from) ⌝ }
-    ensures { λ r. ⌜ ChecksAll (now (cert .entry)) (membersFrom (now (cert .entry)) (h .variables) (now (starts .entry))) (owedBy (now (job .entry)) h (located state (shapeIn (h .variables) (now (s .entry))))) from r ⌝ }
-{
-    let mut t = from;
-    let mut k = head;
-    while 0 < k {
-        let i = (k - 1) as usize;
-        let at = h.transitions_at + 5 * i;
-        let g = check_transition(job, at, cert, starts, h.variables, s, t);
-        let Outcome::Upto(u) = g else {
-            return g;
-        };
-        t = u;
-        k = nexts[i];
-    }
-    Outcome::Upto(t)
-}
-
-// Covers of the predecessors of member m.
+// Covers of the predecessors of member m, by each transition into its state.
 fn check_member(
     job: &[u8],
     h: Header,
-    heads: &[u16; 64],
-    nexts: &[u16; 256],
+    index: &[u16; 320],
     cert: &[u8],
     starts: &[u16],
     m: usize,
-    t: Position,
-) -> Outcome
-    requires { ⌜ (JobRead (now job) h) × (IndexedFrom (toState (now job) h) (h .transitions) 0 (now heads) (now nexts)) × (Table (now cert) (h .variables) (now starts)) × (m < length (now starts)) × (Within (now cert) t) ⌝ }
-    ensures { λ r. ⌜ ChecksAll (now (cert .entry)) (membersFrom (now (cert .entry)) (h .variables) (now (starts .entry))) (owedBy (now (job .entry)) h (locatedAt (now (cert .entry)) (h .variables) (getD (now (starts .entry)) m 0))) t r ⌝ }
+    from: Position,
+) -> Checked
+    requires { ⌜ (JobRead (now job) h) × (IndexedFrom (toState (now job) h) (h .transitions) 0 (now index)) × (Table (now cert) (h .variables) (now starts)) × (m < length (now starts)) × (Within (now cert) from) ⌝ }
+    ensures { λ r. ⌜ ChecksAll (now (cert .entry)) (membersFrom (now (cert .entry)) (h .variables) (now (starts .entry))) (owedBy (now (job .entry)) h (locatedAt (now (cert .entry)) (h .variables) (getD (now (starts .entry)) m 0))) from r ⌝ }
 {
     let at = starts[m] as usize;
-    let state = cert[at];
-    let head = heads[state as usize];
-    if head == 0 {
-        return Outcome::Upto(t);
+    let mut k = index[cert[at] as usize];
+    if k == 0 {
+        return Checked::Upto(from);
     }
     let mut s = [0u8; 28];
     load_shape(cert, at, h.variables, &mut s);
-    check_transitions(job, h, head, nexts, cert, starts, state, &s, t)
+    let mut t = from;
+    while 0 < k {
+        let i = (k - 1) as usize;
+        let place = h.transitions_at + 5 * i;
+        let g = check_transition(job, place, cert, starts, h.variables, &s, t);
+        let Checked::Upto(u) = g else {
+            return g;
+        };
+        t = u;
+        k = index[64 + i];
+    }
+    Checked::Upto(t)
 }
 
 // Covers of the predecessors of every member.
 pub(crate) fn check_members(
     job: &[u8],
     h: Header,
-    heads: &[u16; 64],
-    nexts: &[u16; 256],
+    index: &[u16; 320],
     cert: &[u8],
     starts: &[u16],
     from: Position,
-) -> Outcome
-    requires { ⌜ (JobRead (now job) h) × (IndexedFrom (toState (now job) h) (h .transitions) 0 (now heads) (now nexts)) × (Table (now cert) (h .variables) (now starts)) × (Within (now cert) from) ⌝ }
+) -> Checked
+    requires { ⌜ (JobRead (now job) h) × (IndexedFrom (toState (now job) h) (h .transitions) 0 (now index)) × (Table (now cert) (h .variables) (now starts)) × (Within (now cert) from) ⌝ }
     ensures { λ r. ⌜ ChecksAll (now (cert .entry)) (membersFrom (now (cert .entry)) (h .variables) (now (starts .entry))) (concatMap (owedBy (now (job .entry)) h) (membersAt (now (cert .entry)) (h .variables) (now (starts .entry)))) from r ⌝ }
 {
     let mut t = from;
     let mut m = 0;
     while m < starts.len() {
-        let g = check_member(job, h, heads, nexts, cert, starts, m, t);
-        let Outcome::Upto(u) = g else {
+        let g = check_member(job, h, index, cert, starts, m, t);
+        let Checked::Upto(u) = g else {
             return g;
         };
         t = u;
         m += 1;
     }
-    Outcome::Upto(t)
+    Checked::Upto(t)
 }
 
 // Covers of all that is owed, from a place of the certificate on.
-pub(crate) fn check_owed(job: &[u8], h: Header, cert: &[u8], starts: &[u16], at: usize) -> Outcome
+pub(crate) fn check_owed(job: &[u8], h: Header, cert: &[u8], starts: &[u16], at: usize) -> Checked
     requires { ⌜ (JobRead (now job) h) × (Table (now cert) (h .variables) (now starts)) × (at ≤ length (now cert)) × (length (now cert) ≤ 65536) ⌝ }
-    ensures { λ r. ⌜ outcomeOf r ≡ checkAll (now (cert .entry)) (membersAt (now (cert .entry)) (h .variables) (now (starts .entry))) (owed (fileIn (now (job .entry)) h .job) (membersAt (now (cert .entry)) (h .variables) (now (starts .entry)))) 0 at ⌝ }
+    ensures { λ r. ⌜ checkedOf r ≡ checkAll (now (cert .entry)) (membersAt (now (cert .entry)) (h .variables) (now (starts .entry))) (owed (fileIn (now (job .entry)) h .job) (membersAt (now (cert .entry)) (h .variables) (now (starts .entry)))) 0 at ⌝ }
 {
-    let mut heads = [0u16; 64];
-    let mut nexts = [0u16; 256];
-    index_transitions(job, h.transitions_at, h.transitions, &mut heads, &mut nexts);
+    let mut index = [0u16; 320];
+    index_transitions(job, h.transitions_at, h.transitions, &mut index);
     let from = Position { at, covers: 0 };
     let g = check_forbidden(job, h.bads_at, h.bads, cert, starts, h.variables, from);
-    let Outcome::Upto(t) = g else {
+    let Checked::Upto(t) = g else {
         return g;
     };
-    check_members(job, h, &heads, &nexts, cert, starts, t)
+    check_members(job, h, &index, cert, starts, t)
 }

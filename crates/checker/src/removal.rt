@@ -1,7 +1,11 @@
 // Kinds 6 (new) and 7 (delete): covers of the predecessors.
-use crate::outcome::Outcome;
-use crate::outcome::Position;
+use crate::checked::Checked;
+use crate::checked::Position;
 use crate::single::check_cover;
+use place::DANGLING;
+use place::FIRST_CELL;
+use place::NOWHERE;
+use place::NULL;
 use shapes::remove_cell;
 use shapes::restore_deleted;
 use transitions::Transition;
@@ -30,7 +34,7 @@ fn check_removals(
     s: &[u8; 28],
     cells: Cells,
     from: Position,
-) -> Outcome
+) -> Checked
     requires { ⌜ (ShapeArray variables (now s)) × (cells .first ≤ cells .end) × (cells .end ≤ cellCount (now s)) × (Within (now cert) from) ⌝ }
     ensures { λ r. ⌜ Checks (now (cert .entry)) (membersFrom (now (cert .entry)) variables (now (starts .entry))) state (concatMap (without (shapeIn variables (now (s .entry)))) (range (cells .first) (cells .end - cells .first))) from r ⌝ }
 {
@@ -42,13 +46,13 @@ fn check_removals(
         k += 1;
         if is_free {
             let g = check_cover(cert, starts, variables, state, &v, t);
-            let Outcome::Upto(u) = g else {
+            let Checked::Upto(u) = g else {
                 return g;
             };
             t = u;
         }
     }
-    Outcome::Upto(t)
+    Checked::Upto(t)
 }
 
 // Kind 6: a's cell taken out; where a is nowhere, each cell in turn, and then a fresh one, which leaves the shape.
@@ -59,30 +63,30 @@ pub(crate) fn check_new(
     by: Transition,
     s: &[u8; 28],
     t: Position,
-) -> Outcome
+) -> Checked
     requires { ⌜ (ShapeArray variables (now s)) × (cellCount (now s) ≤ 12) × (1 ≤ by .a) × (by .a ≤ variables) × (Within (now cert) t) ⌝ }
     ensures { λ r. ⌜ Checks (now (cert .entry)) (membersFrom (now (cert .entry)) variables (now (starts .entry))) (by .from) (predecessors (new (by .a)) (shapeIn variables (now (s .entry)))) t r ⌝ }
 {
     let slot = 17 + by.a as usize;
     let x = s[slot];
-    if x == 0 {
+    if x == NOWHERE {
         let all = Cells {
             first: 0,
             end: s[0],
         };
         let g = check_removals(cert, starts, variables, by.from, s, all, t);
-        let Outcome::Upto(u) = g else {
+        let Checked::Upto(u) = g else {
             return g;
         };
         return check_cover(cert, starts, variables, by.from, s, u);
     }
-    if x < 3 {
-        return Outcome::Upto(t);
+    if x < FIRST_CELL {
+        return Checked::Upto(t);
     }
     let mut v = *s;
-    v[slot] = 0;
+    v[slot] = NOWHERE;
     let one = Cells {
-        first: x - 3,
+        first: x - FIRST_CELL,
         end: x - 2,
     };
     check_removals(cert, starts, variables, by.from, &v, one, t)
@@ -96,16 +100,16 @@ pub(crate) fn check_delete(
     by: Transition,
     s: &[u8; 28],
     t: Position,
-) -> Outcome
+) -> Checked
     requires { ⌜ (ShapeArray variables (now s)) × (cellCount (now s) ≤ 12) × (1 ≤ by .a) × (by .a ≤ variables) × (Within (now cert) t) ⌝ }
     ensures { λ r. ⌜ Checks (now (cert .entry)) (membersFrom (now (cert .entry)) variables (now (starts .entry))) (by .from) (predecessors (delete (by .a)) (shapeIn variables (now (s .entry)))) t r ⌝ }
 {
     let x = s[17 + by.a as usize];
-    if x == 1 {
-        return Outcome::Upto(t);
+    if x == NULL {
+        return Checked::Upto(t);
     }
-    if 2 < x {
-        return Outcome::Upto(t);
+    if DANGLING < x {
+        return Checked::Upto(t);
     }
     let mut v = *s;
     restore_deleted(s, by.a, &mut v);

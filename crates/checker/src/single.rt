@@ -1,6 +1,6 @@
 // Checking one cover.
-use crate::outcome::Outcome;
-use crate::outcome::Position;
+use crate::checked::Checked;
+use crate::checked::Position;
 use covering::quick_cover;
 use covering::take_cover;
 use verdict::Reached;
@@ -17,17 +17,17 @@ pub(crate) fn check_cover(
     state: u8,
     s: &[u8; 28],
     t: Position,
-) -> Outcome
+) -> Checked
     requires { ⌜ Within (now cert) t ⌝ }
     ensures { λ r. ⌜ Checks (now (cert .entry)) (membersFrom (now (cert .entry)) variables (now (starts .entry))) state (shapeIn variables (now (s .entry)) ∷ []) t r ⌝ }
 {
     let r = take_cover(cert, starts, variables, t.at, state, s);
     match r {
-        Reached::At(at) => Outcome::Upto(Position {
+        Reached::At(at) => Checked::Upto(Position {
             at,
             covers: t.covers + 1,
         }),
-        Reached::Refused(refusal, place) => Outcome::Refused(refusal, place),
+        Reached::Refused(refusal, place) => Checked::Refused(refusal, place),
     }
 }
 
@@ -39,7 +39,7 @@ pub(crate) fn check_quickly(
     state: u8,
     s: &[u8; 28],
     t: Position,
-) -> Outcome
+) -> Checked
     requires { ⌜ Within (now cert) t ⌝ }
     ensures { λ r. ⌜ Checks (now (cert .entry)) (membersFrom (now (cert .entry)) variables (now (starts .entry))) state (shapeIn variables (now (s .entry)) ∷ []) t r ⌝ }
 {
@@ -47,7 +47,7 @@ pub(crate) fn check_quickly(
     if next == 0 {
         return check_cover(cert, starts, variables, state, s, t);
     }
-    Outcome::Upto(Position {
+    Checked::Upto(Position {
         at: next,
         covers: t.covers + 1,
     })

@@ -17,7 +17,7 @@ use Rattle.shape.specs.Shape.{Shape, linkAt, size, shapeGraph, heapGraph}
 use Rattle.shape.proofs.Laws.{CellOf, by-number, shape-proper}
 use Rattle.run.proofs.WellFormed.{WellFormed, heap-proper}
 use Rattle.forbidden.specs.Meets.{Meets}
-use Rattle.forbidden.specs.Sets.{only, standing, ending, looping, notList}
+use Rattle.forbidden.specs.Sets.{only, standingAt, ending, looping, notList}
 use Rattle.forbidden.proofs.Only.{only-at, only-place}
 use Rattle.graph.proofs.Unmet.{unmet}
 
@@ -55,7 +55,7 @@ module _ (n x bad : ℕ) (low : bad < cell 0) where
       go (inl i) = ending-base dangling (omega arith) (omega arith) (λ e. o (sym e)) s i
       go (inr i) = looping-base s i
 
-pub standing-base : (n x p : ℕ) → nowhere < p → p < cell 0 → Base n x nowhere (standing n x p)
+pub standing-base : (n x p : ℕ) → nowhere < p → p < cell 0 → Base n x nowhere (standingAt n x p)
 standing-base n x p a b = base n x nowhere (omega arith) p [] (omega arith)
 
 pub six-base : (n x : ℕ) (s : Shape) → s ∈ (notList n x ++ ending n x null) → Base n x nowhere s

@@ -12,7 +12,7 @@ use Rattle.graph.proofs.Chain.{chain-left, chain-right}
 use Rattle.graph.proofs.Follow.{Visits, visits-chain}
 use Rattle.shape.specs.Shape.{Shape, Satisfies}
 use Rattle.run.proofs.WellFormed.{WellFormed}
-use Rattle.forbidden.specs.Sets.{only, standing, linked, ending, looping}
+use Rattle.forbidden.specs.Sets.{only, standingAt, linked, ending, looping}
 use Rattle.forbidden.proofs.Only.{only-vars}
 use Rattle.shape.proofs.Segments.{Segment, flat, image, Leads, segments-embed}
 
@@ -35,7 +35,7 @@ module _ (h : Heap) (w : WellFormed h) (n x : ℕ) (x≢0 : x ≢ 0) (x≤n : x 
   -- the walk ends at p, which is # or *
   pub ended : (p : ℕ) → ((ss : List Segment) → image ss p ≡ p) → (cs : List ℕ) → Visits (h .link) (h .var x) cs p → Distinct (cs ++ flat loose)
       → ((c : ℕ) → c ∈ (cs ++ flat loose) → IsCell h c) → Fits h none (ending n x p)
-  ended p fx [] t d k = (standing n x p, List·Memᴰ·head refl, fits p [] loose (t ∙ sym (fx loose)) d k (unlinked (image loose)))
+  ended p fx [] t d k = (standingAt n x p, List·Memᴰ·head refl, fits p [] loose (t ∙ sym (fx loose)) d k (unlinked (image loose)))
   ended p fx (c ∷ cs) (e, t) d k =
       let ss : List Segment = record { first = c; rest = cs } ∷ loose in (
         linked n x (p ∷ []),

@@ -20,7 +20,7 @@ use Rattle.heap.specs.Place.{nowhere, null, cell}
 use Rattle.shape.specs.Placing.{grow}
 use Rattle.shape.specs.Shape.{Shape, size, AllBelow, InRange}
 use Rattle.shape.proofs.Laws.{length-snoc}
-use Rattle.forbidden.specs.Sets.{standing, ending, notList, lostBlock}
+use Rattle.forbidden.specs.Sets.{standingAt, ending, notList, lostBlock}
 use Rattle.forbidden.proofs.Bases.{Base, six-base, standing-base}
 use Rattle.forbidden.proofs.Only.{only-below, only-length}
 
@@ -60,5 +60,5 @@ module _ (n x most : ℕ) (x≢0 : x ≢ 0) (x≤n : x ≤ n) (room : 3 ≤ most
       subst (InRange n most) z (grown-in-range s (six-base n x s k))
 
   -- p is # or *
-  pub standing-in-range : (p : ℕ) → nowhere < p → p < cell 0 → InRange n most (standing n x p)
-  standing-in-range p a b = base-in-range (standing n x p) (standing-base n x p a b)
+  pub standing-in-range : (p : ℕ) → nowhere < p → p < cell 0 → InRange n most (standingAt n x p)
+  standing-in-range p a b = base-in-range (standingAt n x p) (standing-base n x p a b)

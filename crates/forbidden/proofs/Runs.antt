@@ -16,7 +16,7 @@ use Rattle.run.proofs.Runs.{run-formed}
 use Rattle.run.proofs.WellFormed.{WellFormed, not-dangling}
 use Rattle.forbidden.specs.Guarantees.{Means, ListAt, NoneLostAt, StepsAtCells}
 use Rattle.forbidden.specs.Meets.{Meets}
-use Rattle.forbidden.specs.Sets.{standing, notList, lostBlock, atState, stepsThrough, badStep, badStepsOf, badSteps, alsoForbid, Forbids}
+use Rattle.forbidden.specs.Sets.{standingAt, notList, lostBlock, atState, stepsThrough, badStep, badStepsOf, badSteps, alsoForbid, Forbids}
 use Rattle.forbidden.proofs.Standing.{stands}
 use Rattle.forbidden.proofs.Theorems.{four-or-met, six-or-met, not-list, lost-block}
 
@@ -29,7 +29,7 @@ means h w n x x≢0 x≤n =
       bad-step = (λ (s, m, z). out s m z, into);
     }
   where
-    at : (p : ℕ) → nowhere < p → p < cell 0 → Satisfies h (standing n x p) ↔ (h .var x ≡ p)
+    at : (p : ℕ) → nowhere < p → p < cell 0 → Satisfies h (standingAt n x p) ↔ (h .var x ≡ p)
     at p a b = stands h w n x p x≢0 x≤n a b
 
     out : (s : Shape) → s ∈ badStep n x → Satisfies h s → (h .var x ≡ null) ⊎ (h .var x ≡ dangling)
@@ -38,8 +38,8 @@ means h w n x x≢0 x≤n =
         inr (at dangling (omega arith) (omega arith) .0 (subst (Satisfies h) (List·Memᴰ·eq-of-singleton m) z))
 
     into : (h .var x ≡ null) ⊎ (h .var x ≡ dangling) → SatisfiesOne h (badStep n x)
-    into (inl e) = (standing n x null, List·Memᴰ·head refl, at null (omega arith) (omega arith) .1 e)
-    into (inr e) = (standing n x dangling, List·Memᴰ·tail (List·Memᴰ·head refl), at dangling (omega arith) (omega arith) .1 e)
+    into (inl e) = (standingAt n x null, List·Memᴰ·head refl, at null (omega arith) (omega arith) .1 e)
+    into (inr e) = (standingAt n x dangling, List·Memᴰ·tail (List·Memᴰ·head refl), at dangling (omega arith) (omega arith) .1 e)
 
 -- the variables that an operation steps through are variables of the job
 pub through-range : (n : ℕ) (o : Op) → Allowed n o → (v : ℕ) → v ∈ stepsThrough o → (v ≢ 0) × (v ≤ n)

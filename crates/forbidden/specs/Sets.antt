@@ -16,8 +16,8 @@ abbrev pub only : ℕ → ℕ → ℕ → List ℕ
 only n x p = setVarIn x p (replicate n nowhere)
 
 -- no cell, x at p
-abbrev pub standing : ℕ → ℕ → ℕ → Shape
-standing n x p = record { vars = only n x p; links = [] }
+abbrev pub standingAt : ℕ → ℕ → ℕ → Shape
+standingAt n x p = record { vars = only n x p; links = [] }
 
 -- x at cell 0; the links of the cells
 abbrev pub linked : ℕ → ℕ → List ℕ → Shape
@@ -25,7 +25,7 @@ linked n x links = record { vars = only n x (cell 0); links = links }
 
 -- "x at *; x's cell linked to *", and the same with #
 abbrev pub ending : ℕ → ℕ → ℕ → List Shape
-ending n x p = standing n x p ∷ linked n x (p ∷ []) ∷ []
+ending n x p = standingAt n x p ∷ linked n x (p ∷ []) ∷ []
 
 -- "x's cell linked to itself; x's cell linked to a cell that links to itself"
 abbrev pub looping : ℕ → ℕ → List Shape
@@ -57,7 +57,7 @@ stepsThrough (delete a) = []
 
 -- "at # and then at *"
 abbrev pub badStep : ℕ → ℕ → List Shape
-badStep n v = standing n v null ∷ standing n v dangling ∷ []
+badStep n v = standingAt n v null ∷ standingAt n v dangling ∷ []
 
 -- "step through null" and "step through dangling": for each variable that the transition steps through, "at the from state"
 abbrev pub badStepsOf : ℕ → Transition → List Located

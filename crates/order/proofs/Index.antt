@@ -24,46 +24,49 @@ unfolding nextInto
 into-none to state i = refl
 
 -- at first nothing is linked
-pub linked-none : (to : ℕ → ℕ) (count : ℕ) (heads nexts : List ℕ) → heads ≡ replicate 64 0 → nexts ≡ replicate 256 0 → IndexedFrom to count count heads nexts
-linked-none to count heads nexts heads-clear nexts-clear =
+pub linked-none : (to : ℕ → ℕ) (count : ℕ) (index : List ℕ) → index ≡ replicate 320 0 → IndexedFrom to count count index
+linked-none to count index clear =
     let none : count - count ≡ 0 = omega arith in
     record {
-      slots = ap length heads-clear;
-      room = ap length nexts-clear;
-      head = λ s b. rw (none, heads-clear) (getD-replicate 64 s 0 0 b ∙ sym (into-none to s count));
+      slots = ap length clear;
+      head = λ s b. rw (none, clear) (getD-replicate 320 s 0 0 (omega arith) ∙ sym (into-none to s count));
       next = λ j a b. absurd (omega arith);
     }
 
 -- one transition more, ahead of the others
-pub linked-more : (to : ℕ → ℕ) (count i : ℕ) (heads nexts : List ℕ) → i < count → count ≤ 256 → to i < 64 → IndexedFrom to count (i + 1) heads nexts
-    → IndexedFrom to count i (set heads (to i) (i + 1)) (set nexts i (getD heads (to i) 0))
-linked-more to count i heads nexts h most low l =
+pub linked-more : (to : ℕ → ℕ) (count i : ℕ) (index : List ℕ) → i < count → count ≤ 256 → to i < 64 → IndexedFrom to count (i + 1) index
+    → IndexedFrom to count i (set (set index (64 + i) (getD index (to i) 0)) (to i) (i + 1))
+linked-more to count i index h most low l =
     record {
-      slots = length-set heads (to i) (i + 1) ∙ l .slots;
-      room = length-set nexts i (getD heads (to i) 0) ∙ l .room;
+      slots = length-set after (to i) (i + 1) ∙ same;
       head = λ s b. head s b (ℕ-discrete s (to i));
-      next = λ j a b. next j a b (ℕ-discrete j i);
+      next = λ j a b. getD-set-other after (to i) (64 + j) (i + 1) 0 (omega arith) ∙ next j a b (ℕ-discrete j i);
     }
   where
+    after : List ℕ
+    after = set index (64 + i) (getD index (to i) 0)
+
+    same : length after ≡ 320
+    same = length-set index (64 + i) (getD index (to i) 0) ∙ l .slots
+
     left : count - i ≡ suc (count - (i + 1))
     left = omega arith
 
-    head : (s : ℕ) → s < 64 → Dec (s ≡ to i) → getD (set heads (to i) (i + 1)) s 0 ≡ nextInto to s (count - i) i
+    head : (s : ℕ) → s < 64 → Dec (s ≡ to i) → getD (set after (to i) (i + 1)) s 0 ≡ nextInto to s (count - i) i
     head s b (yes e) =
         rw (e, left)
-        (getD-set-same heads (to i) (i + 1) 0 (omega (arith, l .slots)) ∙ omega arith ∙ sym (into-here to (to i) (count - (i + 1)) i refl))
+        (getD-set-same after (to i) (i + 1) 0 (omega (arith, same)) ∙ omega arith ∙ sym (into-here to (to i) (count - (i + 1)) i refl))
     head s b (no n) =
         rw left
-        (getD-set-other heads (to i) s (i + 1) 0 n ∙ l .head s b ∙ ap (nextInto to s (count - (i + 1))) (omega arith)
-        ∙ sym (into-later to s (count - (i + 1)) i (λ e. n (sym e))))
+        (getD-set-other after (to i) s (i + 1) 0 n ∙ getD-set-other index (64 + i) s (getD index (to i) 0) 0 (omega arith) ∙ l .head s b
+        ∙ ap (nextInto to s (count - (i + 1))) (omega arith) ∙ sym (into-later to s (count - (i + 1)) i (λ e. n (sym e))))
 
-    next : (j : ℕ) → i ≤ j → j < count → Dec (j ≡ i) → getD (set nexts i (getD heads (to i) 0)) j 0 ≡ nextInto to (to j) (count - suc j) (suc j)
+    next : (j : ℕ) → i ≤ j → j < count → Dec (j ≡ i) → getD after (64 + j) 0 ≡ nextInto to (to j) (count - suc j) (suc j)
     next j a b (yes e) =
-        let same : suc i ≡ i + 1 = omega arith in
-        rw (e, same) (getD-set-same nexts i (getD heads (to i) 0) 0 (omega (arith, l .room)) ∙ l .head (to i) low)
-    next j a b (no n) = getD-set-other nexts i j (getD heads (to i) 0) 0 n ∙ l .next j (omega arith) b
+        let one : suc i ≡ i + 1 = omega arith in
+        rw (e, one) (getD-set-same index (64 + i) (getD index (to i) 0) 0 (omega (arith, l .slots)) ∙ l .head (to i) low)
+    next j a b (no n) = getD-set-other index (64 + i) (64 + j) (getD index (to i) 0) 0 (omega arith) ∙ l .next j (omega arith) b
 
 -- the whole index
-pub linked-head : (to : ℕ → ℕ) (count : ℕ) (heads nexts : List ℕ) → IndexedFrom to count 0 heads nexts → (s : ℕ) → s < 64
-    → getD heads s 0 ≡ nextInto to s count 0
-linked-head to count heads nexts l s b = let all : count - 0 ≡ count = omega arith in rw all at (l .head s b)
+pub linked-head : (to : ℕ → ℕ) (count : ℕ) (index : List ℕ) → IndexedFrom to count 0 index → (s : ℕ) → s < 64 → getD index s 0 ≡ nextInto to s count 0
+linked-head to count index l s b = let all : count - 0 ≡ count = omega arith in rw all at (l .head s b)

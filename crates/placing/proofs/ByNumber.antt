@@ -19,7 +19,7 @@ use Rattle.shape.proofs.PlacingByNumber.{choice, choices-by-number}
 use Rattle.backward.specs.Predecessors.{retain}
 use Rattle.placing.specs.Choice.{chosen, exists, opened, made}
 use Rattle.placing.specs.Retained.{At}
-use Rattle.placing.specs.Retained.{retained, tested, changed, seconds, firsts}
+use Rattle.placing.specs.Retained.{retained, retainedIn, changed, seconds, firsts}
 use Rattle.placing.proofs.Chosen.{
   choice-made,
   made-same,
@@ -65,8 +65,8 @@ module _ (variables kind a b : ℕ) (s : Shape) (kind-least : 1 ≤ kind) (kind-
     (links-range : (i : ℕ) → i < size s → getD (s .links) i nowhere < cell (size s)) where
   -- ---- b
 
-  second-first : varAt s b ≢ nowhere → secondOf variables kind a b s 0 ≡ keep (tested kind a b s) (changed variables kind a b s)
-  unfolding secondOf tested
+  second-first : varAt s b ≢ nowhere → secondOf variables kind a b s 0 ≡ keep (retainedIn kind a b s) (changed variables kind a b s)
+  unfolding secondOf retainedIn
   second-first z = rw (put-nothing b s 0 z, second-once kind (varAt s a) (varAt s b) (s .links) 0 z refl) refl
 
   second-none : varAt s b ≢ nowhere → (k : ℕ) → k ≢ 0 → secondOf variables kind a b s k ≡ []
@@ -75,19 +75,19 @@ module _ (variables kind a b : ℕ) (s : Shape) (kind-least : 1 ≤ kind) (kind-
 
   module _ (a-at : At (size s) (varAt s a)) (h : b ≤ length (s .vars)) where
     second-made : varAt s b ≡ nowhere → (k : ℕ) → k < size s + (2 + size s)
-        → secondOf variables kind a b s k ≡ retain (tested kind a b) (changed variables kind a b) (choice b s k)
+        → secondOf variables kind a b s k ≡ retain (retainedIn kind a b) (changed variables kind a b) (choice b s k)
     unfolding secondOf
     second-made e k most =
         rw (
           choice-made b s k,
-          retain-keep (tested kind a b) (changed variables kind a b) (exists (s .links) k) (made b s k),
+          retain-keep (retainedIn kind a b) (changed variables kind a b) (exists (s .links) k) (made b s k),
           put-made b s k e,
           second-nowhere kind (varAt s a) (varAt s b) (s .links) k e kind-least kind-most a-at most links-range,
           ← same,
         )
         refl
       where
-        same : tested kind a b (made b s k) ≡ retained kind (varAt s a) (chosen (size s) k) (opened (s .links) k)
+        same : retainedIn kind a b (made b s k) ≡ retained kind (varAt s a) (chosen (size s) k) (opened (s .links) k)
         same =
             tested-at kind a b (made b s k) (varAt s a) (chosen (size s) k) (opened (s .links) k) (made-other b s k a (λ z. a-at .some (ap (varAt s) z ∙ e)))
             (made-same b s k (not-null s b e) h) (made-links b s k)
@@ -99,7 +99,7 @@ module _ (variables kind a b : ℕ) (s : Shape) (kind-least : 1 ≤ kind) (kind-
         numbers = range 0 (size s + (2 + size s))
 
         keepOne : Shape → List Shape
-        keepOne t = keep (tested kind a b t) (changed variables kind a b t)
+        keepOne t = keep (retainedIn kind a b t) (changed variables kind a b t)
 
         go : Dec (varAt s b ≡ nowhere) → concatMap (secondOf variables kind a b s) numbers ≡ seconds variables kind a b s
         go (yes e) =
@@ -118,14 +118,14 @@ module _ (variables kind a b : ℕ) (s : Shape) (kind-least : 1 ≤ kind) (kind-
   module _ (apart : kind ≡ 4 → a ≢ b) (h : a ≤ length (s .vars)) where
     firsts-of : firsts variables kind a b s ≡ concatMap (seconds variables kind a b) (place a s)
     firsts-of =
-        let keepOne : Shape → List Shape = λ t. keep (tested kind a b t) (changed variables kind a b t) in
+        let keepOne : Shape → List Shape = λ t. keep (retainedIn kind a b t) (changed variables kind a b t) in
         concatMap-concatMap keepOne (place b) (place a s)
 
     -- where b has a place once a is placed, the kind decides at once
     decided : (t : Shape) (x y : ℕ) (links : List ℕ) → varAt t a ≡ x → varAt t b ≡ y → t .links ≡ links → y ≢ nowhere → retained kind x y links ≡ false
         → seconds variables kind a b t ≡ []
     decided t x y links ex ey el n r =
-        retain-none (tested kind a b) (changed variables kind a b) (place b t)
+        retain-none (retainedIn kind a b) (changed variables kind a b) (place b t)
         (λ u m. rw (place-placed b t u (λ z. n (sym ey ∙ z)) m) (tested-at kind a b t x y links ex ey el ∙ r))
 
     first-fails : varAt s a ≡ nowhere → (k : ℕ)

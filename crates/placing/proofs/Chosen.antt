@@ -20,7 +20,7 @@ use Rattle.shape.proofs.Laws.{var-set-same, var-set-other}
 use Rattle.shape.proofs.PlacingByNumber.{choice, choicesFrom, choiceFrom, place-by-number}
 use Rattle.backward.specs.Predecessors.{retain}
 use Rattle.placing.specs.Choice.{chosen, choiceOf, exists, opened, made}
-use Rattle.placing.specs.Retained.{linkOpen, retained, tested}
+use Rattle.placing.specs.Retained.{linkOpen, retained, retainedIn}
 use Rattle.placing.proofs.Lists.{concatMap-none}
 
 pub choice-made : (v : ℕ) (s : Shape) (k : ℕ) → choice v s k ≡ keep (exists (s .links) k) (made v s k)
@@ -161,8 +161,8 @@ unfolding made
 made-links v s k = refl
 
 pub tested-at : (kind a b : ℕ) (t : Shape) (x y : ℕ) (links : List ℕ) → varAt t a ≡ x → varAt t b ≡ y → t .links ≡ links
-    → tested kind a b t ≡ retained kind x y links
-unfolding tested
+    → retainedIn kind a b t ≡ retained kind x y links
+unfolding retainedIn
 tested-at kind a b t x y links ex ey el = rw (← ex, ← ey, ← el) refl
 
 -- the cell whose link the operation changes is there

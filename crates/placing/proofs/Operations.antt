@@ -15,12 +15,12 @@ use Rattle.shape.specs.Placing.{setVar, placeBoth}
 use Rattle.shape.specs.Shape.{Shape, varAt}
 use Rattle.backward.specs.Predecessors.{setLink, linkFits, addHelper, dropHelper, retain, predecessors}
 use Rattle.layout.specs.Transitions.{opOf}
-use Rattle.placing.specs.Retained.{linkOpen, retained, tested, changed, firsts}
+use Rattle.placing.specs.Retained.{linkOpen, retained, retainedIn, changed, firsts}
 
 module _ (variables a b : ℕ) (s : Shape) where
   -- but where kind 4 has one variable
   pub by-two : (kind : ℕ) → 1 ≤ kind → kind ≤ 5 → (kind ≡ 4 → a ≢ b) → b ≤ variables → predecessors (opOf (kindOf kind) a b) s ≡ firsts variables kind a b s
-  unfolding tested retained changed linkOpen
+  unfolding retainedIn retained changed linkOpen
   by-two kind l h apart most =
       by-kind (λ k. k ≤ 5 → (k ≡ 4 → a ≢ b) → predecessors (opOf (kindOf k) a b) s ≡ firsts variables k a b s)
       (λ _ _. refl) (λ _ _. refl) (λ _ _. refl)
@@ -40,7 +40,7 @@ map-retain f test change (s ∷ l) = go (test s) (map-retain f test change l)
 -- kind 4 with one variable: the helper plays b
 pub by-one : (variables a : ℕ) (s : Shape) → length (s .vars) ≡ variables
     → predecessors (opOf (kindOf 4) a a) s ≡ firsts variables 4 a (suc variables) (addHelper s)
-unfolding tested retained changed linkOpen
+unfolding retainedIn retained changed linkOpen
 by-one variables a s e = rw e (simp (eq-eqb a a refl, lt-ltb variables (suc variables) (omega arith))
     (map-retain (dropHelper a variables) (λ t. linkFits (varAt t (suc variables)) (varAt t a) t)
     (λ t. setVar a nowhere (setLink (varAt t (suc variables)) (varAt t a) t)) (placeBoth a (suc variables) (addHelper s))))

@@ -21,8 +21,8 @@ unfoldable pub retained : ℕ → ℕ → ℕ → List ℕ → Bool
 retained kind x y links =
     cond (eqb kind 2) (not (eqb x y)) (cond (ltb kind 4) (eqb x y) (cond (eqb kind 4) (linkOpen links y x) (linkOpen links x y)))
 
-unfoldable pub tested : ℕ → ℕ → ℕ → Shape → Bool
-tested kind a b s = retained kind (varAt s a) (varAt s b) (s .links)
+unfoldable pub retainedIn : ℕ → ℕ → ℕ → Shape → Bool
+retainedIn kind a b s = retained kind (varAt s a) (varAt s b) (s .links)
 
 -- where there are so many variables; one more is the helper of kind 4
 unfoldable pub changed : ℕ → ℕ → ℕ → ℕ → Shape → Shape
@@ -36,10 +36,10 @@ changed variables kind a b s =
 
 -- where a is placed
 abbrev pub seconds : ℕ → ℕ → ℕ → ℕ → Shape → List Shape
-seconds variables kind a b s = retain (tested kind a b) (changed variables kind a b) (place b s)
+seconds variables kind a b s = retain (retainedIn kind a b) (changed variables kind a b) (place b s)
 
 abbrev pub firsts : ℕ → ℕ → ℕ → ℕ → Shape → List Shape
-firsts variables kind a b s = retain (tested kind a b) (changed variables kind a b) (placeBoth a b s)
+firsts variables kind a b s = retain (retainedIn kind a b) (changed variables kind a b) (placeBoth a b s)
 
 -- ---- where a variable that is placed stands
 

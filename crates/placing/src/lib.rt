@@ -1,5 +1,12 @@
 // Which choices of a placing an operation of kinds 1 to 5 retains. In a shape of n cells, whose links are lent, the choices are 0 .. n - 1 a
 // cell, n #, n + 1 a fresh cell, n + 2 + i a fresh cell in the middle of the link of cell i.
+use kinds::DIFFERENT;
+use kinds::LOAD;
+use kinds::STORE;
+use place::DANGLING;
+use place::FIRST_CELL;
+use place::NOWHERE;
+use place::NULL;
 use place::Place;
 ghost use mathlib.Core.Path.{_≡_};
 ghost use Prim.Native.Nat.{_<_};
@@ -37,10 +44,10 @@ pub struct Choices {
 pub fn link_at(links: &[u8], p: Place) -> Place
     ensures { λ r. ⌜ r .code ≡ linkIn (now (links .entry)) (p .code) ⌝ }
 {
-    if p.code <= 2 {
+    if p.code <= DANGLING {
         return Place::NOWHERE;
     }
-    let i = (p.code - 3) as usize;
+    let i = (p.code - FIRST_CELL) as usize;
     if i < links.len() {
         return Place { code: links[i] };
     }
@@ -51,11 +58,11 @@ pub fn link_at(links: &[u8], p: Place) -> Place
 fn link_open(links: &[u8], p: Place, q: Place) -> bool
     ensures { λ r. ⌜ r ≡ linkOpen (now (links .entry)) (p .code) (q .code) ⌝ }
 {
-    if p.code <= 2 {
+    if p.code <= DANGLING {
         return false;
     }
     let link = link_at(links, p);
-    if link.code == 0 {
+    if link.code == NOWHERE {
         return true;
     }
     link.code == q.code
@@ -65,13 +72,13 @@ fn link_open(links: &[u8], p: Place, q: Place) -> bool
 fn retains(kind: u8, links: &[u8], x: Place, y: Place) -> bool
     ensures { λ r. ⌜ r ≡ retained kind (x .code) (y .code) (now (links .entry)) ⌝ }
 {
-    if kind == 2 {
+    if kind == DIFFERENT {
         return x.code != y.code;
     }
-    if kind < 4 {
+    if kind < LOAD {
         return x.code == y.code;
     }
-    if kind == 4 {
+    if kind == LOAD {
         return link_open(links, y, x);
     }
     link_open(links, x, y)
@@ -81,13 +88,13 @@ fn retains(kind: u8, links: &[u8], x: Place, y: Place) -> bool
 fn choice_of(n: usize, p: Place) -> usize
     ensures { λ r. ⌜ r ≡ choiceOf n (p .code) ⌝ }
 {
-    if p.code == 1 {
+    if p.code == NULL {
         return n;
     }
-    if p.code < 3 {
+    if p.code < FIRST_CELL {
         return 0;
     }
-    (p.code - 3) as usize
+    (p.code - FIRST_CELL) as usize
 }
 
 // Whether choice k is there: the link that it is within has a place.
@@ -102,7 +109,7 @@ fn choice_exists(links: &[u8], k: usize) -> bool
     if n <= i {
         return false;
     }
-    links[i] != 0
+    links[i] != NOWHERE
 }
 
 // Whether choice k puts a variable at a cell whose link is nowhere or at p.
@@ -112,7 +119,7 @@ fn source_fits(links: &[u8], p: Place, k: usize) -> bool
     let n = links.len();
     if k < n {
         let link = links[k];
-        if link == 0 {
+        if link == NOWHERE {
             return true;
         }
         return link == p.code;
@@ -125,7 +132,7 @@ fn source_fits(links: &[u8], p: Place, k: usize) -> bool
         return false;
     }
     let link = links[i];
-    if link == 0 {
+    if link == NOWHERE {
         return false;
     }
     link == p.code
@@ -144,7 +151,7 @@ fn itself_fits(links: &[u8], k: usize) -> bool
     let n = links.len();
     if k < n {
         let link = links[k];
-        if link == 0 {
+        if link == NOWHERE {
             return true;
         }
         return wide(link) == k + 3;
@@ -165,7 +172,8 @@ pub fn is_wanted(links: &[u8], wanted: Wanted, k: usize) -> bool
         Wanted::Off(p) => k != choice_of(n, p) && choice_exists(links, k),
         Wanted::Source(p) => source_fits(links, p, k),
         Wanted::Itself => itself_fits(links, k),
-        Wanted::Target(p, i) => k == n + 2 + i as usize || (p.code != 2 && k == choice_of(n, p)),
+        Wanted::Target(p, i) => k == n + 2 + i as usize
+            || (p.code != DANGLING && k == choice_of(n, p)),
     }
 }
 
@@ -181,7 +189,7 @@ fn target_choices(n: usize, p: Place, i: u8) -> Choices
     ensures { λ r. ⌜ r ≡ targetChoices n (p .code) i ⌝ }
 {
     let within = n + 2 + i as usize;
-    if p.code == 2 {
+    if p.code == DANGLING {
         return one_by_one(within, within + 1);
     }
     let at = choice_of(n, p);
@@ -224,24 +232,24 @@ pub fn choices_of(n: u8, wanted: Wanted) -> Choices
 fn target_of(links: &[u8], q: Place) -> Wanted
     ensures { λ r. ⌜ r ≡ targetOf (now (links .entry)) (q .code) ⌝ }
 {
-    if q.code <= 2 {
+    if q.code <= DANGLING {
         return Wanted::Nothing;
     }
     let link = link_at(links, q);
-    if link.code == 0 {
+    if link.code == NOWHERE {
         return Wanted::Any;
     }
-    Wanted::Target(link, q.code - 3)
+    Wanted::Target(link, q.code - FIRST_CELL)
 }
 
 // What is wanted of a variable that is nowhere, where the other one is at q. In an operation of kind `starting` the link starts at this one.
 fn wanted_beside(starting: u8, kind: u8, links: &[u8], q: Place) -> Wanted
     ensures { λ r. ⌜ r ≡ beside starting kind (now (links .entry)) q ⌝ }
 {
-    if kind == 2 {
+    if kind == DIFFERENT {
         return Wanted::Off(q);
     }
-    if kind < 4 {
+    if kind < LOAD {
         return Wanted::At(q);
     }
     if kind == starting {
@@ -263,10 +271,10 @@ fn once_if(test: bool) -> Wanted
 fn wanted_of_one(kind: u8) -> Wanted
     ensures { λ r. ⌜ r ≡ wantedOne kind ⌝ }
 {
-    if kind == 2 {
+    if kind == DIFFERENT {
         return Wanted::Nothing;
     }
-    if kind == 5 {
+    if kind == STORE {
         return Wanted::Itself;
     }
     Wanted::Any
@@ -279,26 +287,26 @@ fn wanted_nowhere(kind: u8, same: bool, links: &[u8], y: Place) -> Wanted
     if same {
         return wanted_of_one(kind);
     }
-    if y.code == 0 {
+    if y.code == NOWHERE {
         return Wanted::Any;
     }
-    wanted_beside(5, kind, links, y)
+    wanted_beside(STORE, kind, links, y)
 }
 
 // What is wanted of a, at x, where b is at y; `same` says that b is the same variable.
 pub fn wanted_first(kind: u8, same: bool, links: &[u8], x: Place, y: Place) -> Wanted
     ensures { λ r. ⌜ r ≡ wantedFirst kind same (now (links .entry)) x y ⌝ }
 {
-    if x.code == 2 {
+    if x.code == DANGLING {
         return Wanted::Nothing;
     }
-    if y.code == 2 {
+    if y.code == DANGLING {
         return Wanted::Nothing;
     }
-    if x.code == 0 {
+    if x.code == NOWHERE {
         return wanted_nowhere(kind, same, links, y);
     }
-    if y.code == 0 {
+    if y.code == NOWHERE {
         return Wanted::Once;
     }
     once_if(retains(kind, links, x, y))
@@ -308,8 +316,8 @@ pub fn wanted_first(kind: u8, same: bool, links: &[u8], x: Place, y: Place) -> W
 pub fn wanted_second(kind: u8, links: &[u8], x: Place, y: Place) -> Wanted
     ensures { λ r. ⌜ r ≡ wantedSecond kind (now (links .entry)) x y ⌝ }
 {
-    if y.code == 0 {
-        return wanted_beside(4, kind, links, x);
+    if y.code == NOWHERE {
+        return wanted_beside(LOAD, kind, links, x);
     }
     once_if(retains(kind, links, x, y))
 }

@@ -1,5 +1,4 @@
 -- An operand is placed in an array: the array holds the shape that the choice gives.
-use mathlib.Core.Bool.{cond}
 use mathlib.Core.List.{List, [], _∷_, _++_}
 use mathlib.Core.Logic.{_≢_}
 use mathlib.Core.Path.{_≡_, refl, sym, ap, _∙_}
@@ -7,10 +6,10 @@ use Prim.Native.Nat.{ℕ, suc, _+_, _-_, _≤_, _<_}
 use native.Mathlib.Decide.{ℕ-discrete, decLt}
 use native.Mathlib.Omega.{arith}
 use borrow.Author.Tests.{lt-ltb, le-ltb, eq-eqb, ne-eqb}
-use lib.ListN.{length, getD, set}
+use lib.ListN.{getD, set}
 use lib.Seq.{set-append-left}
 use Rattle.heap.specs.Place.{nowhere, null, cell}
-use Rattle.shape.specs.Placing.{setVarIn, setVar}
+use Rattle.shape.specs.Placing.{setVar}
 use Rattle.shape.specs.Shape.{Shape, varAt, size}
 use Rattle.backward.specs.Predecessors.{setLink}
 use Rattle.layout.specs.ShapeArray.{cellCount, operandAt, linksIn, shapeIn, ShapeArray}
@@ -19,7 +18,7 @@ use Rattle.placing.proofs.Chosen.{chosen-cell, chosen-null, chosen-fresh, not-n
 use Rattle.placing.proofs.Putting.{put-nothing, put-made}
 use Rattle.placing.proofs.Retaining.{opened-none, opened-fresh, opened-middle}
 use Rattle.shapes.specs.Change.{setOperand, setLinkOf, addCell, placedIn}
-use Rattle.shapes.specs.Operands.{Holds}
+use Rattle.shapes.specs.Operands.{HoldsShape}
 use Rattle.shapes.proofs.Slots.{
   size-in,
   var-in,
@@ -100,7 +99,7 @@ made-is x t k p links e f = rw (e, f) refl
 module _ (w : ℕ) (s : List ℕ) (h : ShapeArray w s) (small : cellCount s ≤ 13) (x k : ℕ) (x-in : x ≤ w) (choice : k < cellCount s + (2 + cellCount s)) where
   -- the array t holds the shape with the operand placed, in which there is at most one cell more
   pub record Placing (t : List ℕ) : Type 0 where
-    pub holds : Holds w t (put x (shapeIn w s) k)
+    pub holds : HoldsShape w t (put x (shapeIn w s) k)
     pub most : cellCount t ≤ suc (cellCount s)
 
   abbrev n : ℕ

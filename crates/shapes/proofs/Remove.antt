@@ -1,21 +1,20 @@
 -- Kind 6: the predecessors by new, and the array without a cell.
-use mathlib.Core.Bool.{true, false, cond}
-use mathlib.Core.List.{List, [], _∷_, _++_, map, List·Memᴰ·head, List·Memᴰ·tail, Memᴰ·cast}
+use mathlib.Core.List.{List, [], _∷_, _++_, map, Memᴰ·cast}
 use mathlib.Core.Logic.{_≢_}
 use mathlib.Core.Path.{_≡_, refl, sym, ap, ap₂, _∙_}
 use Prim.Native.Nat.{ℕ, zero, suc, _+_, _-_, _≤_, _<_}
-use native.Mathlib.Decide.{ℕ-discrete, decLt}
+use native.Mathlib.Decide.{decLt}
 use native.Mathlib.Omega.{arith}
 use borrow.Author.Tests.{lt-ltb, le-ltb, le-leb, lt-leb, ne-eqb}
 use lib.Dec.{T}
-use lib.ListN.{length, getD, take, drop, length-map, length-drop}
-use lib.Seq.{length-take-le, getD-take, getD-drop, ext-getD}
-use Rattle.lists.specs.List.{_∈_, concatMap, keep}
+use lib.ListN.{length, getD, drop, length-map}
+use lib.Seq.{getD-take, getD-drop, ext-getD}
+use Rattle.lists.specs.List.{concatMap}
 use Rattle.lists.specs.Range.{range}
 use Rattle.lists.proofs.List.{at-mem, getD-mem, mem-getD}
 use Rattle.lists.proofs.Reflect.{r-and, r-le, r-lt, cond-cases}
 use Rattle.heap.specs.Operation.{new}
-use Rattle.heap.specs.Place.{nowhere, null, dangling, cell}
+use Rattle.heap.specs.Place.{nowhere, null, cell}
 use Rattle.shape.specs.Placing.{setVar}
 use Rattle.shape.specs.Shape.{Shape, AllBelow, varAt, size}
 use Rattle.shape.proofs.Laws.{link-map}
@@ -23,7 +22,7 @@ use Rattle.backward.specs.Predecessors.{removeAt, lower, removeCell, predecesso
 use Rattle.backward.proofs.Remove.{lower-low, lower-below, links-remove-length}
 use Rattle.layout.specs.ShapeArray.{cellCount, operandAt, linksIn, shapeIn, ShapeArray}
 use Rattle.shapes.specs.Change.{setOperand, slotFrom, slotWithout, arrayWithout}
-use Rattle.shapes.specs.Operands.{Holds}
+use Rattle.shapes.specs.Operands.{HoldsShape}
 use Rattle.shapes.specs.Without.{isFree, without}
 use Rattle.shapes.proofs.New.{r-isFree, append-none, new-at-cell, new-at-null, new-at-dangling, new-at-nowhere}
 use Rattle.shapes.proofs.Slots.{size-in, vars-in, var-in, link-in, links-in-range, shape-operand}
@@ -212,7 +211,7 @@ module _ (variables : ℕ) (s : List ℕ) (h : ShapeArray variables s) (k : ℕ)
       fewer : length (removeAt k (linksIn s)) ≡ cellCount s - 1
       fewer = omega (arith, links-remove-length c (linksIn s) (omega arith, omega (arith, size-in variables s h)), size-in variables s h)
 
-  holds-slots : Holds variables t (removeCell (cell k) (shapeIn variables s))
+  holds-slots : HoldsShape variables t (removeCell (cell k) (shapeIn variables s))
   holds-slots =
       record {
         array = array;
@@ -223,6 +222,6 @@ module _ (variables : ℕ) (s : List ℕ) (h : ShapeArray variables s) (k : ℕ)
 
 -- the array holds the shape without the cell
 pub holds-without : (variables : ℕ) (s : List ℕ) → ShapeArray variables s → (k : ℕ) → k < cellCount s → T (isFree (cell k) (shapeIn variables s))
-    → Holds variables (arrayWithout s k) (removeCell (cell k) (shapeIn variables s))
+    → HoldsShape variables (arrayWithout s k) (removeCell (cell k) (shapeIn variables s))
 holds-without variables s h k is-cell free =
     holds-slots variables s h k is-cell free (arrayWithout s k) (table-length (slotWithout s k)) (table-at (slotWithout s k))

@@ -14,12 +14,12 @@ use Rattle.lists.proofs.Reflect.{r-eq, cond-cases}
 use Rattle.heap.specs.Operation.{delete}
 use Rattle.heap.specs.Place.{nowhere, null, dangling, cell}
 use Rattle.shape.specs.Placing.{setVar, fresh, grow}
-use Rattle.shape.specs.Shape.{Shape, varAt, size}
+use Rattle.shape.specs.Shape.{Shape}
 use Rattle.shape.proofs.Laws.{link-map}
 use Rattle.backward.specs.Predecessors.{forget, forgetDangling, predecessors}
 use Rattle.layout.specs.ShapeArray.{cellCount, operandAt, linksIn, shapeIn, ShapeArray}
 use Rattle.shapes.specs.Change.{setOperand, addCell, slotForgotten, arrayForgotten, arrayRestored}
-use Rattle.shapes.specs.Operands.{Holds}
+use Rattle.shapes.specs.Operands.{HoldsShape}
 use Rattle.shapes.proofs.Slots.{size-in, var-in, link-in, shape-operand, array-operand, count-cell, shape-cell, array-cell}
 use Rattle.shapes.proofs.Tables.{table-length, table-at, operands-all, vars-mapped}
 
@@ -76,7 +76,7 @@ module _ (variables : ℕ) (s : List ℕ) (h : ShapeArray variables s) (f : List
       long : length (linksIn f) ≡ cellCount s
       long = size-in variables f array-forgotten ∙ count
 
-  holds-forgotten : Holds variables f (forgetDangling (shapeIn variables s))
+  holds-forgotten : HoldsShape variables f (forgetDangling (shapeIn variables s))
   holds-forgotten = record { array = array-forgotten; same = shape-forgotten }
 
 pub count-forgotten : (s : List ℕ) → cellCount (arrayForgotten s) ≡ cellCount s
@@ -102,7 +102,7 @@ module _ (variables : ℕ) (s : List ℕ) (h : ShapeArray variables s) where
     abbrev shape : Shape
     shape = shapeIn variables s
 
-    forgotten : Holds variables f (forgetDangling shape)
+    forgotten : HoldsShape variables f (forgetDangling shape)
     forgotten = holds-forgotten variables s h f (table-length (slotForgotten s)) (table-at (slotForgotten s))
 
     few : cellCount f ≤ 13
@@ -118,7 +118,7 @@ module _ (variables : ℕ) (s : List ℕ) (h : ShapeArray variables s) where
     inside = omega (arith, count-cell variables f (forgotten .array) few nowhere, count-forgotten s)
 
     -- the array holds the shape with a at the fresh cell
-    holds-restored : Holds variables (arrayRestored s a) (setVar a (fresh before) (grow before))
+    holds-restored : HoldsShape variables (arrayRestored s a) (setVar a (fresh before) (grow before))
     holds-restored =
         record {
           array = array-operand variables (addCell f nowhere) grown a (cell (cellCount s)) some most inside;

@@ -22,7 +22,7 @@ use lib.Seq.{
 }
 use Rattle.heap.specs.Place.{nowhere, cell}
 use Rattle.shape.specs.Placing.{setVar}
-use Rattle.shape.specs.Shape.{Shape, varAt, size}
+use Rattle.shape.specs.Shape.{varAt}
 use Rattle.backward.specs.Predecessors.{setLink, addHelper}
 use Rattle.layout.specs.ShapeArray.{cellCount, operandAt, linksIn, shapeIn, ShapeArray}
 use Rattle.shapes.specs.Change.{setOperand, setLinkOf, addCell}

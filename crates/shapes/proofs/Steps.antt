@@ -27,7 +27,7 @@ use Rattle.placing.proofs.Putting.{put-keeps, put-other, put-same}
 use Rattle.placing.proofs.Ranges.{stretch, Covers, covers-map, covers, sound-second, sound-first}
 use Rattle.placing.proofs.Wants.{second-nowhere, second-once, second-later, first-a-dangling, first-b-dangling}
 use Rattle.shapes.specs.Change.{placedIn, undoneIn}
-use Rattle.shapes.specs.Operands.{Holds, working, Working, Placed, wantedA, wantedB}
+use Rattle.shapes.specs.Operands.{HoldsShape, working, Working, Placed, wantedA, wantedB}
 use Rattle.shapes.proofs.Place.{Placing, placed}
 use Rattle.shapes.proofs.Slots.{size-in, vars-in, var-in, links-in-range}
 use Rattle.shapes.proofs.Undo.{working-room, undone}
@@ -106,12 +106,12 @@ module _ {variables kind a b : ℕ} {s : List ℕ} where
             omega (arith, h .operands-range v, h .cells-fit)
 
         -- b is placed, and what the operation changes is put back
-        pub second-held : k < cellCount s + (2 + cellCount s) → Holds variables (undoneIn variables kind a b (placedIn s b k)) (changed variables kind a b (put b (shapeIn (working variables b) s) k))
+        pub second-held : k < cellCount s + (2 + cellCount s) → HoldsShape variables (undoneIn variables kind a b (placedIn s b k)) (changed variables kind a b (put b (shapeIn (working variables b) s) k))
         second-held past =
             rw (h .same) at
             (undone variables kind a b (placedIn s b k) (p .work .operands) (h .array) (λ i. load i (ℕ-discrete (operandAt s b) nowhere)) store)
           where
-            h : Holds (working variables b) (placedIn s b k) (put b (shapeIn (working variables b) s) k)
+            h : HoldsShape (working variables b) (placedIn s b k) (put b (shapeIn (working variables b) s) k)
             h = placed (working variables b) s (p .work .array) (p .work .cells) b k (room 13 (p .work) .1) past .holds
 
             now : (v : ℕ) → operandAt (placedIn s b k) v ≡ varAt (put b (shapeIn (working variables b) s) k) v

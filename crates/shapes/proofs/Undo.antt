@@ -17,7 +17,7 @@ use Rattle.backward.specs.Predecessors.{setLink, dropHelper}
 use Rattle.layout.specs.ShapeArray.{cellCount, operandAt, linksIn, shapeIn, ShapeArray}
 use Rattle.placing.specs.Retained.{changed}
 use Rattle.shapes.specs.Change.{setOperand, setLinkOf, undoneIn}
-use Rattle.shapes.specs.Operands.{Holds, working, Operands}
+use Rattle.shapes.specs.Operands.{HoldsShape, working, Operands}
 use Rattle.shapes.proofs.Slots.{var-in, take-set, count-operand, shape-operand, array-operand, count-link, shape-link, array-link}
 
 -- ---- the variables of the shape under work
@@ -96,7 +96,7 @@ module _ (variables kind a b : ℕ) (s : List ℕ) (o : Operands variables kind 
   y = operandAt s b
 
   abbrev Undone : List ℕ → Type 0
-  Undone t = Holds variables t (changed variables kind a b (shapeIn (working variables b) s))
+  Undone t = HoldsShape variables t (changed variables kind a b (shapeIn (working variables b) s))
 
   -- without a helper
   module _ (n : b ≤ variables) where
@@ -134,7 +134,7 @@ module _ (variables kind a b : ℕ) (s : List ℕ) (o : Operands variables kind 
     low = rw q-is (load k)
 
     -- the link of b's cell, at q, is set to a's place
-    linked : (w : ℕ) → ShapeArray w s → Holds w (setLinkOf s q x) (setLink (varAt (shapeIn w s) b) (varAt (shapeIn w s) a) (shapeIn w s))
+    linked : (w : ℕ) → ShapeArray w s → HoldsShape w (setLinkOf s q x) (setLink (varAt (shapeIn w s) b) (varAt (shapeIn w s) a) (shapeIn w s))
     linked w p =
         record {
           array = array-link w s p q x low (omega (arith, p .operands-range b)) (p .operands-range a);
@@ -173,7 +173,7 @@ module _ (variables kind a b : ℕ) (s : List ℕ) (o : Operands variables kind 
         p : ShapeArray (suc variables) s
         p = rw (working-more variables b (omega arith)) at h
 
-        done : Holds (suc variables) (setLinkOf s q x) (setLink (varAt (shapeIn (suc variables) s) b) (varAt (shapeIn (suc variables) s) a) (shapeIn (suc variables) s))
+        done : HoldsShape (suc variables) (setLinkOf s q x) (setLink (varAt (shapeIn (suc variables) s) b) (varAt (shapeIn (suc variables) s) a) (shapeIn (suc variables) s))
         done = linked (suc variables) p
 
         some : 1 ≤ a

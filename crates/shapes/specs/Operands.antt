@@ -14,7 +14,7 @@ use Rattle.placing.specs.Wanted.{wantedFirst, wantedSecond}
 use Rattle.placing.specs.declared.Wanted.{Wanted}
 
 -- the array holds the shape t
-pub record Holds (variables : ℕ) (s : List ℕ) (t : Shape) : Type 0 where
+pub record HoldsShape (variables : ℕ) (s : List ℕ) (t : Shape) : Type 0 where
   pub array : ShapeArray variables s
   pub same : shapeIn variables s ≡ t
 

@@ -1,4 +1,8 @@
 // Shapes in arrays (layout/specs/ShapeArray.antt), undone by kinds 6 (new) and 7 (delete). Numbers that do not fit an array change nothing.
+use place::DANGLING;
+use place::FIRST_CELL;
+use place::NOWHERE;
+use place::NULL;
 use place::Place;
 use place::none_at;
 use placing::link_at;
@@ -15,14 +19,14 @@ ghost use Rattle.shapes.specs.Without.{isFree};
 fn is_free(vars: &[u8], links: &[u8], p: Place) -> bool
     ensures { λ r. ⌜ r ≡ isFree (p .code) (record { vars = now (vars .entry); links = now (links .entry) }) ⌝ }
 {
-    if p.code < 3 {
+    if p.code < FIRST_CELL {
         return false;
     }
     let link = link_at(links, p);
-    if link.code == 1 {
+    if link.code == NULL {
         return false;
     }
-    if 2 < link.code {
+    if DANGLING < link.code {
         return false;
     }
     if !none_at(links, p.code) {
@@ -86,7 +90,7 @@ fn slot_without(s: &[u8; 28], k: u8, i: usize) -> u8
         return s[i];
     }
     let from = slot_from(s[0], k, i);
-    lowered(3 + k, s[from])
+    lowered(FIRST_CELL + k, s[from])
 }
 
 // Makes t the shape of s without its cell k.
@@ -122,8 +126,8 @@ fn slot_forgotten(s: &[u8; 28], i: usize) -> u8
     if i < 3 {
         return code;
     }
-    if code == 2 {
-        return 0;
+    if code == DANGLING {
+        return NOWHERE;
     }
     code
 }
@@ -154,6 +158,6 @@ pub fn restore_deleted(s: &[u8; 28], a: u8, t: &mut [u8; 28])
     }
     forget_dangling(s, t);
     t[0] = n + 1;
-    t[3 + n as usize] = 0;
-    t[17 + a as usize] = 3 + n;
+    t[3 + n as usize] = NOWHERE;
+    t[17 + a as usize] = FIRST_CELL + n;
 }

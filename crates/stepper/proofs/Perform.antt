@@ -17,7 +17,7 @@ use Rattle.heap.specs.Place.{nowhere, dangling, cell}
 use Rattle.place.specs.Place.{placeOf, cellPlace, codes}
 use Rattle.place.specs.declared.Place.{Place}
 use Rattle.stepper.specs.Step.{stays, lowestUnused, allocates, comparison, tableAfter, perform}
-use Rattle.stepper.specs.Table.{heapOf, tableOf, Sized, standing, Ready, dangleVars, dangleLinks}
+use Rattle.stepper.specs.Table.{heapOf, tableOf, Sized, standing, FormedTable, dangleVars, dangleLinks}
 use Rattle.stepper.specs.declared.Heap64.{Heap64}
 use Rattle.stepper.specs.declared.Outcome.the-variants.{Moved, Blocked, Refused}
 use Rattle.stepper.specs.declared.StepRefusal.the-variants.{Full}
@@ -199,7 +199,7 @@ module _ (t : Heap64) (s : Sized t) (f : Formed t) where
           })
 
 -- new, which is enabled "always", is never blocked: it moves or, where all cells are used, is refused
-pub new-not-blocked : (t : Heap64) → Ready t → (a : ℕ) → (perform t (new a) .outcome ≡ Moved) ⊎ (perform t (new a) .outcome ≡ Refused Full)
+pub new-not-blocked : (t : Heap64) → FormedTable t → (a : ℕ) → (perform t (new a) .outcome ≡ Moved) ⊎ (perform t (new a) .outcome ≡ Refused Full)
 unfolding perform
 new-not-blocked t r a = by-room (leb 64 x) refl
   where

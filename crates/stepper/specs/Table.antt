@@ -58,7 +58,7 @@ unfoldable pub wellFormed : Heap64 → Bool
 wellFormed t = (leb 1 (t .variables) && leb (t .variables) 8) && (allFrom 8 0 (slotFits t) && allFrom 64 0 (cellFits t))
 
 -- a table as the stepper works on it
-pub record Ready (t : Heap64) : Type 0 where
+pub record FormedTable (t : Heap64) : Type 0 where
   pub sized : Sized t
   pub formed : wellFormed t ≡ true
 

@@ -13,7 +13,7 @@ ghost use Rattle.kinds.specs.Kinds.{allowed};
 ghost use Rattle.lists.specs.Test.{allFrom};
 ghost use Rattle.place.specs.Place.{codes};
 ghost use Rattle.stepper.specs.Step.{outcomeCode, lowestUnused, comparison, perform, performNamed, Steps};
-ghost use Rattle.stepper.specs.Table.{aimed, slotFits, cellFits, wellFormed, Sized, Ready, dangleVars, dangleLinks};
+ghost use Rattle.stepper.specs.Table.{aimed, slotFits, cellFits, wellFormed, Sized, FormedTable, dangleVars, dangleLinks};
 
 // A heap of up to 64 cells: how many variables there are, where each stands, which cells are used, where their links stand.
 pub struct Heap64 {
@@ -201,7 +201,7 @@ impl Heap64 {
 
     // a = b, or a != b.
     fn compare(self, equal: bool, a: usize, b: usize) -> Stepped
-        requires { ⌜ (Ready self) × (a ≤ self .variables) × (b ≤ self .variables) ⌝ }
+        requires { ⌜ (FormedTable self) × (a ≤ self .variables) × (b ≤ self .variables) ⌝ }
         ensures { λ r. ⌜ r ≡ perform self (comparison equal a b) ⌝ }
     {
         let p = self.place_of(a);
@@ -244,7 +244,7 @@ impl Heap64 {
 
     // a := b.
     fn assign(self, a: usize, b: usize) -> Stepped
-        requires { ⌜ (Ready self) × (1 ≤ a) × (a ≤ self .variables) × (b ≤ self .variables) ⌝ }
+        requires { ⌜ (FormedTable self) × (1 ≤ a) × (a ≤ self .variables) × (b ≤ self .variables) ⌝ }
         ensures { λ r. ⌜ r ≡ perform self (assign a b) ⌝ }
     {
         let p = self.place_of(b);
@@ -264,7 +264,7 @@ impl Heap64 {
 
     // a := b.next.
     fn load(self, a: usize, b: usize) -> Stepped
-        requires { ⌜ (Ready self) × (1 ≤ a) × (a ≤ self .variables) × (b ≤ self .variables) ⌝ }
+        requires { ⌜ (FormedTable self) × (1 ≤ a) × (a ≤ self .variables) × (b ≤ self .variables) ⌝ }
         ensures { λ r. ⌜ r ≡ perform self (load a b) ⌝ }
     {
         let at = self.place_of(b);
@@ -291,7 +291,7 @@ impl Heap64 {
 
     // a.next := b.
     fn store(self, a: usize, b: usize) -> Stepped
-        requires { ⌜ (Ready self) × (a ≤ self .variables) × (b ≤ self .variables) ⌝ }
+        requires { ⌜ (FormedTable self) × (a ≤ self .variables) × (b ≤ self .variables) ⌝ }
         ensures { λ r. ⌜ r ≡ perform self (store a b) ⌝ }
     {
         let at = self.place_of(a);
@@ -320,7 +320,7 @@ impl Heap64 {
 
     // new(a), at the lowest unused cell.
     fn take_cell(self, a: usize) -> Stepped
-        requires { ⌜ (Ready self) × (1 ≤ a) × (a ≤ self .variables) ⌝ }
+        requires { ⌜ (FormedTable self) × (1 ≤ a) × (a ≤ self .variables) ⌝ }
         ensures { λ r. ⌜ r ≡ perform self (new a) ⌝ }
     {
         let i = self.lowest_unused();
@@ -343,7 +343,7 @@ impl Heap64 {
 
     // delete(a).
     fn free_cell(self, a: usize) -> Stepped
-        requires { ⌜ (Ready self) × (a ≤ self .variables) ⌝ }
+        requires { ⌜ (FormedTable self) × (a ≤ self .variables) ⌝ }
         ensures { λ r. ⌜ r ≡ perform self (delete a) ⌝ }
     {
         let at = self.place_of(a);
@@ -367,7 +367,7 @@ impl Heap64 {
 
     // An operation that keeps to the table of kinds, on a well formed heap.
     fn perform(self, kind: usize, a: usize, b: usize) -> Stepped
-        requires { ⌜ (Ready self) × (allowed (self .variables) kind a b ≡ true) ⌝ }
+        requires { ⌜ (FormedTable self) × (allowed (self .variables) kind a b ≡ true) ⌝ }
         ensures { λ r. ⌜ r ≡ performNamed self (operation (self .variables) kind a b) ⌝ }
     {
         match kind {

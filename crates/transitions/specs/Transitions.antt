@@ -2,7 +2,7 @@
 use mathlib.Core.Bool.{Bool, _&&_, cond}
 use mathlib.Core.List.{List}
 use Prim.Native.Nat.{ℕ, zero, suc, _+_, _*_}
-use lib.Dec.{leb}
+use lib.Dec.{leb, ltb}
 use lib.ListN.{length, getD, set}
 use Rattle.transitions.specs.declared.Transition.{Transition}
 
@@ -17,26 +17,22 @@ transitionBytes job at =
 abbrev pub toByte : List ℕ → ℕ → ℕ → ℕ
 toByte job first i = getD job (first + 5 * i + 4) 0
 
--- ---- the transitions before the i-th, last to first, each put in front of those in the index; `to` gives the state of each
+-- ---- An index by states, in an array: slot s is one more than the number of the first transition into state s, slot 64 + i one more than the
+-- number of the next transition after the i-th into the same state; 0 for none.
 
--- for each state, one more than the number of the first transition into it; a state that has no slot is left out
-unfoldable pub headsWith : (ℕ → ℕ) → ℕ → List ℕ → List ℕ
-headsWith to zero heads = heads
-headsWith to (suc i) heads = headsWith to i (set heads (to i) (suc i))
+-- the i-th transition, which leads to a state, put in front of those in the index; a state above 63 has no slot
+unfoldable pub indexOne : ℕ → ℕ → List ℕ → List ℕ
+indexOne state i index = cond (ltb state 64) (set (set index (64 + i) (getD index state 0)) state (suc i)) (set index (64 + i) 0)
 
--- for each transition, one more than the number of the next into the same state; 0 if there is none, or the state has no slot
-unfoldable pub nextsWith : (ℕ → ℕ) → ℕ → List ℕ → List ℕ → List ℕ
-nextsWith to zero heads nexts = nexts
-nextsWith to (suc i) heads nexts = nextsWith to i (set heads (to i) (suc i)) (set nexts i (getD heads (to i) 0))
+-- the transitions before the i-th, last to first; `to` gives the state of each
+unfoldable pub indexWith : (ℕ → ℕ) → ℕ → List ℕ → List ℕ
+indexWith to zero index = index
+indexWith to (suc i) index = indexWith to i (indexOne (to i) i index)
 
--- ---- an index of up to 256 transitions
-
--- there are not too many, and all their bytes are there
+-- there are at most 256, and all their bytes are there
 unfoldable pub areThere : List ℕ → ℕ → ℕ → Bool
 areThere job first count = leb count 256 && leb (first + 5 * count) (length job)
 
-abbrev pub indexedHeads : List ℕ → ℕ → ℕ → List ℕ → List ℕ
-indexedHeads job first count heads = cond (areThere job first count) (headsWith (toByte job first) count heads) heads
-
-abbrev pub indexedNexts : List ℕ → ℕ → ℕ → List ℕ → List ℕ → List ℕ
-indexedNexts job first count heads nexts = cond (areThere job first count) (nextsWith (toByte job first) count heads nexts) nexts
+-- so many transitions from a place on
+abbrev pub indexed : List ℕ → ℕ → ℕ → List ℕ → List ℕ
+indexed job first count index = cond (areThere job first count) (indexWith (toByte job first) count index) index

@@ -3,8 +3,9 @@ ghost use mathlib.Core.Path.{_≡_};
 ghost use Prim.Native.Nat.{_+_, _*_, _≤_};
 ghost use lib.Dec.{leb};
 ghost use lib.ListN.{length};
-ghost use Rattle.transitions.specs.Transitions.{transitionBytes, toByte, headsWith, nextsWith, indexedHeads, indexedNexts};
+ghost use Rattle.transitions.specs.Transitions.{transitionBytes, toByte, indexWith, indexed};
 
+// A transition by its bytes.
 pub struct Transition {
     pub from: u8,
     pub kind: u8,
@@ -46,35 +47,27 @@ pub fn transition_at(job: &[u8], at: usize) -> Transition
 }
 
 // Puts the transitions from a place on in front of those of the index, last to first. A state that has no slot has no transitions.
-fn index_all(job: &[u8], first: usize, count: usize, heads: &mut [u16], nexts: &mut [u16])
-    requires { ⌜ (first + 5 * count ≤ length (now job)) × (count ≤ length (now nexts)) × (count ≤ 256) ⌝ }
-    ensures heads { λ r. ⌜ now (heads .exit) ≡ headsWith (toByte (now (job .entry)) first) count (now (heads .entry)) ⌝ }
-    ensures nexts { λ r. ⌜ now (nexts .exit) ≡ nextsWith (toByte (now (job .entry)) first) count (now (heads .entry)) (now (nexts .entry)) ⌝ }
+fn index_all(job: &[u8], first: usize, count: usize, index: &mut [u16])
+    requires { ⌜ (first + 5 * count ≤ length (now job)) × (count ≤ 256) × (length (now index) ≡ 320) ⌝ }
+    ensures { λ r. ⌜ now (index .exit) ≡ indexWith (toByte (now (job .entry)) first) count (now (index .entry)) ⌝ }
 {
     let mut i = count;
     while 0 < i {
         i -= 1;
         let to = job[first + 5 * i + 4] as usize;
-        if to < heads.len() {
-            nexts[i] = heads[to];
-            heads[to] = i as u16 + 1;
+        if to < 64 {
+            index[64 + i] = index[to];
+            index[to] = i as u16 + 1;
         } else {
-            nexts[i] = 0;
+            index[64 + i] = 0;
         }
     }
 }
 
-// Links the transitions into each state, first to last: `heads[state]` and `nexts[transition]` are one more than a transition's number, 0 for
-// none. Where there are more than 256 or they are not all there, the index stays as it is.
-pub fn index_transitions(
-    job: &[u8],
-    first: usize,
-    count: usize,
-    heads: &mut [u16; 64],
-    nexts: &mut [u16; 256],
-)
-    ensures heads { λ r. ⌜ now (heads .exit) ≡ indexedHeads (now (job .entry)) first count (now (heads .entry)) ⌝ }
-    ensures nexts { λ r. ⌜ now (nexts .exit) ≡ indexedNexts (now (job .entry)) first count (now (heads .entry)) (now (nexts .entry)) ⌝ }
+// Links the transitions into each state, first to last: slot s of the index is one more than the number of the first into state s, slot 64 + i
+// one more than that of the next after the i-th, 0 for none. Where there are more than 256 or they are not all there, the index stays as it is.
+pub fn index_transitions(job: &[u8], first: usize, count: usize, index: &mut [u16; 320])
+    ensures { λ r. ⌜ now (index .exit) ≡ indexed (now (job .entry)) first count (now (index .entry)) ⌝ }
 {
     if 256 < count {
         return;
@@ -82,5 +75,5 @@ pub fn index_transitions(
     if !are_there(job, first, 5 * count) {
         return;
     }
-    index_all(job, first, count, heads, nexts);
+    index_all(job, first, count, index);
 }

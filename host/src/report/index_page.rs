@@ -17,9 +17,11 @@ pub fn index_page(title: &str, entries: &[(Entry, Judged)]) -> String {
         .collect();
     let body = format!(
         "<h1>{}</h1>\n<p class=\"lead\">{}: {} certified, {} wrong, {} beyond the rules.</p>\n\
-         <div class=\"wide\">\n<table>\n<thead>\n<tr><th>routine</th><th>what it does</th><th>verdict</th>\
+         <div class=\"wide\">\n<table>\n<thead>\n<tr>\
+         <th>routine</th><th>what it does</th><th>verdict</th>\
          <th class=\"number\">members</th><th class=\"number\">covers</th>\
-         <th class=\"number\">time, ms</th></tr>\n</thead>\n<tbody>\n{rows}</tbody>\n</table>\n</div>\n\
+         <th class=\"number\">time, ms</th>\
+         </tr>\n</thead>\n<tbody>\n{rows}</tbody>\n</table>\n</div>\n\
          <p>The time is that of the search and of the proved checker together.</p>\n",
         escape(title),
         counted(entries.len(), "routine"),

@@ -14,6 +14,19 @@ use crate::search::run::Run;
 use crate::text::{counted, thousands};
 use crate::verdict::Verdict;
 
+/// How to read the pictures of a run, of a chain, and of the forbidden shapes.
+const OF_RUNS: &str = "\
+A box is a cell of the list, a pattern block; an arrow is its link to the next. <b>#</b> is null, the
+end of a list; <b>*</b> is dangling, no block at all. The names above are the routine's variables.
+<span class=\"swatch new\">This colour</span> is what a step changes,
+<span class=\"swatch bad\">this one</span> what is wrong at the end.";
+const OF_CHAINS: &str = "\
+Each shape may come before the one above it, as far as the rules can tell; the empty heap, with which
+every run begins, satisfies the last. A dashed arrow is one link or several.";
+const OF_SHAPES: &str = "\
+A dashed arrow is one link or several. Of what isn't drawn nothing is said. <code>steps</code>
+forbids following or setting the link of a variable that stands at no block.";
+
 pub fn routine_page(name: &str, routine: &Routine, judged: &Judged) -> String {
     let mut body = format!(
         "<h1>{}</h1>\n<p class=\"lead\">{}</p>\n",
@@ -41,7 +54,8 @@ pub fn routine_page(name: &str, routine: &Routine, judged: &Judged) -> String {
                 "No certificate exists",
                 &format!(
                     "The rules by which certificates are made forget too much to tell that this \
-                     routine is right. No run was found that meets what is forbidden, among {bound}."
+                     routine is right. No run was found that meets what is forbidden, among \
+                     {bound}."
                 ),
             );
             body += &of_chain(routine, chain);
@@ -92,11 +106,7 @@ fn wrong(routine: &Routine, run: &Run) -> String {
     let origin = &routine.origins[run.forbidden];
     let mut text = banner("bad", &format!("Wrong: {}", fault.heading), &fault.meaning);
     text += &format!(
-        "<h2>How it comes about</h2>\n<p>A run of {}. A box is a cell of the list, a pattern block; \
-         an arrow is its link to the next; <b>#</b> is null, the end of a list; <b>*</b> is dangling, no block at all. \
-         The names above are the routine's variables. \
-         <span class=\"swatch new\">This colour</span> is what a step changes, \
-         <span class=\"swatch bad\">this one</span> what is wrong at the end.</p>\n<ol class=\"run\">\n",
+        "<h2>How it comes about</h2>\n<p>A run of {}. {OF_RUNS}</p>\n<ol class=\"run\">\n",
         counted(run.transitions.len(), "step"),
     );
     let columns = columns(&run.heaps);
@@ -122,7 +132,8 @@ fn wrong(routine: &Routine, run: &Run) -> String {
             false => scene.figure(&words),
         };
         text += &format!(
-            "<li{}>\n<p><span class=\"where\">{}</span> <code>{}</code> <span class=\"what\">{}</span></p>\n{figure}</li>\n",
+            "<li{}>\n<p><span class=\"where\">{}</span> <code>{}</code> <span \
+             class=\"what\">{}</span></p>\n{figure}</li>\n",
             if is_last { " class=\"last\"" } else { "" },
             escape(&routine.states[transition.from as usize]),
             escape(&routine.operation(transition.operation)),
@@ -131,8 +142,8 @@ fn wrong(routine: &Routine, run: &Run) -> String {
     }
     let bad = &routine.job.forbidden[run.forbidden];
     text += &format!(
-        "</ol>\n<p>That is at <b>{}</b>, where line {} of the routine forbids <code>{}</code>. \
-         The shape that is met:</p>\n{}",
+        "</ol>\n<section class=\"met\">\n<p>That is at <b>{}</b>, where line {} of the routine \
+         forbids <code>{}</code>. The shape that is met:</p>\n{}</section>\n",
         escape(&routine.states[bad.state as usize]),
         origin.line,
         escape(&origin.text),
@@ -160,10 +171,7 @@ fn changes(before: &Heap, after: &Heap) -> Marks {
 }
 
 fn of_chain(routine: &Routine, chain: &Chain) -> String {
-    let mut text = "<h2>Why there is none</h2>\n<p>Each shape may come before the one above it, as \
-                    far as the rules can tell; the empty heap, with which every run begins, \
-                    satisfies the last. A dashed arrow is one link or several.</p>\n<ol class=\"run\">\n"
-        .to_string();
+    let mut text = format!("<h2>Why there is none</h2>\n<p>{OF_CHAINS}</p>\n<ol class=\"run\">\n");
     for link in &chain.links {
         let shape = link.located.shape.to_reference(routine.variables.len());
         let words = draw::shape(&shape, &routine.variables).join("; ");
@@ -202,7 +210,8 @@ fn counts(routine: &Routine, judged: &Judged) -> String {
         .collect();
     let time = super::milliseconds(judged.time);
     format!(
-        "<h2>Counts</h2>\n<dl>\n{cells}<div><dt>time to search and check</dt><dd>{time} ms</dd></div>\n</dl>\n"
+        "<h2>Counts</h2>\n<dl>\n{cells}<div><dt>time to search and check</dt><dd>{time} \
+         ms</dd></div>\n</dl>\n"
     )
 }
 
@@ -217,8 +226,9 @@ fn states(routine: &Routine, run: &[usize]) -> String {
         counted(routine.job.transitions.len(), "transition")
     );
     format!(
-        "<section class=\"states\">\n<h2>States and transitions</h2>\n<p>The run begins at <b>{}</b>. At states with a thick \
-         frame something is forbidden.{of_run}</p>\n{}</section>\n",
+        "<section class=\"states\">\n<h2>States and transitions</h2>\n<p>Every run begins at \
+         <b>{}</b>. At states with a thick frame something is forbidden.{of_run}</p>\n\
+         {}</section>\n",
         escape(&routine.states[routine.job.start as usize]),
         graph::picture(routine, run).element("graph", &words)
     )
@@ -226,10 +236,7 @@ fn states(routine: &Routine, run: &[usize]) -> String {
 
 /// The forbidden shapes, a row for each line of the routine at a state.
 fn forbidden(routine: &Routine) -> String {
-    let mut text = "<h2>What is forbidden</h2>\n<p>A dashed arrow is one link or several. Of what \
-                    isn't drawn nothing is said. <code>steps</code> forbids to follow or set the \
-                    link of a variable that stands at no block.</p>\n"
-        .to_string();
+    let mut text = format!("<h2>What is forbidden</h2>\n<p>{OF_SHAPES}</p>\n");
     let key = |number: usize| {
         (
             &routine.origins[number],
@@ -244,7 +251,8 @@ fn forbidden(routine: &Routine) -> String {
             .map(|&number| shape_figure(routine, number))
             .collect();
         text += &format!(
-            "<section class=\"forbidden\">\n<h3><span class=\"where\">{}</span> <code>{}</code></h3>\n\
+            "<section class=\"forbidden\">\n<h3><span class=\"where\">{}</span> \
+             <code>{}</code></h3>\n\
              <div class=\"shapes\">\n{figures}</div>\n</section>\n",
             escape(&routine.states[state as usize]),
             escape(&origin.text),

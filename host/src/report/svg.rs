@@ -64,7 +64,8 @@ impl Picture {
         } = area;
         self.reach(x + width, y + height);
         self.push(format_args!(
-            "<rect class=\"{class}\" x=\"{x}\" y=\"{y}\" width=\"{width}\" height=\"{height}\" rx=\"4\"/>"
+            "<rect class=\"{class}\" x=\"{x}\" y=\"{y}\" width=\"{width}\" height=\"{height}\" \
+             rx=\"4\"/>"
         ));
     }
 

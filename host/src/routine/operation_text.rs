@@ -21,8 +21,8 @@ pub fn operation(mut words: Words, variables: &Names) -> Result<Operation, Mista
             b: 0,
         });
     }
-    if first.text.is_empty() || words.is_empty() {
-        return Err(Mistake::at(first, FORMS));
+    if words.is_empty() {
+        return Err(Mistake::at(first, meant(first, ["skip"])));
     }
     if words.peek().text == "(" {
         return call(first, words, variables);
@@ -43,18 +43,20 @@ pub fn operation(mut words: Words, variables: &Names) -> Result<Operation, Mista
     }
 }
 
+/// What a word may be that begins no operation.
+fn meant<const N: usize>(word: Word, known: [&str; N]) -> String {
+    match nearest(word.text, known)[..] {
+        [near, ..] => format!("did you mean `{near}`?"),
+        [] => FORMS.to_string(),
+    }
+}
+
 /// `new(a)` or `delete(a)`.
 fn call(name: Word, mut words: Words, variables: &Names) -> Result<Operation, Mistake> {
     let kind = match name.text {
         "new" => NEW,
         "delete" => DELETE,
-        other => {
-            let what = match nearest(other, ["new", "delete"])[..] {
-                [near, ..] => format!("did you mean `{near}`?"),
-                [] => FORMS.to_string(),
-            };
-            return Err(Mistake::at(name, what));
-        }
+        _ => return Err(Mistake::at(name, meant(name, ["new", "delete"]))),
     };
     words.expect("(")?;
     let a = operand(words.take(), variables)?;

@@ -1,5 +1,6 @@
 use Prim.Native.Nat.{_+_, _-_, _*_}
 use native.Mathlib.Omega.{arith}
+use lib.ListN.{length-set}
 use Rattle.transitions.specs.Transitions.{toByte}
 use Rattle.transitions.proofs.Index.{Indexing, index-none, index-more, index-out, index-all}
 use borrow.Author.Needs.{needs}
@@ -7,13 +8,13 @@ use Rattle.transitions.proofs.index_all.Statement.{statement}
 use Rattle.transitions.proofs.index_all.Tie as tie
 
 abbrev Inv-loop : tie.InvT-loop
-Inv-loop job first count heads₀ nexts₀ i₀ heads nexts i = Indexing (toByte job first) count heads₀ nexts₀ heads nexts i
+Inv-loop job first count index₀ i₀ index i = Indexing (toByte job first) count index₀ index i
 
 abbrev μ-loop : tie.MeasureT-loop
-μ-loop job first count heads₀ nexts₀ i₀ heads nexts i = i
+μ-loop job first count index₀ i₀ index i = i
 
 loop-holds : tie.Need-loop-holds Inv-loop μ-loop
-loop-holds c = let a = c .args in index-none (toByte (a .job .now) (a .first)) (a .count) (a .heads .now) (a .nexts .now)
+loop-holds c = let a = c .args in index-none (toByte (a .job .now) (a .first)) (a .count) (a .index .now)
 
 sub-i : tie.Need-sub-i Inv-loop μ-loop
 sub-i c = search needs
@@ -35,54 +36,56 @@ cast-to c =
     let a = c .before .before .before .args in
     omega (arith, c .shared-slice-known .given (a .first + 5 * (c .before .before .loop .i - 1) + 4))
 
-mul-nexts : tie.Need-mul-nexts Inv-loop μ-loop
-mul-nexts c = let a = c .before .before .before .before .args in
-    omega (arith, c .before .shared-slice-known .given (a .first + 5 * (c .before .before .before .loop .i - 1) + 4))
+mul-index : tie.Need-mul-index Inv-loop μ-loop
+mul-index c = omega (arith, c .before .before .before .loop .inv .same, c .before .before .before .loop .inv .inside, c .before .before .before .before .pre .1, c .before .before .before .before .pre .2)
 
-slice-read-nexts : tie.Need-slice-read-nexts Inv-loop μ-loop
-slice-read-nexts c = search needs
+slice-read-index : tie.Need-slice-read-index Inv-loop μ-loop
+slice-read-index c = omega (arith, c .before .before .before .before .loop .inv .same, c .before .before .before .before .loop .inv .inside, c .before .before .before .before .before .pre .1, c .before .before .before .before .before .pre .2)
 
-mul-nexts-2 : tie.Need-mul-nexts-2 Inv-loop μ-loop
-mul-nexts-2 c = search needs
+add-index : tie.Need-add-index Inv-loop μ-loop
+add-index c = omega (arith, c .before .before .before .before .loop .inv .same, c .before .before .before .before .loop .inv .inside, c .before .before .before .before .before .pre .1, c .before .before .before .before .before .pre .2)
 
-slice-write-nexts : tie.Need-slice-write-nexts Inv-loop μ-loop
-slice-write-nexts c = search needs
+mul-index-2 : tie.Need-mul-index-2 Inv-loop μ-loop
+mul-index-2 c = omega (arith, c .before .before .before .before .loop .inv .same, c .before .before .before .before .loop .inv .inside, c .before .before .before .before .before .pre .1, c .before .before .before .before .before .pre .2)
 
-cast-heads : tie.Need-cast-heads Inv-loop μ-loop
-cast-heads c = search needs
+slice-write-index : tie.Need-slice-write-index Inv-loop μ-loop
+slice-write-index c = omega (arith, c .before .before .before .before .loop .inv .same, c .before .before .before .before .loop .inv .inside, c .before .before .before .before .before .pre .1, c .before .before .before .before .before .pre .2)
 
-add-heads : tie.Need-add-heads Inv-loop μ-loop
-add-heads c = search needs
+cast-index : tie.Need-cast-index Inv-loop μ-loop
+cast-index c = omega (arith, c .before .before .before .before .loop .inv .same, c .before .before .before .before .loop .inv .inside, c .before .before .before .before .before .pre .1, c .before .before .before .before .before .pre .2)
 
-mul-heads : tie.Need-mul-heads Inv-loop μ-loop
-mul-heads c = search needs
+add-index-2 : tie.Need-add-index-2 Inv-loop μ-loop
+add-index-2 c = omega (arith, c .before .before .before .before .loop .inv .same, c .before .before .before .before .loop .inv .inside, c .before .before .before .before .before .pre .1, c .before .before .before .before .before .pre .2)
 
-slice-write-heads : tie.Need-slice-write-heads Inv-loop μ-loop
-slice-write-heads c = search needs
+mul-index-3 : tie.Need-mul-index-3 Inv-loop μ-loop
+mul-index-3 c = omega (arith, c .before .before .before .before .loop .inv .same, c .before .before .before .before .loop .inv .inside, c .before .before .before .before .before .pre .1, c .before .before .before .before .before .pre .2)
+
+slice-write-index-2 : tie.Need-slice-write-index-2 Inv-loop μ-loop
+slice-write-index-2 c = simp length-set (omega (arith, c .before .before .before .before .loop .inv .same, c .before .before .before .before .loop .inv .inside, c .before .before .before .before .before .pre .1, c .before .before .before .before .before .pre .2))
 
 loop-less : tie.Need-loop-less Inv-loop μ-loop
 loop-less c = search needs
 
 loop-again : tie.Need-loop-again Inv-loop μ-loop
-loop-again c = index-more (c .before .before .before .before .loop .inv) (c .before .before .before .before .loop .i - 1) (omega arith)
+loop-again c = index-more (c .before .before .before .before .loop .inv) (c .before .before .before .before .loop .i - 1) (omega arith) (c .before .if1 .taken)
 
-mul-nexts-3 : tie.Need-mul-nexts-3 Inv-loop μ-loop
-mul-nexts-3 c = search needs
+add-index-3 : tie.Need-add-index-3 Inv-loop μ-loop
+add-index-3 c = omega (arith, c .before .before .before .loop .inv .same, c .before .before .before .loop .inv .inside, c .before .before .before .before .pre .1, c .before .before .before .before .pre .2)
 
-slice-write-nexts-2 : tie.Need-slice-write-nexts-2 Inv-loop μ-loop
-slice-write-nexts-2 c = search needs
+mul-index-4 : tie.Need-mul-index-4 Inv-loop μ-loop
+mul-index-4 c = omega (arith, c .before .before .before .loop .inv .same, c .before .before .before .loop .inv .inside, c .before .before .before .before .pre .1, c .before .before .before .before .pre .2)
+
+slice-write-index-3 : tie.Need-slice-write-index-3 Inv-loop μ-loop
+slice-write-index-3 c = omega (arith, c .before .before .before .loop .inv .same, c .before .before .before .loop .inv .inside, c .before .before .before .before .pre .1, c .before .before .before .before .pre .2)
 
 loop-less-2 : tie.Need-loop-less-2 Inv-loop μ-loop
 loop-less-2 c = search needs
 
 loop-again-2 : tie.Need-loop-again-2 Inv-loop μ-loop
-loop-again-2 c = index-out (c .before .before .before .loop .inv) (c .before .before .before .loop .i - 1) (omega arith) (omega arith)
+loop-again-2 c = index-out (c .before .before .before .loop .inv) (c .before .before .before .loop .i - 1) (omega arith) (c .if1 .left)
 
 same-length : tie.Need-same-length Inv-loop μ-loop
-same-length c = c .before .loop .inv .same-heads
-
-same-length-2 : tie.Need-same-length-2 Inv-loop μ-loop
-same-length-2 c = c .before .loop .inv .same-nexts
+same-length c = c .before .loop .inv .same
 
 returns : tie.Need-returns Inv-loop μ-loop
 returns c = index-all (c .before .loop .inv) (omega arith)
@@ -100,20 +103,21 @@ index-all-spec =
     add-to-2
     shared-slice-read-to
     cast-to
-    mul-nexts
-    slice-read-nexts
-    mul-nexts-2
-    slice-write-nexts
-    cast-heads
-    add-heads
-    mul-heads
-    slice-write-heads
+    mul-index
+    slice-read-index
+    add-index
+    mul-index-2
+    slice-write-index
+    cast-index
+    add-index-2
+    mul-index-3
+    slice-write-index-2
     loop-less
     loop-again
-    mul-nexts-3
-    slice-write-nexts-2
+    add-index-3
+    mul-index-4
+    slice-write-index-3
     loop-less-2
     loop-again-2
     same-length
-    same-length-2
     returns)

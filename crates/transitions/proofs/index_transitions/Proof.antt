@@ -9,7 +9,7 @@ use Rattle.transitions.proofs.index_transitions.Statement.{statement}
 use Rattle.transitions.proofs.index_transitions.Tie as tie
 
 returns : tie.Need-returns
-returns c = let a = c .before .before .args in rw (too-many (a .job .now) (a .first) (a .count) (omega arith)) (refl, refl)
+returns c = let a = c .before .before .args in rw (too-many (a .job .now) (a .first) (a .count) (omega arith)) refl
 
 mul-are-there : tie.Need-mul-are-there
 mul-are-there c = search needs
@@ -21,19 +21,19 @@ returns-2 : tie.Need-returns-2
 returns-2 c =
     let a = c .before .before .before .before .args in
     let missing = leb-false _ _ (sym (c .before .are-there .ensures) ∙ not-true _ (c .if2 .taken)) in
-    rw (not-there (a .job .now) (a .first) (a .count) missing) (refl, refl)
+    rw (not-there (a .job .now) (a .first) (a .count) missing) refl
 
 -- the bytes are all there
 inside : (c : tie.Else2) → let a = c .before .before .before .before .args in a .first + 5 * a .count ≤ length (a .job .now)
 inside c = leb-true _ _ (sym (c .before .are-there .ensures) ∙ not-false _ (c .if2 .left))
 
 index-all-requires : tie.Need-index-all-requires
-index-all-requires c κs = (inside (c .before .before), omega (arith, c .index-all-arg2 .given .0 .1), omega arith)
+index-all-requires c κs = (inside (c .before), omega arith, c .index-all-arg .given .0 .1)
 
 returns-3 : tie.Need-returns-3
 returns-3 c =
-    let a = c .before .before .before .before .before .before .before .args in
-    rw (there (a .job .now) (a .first) (a .count) (omega arith) (inside (c .before .before .before))) (c .index-all .ensures)
+    let a = c .before .before .before .before .before .before .args in
+    rw (there (a .job .now) (a .first) (a .count) (omega arith) (inside (c .before .before))) (c .index-all .ensures)
 
 pub index-transitions-spec : {M : Type 1} → statement M
 index-transitions-spec =

@@ -15,12 +15,12 @@ use Rattle.checker.proofs.owed.check_members.Statement.{statement}
 use Rattle.checker.proofs.owed.check_members.Tie as tie
 
 abbrev Inv-loop : tie.InvT-loop
-Inv-loop job h heads nexts cert starts t₀ m₀ t m =
+Inv-loop job h index cert starts t₀ m₀ t m =
     Progress cert (membersFrom cert (h .variables) starts) (concatMap (owedBy job h) (membersAt cert (h .variables) starts)) t₀
     (concatMap (owedBy job h) (membersAt cert (h .variables) (drop m starts))) t
 
 abbrev μ-loop : tie.MeasureT-loop
-μ-loop job h heads nexts cert starts t₀ m₀ t m = length starts - m
+μ-loop job h index cert starts t₀ m₀ t m = length starts - m
 
 -- member m is the next
 next : (starts : List ℕ) (m : ℕ) → m < length starts → drop m starts ≡ getD starts m 0 ∷ drop (m + 1) starts

@@ -1,4 +1,4 @@
-use mathlib.Core.Path.{_∙_}
+use mathlib.Core.Path.{refl, _∙_}
 use native.Mathlib.Omega.{arith}
 use Rattle.lists.specs.List.{concatMap}
 use Rattle.layout.specs.Entries.{entriesAt, membersAt}
@@ -15,7 +15,7 @@ index-transitions-requires c κs = search needs
 
 check-forbidden-requires : tie.Need-check-forbidden-requires
 check-forbidden-requires c κs =
-    let p = c .before .before .before .before .before .before .pre in
+    let p = c .before .before .before .before .before .pre in
     (p .0 .bads, p .1 .variables-most, record { counted = omega arith; inside = p .2; fits = p .3 })
 
 enum-known-g : tie.Need-enum-known-g
@@ -26,24 +26,24 @@ enum-told c = search needs
 
 returns : tie.Need-returns
 returns c =
-    let a = c .before .before .before .before .before .before .before .before .before .args in
-    let p = c .before .before .before .before .before .before .before .before .before .pre in
+    let a = c .before .before .before .before .before .before .before .before .args in
+    let p = c .before .before .before .before .before .before .before .before .pre in
     rw (from-table (a .cert .now) (a .h .variables) (a .starts .now) (p .1)) at
     (halt (entriesAt (a .job .now) (a .h .variables) (a .h .«bads_at») (a .h .bads)) (concatMap (owedBy (a .job .now) (a .h)) (membersAt (a .cert .now) (a .h .variables) (a .starts .now))) (begin (record { counted = omega arith; inside = p .2; fits = p .3 })) (c .before .before .check-forbidden .ensures) (c .enum-told .given .1) .0)
 
 check-members-requires : tie.Need-check-members-requires
 check-members-requires c κs =
-    let p = c .before .before .before .before .before .before .before .before .before .before .before .before .pre in
-    let v = c .before .before .before .g .given in
-    let e = c .before .before .before .before .before .before .index-transitions .ensures in
-    (p .0, rw (e .0, e .1) (linked-job (p .0)), p .1, rw (v .1) at (c .before .before .before .before .before .check-forbidden .ensures .1))
+    let p = c .before .before .before .before .before .before .before .before .before .before .pre in
+    let v = c .before .before .g .given in
+    let e = c .before .before .before .before .before .index-transitions .ensures in
+    (p .0, rw e (linked-job (p .0) _ refl), p .1, rw (v .1) at (c .before .before .before .before .check-forbidden .ensures .1))
 
 returns-2 : tie.Need-returns-2
 returns-2 c =
-    let a = c .before .before .before .before .before .before .before .before .before .before .before .before .before .args in
-    let p = c .before .before .before .before .before .before .before .before .before .before .before .before .before .pre in
+    let a = c .before .before .before .before .before .before .before .before .before .before .before .args in
+    let p = c .before .before .before .before .before .before .before .before .before .before .before .pre in
     rw (from-table (a .cert .now) (a .h .variables) (a .starts .now) (p .1)) at
-    (c .check-members .ensures .0 ∙ advance (entriesAt (a .job .now) (a .h .variables) (a .h .«bads_at») (a .h .bads)) (concatMap (owedBy (a .job .now) (a .h)) (membersAt (a .cert .now) (a .h .variables) (a .starts .now))) (begin (record { counted = omega arith; inside = p .2; fits = p .3 })) (c .before .before .before .before .before .before .check-forbidden .ensures) (c .before .before .before .before .g .given .1) .left)
+    (c .check-members .ensures .0 ∙ advance (entriesAt (a .job .now) (a .h .variables) (a .h .«bads_at») (a .h .bads)) (concatMap (owedBy (a .job .now) (a .h)) (membersAt (a .cert .now) (a .h .variables) (a .starts .now))) (begin (record { counted = omega arith; inside = p .2; fits = p .3 })) (c .before .before .before .before .before .check-forbidden .ensures) (c .before .before .before .g .given .1) .left)
 
 pub check-owed-spec : {M : Type 1} → statement M
 check-owed-spec =

@@ -8,7 +8,7 @@ use Rattle.placing.specs.Wanted.{oneByOne}
 use Rattle.placing.proofs.Ranges.{covers-stretch}
 use Rattle.shapes.specs.Without.{without}
 use Rattle.shapes.proofs.Free.{without-none, without-one}
-use Rattle.checker.specs.Checking.{checkAll, outcomeOf, located}
+use Rattle.checker.specs.Checking.{checkAll, checkedOf, located}
 use Rattle.checker.proofs.ChoiceLoop.{ChoiceLoop, loop-none, loop-past, loop-more, loop-stop, loop-all}
 use borrow.Author.Needs.{needs}
 use Rattle.checker.proofs.removal.check_removals.Statement.{statement}
@@ -28,7 +28,7 @@ is-cell c = let p = c .before .before .before .before .before .pre in omega (ari
 taken : (c : tie.After-check-cover Inv-loop μ-loop)
     → let l = c .before .before .before .before .before .before .before .before in
     let a = l .before .before .before .args in
-    outcomeOf (c .check-cover .result)
+    checkedOf (c .check-cover .result)
     ≡ checkAll (a .cert .now) (membersFrom (a .cert .now) (a .variables) (a .starts .now)) (map (located (a .state)) (without (shapeIn (a .variables) (a .s .now)) (l .loop .k))) (l .loop .t .covers) (l .loop .t .at)
 taken c =
     let r = c .before .before .before in

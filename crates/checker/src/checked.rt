@@ -8,7 +8,7 @@ pub struct Position {
 }
 
 // The covers are right up to a position, or one is refused.
-pub enum Outcome {
+pub enum Checked {
     Upto(Position),
     Refused(Refusal, usize),
 }

@@ -1,0 +1,248 @@
+//! What is said of mistakes in a routine: the place, the word, and what would be right there.
+
+use vorruda_host::reference::job::Job;
+use vorruda_host::routine::{parse, Mistake};
+
+const SMALL: &str = "\
+-- Makes one cell.
+variables x y
+start     begin
+
+begin     new(x)         -> linked  -- a cell
+linked    x.next := null -> end
+end       y := x.next    -> end
+end       skip           -> end
+
+forbidden
+end       x at c, c -> d, d -> *, cell e
+steps
+";
+
+/// The mistake after a change of the small routine.
+fn mistake(old: &str, new: &str) -> String {
+    assert!(SMALL.contains(old), "{old}");
+    parse(&SMALL.replacen(old, new, 1)).unwrap_err().to_string()
+}
+
+#[test]
+fn mistakes_in_operations() {
+    let rows = [
+        (
+            "x.next    ->",
+            "x.nxt     ->",
+            "line 7, column 16: `x.nxt`: did you mean `x.next`?",
+        ),
+        (
+            "y := x.next",
+            "yy := x.next",
+            "line 7, column 11: `yy`: no variable has this name; did you mean `y`?",
+        ),
+        (
+            "y := x.next",
+            "y := next.next",
+            "line 7, column 16: `next.next`: expected a variable, one of x, y",
+        ),
+        (
+            "y := x.next",
+            "y.next := x.next",
+            "line 7, column 21: `x.next`: only one side can be a link: load \
+             it into a variable first",
+        ),
+        (
+            "y := x.next",
+            "y = x.next",
+            "line 7, column 15: `x.next`: a test is of variables and null: \
+             load the link into one first",
+        ),
+        (
+            "y := x.next",
+            "y == x",
+            "line 7, column 13: `==`: expected `:=`, which sets, or `=` or \
+             `!=`, which test",
+        ),
+        (
+            "y := x.next",
+            "y := x z",
+            "line 7, column 18: `z`: expected the end of the line",
+        ),
+        (
+            "y := x.next",
+            "null := x",
+            "line 7, column 11: `null`: can't be set: expected a variable or \
+             its link",
+        ),
+        (
+            "y := x.next",
+            "y := null.next",
+            "line 7, column 16: `null.next`: null has no link",
+        ),
+        (
+            "new(x)",
+            "nwe(x)",
+            "line 5, column 11: `nwe`: did you mean `new`?",
+        ),
+        (
+            "new(x)",
+            "new(null)",
+            "line 5, column 15: `null`: expected a variable",
+        ),
+        ("new(x)", "new(x", "line 5, column 25: `->`: expected `)`"),
+        (
+            "skip  ",
+            "sikp  ",
+            "line 8, column 11: `sikp`: did you mean `skip`?",
+        ),
+        (
+            "skip  ",
+            "leave ",
+            "line 8, column 11: `leave`: expected one of `a = b`, `a != b`, \
+             `a := b`, `a := b.next`, `a.next := b`, `new(a)`, `delete(a)`, \
+             `skip`",
+        ),
+    ];
+    for (old, new, what) in rows {
+        assert_eq!(mistake(old, new), what);
+    }
+}
+
+#[test]
+fn mistakes_in_lines() {
+    let rows = [
+        (
+            "x.next := null -> end",
+            "x.next := null",
+            "line 6, column 26: expected `->` and a state: a line is a \
+             state, an operation, `->` and a state",
+        ),
+        (
+            "-> linked",
+            "->",
+            "line 5, column 29: expected the name of a state",
+        ),
+        (
+            "forbidden",
+            "forbid",
+            "line 10, column 1: `forbid`: did you mean `forbidden`?",
+        ),
+        (
+            "variables x y",
+            "variable x y",
+            "line 2, column 1: `variable`: did you mean `variables`?",
+        ),
+        (
+            "variables x y",
+            "variables x x",
+            "line 2, column 13: `x`: the word is taken: expected another name",
+        ),
+        (
+            "variables x y",
+            "",
+            "line 5, column 15: `x`: expected a variable, but none is named \
+             above",
+        ),
+        (
+            "start     begin",
+            "",
+            "line 12, column 1: no line names the start; expected `start` \
+             and a state above",
+        ),
+        (
+            "start     begin",
+            "start",
+            "line 3, column 7: expected the name of a state",
+        ),
+    ];
+    for (old, new, what) in rows {
+        assert_eq!(mistake(old, new), what);
+    }
+}
+
+#[test]
+fn mistakes_in_what_is_forbidden() {
+    let rows = [
+        (
+            "end       x at c",
+            "enb       x at c",
+            "line 11, column 1: `enb`: no state has this name; did you mean \
+             `end`?",
+        ),
+        (
+            "end       x at c",
+            "middle    x at c",
+            "line 11, column 1: `middle`: expected a state, one of begin, \
+             linked, end",
+        ),
+        (
+            "x at c",
+            "x ta c",
+            "line 11, column 13: `ta`: did you mean `at`?",
+        ),
+        (
+            "x at c",
+            "x within c",
+            "line 11, column 13: `within`: expected `x at p`, `c -> p` or \
+             `cell c`, where p is a cell, # or *",
+        ),
+        ("d -> *", "c -> *", "line 11, column 27: `c`: is told twice"),
+        (
+            "d -> *",
+            "x -> *",
+            "line 11, column 27: `x`: is a variable, so no cell can have its \
+             name",
+        ),
+        (
+            "d -> *",
+            "d -> ?",
+            "line 11, column 32: `?`: expected the name of a cell, # or *",
+        ),
+        (
+            "steps",
+            "end lost block:",
+            "line 12, column 17: expected one or more variables",
+        ),
+        (
+            "steps",
+            "end lost blok: x",
+            "line 12, column 5: `lost blok`: did you mean `lost block`?",
+        ),
+        (
+            "steps",
+            "end sorted: x",
+            "line 12, column 5: `sorted`: expected a ready set, one of no \
+             list, lost block, ring, no ring, shared",
+        ),
+        (
+            "steps",
+            "end",
+            "line 12, column 5: expected a shape, as `x at #`, or a ready \
+             set, as `no list: x`",
+        ),
+    ];
+    for (old, new, what) in rows {
+        assert_eq!(mistake(old, new), what);
+    }
+}
+
+/// A job with a dead end, or with a state that no run comes to, is a right one.
+#[test]
+fn states_that_may_be_misspelt_are_warnings() {
+    let rows = [
+        (
+            "x.next := null -> end",
+            "x.next := null -> edn",
+            "line 6, column 29: `edn`: nothing leaves this state and nothing is forbidden \
+             there; did you mean `end`?",
+        ),
+        (
+            "end       skip",
+            "stop      skip",
+            "line 8, column 1: `stop`: nothing leads to this state",
+        ),
+    ];
+    for (old, new, what) in rows {
+        let routine = parse(&SMALL.replacen(old, new, 1)).unwrap();
+        let warnings: Vec<String> = routine.warnings.iter().map(Mistake::to_string).collect();
+        assert_eq!(warnings.last().unwrap(), what);
+        assert!(Job::read(&routine.job.bytes()).is_ok());
+    }
+}

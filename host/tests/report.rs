@@ -1,0 +1,94 @@
+//! The pages that `report` writes, as far as can be seen without a browser.
+
+use std::fs;
+use std::path::{Path, PathBuf};
+use std::process::Command;
+
+use vorruda_host::corpus::{self, Expected};
+
+/// Runs the command, and gives the folder of its pages.
+fn report(name: &str, arguments: &[&str]) -> PathBuf {
+    let folder = Path::new(env!("CARGO_TARGET_TMPDIR")).join(name);
+    let output = Command::new(env!("CARGO_BIN_EXE_report"))
+        .args(arguments)
+        .arg(&folder)
+        .output()
+        .unwrap();
+    assert!(output.status.success(), "{output:?}");
+    let printed = String::from_utf8(output.stdout).unwrap();
+    assert!(Path::new(printed.trim_end()).is_file(), "{printed}");
+    folder
+}
+
+fn page(folder: &Path, name: &str) -> String {
+    fs::read_to_string(folder.join(format!("{name}.html"))).unwrap()
+}
+
+/// Every tag is closed in its turn, and nothing is fetched from elsewhere.
+fn assert_stands_alone(name: &str, page: &str) {
+    let mut open = Vec::new();
+    for part in page.split('<').skip(1) {
+        let (tag, _) = part.split_once('>').expect("a tag ends");
+        let tag_name = tag.split([' ', '/']).find(|word| !word.is_empty()).unwrap();
+        match tag {
+            "!DOCTYPE html" => {}
+            _ if tag_name == "meta" || tag.ends_with('/') => {}
+            _ if tag.starts_with('/') => assert_eq!(open.pop(), Some(tag_name), "{name}"),
+            _ => open.push(tag_name),
+        }
+        assert!(
+            !["script", "link", "img", "iframe"].contains(&tag_name),
+            "{name}"
+        );
+    }
+    assert!(open.is_empty(), "{name}: {open:?}");
+    for word in ["http:", "https:", "url(", "@import", "src="] {
+        assert!(!page.contains(word), "{name}: {word}");
+    }
+}
+
+#[test]
+fn pages_of_the_corpus() {
+    let folder = report("corpus_pages", &[corpus::folder().to_str().unwrap()]);
+    let index = page(&folder, "index");
+    assert_stands_alone("index", &index);
+    for entry in corpus::read().unwrap() {
+        let name = &entry.name;
+        let page = page(&folder, name);
+        assert_stands_alone(name, &page);
+        assert_eq!(page.matches("<svg class=\"graph\"").count(), 1, "{name}");
+        let verdict = match entry.expected {
+            Expected::Certified => ("good", "certified", "<h2>Certified</h2>"),
+            Expected::Wrong => ("bad", "wrong", "<h2>Wrong: "),
+            Expected::Beyond => ("open", "beyond the rules", "<h2>No certificate exists</h2>"),
+        };
+        let (class, word, heading) = verdict;
+        assert!(page.contains(heading), "{name}");
+        let row = index
+            .lines()
+            .find(|line| line.contains(&format!("<a href=\"{name}.html\">")));
+        let in_row = format!("<span class=\"verdict {class}\">{word}</span>");
+        assert!(row.is_some_and(|row| row.contains(&in_row)), "{name}");
+        let is_marked = page.contains("cell bad") || page.contains("chip bad");
+        assert_eq!(is_marked, entry.expected == Expected::Wrong, "{name}");
+    }
+}
+
+#[test]
+fn the_page_of_a_wrong_routine() {
+    let page = page(
+        &report("one_page", &["wrong_delete_linked"]),
+        "wrong_delete_linked",
+    );
+    for text in [
+        "<h2>Wrong: A link dangles</h2>",
+        "A run of 11 steps.",
+        "<code>delete(q)</code>",
+        "aria-label=\"[2 x t] -&gt; *; q at *\"",
+        "where line 21 of the routine forbids <code>no list: x</code>",
+    ] {
+        assert!(page.contains(text), "{text}");
+    }
+    assert_eq!(page.matches("<li").count(), 11);
+    assert_eq!(page.matches("<path class=\"line bad\"").count(), 1);
+}
