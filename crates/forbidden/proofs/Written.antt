@@ -15,11 +15,13 @@ use Rattle.heap.specs.Place.{null, dangling}
 use Rattle.shape.specs.Shape.{Shape, InRange}
 use Rattle.run.specs.Run.{Transition, Located, Safe}
 use Rattle.run.proofs.Operands.{Allowed, allowed}
+use Rattle.format.specs.Conditions.{Acceptable}
 use Rattle.format.specs.Job.{readWholeJob}
 use Rattle.format.specs.JobBytes.{LocatedInRange, JobInRange, IsJob}
 use Rattle.format.specs.JobNumbers.{JobFile, jobNumbers}
 use Rattle.format.specs.Parser.{Parsed, parsed, fault, jobBuffer}
-use Rattle.format.specs.Verdict.{Counts, accepted, verdict, fits}
+use Rattle.format.specs.Verdict.{fits}
+use Rattle.format.proofs.Exact.{exact}
 use Rattle.format.proofs.Files.{job-exact, whole-sound}
 use Rattle.format.proofs.Guarantee.{safe-bytes, one-job}
 use Rattle.format.proofs.Sequence.{reads-decode}
@@ -161,16 +163,16 @@ module _ (job : List ℕ) (set : ReadySet) (room : ℕ) (bytes : List ℕ) where
       let ok = w .job-is .in-range in
       let written-is : IsJob bytes (withSet set f) =
       subst (λ (l : List ℕ). IsJob l (withSet set f)) (sym (w .bytes-are)) (written-job (withSet set f) (with-in-range f ok set (w .inside) (w .few))) in
-      let safe-with : (certificate : List ℕ) (counts : Counts) → verdict bytes certificate ≡ accepted counts → Safe (withSet set f .job) =
-      λ certificate counts v.
-      let s = safe-bytes bytes certificate counts v in
+      let safe-with : (certificate : List ℕ) → Acceptable bytes certificate → Safe (withSet set f .job) =
+      λ certificate (counts, c).
+      let s = safe-bytes bytes certificate counts (exact bytes certificate counts .1 c) in
       subst (λ (g : JobFile). Safe (g .job)) (one-job bytes (s .file) (withSet set f) (s .job-is) written-is) (s .safe) in
       record {
         file = f;
         job-is = w .job-is;
         written-is = written-is;
-        safe = λ certificate counts v. still-safe (shapes f ok set) (f .job) (safe-with certificate counts v);
-        guarantees = λ certificate counts v. guaranteed f ok set (w .inside) (safe-with certificate counts v);
+        safe = λ certificate c. still-safe (shapes f ok set) (f .job) (safe-with certificate c);
+        guarantees = λ certificate c. guaranteed f ok set (w .inside) (safe-with certificate c);
       }
 
   -- WHAT IS WRITTEN reads as the job with the set after its own, and its acceptance guarantees what the set is for

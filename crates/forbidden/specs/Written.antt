@@ -9,11 +9,12 @@ use lib.ListN.{length, drop}
 use Rattle.number.specs.CallResult.{CallResult}
 use Rattle.number.specs.NumberList.{encode}
 use Rattle.run.specs.Run.{Transition, Located, Job, Safe}
+use Rattle.format.specs.Conditions.{Acceptable}
 use Rattle.format.specs.Job.{readWholeJob}
 use Rattle.format.specs.JobBytes.{IsJob}
 use Rattle.format.specs.JobNumbers.{JobFile, jobNumbers}
 use Rattle.format.specs.Parser.{Parsed, parsed, fault, jobBuffer, within}
-use Rattle.format.specs.Verdict.{Counts, accepted, verdict, fits}
+use Rattle.format.specs.Verdict.{fits}
 use Rattle.forbidden.specs.Guarantees.{ListAt, NoneLostAt, StepsAtCells}
 use Rattle.forbidden.specs.Sets.{notList, lostBlock, atState, badSteps, alsoForbid}
 
@@ -77,14 +78,14 @@ abbrev pub outputAfter : Rewritten → List ℕ → List ℕ
 outputAfter (written bytes) out = bytes ++ drop (length bytes) out
 outputAfter (refused number value) out = out
 
--- What is written reads as the job with the set after its own. If it is accepted with some certificate, no heap on a run of the job satisfies
--- what the job forbids, and the job guarantees what the set is for.
+-- What is written reads as the job with the set after its own. If it is to be accepted with some certificate (`vorruda_check` then returns 0),
+-- no heap on a run of the job satisfies what the job forbids, and the job guarantees what the set is for.
 pub record Ready (job : List ℕ) (set : ReadySet) (bytes : List ℕ) : Type 0 where
   pub file : JobFile
   pub job-is : IsJob job file
   pub written-is : IsJob bytes (withSet set file)
-  pub safe : (certificate : List ℕ) (counts : Counts) → verdict bytes certificate ≡ accepted counts → Safe (file .job)
-  pub guarantees : (certificate : List ℕ) (counts : Counts) → verdict bytes certificate ≡ accepted counts → Guarantees set (file .job)
+  pub safe : (certificate : List ℕ) → Acceptable bytes certificate → Safe (file .job)
+  pub guarantees : (certificate : List ℕ) → Acceptable bytes certificate → Guarantees set (file .job)
 
 -- the output begins with such bytes, and the rest of it is as before
 pub record ReadyIn (job : List ℕ) (set : ReadySet) (before after : List ℕ) : Type 0 where
