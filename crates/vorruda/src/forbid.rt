@@ -1,3 +1,4 @@
+// The calls that write a job again with the usual forbidden shapes.
 use crate::lend::lend;
 use forbidding::Asked;
 use forbidding::Rewritten;

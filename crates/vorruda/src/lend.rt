@@ -1,3 +1,4 @@
+// What a call tells beside its number.
 ghost use mathlib.Core.Path.{_≡_};
 ghost use Rattle.number.specs.CallResult.{lent};
 

@@ -1,3 +1,4 @@
+// The calls for numbers.
 use crate::lend::lend;
 use number::Read;
 use number::Written;

@@ -1,3 +1,4 @@
+// The call of the stepper.
 ghost use Rattle.heapbytes.specs.HeapBytes.{StepsBytes};
 
 // One operation on a heap of 137 bytes: 0 for moved, 100 for blocked, or 13, 14, 15.
