@@ -1,1 +1,4 @@
 pub mod Empty
+pub mod Codes
+pub mod Rows
+pub mod Operands

@@ -1,0 +1,36 @@
+-- What the table of kinds says of an operation's operands.
+use mathlib.Core.Logic.{_≢_}
+use mathlib.Core.Option.{some}
+use mathlib.Core.Path.{_≡_, subst}
+use Prim.Native.Nat.{ℕ, _≤_}
+use native.Mathlib.Omega.{arith}
+use Rattle.lists.proofs.List.{end, _&_}
+use Rattle.heap.specs.Operation.{Op, equal, different, assign, load, store, new, delete, Kind, operation}
+use Rattle.heap.proofs.Rows.{by-row, Keeps, in-table}
+
+abbrev pub Allowed : ℕ → Op → Type 0
+Allowed n (equal a b) = (a ≤ n) × (b ≤ n)
+Allowed n (different a b) = (a ≤ n) × (b ≤ n)
+Allowed n (assign a b) = (a ≢ 0) × (a ≤ n) × (b ≤ n)
+Allowed n (load a b) = (a ≢ 0) × (b ≢ 0) × (a ≤ n) × (b ≤ n)
+Allowed n (store a b) = (a ≢ 0) × (a ≤ n) × (b ≤ n)
+Allowed n (new a) = (a ≢ 0) × (a ≤ n)
+Allowed n (delete a) = (a ≢ 0) × (a ≤ n)
+
+pub allowed : (n kind a b : ℕ) (o : Op) → operation n kind a b ≡ some o → Allowed n o
+allowed n kind a b o e =
+    let t = in-table n kind a b o e in
+    subst (Allowed n) (t .named)
+    (by-row (λ kind row. Keeps n row a b → Allowed n (row .op a b))
+    ((λ k. (k .most-a, k .most-b))
+    & (λ k. (k .most-a, k .most-b))
+    & (λ k. (some-a k (omega arith), k .most-a, k .most-b))
+    & (λ k. (some-a k (omega arith), let l = k .least-b in omega arith, k .most-a, k .most-b))
+    & (λ k. (some-a k (omega arith), k .most-a, k .most-b))
+    & (λ k. (some-a k (omega arith), k .most-a))
+    & (λ k. (some-a k (omega arith), k .most-a))
+    & end)
+    kind (t .row) (t .found) (t .kept))
+  where
+    some-a : {row : Kind} → Keeps n row a b → 1 ≤ row .least-a → a ≢ 0
+    some-a k h = let l = k .least-a in omega arith

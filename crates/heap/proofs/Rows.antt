@@ -1,0 +1,100 @@
+-- The table of kinds, row by row: what is so of each row is so of each kind, and what a kind and two operands that name an operation are in the
+-- table. A kind more is a row more.
+use mathlib.Core.Bool.{Bool, true, false, _&&_, cond}
+use mathlib.Core.List.{List, [], _∷_}
+use mathlib.Core.Option.{Option, none, some}
+use mathlib.Core.Path.{_≡_, refl, ap, subst, _∙_}
+use Prim.Native.Nat.{ℕ, zero, suc, _+_, _≤_, _<_}
+use native.Mathlib.Omega.{arith}
+use lib.Dec.{T, eqb}
+use lib.ListN.{length, getElem?, take}
+use Rattle.lists.proofs.List.{Each, end, _&_, each-at, element-some, element-none}
+use Rattle.lists.proofs.Reflect.{Reflect, r-le, r-and, r-iff, cond-true}
+use Rattle.heap.specs.Operation.{Op, Kind, kinds, kindOf, allowsA, allowsB, fromRow, operation}
+
+-- ---- kinds with a row
+
+-- the kinds are the numbers from 1 to this
+abbrev pub lastKind : ℕ
+lastKind = length kinds
+
+pub is-kind : (kind : ℕ) → 1 ≤ kind → kind ≤ lastKind → (row : Kind) × (kindOf kind ≡ some row)
+is-kind zero l h = absurd (omega arith)
+is-kind (suc k) l h = element-some kinds k (omega arith)
+
+pub no-kind : (kind : ℕ) → (1 ≤ kind → kind ≤ lastKind → ⊥) → kindOf kind ≡ none
+no-kind zero h = refl
+no-kind (suc k) h = element-none kinds k (omega (arith, past))
+  where
+    past : ¬ (k < 7)
+    past l = h (omega arith) (omega arith)
+
+-- ---- what is so of each row
+
+pub by-row : (P : ℕ → Kind → Type 0) → Each P 1 kinds → (kind : ℕ) (row : Kind) → kindOf kind ≡ some row → P kind row
+by-row P rows zero row e = let z : _≡_ {A = ℕ} 0 1 = cc in absurd (omega arith)
+by-row P rows (suc k) row e = let k-is : 1 + k ≡ suc k = omega arith in subst (λ (n : ℕ). P n row) k-is (each-at P rows k row e)
+
+-- the same of the first rows alone, for what is said of a kind by its number
+pub by-kind : (m : ℕ) (P : ℕ → Type 0) → Each (λ kind row. P kind) 1 (take m kinds) → (kind : ℕ) → 1 ≤ kind → kind ≤ length (take m kinds) → P kind
+by-kind m P rows zero l h = absurd (omega arith)
+by-kind m P rows (suc k) l h =
+    let (row, e) = element-some (take m kinds) k (omega arith) in
+    let k-is : 1 + k ≡ suc k = omega arith in
+    subst P k-is (each-at (λ kind row. P kind) rows k row e)
+
+-- a column of the table: a value for each kind and its row
+abbrev pub columnFrom : {A : Type 0} → (ℕ → Kind → A) → ℕ → List Kind → List A
+columnFrom f i [] = []
+columnFrom f i (k ∷ ks) = f i k ∷ columnFrom f (suc i) ks
+
+-- two columns that agree as lists, by computation, agree at each row
+pub column : {A : Type 0} (f g : ℕ → Kind → A) → columnFrom f 1 kinds ≡ columnFrom g 1 kinds → (kind : ℕ) (row : Kind) → kindOf kind ≡ some row
+    → f kind row ≡ g kind row
+column f g same = by-row (λ kind row. f kind row ≡ g kind row) (agree 1 kinds same)
+  where
+    agree : (i : ℕ) (ks : List Kind) → columnFrom f i ks ≡ columnFrom g i ks → Each (λ kind row. f kind row ≡ g kind row) i ks
+    agree i [] e = end
+    agree i (k ∷ ks) e =
+        let here : f i k ≡ g i k = cc in
+        let later : columnFrom f (suc i) ks ≡ columnFrom g (suc i) ks = cc in
+        here & agree (suc i) ks later
+
+-- b has no other number than 0, or every operand's
+pub most-b : (n kind : ℕ) (row : Kind) → kindOf kind ≡ some row → row .most-b n ≡ cond (eqb (row .most-b 1) 0) 0 n
+most-b n = column (λ kind row. row .most-b n) (λ kind row. cond (eqb (row .most-b 1) 0) 0 n) refl
+
+-- ---- what a kind and two operands that name an operation are in the table
+
+-- the operands are in the row's ranges
+pub record Keeps (n : ℕ) (row : Kind) (a b : ℕ) : Type 0 where
+  pub least-a : row .least-a ≤ a
+  pub most-a : a ≤ n
+  pub least-b : row .least-b ≤ b
+  pub most-b : b ≤ row .most-b n
+
+pub keeps : (n : ℕ) (row : Kind) (a b : ℕ) → Reflect (Keeps n row a b) (allowsA n row a && allowsB n row b)
+keeps n row a b =
+    r-iff (λ ((p, q), (r, s)). record { least-a = p; most-a = q; least-b = r; most-b = s }) (λ k. ((k .least-a, k .most-a), (k .least-b, k .most-b)))
+    (r-and (r-and (r-le (row .least-a) a) (r-le a n)) (r-and (r-le (row .least-b) b) (r-le b (row .most-b n))))
+
+pub record InTable (n kind a b : ℕ) (o : Op) : Type 0 where
+  pub row : Kind
+  pub found : kindOf kind ≡ some row
+  pub kept : Keeps n row a b
+  pub named : row .op a b ≡ o
+
+pub in-table : (n kind a b : ℕ) (o : Op) → operation n kind a b ≡ some o → InTable n kind a b o
+in-table n kind a b o = go (kindOf kind) refl
+  where
+    by-test : (row : Kind) → kindOf kind ≡ some row → (t : Bool) → (T t → Keeps n row a b) → cond t (some (row .op a b)) none ≡ some o → InTable n kind a b o
+    by-test row f true k e = record { row = row; found = f; kept = k tt; named = cc }
+    by-test row f false k e = let z : _≡_ {A = ℕ} 0 1 = cc in absurd (omega arith)
+
+    go : (r : Option Kind) → kindOf kind ≡ r → fromRow n r a b ≡ some o → InTable n kind a b o
+    go none f e = let z : _≡_ {A = ℕ} 0 1 = cc in absurd (omega arith)
+    go (some row) f e = by-test row f (allowsA n row a && allowsB n row b) (keeps n row a b .holds) e
+
+pub table-named : (n kind a b : ℕ) (row : Kind) → kindOf kind ≡ some row → Keeps n row a b → operation n kind a b ≡ some (row .op a b)
+table-named n kind a b row f k =
+    ap (λ r. fromRow n r a b) f ∙ cond-true (allowsA n row a && allowsB n row b) (some (row .op a b)) none (keeps n row a b .tests k)
