@@ -11,7 +11,7 @@ use Rattle.heap.specs.Operation.{Op, equal, different, assign, load, store, new
 use Rattle.heap.specs.Place.{nowhere, null, dangling, cell}
 use Rattle.shape.specs.Shape.{Shape, SatisfiesOne, Satisfies}
 use Rattle.run.specs.Run.{Transition, Located, Job, Entry, Config, run, Safe}
-use Rattle.run.proofs.Operands.{Allowed}
+use Rattle.heap.proofs.Operands.{Allowed}
 use Rattle.run.proofs.Runs.{run-formed}
 use Rattle.run.proofs.WellFormed.{WellFormed, not-dangling}
 use Rattle.forbidden.specs.Guarantees.{Means, ListAt, NoneLostAt, StepsAtCells}

@@ -14,7 +14,7 @@ use Rattle.number.specs.NumberList.{encode}
 use Rattle.heap.specs.Place.{null, dangling}
 use Rattle.shape.specs.Shape.{Shape, InRange}
 use Rattle.run.specs.Run.{Transition, Located, Safe}
-use Rattle.run.proofs.Operands.{Allowed, allowed}
+use Rattle.heap.proofs.Operands.{Allowed, named-allowed}
 use Rattle.format.specs.Conditions.{Acceptable}
 use Rattle.format.specs.Job.{readWholeJob}
 use Rattle.format.specs.JobBytes.{LocatedInRange, JobInRange, IsJob}
@@ -56,7 +56,7 @@ module _ (f : JobFile) (ok : JobInRange f) where
   shapes set = shapesOf set (f .job .variables) (f .job .transitions)
 
   operands : (t : Transition) → t ∈ f .job .transitions → Allowed (f .job .variables) (t .op)
-  operands t i = let (kind, a, b, e) = ok .transitions t i .op in allowed (f .job .variables) kind a b (t .op) e
+  operands t i = let (kind, a, b, e) = ok .transitions t i .op in named-allowed (f .job .variables) kind a b (t .op) e
 
   -- shapes in range at a state in range
   at-in-range : (q : ℕ) → q < f .states → (list : List Shape) → ((s : Shape) → s ∈ list → InRange (f .job .variables) 12 s)

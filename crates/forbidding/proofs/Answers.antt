@@ -14,7 +14,7 @@ use Rattle.lists.proofs.Reflect.{passes}
 use Rattle.number.specs.NumberList.{encode}
 use Rattle.number.specs.Range.{AtMost}
 use Rattle.run.specs.Run.{Transition, Located}
-use Rattle.run.proofs.Operands.{allowed}
+use Rattle.heap.proofs.Operands.{named-allowed}
 use Rattle.format.specs.Job.{readWholeJob}
 use Rattle.format.specs.JobBytes.{IsJob}
 use Rattle.format.specs.JobNumbers.{locatedNumbers, jobNumbers}
@@ -122,7 +122,7 @@ module _ (job : List ℕ) (h : Header) (r : JobRead job h) where
             subst (λ (l : List Transition). t ∈ l) (sym (r .transitions-are))
             (Memᴰ·map (λ (i : ℕ). transitionAt job (h .«transitions_at» + 5 * i)) (mem-below (h .transitions) i b)) in
             let (kind, x, y, e) = job-is .in-range .transitions t k .op in
-            let (v≢0, v≤n) = through-range (r .file .job .variables) (t .op) (allowed (r .file .job .variables) kind x y (t .op) e) v m in
+            let (v≢0, v≤n) = through-range (r .file .job .variables) (t .op) (named-allowed (r .file .job .variables) kind x y (t .op) e) v m in
             (omega arith, omega (arith, r .variables-are));
       }
 

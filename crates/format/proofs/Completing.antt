@@ -4,14 +4,17 @@ use mathlib.Core.List.{List}
 use mathlib.Core.Logic.{_↔_}
 use mathlib.Core.Option.{none, some}
 use mathlib.Core.Path.{_≡_, refl, subst}
-use Prim.Native.Nat.{ℕ, zero, suc, _≤_, _<_}
+use Prim.Native.Nat.{ℕ, _≤_, _<_}
+use native.Mathlib.Decide.{ℕ-discrete}
 use native.Mathlib.Omega.{arith}
-use lib.Dec.{T}
+use borrow.Author.Tests.{ne-eqb}
+use lib.Dec.{T, leb}
 use Rattle.lists.proofs.Reflect.{r-le, r-lt, r-and, cond-true}
 use Rattle.number.specs.Number.{largest}
 use Rattle.number.specs.Range.{AtMost}
 use Rattle.heap.specs.Operation.{Kind, kindOf, allowsA, allowsB}
 use Rattle.heap.specs.Place.{cell}
+use Rattle.heap.proofs.Rows.{tested, most-b}
 use Rattle.format.specs.Parser.{fault, jobBuffer, certificateBuffer, within, such, readAs, ranged}
 use Rattle.format.specs.Job.{readShape, readLocated, readTransition, readJob}
 use Rattle.format.specs.JobNumbers.{JobFile, jobNumbers}
@@ -32,21 +35,20 @@ pub record AllowsSome (variables : ℕ) (row : Kind) : Type 0 where
   pub room : row .least-b ≤ row .most-b variables
 
 allows-some : (variables kind : ℕ) (row : Kind) → 1 ≤ variables → kindOf kind ≡ some row → AllowsSome variables row
-allows-some variables kind row h = by-kind kind
+allows-some variables kind row h f = record { first = first; second = second; room = room (ℕ-discrete (row .most-b 1) 0) }
   where
-    is : (k : Kind) → k .least-a ≤ 1 → k .least-b ≤ 1 → k .least-b ≤ k .most-b variables → some k ≡ some row → AllowsSome variables row
-    is k a b c e = let z : k ≡ row = cc in subst (AllowsSome variables) z (record { first = a; second = b; room = c })
+    first : row .least-a ≤ 1
+    first = r-le (row .least-a) 1 .holds (tested (λ kind row. leb (row .least-a) 1) refl kind row f)
 
-    by-kind : (kind : ℕ) → kindOf kind ≡ some row → AllowsSome variables row
-    by-kind zero e = let z : _≡_ {A = ℕ} 0 1 = cc in absurd (omega arith)
-    by-kind (suc zero) e = is _ (omega arith) (omega arith) (omega arith) e
-    by-kind (suc (suc zero)) e = is _ (omega arith) (omega arith) (omega arith) e
-    by-kind (suc (suc (suc zero))) e = is _ (omega arith) (omega arith) (omega arith) e
-    by-kind (suc (suc (suc (suc zero)))) e = is _ (omega arith) (omega arith) (omega arith) e
-    by-kind (suc (suc (suc (suc (suc zero))))) e = is _ (omega arith) (omega arith) (omega arith) e
-    by-kind (suc (suc (suc (suc (suc (suc zero)))))) e = is _ (omega arith) (omega arith) (omega arith) e
-    by-kind (suc (suc (suc (suc (suc (suc (suc zero))))))) e = is _ (omega arith) (omega arith) (omega arith) e
-    by-kind (suc (suc (suc (suc (suc (suc (suc (suc x)))))))) e = let z : _≡_ {A = ℕ} 0 1 = cc in absurd (omega arith)
+    second : row .least-b ≤ 1
+    second = r-le (row .least-b) 1 .holds (tested (λ kind row. leb (row .least-b) 1) refl kind row f)
+
+    room-one : row .least-b ≤ row .most-b 1
+    room-one = r-le (row .least-b) (row .most-b 1) .holds (tested (λ kind row. leb (row .least-b) (row .most-b 1)) refl kind row f)
+
+    room : Dec (row .most-b 1 ≡ 0) → row .least-b ≤ row .most-b variables
+    room (yes z) = let none : row .least-b ≤ 0 = rw z at room-one in omega arith
+    room (no z) = rw (most-b variables kind row f, ne-eqb (row .most-b 1) 0 z) (omega (arith, second))
 
 module _ (u o l : ℕ) where
   -- a number that passes a test, where n does

@@ -14,7 +14,7 @@ use Rattle.graph.specs.Graph.{Embeds}
 use Rattle.shape.specs.Shape.{size, shapeGraph, Satisfies, AllBelow, InRange}
 use Rattle.shape.proofs.InRange.{in-range-closed}
 use Rattle.run.specs.Run.{Located}
-use Rattle.run.proofs.Runs.{getElem-mem}
+use Rattle.lists.proofs.List.{element-mem}
 use Rattle.cover.specs.Cover.{Cover, Holds, holds?, AllHold}
 use Rattle.cover.specs.Test.{imageMap}
 use Rattle.cover.proofs.Embeds.{embeds-reflects}
@@ -167,7 +167,7 @@ module _ (s : Buffer) (variables : ℕ) (ms : List Located) (oks : (m : Located)
       (λ m a h₁. then (many _ (ranged s _ _) a) _
       (λ images b h₂ h₃.
       let (n, g₁, numbered) = read-sound s (getElem? ms) at m a h₁ in
-      let i = getElem-mem ms n m numbered in
+      let i = element-mem ms n m numbered in
       let (g₂, (long, below)) = codes-exact s _ _ .sound a images b h₂ in
       let (t, next-is) = require-sound (holds? m images o) 9 at b h₃ in
       let (state, embeds) = holds-reflects m o images i long below .holds t in (
@@ -180,7 +180,7 @@ module _ (s : Buffer) (variables : ℕ) (ms : List Located) (oks : (m : Located)
   unfolding readCover
   cover-complete o at next c r (h, each-cell) =
       let m = h .member in
-      let i = getElem-mem ms (c .member) m (h .numbered) in
+      let i = element-mem ms (c .member) m (h .numbered) in
       let long = each-cell m (h .numbered) in
       let below = images-below ms o c h each-cell in
       let (a, g₁, g₂) = reads-first r in

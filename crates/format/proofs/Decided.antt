@@ -13,7 +13,7 @@ use Rattle.lists.proofs.List.{concatMap-append}
 use Rattle.lists.proofs.Reflect.{r-le, r-lt, r-and, cond-true, cond-false}
 use Rattle.shape.specs.Shape.{size, InRange}
 use Rattle.run.specs.Run.{Located}
-use Rattle.run.proofs.Runs.{getElem-mem}
+use Rattle.lists.proofs.List.{element-mem}
 use Rattle.cover.specs.Cover.{owed, Holds, holds?}
 use Rattle.format.specs.Parser.{parsed, fault, Parser, onward, return, each, Buffer, within, such, readAs, ranged, jobBuffer, certificateBuffer, end}
 use Rattle.format.specs.Job.{readWholeJob}
@@ -162,7 +162,7 @@ module _ (certificate : List ℕ) (f : JobFile) (ok : JobInRange f) where
     unfolding readCover
     holds-refused long fails =
         let (a, g₁, g₂) = reads-first cover-numbers in
-        let i = getElem-mem ms (c .cover .member) (c .member) (c .numbered) in
+        let i = element-mem ms (c .cover .member) (c .member) (c .numbered) in
         let reflects = holds-reflects s (f .job .variables) ms (shapes (c .so-far)) (c .member) (c .shape) (c .cover .images) i long (c .below) in
         rw (
           read-complete s (getElem? ms) first (c .cover .member) a (c .member) g₁ (c .numbered),

@@ -1,17 +1,18 @@
 -- What the parsers of shapes, transitions, jobs and members read.
-use mathlib.Core.Bool.{Bool, true, false, _&&_, cond}
+use mathlib.Core.Bool.{Bool, true, false, cond}
 use mathlib.Core.List.{List, [], _∷_, _++_}
-use mathlib.Core.Option.{Option, none, some}
-use mathlib.Core.Path.{_≡_, refl, ap, subst, _∙_}
-use Prim.Native.Nat.{ℕ, zero, suc, _≤_, _<_}
+use mathlib.Core.Option.{some}
+use mathlib.Core.Path.{_≡_, refl, sym, ap, subst, _∙_}
+use Prim.Native.Nat.{ℕ, _≤_, _<_}
 use native.Mathlib.Decide.{decLt}
 use native.Mathlib.Omega.{arith}
-use lib.Dec.{T, leb}
+use lib.Dec.{T, eqb, leb}
 use lib.ListN.{length}
 use Rattle.lists.specs.List.{concatMap}
-use Rattle.lists.proofs.Reflect.{r-le, r-and, cond-true}
-use Rattle.heap.specs.Operation.{Op, equal, Kind, kindOf, allowsA, allowsB, fromRow, operation}
+use Rattle.lists.proofs.Reflect.{r-le}
+use Rattle.heap.specs.Operation.{Op, Kind, kindOf, allowsA, allowsB, operation}
 use Rattle.heap.specs.Place.{cell}
+use Rattle.heap.proofs.Rows.{column, most-b, Keeps, in-table, table-named}
 use Rattle.shape.specs.Shape.{Shape, size, InRange}
 use Rattle.run.specs.Run.{Transition, Located}
 use Rattle.format.specs.Parser.{parsed, fault, many, Buffer, such, readAs, ranged, end}
@@ -22,62 +23,19 @@ use Rattle.format.proofs.Sequence.{Reads, more, one, reads-first, reads
 use Rattle.format.proofs.Parsing.{then, require-sound, require-fault, require-complete, require-refuses, read-sound, read-complete}
 use Rattle.format.proofs.Parsing.{Exact, such-exact, ranged-exact, many-exact, codes-exact}
 
--- ---- the table of kinds
+-- ---- the numbers of an operation are those that name it
 
--- what a kind and two operands that name an operation are in the table
-pub record InTable (n kind a b : ℕ) (o : Op) : Type 0 where
-  pub row : Kind
-  pub found : kindOf kind ≡ some row
-  pub first : T (allowsA n row a)
-  pub second : T (allowsB n row b)
-  pub named : row .op a b ≡ o
-
-pub in-table : (n kind a b : ℕ) (o : Op) → operation n kind a b ≡ some o → InTable n kind a b o
-in-table n kind a b o = by-row (kindOf kind) refl
-  where
-    by-tests : (k : Kind) → kindOf kind ≡ some k → (p q : Bool) → allowsA n k a ≡ p → allowsB n k b ≡ q → cond (p && q) (some (k .op a b)) none ≡ some o
-        → InTable n kind a b o
-    by-tests k f true true p q e = record { row = k; found = f; first = rw p tt; second = rw q tt; named = cc }
-    by-tests k f true false p q e = let z : _≡_ {A = ℕ} 0 1 = cc in absurd (omega arith)
-    by-tests k f false q p r e = let z : _≡_ {A = ℕ} 0 1 = cc in absurd (omega arith)
-
-    by-row : (r : Option Kind) → kindOf kind ≡ r → fromRow n r a b ≡ some o → InTable n kind a b o
-    by-row none f e = let z : _≡_ {A = ℕ} 0 1 = cc in absurd (omega arith)
-    by-row (some k) f e = by-tests k f (allowsA n k a) (allowsB n k b) refl refl e
-
-pub table-named : (n kind a b : ℕ) (k : Kind) → kindOf kind ≡ some k → T (allowsA n k a) → T (allowsB n k b) → operation n kind a b ≡ some (k .op a b)
-table-named n kind a b k f p q =
-    ap (λ r. fromRow n r a b) f ∙ cond-true (allowsA n k a && allowsB n k b) (some (k .op a b)) none (both (allowsA n k a) (allowsB n k b) p q)
-  where
-    both : (x y : Bool) → T x → T y → T (x && y)
-    both true y p q = q
-    both false y p q = p
-
--- the numbers of an operation are those that name it
 pub op-numbers : (n kind a b : ℕ) (o : Op) → operation n kind a b ≡ some o → opNumbers o ≡ kind ∷ a ∷ b ∷ []
 op-numbers n kind a b o e =
     let t = in-table n kind a b o e in
-    subst (λ (x : Op). opNumbers x ≡ kind ∷ a ∷ b ∷ []) (t .named) (by-kind kind (t .row) (t .found) (t .second))
+    ap opNumbers (sym (t .named))
+    ∙ column (λ kind row. opNumbers (row .op a b)) (λ kind row. kind ∷ a ∷ cond (eqb (row .most-b 1) 0) 0 b ∷ []) refl kind (t .row) (t .found)
+    ∙ ap (λ (x : ℕ). kind ∷ a ∷ x ∷ []) (second-is (t .row) (t .kept) (eqb (t .row .most-b 1) 0) (most-b n kind (t .row) (t .found)))
   where
-    Numbered : ℕ → Kind → Type 0
-    Numbered kind k = T (allowsB n k b) → opNumbers (k .op a b) ≡ kind ∷ a ∷ b ∷ []
-
-    row : (kind : ℕ) (k k′ : Kind) → Numbered kind k → some k ≡ some k′ → Numbered kind k′
-    row kind k k′ h e = let z : k ≡ k′ = cc in subst (Numbered kind) z h
-
-    no-second : T (allowsB n (record { least-a = 1; least-b = 0; most-b = λ n. 0; op = λ a b. equal a b }) b) → 0 ≡ b
-    no-second t = let (p, q) = r-and (r-le 0 b) (r-le b 0) .holds t in omega arith
-
-    by-kind : (kind : ℕ) (k : Kind) → kindOf kind ≡ some k → Numbered kind k
-    by-kind zero k f = let z : _≡_ {A = ℕ} 0 1 = cc in absurd (omega arith)
-    by-kind (suc zero) k f = row 1 _ k (λ t. refl) f
-    by-kind (suc (suc zero)) k f = row 2 _ k (λ t. refl) f
-    by-kind (suc (suc (suc zero))) k f = row 3 _ k (λ t. refl) f
-    by-kind (suc (suc (suc (suc zero)))) k f = row 4 _ k (λ t. refl) f
-    by-kind (suc (suc (suc (suc (suc zero))))) k f = row 5 _ k (λ t. refl) f
-    by-kind (suc (suc (suc (suc (suc (suc zero)))))) k f = row 6 _ k (λ t. ap (λ (x : ℕ). 6 ∷ a ∷ x ∷ []) (no-second t)) f
-    by-kind (suc (suc (suc (suc (suc (suc (suc zero))))))) k f = row 7 _ k (λ t. ap (λ (x : ℕ). 7 ∷ a ∷ x ∷ []) (no-second t)) f
-    by-kind (suc (suc (suc (suc (suc (suc (suc (suc x)))))))) k f = let z : _≡_ {A = ℕ} 0 1 = cc in absurd (omega arith)
+    -- the second number is b, or 0 where the table has no other
+    second-is : (row : Kind) → Keeps n row a b → (none? : Bool) → row .most-b n ≡ cond none? 0 n → cond none? 0 b ≡ b
+    second-is row k true m = let h = k .most-b in omega arith
+    second-is row k false m = refl
 
 module _ (s : Buffer) (variables : ℕ) where
   -- ---- shapes

@@ -13,7 +13,7 @@ use Rattle.lists.proofs.List.{all-cons}
 use Rattle.heap.specs.Heap.{empty}
 use Rattle.shape.specs.Shape.{size, Satisfies, AllBelow, InRange}
 use Rattle.run.specs.Run.{Located}
-use Rattle.run.proofs.Runs.{getElem-mem}
+use Rattle.lists.proofs.List.{element-mem}
 use Rattle.cover.specs.Cover.{Cover, Holds, holds?, AllHold}
 use Rattle.format.specs.Parser.{parsed, fault, many, each, Buffer, readAs, ranged}
 use Rattle.format.specs.Certificate.{Member, withoutPlaces, readMember, readMembers, atStart, testStart, readCover}
@@ -203,7 +203,7 @@ module _ (s : Buffer) (variables : ℕ) (ms : List Located) (oks : (m : Located)
       let (n, g₁, numbered) = read-sound s (getElem? ms) at m a h₁ in
       let (g₂, (long, below)) = codes-exact s _ _ .sound a images b h₂ in
       let (k, q, t) = require-fault (holds? m images o) 9 at b h₃ in
-      let i = getElem-mem ms n m numbered in
+      let i = element-mem ms n m numbered in
       inl (
         k,
         q,

@@ -2,14 +2,13 @@
 use mathlib.Core.Bool.{Bool, true, false, cond}
 use mathlib.Core.List.{List, [], _∷_, _++_, map, List·Memᴰ·head, List·Memᴰ·tail, List·Memᴰ·not-nil, List·Memᴰ·append-cases, Memᴰ·of-map}
 use mathlib.Core.Logic.{_⊎_, inl, inr}
-use mathlib.Core.Option.{some}
 use mathlib.Core.Path.{_≡_, refl}
-use Prim.Native.Nat.{ℕ, zero, suc, _≤_, _<_}
+use Prim.Native.Nat.{ℕ, _≤_}
 use native.Mathlib.Omega.{arith}
 use lib.Dec.{eqb}
-use lib.ListN.{length, getElem?}
+use lib.ListN.{length}
 use Rattle.lists.specs.List.{_∈_, concatMap}
-use Rattle.lists.proofs.List.{concatMap-mem}
+use Rattle.lists.proofs.List.{concatMap-mem, element-below}
 use Rattle.number.specs.Number.{largest, bytesOf}
 use Rattle.number.specs.NumberList.{encode}
 use Rattle.number.specs.Range.{AtMost}
@@ -19,7 +18,7 @@ use Rattle.heap.specs.Operation.{Op, equal, different, assign, load, store, new
 use Rattle.heap.specs.Place.{cell}
 use Rattle.shape.specs.Shape.{size, Satisfies, AllBelow, InRange}
 use Rattle.run.specs.Run.{Transition, Located}
-use Rattle.run.proofs.Operands.{Allowed, allowed}
+use Rattle.heap.proofs.Operands.{Allowed, named-allowed}
 use Rattle.backward.specs.Predecessors.{predecessors}
 use Rattle.cover.specs.Cover.{predecessorsBy, owed, Cover, AllHold}
 use Rattle.cover.proofs.InRange.{predecessors-range}
@@ -97,7 +96,7 @@ module _ (most : ℕ) (enough : 64 ≤ most) where
       → AtMost most (transitionNumbers t)
   transition-at-most variables states t v h ok =
       let (kind, a, b, e) = ok .op in
-      let s = op-at-most variables (t .op) v (allowed variables kind a b (t .op) e) in
+      let s = op-at-most variables (t .op) v (named-allowed variables kind a b (t .op) e) in
       (let q = ok .from in omega arith, at-most-append most (opNumbers (t .op)) (t .to ∷ []) s (let q = ok .to in omega arith, tt))
 
 -- every number of a job and of a certificate is at most 65,535
@@ -142,18 +141,13 @@ small-members f ms ok oks = (
   ),
 )
 
-number-below : {A : Type 0} (l : List A) (i : ℕ) (x : A) → getElem? l i ≡ some x → i < length l
-number-below [] i x e = let z : _≡_ {A = ℕ} 0 1 = cc in absurd (omega arith)
-number-below (y ∷ ys) zero x e = omega arith
-number-below (y ∷ ys) (suc i) x e = let b = number-below ys i x e in omega arith
-
 small-covers : (ms : List Located) → length ms ≤ 512 → (cs : List Cover) (os : List Located) → AllHold ms cs os
     → ((c : Cover) → c ∈ cs → ImageForEach ms c) → ((o : Located) → o ∈ os → size (o .shape) ≤ 14) → Small (concatMap coverNumbers cs)
 small-covers ms h [] [] hold images sizes = tt
 small-covers ms h [] (o ∷ os) hold images sizes = absurd hold
 small-covers ms h (c ∷ cs) [] hold images sizes = absurd hold
 small-covers ms h (c ∷ cs) (o ∷ os) (k, ks) images sizes = (
-  let q = number-below ms (c .member) (k .member) (k .numbered) in omega arith,
+  let q = element-below ms (c .member) (k .member) (k .numbered) in omega arith,
   at-most-append largest (c .images) (concatMap coverNumbers cs)
       (below-at-most largest (size (o .shape)) (c .images) (let q = sizes o (List·Memᴰ·head refl) in omega arith) (images-below ms o c k (images c (List·Memᴰ·head refl))))
       (small-covers ms h cs os ks (λ d i. images d (List·Memᴰ·tail i)) (λ p i. sizes p (List·Memᴰ·tail i))),

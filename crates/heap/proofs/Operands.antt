@@ -17,8 +17,8 @@ Allowed n (store a b) = (a ≢ 0) × (a ≤ n) × (b ≤ n)
 Allowed n (new a) = (a ≢ 0) × (a ≤ n)
 Allowed n (delete a) = (a ≢ 0) × (a ≤ n)
 
-pub allowed : (n kind a b : ℕ) (o : Op) → operation n kind a b ≡ some o → Allowed n o
-allowed n kind a b o e =
+pub named-allowed : (n kind a b : ℕ) (o : Op) → operation n kind a b ≡ some o → Allowed n o
+named-allowed n kind a b o e =
     let t = in-table n kind a b o e in
     subst (Allowed n) (t .named)
     (by-row (λ kind row. Keeps n row a b → Allowed n (row .op a b))

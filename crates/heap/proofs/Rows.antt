@@ -7,9 +7,9 @@ use mathlib.Core.Path.{_≡_, refl, ap, subst, _∙_}
 use Prim.Native.Nat.{ℕ, zero, suc, _+_, _≤_, _<_}
 use native.Mathlib.Omega.{arith}
 use lib.Dec.{T, eqb}
-use lib.ListN.{length, getElem?, take}
+use lib.ListN.{length, take}
 use Rattle.lists.proofs.List.{Each, end, _&_, each-at, element-some, element-none}
-use Rattle.lists.proofs.Reflect.{Reflect, r-le, r-and, r-iff, cond-true}
+use Rattle.lists.proofs.Reflect.{r-le, r-and, is-true, passes}
 use Rattle.heap.specs.Operation.{Op, Kind, kinds, kindOf, allowsA, allowsB, fromRow, operation}
 
 -- ---- kinds with a row
@@ -60,6 +60,11 @@ column f g same = by-row (λ kind row. f kind row ≡ g kind row) (agree 1 kinds
         let later : columnFrom f (suc i) ks ≡ columnFrom g (suc i) ks = cc in
         here & agree (suc i) ks later
 
+-- a test that every row passes, by computation
+pub tested : (test : ℕ → Kind → Bool) → columnFrom test 1 kinds ≡ columnFrom (λ kind row. true) 1 kinds → (kind : ℕ) (row : Kind) → kindOf kind ≡ some row
+    → T (test kind row)
+tested test all kind row f = passes (test kind row) (column test (λ kind row. true) all kind row f)
+
 -- b has no other number than 0, or every operand's
 pub most-b : (n kind : ℕ) (row : Kind) → kindOf kind ≡ some row → row .most-b n ≡ cond (eqb (row .most-b 1) 0) 0 n
 most-b n = column (λ kind row. row .most-b n) (λ kind row. cond (eqb (row .most-b 1) 0) 0 n) refl
@@ -73,28 +78,36 @@ pub record Keeps (n : ℕ) (row : Kind) (a b : ℕ) : Type 0 where
   pub least-b : row .least-b ≤ b
   pub most-b : b ≤ row .most-b n
 
-pub keeps : (n : ℕ) (row : Kind) (a b : ℕ) → Reflect (Keeps n row a b) (allowsA n row a && allowsB n row b)
-keeps n row a b =
-    r-iff (λ ((p, q), (r, s)). record { least-a = p; most-a = q; least-b = r; most-b = s }) (λ k. ((k .least-a, k .most-a), (k .least-b, k .most-b)))
-    (r-and (r-and (r-le (row .least-a) a) (r-le a n)) (r-and (r-le (row .least-b) b) (r-le b (row .most-b n))))
-
 pub record InTable (n kind a b : ℕ) (o : Op) : Type 0 where
   pub row : Kind
   pub found : kindOf kind ≡ some row
+  pub first : T (allowsA n row a)
+  pub second : T (allowsB n row b)
   pub kept : Keeps n row a b
   pub named : row .op a b ≡ o
 
 pub in-table : (n kind a b : ℕ) (o : Op) → operation n kind a b ≡ some o → InTable n kind a b o
-in-table n kind a b o = go (kindOf kind) refl
+in-table n kind a b o = by-found (kindOf kind) refl
   where
-    by-test : (row : Kind) → kindOf kind ≡ some row → (t : Bool) → (T t → Keeps n row a b) → cond t (some (row .op a b)) none ≡ some o → InTable n kind a b o
-    by-test row f true k e = record { row = row; found = f; kept = k tt; named = cc }
-    by-test row f false k e = let z : _≡_ {A = ℕ} 0 1 = cc in absurd (omega arith)
+    both : (row : Kind) → T (allowsA n row a) → T (allowsB n row b) → Keeps n row a b
+    both row p q =
+        let (a-least, a-most) = r-and (r-le (row .least-a) a) (r-le a n) .holds p in
+        let (b-least, b-most) = r-and (r-le (row .least-b) b) (r-le b (row .most-b n)) .holds q in
+        record { least-a = a-least; most-a = a-most; least-b = b-least; most-b = b-most }
 
-    go : (r : Option Kind) → kindOf kind ≡ r → fromRow n r a b ≡ some o → InTable n kind a b o
-    go none f e = let z : _≡_ {A = ℕ} 0 1 = cc in absurd (omega arith)
-    go (some row) f e = by-test row f (allowsA n row a && allowsB n row b) (keeps n row a b .holds) e
+    by-tests : (row : Kind) → kindOf kind ≡ some row → (p q : Bool) → allowsA n row a ≡ p → allowsB n row b ≡ q
+        → cond (p && q) (some (row .op a b)) none ≡ some o → InTable n kind a b o
+    by-tests row f true true p q e =
+        let first = passes (allowsA n row a) p in
+        let second = passes (allowsB n row b) q in
+        record { row = row; found = f; first = first; second = second; kept = both row first second; named = cc }
+    by-tests row f true false p q e = let z : _≡_ {A = ℕ} 0 1 = cc in absurd (omega arith)
+    by-tests row f false q p r e = let z : _≡_ {A = ℕ} 0 1 = cc in absurd (omega arith)
 
-pub table-named : (n kind a b : ℕ) (row : Kind) → kindOf kind ≡ some row → Keeps n row a b → operation n kind a b ≡ some (row .op a b)
-table-named n kind a b row f k =
-    ap (λ r. fromRow n r a b) f ∙ cond-true (allowsA n row a && allowsB n row b) (some (row .op a b)) none (keeps n row a b .tests k)
+    by-found : (r : Option Kind) → kindOf kind ≡ r → fromRow n r a b ≡ some o → InTable n kind a b o
+    by-found none f e = let z : _≡_ {A = ℕ} 0 1 = cc in absurd (omega arith)
+    by-found (some row) f e = by-tests row f (allowsA n row a) (allowsB n row b) refl refl e
+
+pub table-named : (n kind a b : ℕ) (row : Kind) → kindOf kind ≡ some row → T (allowsA n row a) → T (allowsB n row b)
+    → operation n kind a b ≡ some (row .op a b)
+table-named n kind a b row f p q = ap (λ r. fromRow n r a b) f ∙ simp (is-true (allowsA n row a) p, is-true (allowsB n row b) q)

@@ -18,7 +18,7 @@ use Rattle.place.specs.declared.Place.{Place}
 use Rattle.stepper.specs.Table.{heapOf, Sized, standing, slotFits, cellFits, danglePlace}
 use Rattle.stepper.specs.declared.Heap64.{Heap64}
 use Rattle.stepper.proofs.Formed.{Formed, var-stands, slot-empty, link-stands, link-empty}
-use Rattle.stepper.proofs.Places.{by-code}
+use Rattle.heap.proofs.Codes.{by-code}
 
 pub heap-path : {h k : Heap} → ((p : ℕ) → h .link p ≡ k .link p) → ((v : ℕ) → h .var v ≡ k .var v) → h ≡ k
 heap-path a b = λ i. record { link = λ p. a p i; var = λ v. b v i }

@@ -1,7 +1,7 @@
 -- The test of a place by halves: there is one just where it is wanted, and a cell's is a used cell's.
 use mathlib.Core.Bool.{Bool, true, false, not, cond, Bool·beq}
 use mathlib.Core.List.{List}
-use mathlib.Core.Path.{_≡_, refl, sym, _∙_}
+use mathlib.Core.Path.{_≡_, sym, _∙_}
 use Prim.Native.Nat.{ℕ, _+_, _-_, _≤_, _<_}
 use native.Mathlib.Decide.{ℕ-discrete, decLt}
 use native.Mathlib.Omega.{arith}
@@ -9,8 +9,6 @@ use borrow.Author.Tests.{lt-ltb, le-ltb, eq-eqb, ne-eqb}
 use lib.Dec.{eqb, ltb}
 use lib.ListN.{length, getD}
 use Rattle.heap.specs.Place.{nowhere}
-use Rattle.lists.specs.Test.{allFrom}
-use Rattle.lists.proofs.Test.{all-at}
 use Rattle.stepper.specs.Table.{standing, aimed}
 use Rattle.stepper.proofs.Places.{standing-none, standing-low, standing-cell, standing-high}
 
@@ -51,11 +49,3 @@ module _ (used : List Bool) (p : ℕ) where
       go true (no n) e = aimed-some (omega arith) (decLt p 3)
       go false (yes z) e = eq-eqb p 0 z ∙ aimed-low (omega arith)
       go false (no n) e = let q : true ≡ false = simp (lt-ltb 0 p (omega arith)) at e in cc
-
--- a test that fails for one number fails for a run with it
-pub all-missed : (test : ℕ → Bool) (k i j : ℕ) → i ≤ j → j < i + k → test j ≡ false → allFrom k i test ≡ false
-all-missed test k i j l h f = go (allFrom k i test) refl
-  where
-    go : (r : Bool) → allFrom k i test ≡ r → r ≡ false
-    go true e = sym (all-at test k i j e l h) ∙ f
-    go false e = refl

@@ -23,7 +23,7 @@ use Rattle.stepper.specs.declared.Outcome.the-variants.{Moved, Blocked, 
 use Rattle.stepper.specs.declared.StepRefusal.the-variants.{Full}
 use Rattle.stepper.proofs.Change.{withVar, sized-with-var, heap-with-var, formed-with-var, withLink, sized-with-link, heap-with-link, formed-with-link, withCell, sized-with-cell, formed-with-cell, withoutCell, sized-without, heap-without, formed-without}
 use Rattle.stepper.proofs.Formed.{Formed, formed, table-of, var-stands, link-stands, link-empty}
-use Rattle.stepper.proofs.Places.{by-code}
+use Rattle.heap.proofs.Codes.{by-code}
 
 -- ---- lowest unused cell
 

@@ -2,13 +2,13 @@
 use mathlib.Core.Bool.{Bool, true, false}
 use mathlib.Core.List.{List, _∷_}
 use mathlib.Core.Path.{_≡_, refl, sym, ap, _∙_}
-use Prim.Native.Nat.{ℕ, zero, suc, _+_, _-_, _≤_, _<_}
+use Prim.Native.Nat.{ℕ, suc, _+_, _-_, _≤_, _<_}
 use native.Mathlib.Numerals.{add-one}
 use native.Mathlib.Omega.{arith}
 use lib.ListN.{length, getD, drop, List·getD-map, List·getD-eq-default, drop-of-length-le}
 use lib.Seq.{drop-cons}
-use Rattle.heap.specs.Codes.{varIn, linkIn}
 use Rattle.heap.specs.Place.{nowhere, cell}
+use Rattle.heap.proofs.Codes.{by-code}
 use Rattle.place.specs.Place.{placeOf, codes}
 use Rattle.place.specs.declared.Place.{Place}
 use Rattle.stepper.specs.Step.{lowestUnused}
@@ -16,29 +16,6 @@ use Rattle.stepper.specs.Table.{standing}
 
 pub code-at : (l : List Place) (i : ℕ) → getD l i (placeOf nowhere) .code ≡ getD (codes l) i nowhere
 code-at l i = sym (List·getD-map (λ (p : Place). p .code) l i (placeOf nowhere))
-
--- a code that is no cell's, by cases
-pub by-code : (P : ℕ → Type 0) → P 0 → P 1 → P 2 → ((i : ℕ) → P (cell i)) → (p : ℕ) → P p
-by-code P p0 p1 p2 pc zero = p0
-by-code P p0 p1 p2 pc (suc zero) = p1
-by-code P p0 p1 p2 pc (suc (suc zero)) = p2
-by-code P p0 p1 p2 pc (suc (suc (suc i))) = pc i
-
--- the operand after null is the variable with that number
-pub var-in : (l : List ℕ) (a : ℕ) → 1 ≤ a → getD l (a - 1) nowhere ≡ varIn l a
-var-in l zero h = absurd (omega arith)
-var-in l (suc v) h = let e : suc v - 1 ≡ v = omega arith in rw e refl
-
-pub link-in : (l : List ℕ) (p : ℕ) → 3 ≤ p → getD l (p - 3) nowhere ≡ linkIn l p
-link-in l =
-    by-code (λ p. 3 ≤ p → getD l (p - 3) nowhere ≡ linkIn l p) (λ h. absurd (omega arith)) (λ h. absurd (omega arith)) (λ h. absurd (omega arith))
-    (λ i h. let e : cell i - 3 ≡ i = omega arith in rw e refl)
-
-pub link-low : (l : List ℕ) (p : ℕ) → p < 3 → nowhere ≡ linkIn l p
-link-low l = by-code (λ p. p < 3 → nowhere ≡ linkIn l p) (λ h. refl) (λ h. refl) (λ h. refl) (λ i h. absurd (omega arith))
-
-pub link-high : (l : List ℕ) (p n : ℕ) → length l ≡ n → n + 3 ≤ p → nowhere ≡ linkIn l p
-link-high l p n e h = sym (List·getD-eq-default l nowhere (omega arith)) ∙ link-in l p (omega arith)
 
 module _ (used : List Bool) where
   pub standing-none : (p : ℕ) → p ≡ 0 → false ≡ standing used p

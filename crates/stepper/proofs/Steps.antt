@@ -2,15 +2,15 @@
 use mathlib.Core.Bool.{Bool, true, false, _&&_, cond}
 use mathlib.Core.Logic.{ite}
 use mathlib.Core.Option.{Option, none, some}
-use mathlib.Core.Path.{_≡_, refl, sym, ap, _∙_, subst}
-use Prim.Native.Nat.{ℕ, _-_, _≤_}
+use mathlib.Core.Path.{_≡_, refl, sym, _∙_, subst}
+use Prim.Native.Nat.{ℕ, _-_}
 use native.Mathlib.Omega.{arith}
 use borrow.Author.Tests.{leb-false}
 use lib.Dec.{leb}
 use Rattle.heap.specs.Codes.{varIn, linkIn}
 use Rattle.heap.specs.Operation.{Op, equal, different, assign, load, store, new, delete, Enabled, enabled?, operation}
+use Rattle.heap.proofs.Operands.{Allowed, named-allowed}
 use Rattle.kinds.specs.Kinds.{isSome, allowed}
-use Rattle.kinds.proofs.Rows.{by-kind, known, row-of}
 use Rattle.place.specs.Place.{placeOf, cellPlace, codes}
 use Rattle.stepper.specs.Step.{stays, lowestUnused, allocates, tableAfter, perform, performNamed, stepOf, Steps}
 use Rattle.stepper.specs.Table.{heapOf, tableOf, Sized, wellFormed}
@@ -24,52 +24,24 @@ use Rattle.stepper.proofs.Change.{withVar, withLink, withCell}
 use Rattle.stepper.proofs.Formed.{Formed, formed, well-formed}
 use Rattle.stepper.proofs.Perform.{Changes, moved, blocked, full, operand-stands, linked-stands, still, put, stored, taken, withoutPlace, freed}
 
--- the operands that the proof below uses, for n variables
-abbrev Valid : ℕ → Op → Type 0
-Valid n (equal a b) = Unit {0}
-Valid n (different a b) = Unit {0}
-Valid n (assign a b) = (1 ≤ a) × (a ≤ n) × (b ≤ n)
-Valid n (load a b) = (1 ≤ a) × (a ≤ n)
-Valid n (store a b) = b ≤ n
-Valid n (new a) = (1 ≤ a) × (a ≤ n)
-Valid n (delete a) = Unit {0}
-
--- an operation that the table of kinds names is valid
-valid : (n kind a b : ℕ) (o : Op) → operation n kind a b ≡ some o → Valid n o
-unfolding allowed
-valid n kind a b o e =
-    let all : allowed n kind a b ≡ true = ap isSome e in
-    by-kind (λ k. operation n k a b ≡ some o → allowed n k a b ≡ true → Valid n o)
-    (λ e h. let r = row-of n 1 a b _ refl h in to (equal a b) (r .1) e tt)
-    (λ e h. let r = row-of n 2 a b _ refl h in to (different a b) (r .1) e tt)
-    (λ e h. let r = row-of n 3 a b _ refl h in to (assign a b) (r .1) e (r .0 .least-a, r .0 .most-a, r .0 .most-b))
-    (λ e h. let r = row-of n 4 a b _ refl h in to (load a b) (r .1) e (r .0 .least-a, r .0 .most-a))
-    (λ e h. let r = row-of n 5 a b _ refl h in to (store a b) (r .1) e (r .0 .most-b))
-    (λ e h. let r = row-of n 6 a b _ refl h in to (new a) (r .1) e (r .0 .least-a, r .0 .most-a))
-    (λ e h. let r = row-of n 7 a b _ refl h in to (delete a) (r .1) e tt)
-    kind (known n kind a b all .0) (known n kind a b all .1) e all
-  where
-    to : {r : Option Op} (o′ : Op) → r ≡ some o′ → r ≡ some o → Valid n o′ → Valid n o
-    to o′ p q v = let z : some o′ ≡ some o = sym p ∙ q in let same : o′ ≡ o = cc in subst (Valid n) same v
-
 module _ (t : Heap64) (s : Sized t) (f : Formed t) where
   -- an enabled operation has a well formed table after it
-  changed : (o : Op) → Valid (t .variables) o → Enabled o (lowestUnused (t .used)) (heapOf t) → allocates o && leb 64 (lowestUnused (t .used)) ≡ false
+  changed : (o : Op) → Allowed (t .variables) o → Enabled o (lowestUnused (t .used)) (heapOf t) → allocates o && leb 64 (lowestUnused (t .used)) ≡ false
       → (t′ : Heap64) × Changes t o t′
   changed (equal a b) v e r = (t, still t s f (equal a b) refl e refl)
   changed (different a b) v e r = (t, still t s f (different a b) refl e refl)
   changed (assign a b) v e r =
       let p = placeOf (varIn (codes (t .vars)) b) in
-      (withVar t (a - 1) p, put t s f (assign a b) a p refl e (v .0) (v .1) (operand-stands t s f b (v .2)) refl)
+      (withVar t (a - 1) p, put t s f (assign a b) a p refl e (omega arith) (v .1) (operand-stands t s f b (v .2)) refl)
   changed (load a b) v e r =
       let p = placeOf (linkIn (codes (t .links)) (varIn (codes (t .vars)) b)) in
-      (withVar t (a - 1) p, put t s f (load a b) a p refl e (v .0) (v .1) (linked-stands t s f (varIn (codes (t .vars)) b) (e .0)) refl)
+      (withVar t (a - 1) p, put t s f (load a b) a p refl e (omega arith) (v .2) (linked-stands t s f (varIn (codes (t .vars)) b) (e .0)) refl)
   changed (store a b) v e r =
       let p = placeOf (varIn (codes (t .vars)) b) in
-      (withLink t (varIn (codes (t .vars)) a - 3) p, stored t s f a b p (e .0) refl (e .1) v)
+      (withLink t (varIn (codes (t .vars)) a - 3) p, stored t s f a b p (e .0) refl (e .1) (v .2))
   changed (new a) v e r =
       let i = lowestUnused (t .used) in
-      (withVar (withCell t i) (a - 1) (cellPlace i), taken t s f a i refl (leb-false 64 i r) (v .0) (v .1))
+      (withVar (withCell t i) (a - 1) (cellPlace i), taken t s f a i refl (leb-false 64 i r) (omega arith) (v .1))
   changed (delete a) v e r = (withoutPlace t (varIn (codes (t .vars)) a), freed t s f a (varIn (codes (t .vars)) a) refl e)
 
 -- a step that did not move
@@ -109,7 +81,7 @@ module _ (t : Heap64) (s : Sized t) (kind a b : ℕ) where
       by-room : (full? : Bool) → allocates o && leb 64 x ≡ full? → Dec (Enabled o x (heapOf t)) → Promise
       by-room true r d = let same = full t o r ∙ e in promised (stays t (Refused Full)) same (stayed t kind a b (Refused Full) (refused-stays Full) same)
       by-room false r (no n) = let same = blocked t o r n ∙ e in promised (stays t Blocked) same (stayed t kind a b Blocked blocked-stays same)
-      by-room false r (yes d) = let c = changed t s f o (valid (t .variables) kind a b o named) d r in moves (c .0) (c .1)
+      by-room false r (yes d) = let c = changed t s f o (named-allowed (t .variables) kind a b o named) d r in moves (c .0) (c .1)
 
   pub steps : Promise
   unfolding stepOf

@@ -1,3 +1,4 @@
+-- Test after test, by the columns of the kind's row.
 use native.Mathlib.Omega.{arith}
 use borrow.Author.Tests.{le-leb, lt-leb}
 use Rattle.kinds.specs.Kinds.{leastA, leastB}

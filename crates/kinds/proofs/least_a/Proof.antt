@@ -1,10 +1,12 @@
 -- The column of the code is that of the table.
 use mathlib.Core.List.{[], _∷_}
 use mathlib.Core.Path.{refl}
+use Prim.Native.Nat.{suc}
 use native.Mathlib.Omega.{arith}
 use lib.ListN.{getD}
+use Rattle.lists.proofs.Range.{same-table}
+use Rattle.heap.proofs.Rows.{lastKind, no-kind}
 use Rattle.kinds.specs.Kinds.{leastA}
-use Rattle.kinds.proofs.Rows.{no-kind, column}
 use borrow.Author.Needs.{needs}
 use Rattle.kinds.proofs.least_a.Statement.{statement}
 use Rattle.kinds.proofs.least_a.Tie as tie
@@ -21,7 +23,7 @@ array-read-result c = search needs
 
 returns-2 : tie.Need-returns-2
 unfolding leastA
-returns-2 c = column (λ k. getD (0 ∷ 0 ∷ 0 ∷ 1 ∷ 1 ∷ 1 ∷ 1 ∷ 1 ∷ []) k 0) leastA 8 refl (c .before .args .kind) (omega arith)
+returns-2 c = same-table (λ k. getD (0 ∷ 0 ∷ 0 ∷ 1 ∷ 1 ∷ 1 ∷ 1 ∷ 1 ∷ []) k 0) leastA (suc lastKind) refl (c .before .args .kind) (omega arith)
 
 pub least-a-spec : {M : Type 1} → statement M
 least-a-spec = tie.close (tie.spec returns mul-result array-read-result returns-2)

@@ -1,10 +1,12 @@
 -- The column of the code is that of the table.
 use mathlib.Core.List.{[], _∷_}
 use mathlib.Core.Path.{refl}
+use Prim.Native.Nat.{suc}
 use native.Mathlib.Omega.{arith}
 use lib.ListN.{getD}
+use Rattle.lists.proofs.Range.{same-table}
+use Rattle.heap.proofs.Rows.{lastKind, no-kind}
 use Rattle.kinds.specs.Kinds.{leastB}
-use Rattle.kinds.proofs.Rows.{no-kind, column}
 use borrow.Author.Needs.{needs}
 use Rattle.kinds.proofs.least_b.Statement.{statement}
 use Rattle.kinds.proofs.least_b.Tie as tie
@@ -21,7 +23,7 @@ array-read-result c = search needs
 
 returns-2 : tie.Need-returns-2
 unfolding leastB
-returns-2 c = column (λ k. getD (0 ∷ 0 ∷ 0 ∷ 0 ∷ 1 ∷ 0 ∷ 0 ∷ 0 ∷ []) k 0) leastB 8 refl (c .before .args .kind) (omega arith)
+returns-2 c = same-table (λ k. getD (0 ∷ 0 ∷ 0 ∷ 0 ∷ 1 ∷ 0 ∷ 0 ∷ 0 ∷ []) k 0) leastB (suc lastKind) refl (c .before .args .kind) (omega arith)
 
 pub least-b-spec : {M : Type 1} → statement M
 least-b-spec = tie.close (tie.spec returns mul-result array-read-result returns-2)

@@ -3,7 +3,8 @@ use mathlib.Core.Path.{refl}
 use native.Mathlib.Omega.{arith}
 use borrow.Author.Tests.{ne-eqb}
 use Rattle.kinds.specs.Kinds.{mostB}
-use Rattle.kinds.proofs.Rows.{no-kind, most-b-column}
+use Rattle.heap.proofs.Rows.{no-kind}
+use Rattle.kinds.proofs.Rows.{most-b-column}
 use borrow.Author.Needs.{needs}
 use Rattle.kinds.proofs.most_b.Statement.{statement}
 use Rattle.kinds.proofs.most_b.Tie as tie

@@ -5,11 +5,11 @@ use native.Mathlib.Decide.{ℕ-discrete}
 use native.Mathlib.Omega.{arith}
 use lib.ListN.{getD}
 use Rattle.lists.specs.Test.{allFrom}
-use Rattle.lists.proofs.Test.{all-passed, all-failed, all-done}
+use Rattle.lists.proofs.Test.{all-passed, all-failed, all-done, all-missed}
 use Rattle.place.specs.Place.{placeOf}
 use Rattle.stepper.specs.Table.{cellFits, aimed}
 use Rattle.stepper.specs.declared.Heap64.{Heap64}
-use Rattle.stepper.proofs.Fits.{placeFits, unlike, alike, all-missed}
+use Rattle.stepper.proofs.Fits.{placeFits, unlike, alike}
 use Rattle.stepper.proofs.Places.{code-at}
 use borrow.Author.Tests.{not-true, not-false}
 use borrow.Author.Needs.{needs}

@@ -1,8 +1,10 @@
+-- The link in the list of the table, or none where the code is no cell's of it.
 use Prim.Native.Nat.{_-_}
 use mathlib.Core.Path.{_≡_, _∙_}
 use native.Mathlib.Omega.{arith}
 use lib.ListN.{length}
-use Rattle.stepper.proofs.Places.{code-at, link-in, link-low, link-high}
+use Rattle.heap.proofs.Codes.{link-slot, link-low, link-past}
+use Rattle.stepper.proofs.Places.{code-at}
 use Rattle.place.specs.Place.{codes}
 use lib.ListN.{length-map}
 use borrow.Author.Needs.{needs}
@@ -16,7 +18,7 @@ returns-2 : tie.Need-returns-2
 returns-2 c =
     let t = c .before .before .args .t1 in
     let s : length (t .links) ≡ 64 = simp length-map at (c .before .before .good .0 .1 .1 .1 .1 .1 .0 .1 .0 .1) in
-    link-high (codes (t .links)) (c .before .before .args .p .code) 64 (length-map (t .links) (λ p. p .code) ∙ s) (omega arith)
+    link-past (codes (t .links)) (c .before .before .args .p .code) (omega (arith, length-map (t .links) (λ p. p .code)))
 
 cast-i : tie.Need-cast-i
 cast-i c = search needs
@@ -28,7 +30,7 @@ returns-3 : tie.Need-returns-3
 returns-3 c =
     let t = c .before .before .before .args .t1 in
     let p = c .before .before .before .args .p .code in
-    code-at (t .links) (p - 3) ∙ link-in _ p (omega arith)
+    code-at (t .links) (p - 3) ∙ link-slot _ p (omega arith)
 
 pub link-of-spec : {M : Type 1} → statement M
 link-of-spec = tie.close (tie.spec returns returns-2 cast-i element-copy-out-result returns-3)

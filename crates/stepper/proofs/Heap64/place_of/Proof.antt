@@ -1,7 +1,8 @@
 use Prim.Native.Nat.{_-_}
 use mathlib.Core.Path.{refl, _∙_}
 use native.Mathlib.Omega.{arith}
-use Rattle.stepper.proofs.Places.{code-at, var-in}
+use Rattle.heap.proofs.Codes.{operand-slot}
+use Rattle.stepper.proofs.Places.{code-at}
 use borrow.Author.Needs.{needs}
 use Rattle.stepper.proofs.Heap64.place_of.Statement.{statement}
 use Rattle.stepper.proofs.Heap64.place_of.Tie as tie
@@ -19,7 +20,7 @@ returns-2 : tie.Need-returns-2
 returns-2 c =
     let t = c .before .before .args .t1 in
     let a = c .before .before .args .a in
-    code-at (t .vars) (a - 1) ∙ var-in _ a (omega arith)
+    code-at (t .vars) (a - 1) ∙ operand-slot _ a (omega arith)
 
 pub place-of-spec : {M : Type 1} → statement M
 place-of-spec = tie.close (tie.spec returns sub-result element-copy-out-result returns-2)
