@@ -6,7 +6,7 @@ use native.Mathlib.Omega.{arith}
 use lib.ListN.{length, set, take, replicate, length-append, length-replicate, length-set}
 use lib.Seq.{length-take-le, take-set-lt}
 use Rattle.lists.specs.List.{concatMap}
-use Rattle.lists.proofs.List.{All, concatMap-append}
+use Rattle.lists.proofs.List.{All, all-concat, concatMap-append}
 use Rattle.heap.specs.Place.{nowhere, null, dangling, cell}
 use Rattle.shape.specs.Placing.{grow}
 use Rattle.shape.specs.Shape.{size}
@@ -71,14 +71,6 @@ module _ (n v q : ℕ) where
 -- the shapes of the third set: n variables and no cells
 abbrev Flat : ℕ → Located → Type 0
 Flat n m = (length (m .shape .vars) ≡ n) × (size (m .shape) ≡ 0)
-
-all-append : {A : Type 0} (P : A → Type 0) (xs ys : List A) → All P xs → All P ys → All P (xs ++ ys)
-all-append P [] ys a b = b
-all-append P (x ∷ xs) ys a b = (a .0, all-append P xs ys (a .1) b)
-
-all-concat : {A B : Type 0} (P : B → Type 0) (f : A → List B) (xs : List A) → ((x : A) → All P (f x)) → All P (concatMap f xs)
-all-concat P f [] h = tt
-all-concat P f (x ∷ xs) h = all-append P (f x) (concatMap f xs) (h x) (all-concat P f xs h)
 
 steps-flat : (n : ℕ) (ts : List Transition) → All (Flat n) (badSteps n ts)
 steps-flat n ts =

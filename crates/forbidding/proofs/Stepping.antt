@@ -1,15 +1,19 @@
 -- Transitions that step through a variable, one after the other.
 use mathlib.Core.List.{List, [], _∷_, _++_, append-nil, append-assoc, List·Memᴰ·head}
+use mathlib.Core.Bool.{cond}
 use mathlib.Core.Logic.{_≢_}
+use mathlib.Core.Option.{Option, none, some}
 use mathlib.Core.Path.{_≡_, refl, sym, ap, _∙_, subst}
-use Prim.Native.Nat.{ℕ, zero, suc, _+_, _-_, _*_, _≤_, _<_}
+use Prim.Native.Nat.{ℕ, suc, _+_, _-_, _*_, _≤_, _<_}
 use native.Mathlib.Numerals.{add-one}
 use native.Mathlib.Omega.{arith}
-use borrow.Author.Tests.{le-leb}
+use borrow.Author.Tests.{le-leb, ne-eqb}
+use lib.Dec.{eqb}
 use lib.ListN.{length, getD, length-append}
 use Rattle.lists.specs.List.{_∈_, concatMap}
 use Rattle.lists.proofs.List.{concatMap-append}
-use Rattle.heap.specs.Operation.{kindOf}
+use Rattle.heap.specs.Operation.{Kind, kindOf}
+use Rattle.heap.proofs.Rows.{column}
 use Rattle.run.specs.Run.{Located}
 use Rattle.format.specs.JobNumbers.{locatedNumbers}
 use Rattle.forbidden.specs.Sets.{atState, stepsThrough, badStep, badStepsOf, badSteps}
@@ -32,16 +36,16 @@ module _ (k a b : ℕ) where
   pub through-store : k ≡ 5 → a ∷ [] ≡ stepsThrough (opOf (kindOf k) a b)
   through-store e = rw e refl
 
-pub through-none : (k a b : ℕ) → k ≢ 4 → k ≢ 5 → [] ≡ stepsThrough (opOf (kindOf k) a b)
-through-none zero a b m n = refl
-through-none (suc zero) a b m n = refl
-through-none (suc (suc zero)) a b m n = refl
-through-none (suc (suc (suc zero))) a b m n = refl
-through-none (suc (suc (suc (suc zero)))) a b m n = absurd (m refl)
-through-none (suc (suc (suc (suc (suc zero))))) a b m n = absurd (n refl)
-through-none (suc (suc (suc (suc (suc (suc zero)))))) a b m n = refl
-through-none (suc (suc (suc (suc (suc (suc (suc zero))))))) a b m n = refl
-through-none (suc (suc (suc (suc (suc (suc (suc (suc k)))))))) a b m n = refl
+  -- by the table: no other kind does
+  pub through-none : k ≢ 4 → k ≢ 5 → [] ≡ stepsThrough (opOf (kindOf k) a b)
+  through-none m n = go (kindOf k) refl
+    where
+      go : (r : Option Kind) → kindOf k ≡ r → [] ≡ stepsThrough (opOf r a b)
+      go none e = refl
+      go (some row) e =
+          let here : stepsThrough (row .op a b) ≡ cond (eqb k 4) (b ∷ []) (cond (eqb k 5) (a ∷ []) []) =
+          column (λ kind row. stepsThrough (row .op a b)) (λ kind row. cond (eqb kind 4) (b ∷ []) (cond (eqb kind 5) (a ∷ []) [])) refl k row e in
+          sym (simp (ne-eqb k 4 m, ne-eqb k 5 n) at here)
 
 -- ---- a transition by its bytes
 

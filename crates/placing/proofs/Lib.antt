@@ -1,5 +1,4 @@
 pub mod Lists
-pub mod Links
 pub mod Chosen
 pub mod Operations
 pub mod Putting

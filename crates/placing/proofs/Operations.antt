@@ -8,9 +8,10 @@ use native.Mathlib.Omega.{arith}
 use borrow.Author.Tests.{lt-ltb, le-ltb, eq-eqb, ne-eqb}
 use lib.ListN.{length}
 use Rattle.lists.specs.List.{keep}
+use Rattle.lists.proofs.List.{end, _&_}
 use Rattle.heap.specs.Operation.{kindOf}
 use Rattle.heap.specs.Place.{nowhere}
-use Rattle.kinds.proofs.Rows.{by-kind}
+use Rattle.heap.proofs.Rows.{by-kind}
 use Rattle.shape.specs.Placing.{setVar, placeBoth}
 use Rattle.shape.specs.Shape.{Shape, varAt}
 use Rattle.backward.specs.Predecessors.{setLink, linkFits, addHelper, dropHelper, retain, predecessors}
@@ -22,10 +23,8 @@ module _ (variables a b : ℕ) (s : Shape) where
   pub by-two : (kind : ℕ) → 1 ≤ kind → kind ≤ 5 → (kind ≡ 4 → a ≢ b) → b ≤ variables → predecessors (opOf (kindOf kind) a b) s ≡ firsts variables kind a b s
   unfolding retainedIn retained changed linkOpen
   by-two kind l h apart most =
-      by-kind (λ k. k ≤ 5 → (k ≡ 4 → a ≢ b) → predecessors (opOf (kindOf k) a b) s ≡ firsts variables k a b s)
-      (λ _ _. refl) (λ _ _. refl) (λ _ _. refl)
-      (λ _ n. simp (ne-eqb a b (n refl), le-ltb variables b most))
-      (λ _ _. refl) (λ h _. absurd (omega arith)) (λ h _. absurd (omega arith)) kind l (omega arith) h apart
+      by-kind 5 (λ k. (k ≡ 4 → a ≢ b) → predecessors (opOf (kindOf k) a b) s ≡ firsts variables k a b s)
+      ((λ _. refl) & (λ _. refl) & (λ _. refl) & (λ n. simp (ne-eqb a b (n refl), le-ltb variables b most)) & (λ _. refl) & end) kind l h apart
 
 map-retain : (f : Shape → Shape) (test : Shape → Bool) (change : Shape → Shape) (l : List Shape)
     → map f (retain test change l) ≡ retain test (λ s. f (change s)) l

@@ -1,5 +1,5 @@
 -- The choices to try have all that are wanted among them.
-use mathlib.Core.Bool.{Bool, true, false, _||_, cond}
+use mathlib.Core.Bool.{Bool, true, false, _||_, cond, and-false}
 use mathlib.Core.List.{List}
 use mathlib.Core.Logic.{_≢_, _⊎_, inl, inr}
 use mathlib.Core.Path.{_≡_, refl, ap}
@@ -22,7 +22,6 @@ use Rattle.placing.specs.Wanted.{targetFits, fitsIn, oneByOne, targetCho
 use Rattle.placing.specs.declared.Choices.{Choices}
 use Rattle.placing.specs.declared.Wanted.{Wanted}
 use Rattle.placing.specs.declared.Wanted.the-variants.{Nothing, Once, Any, At, Off, Source, Itself, Target}
-use Rattle.placing.proofs.Retaining.{and-false}
 
 pub choice-of-under : (n p : ℕ) → choiceOf n p ≤ n + p
 unfolding choiceOf

@@ -1,5 +1,5 @@
 -- The choices of a variable that a kind retains are the wanted ones.
-use mathlib.Core.Bool.{Bool, true, false, _&&_, _||_, not}
+use mathlib.Core.Bool.{Bool, true, false, _&&_, _||_, not, and-true, and-false, and-comm}
 use mathlib.Core.List.{List, [], _∷_, _++_}
 use mathlib.Core.Logic.{_≢_}
 use mathlib.Core.Path.{_≡_, refl, sym, _∙_}
@@ -10,24 +10,16 @@ use borrow.Author.Tests.{lt-ltb, le-ltb, le-leb, lt-leb, eq-eqb, ne-eqb}
 use lib.Dec.{eqb}
 use lib.ListN.{length, getD, set, length-set, List·getD-eq-default, List·getD-append}
 use lib.Seq.{getD-set-same, getD-at}
+use Rattle.lists.proofs.List.{end, _&_}
 use Rattle.heap.specs.Codes.{linkIn}
 use Rattle.heap.specs.Place.{nowhere, null, dangling, cell}
+use Rattle.heap.proofs.Rows.{by-kind}
 use Rattle.place.specs.Place.{placeOf}
 use Rattle.shape.proofs.Laws.{link-set-other, link-snoc, link-unlinked}
-use Rattle.kinds.proofs.Rows.{by-kind}
 use Rattle.placing.specs.Choice.{chosen, choiceOf, exists, opened}
-use Rattle.placing.specs.Retained.{At}
-use Rattle.placing.specs.Retained.{linkOpen, retained}
+use Rattle.placing.specs.Retained.{At, linkOpen, retained}
 use Rattle.placing.proofs.Chosen.{chosen-cell, chosen-null, chosen-fresh, chosen-placed, chosen-other, choice-of-most}
 use Rattle.placing.specs.Wanted.{sourceFits, itselfFits, targetFits, fitsIn, targetOf, beside, wantedOne}
-
-pub and-false : (x : Bool) → x && false ≡ false
-and-false true = refl
-and-false false = refl
-
-pub and-true : (x : Bool) → x && true ≡ x
-and-true true = refl
-and-true false = refl
 
 -- ---- the link of the cell at p after choice k
 
@@ -117,10 +109,6 @@ module _ (n q k : ℕ) (at : At n q) where
       go : Dec (k ≡ choiceOf n q) → eqb (chosen n k) q ≡ eqb k (choiceOf n q)
       go (yes e) = rw e (eq-eqb (chosen n (choiceOf n q)) q (chosen-there n q at) ∙ sym (eq-eqb (choiceOf n q) (choiceOf n q) refl))
       go (no e) = ne-eqb (chosen n k) q (chosen-other n k q (at .some) (at .safe) (at .inside) e) ∙ sym (ne-eqb k (choiceOf n q) e)
-
-and-swap : (x y : Bool) → x && y ≡ y && x
-and-swap true y = sym (and-true y)
-and-swap false y = sym (and-false y)
 
 module _ (links : List ℕ) (q k : ℕ) (at : At (length links) q) where
   -- a choice at a place of the shape is there
@@ -278,9 +266,9 @@ module _ (links : List ℕ) (k : ℕ) (most : k < length links + (2 + length lin
       pub beside-first : exists links k && retained kind q (chosen (length links) k) (opened links k) ≡ fitsIn links (beside 4 kind links (placeOf q)) k
       unfolding retained beside
       beside-first =
-          by-kind (λ m. m ≤ 5 → exists links k && retained m q (chosen (length links) k) (opened links k) ≡ fitsIn links (beside 4 m links (placeOf q)) k)
-          (λ _. same) (λ _. rw (same-place (length links) q k at) (and-swap (exists links k) _)) (λ _. same) (λ _. source-fits q) (λ _. target-fits q (at .inside))
-          (λ h. absurd (omega arith)) (λ h. absurd (omega arith)) kind kind-least (omega arith) kind-most
+          by-kind 5 (λ m. exists links k && retained m q (chosen (length links) k) (opened links k) ≡ fitsIn links (beside 4 m links (placeOf q)) k)
+          (same & rw (same-place (length links) q k at) (and-comm (exists links k) _) & same & source-fits q & target-fits q (at .inside) & end)
+          kind kind-least kind-most
         where
           same : exists links k && eqb q (chosen (length links) k) ≡ eqb k (choiceOf (length links) q)
           same = rw (same-place (length links) q k at) (at-exists links q k at)
@@ -289,9 +277,9 @@ module _ (links : List ℕ) (k : ℕ) (most : k < length links + (2 + length lin
       pub beside-second : exists links k && retained kind (chosen (length links) k) q (opened links k) ≡ fitsIn links (beside 5 kind links (placeOf q)) k
       unfolding retained beside
       beside-second =
-          by-kind (λ m. m ≤ 5 → exists links k && retained m (chosen (length links) k) q (opened links k) ≡ fitsIn links (beside 5 m links (placeOf q)) k)
-          (λ _. same) (λ _. rw (same-place-too (length links) q k at) (and-swap (exists links k) _)) (λ _. same) (λ _. target-fits q (at .inside)) (λ _. source-fits q)
-          (λ h. absurd (omega arith)) (λ h. absurd (omega arith)) kind kind-least (omega arith) kind-most
+          by-kind 5 (λ m. exists links k && retained m (chosen (length links) k) q (opened links k) ≡ fitsIn links (beside 5 m links (placeOf q)) k)
+          (same & rw (same-place-too (length links) q k at) (and-comm (exists links k) _) & same & target-fits q (at .inside) & source-fits q & end)
+          kind kind-least kind-most
         where
           same : exists links k && eqb (chosen (length links) k) q ≡ eqb k (choiceOf (length links) q)
           same = rw (same-place-too (length links) q k at) (at-exists links q k at)
@@ -301,10 +289,9 @@ module _ (links : List ℕ) (k : ℕ) (most : k < length links + (2 + length lin
         → exists links k && retained kind (chosen (length links) k) (chosen (length links) k) (opened links k) ≡ fitsIn links (wantedOne kind) k
     unfolding retained wantedOne
     one-fits kind l h o =
-        by-kind
-        (λ m. m ≤ 5 → m ≢ 4 → exists links k && retained m (chosen (length links) k) (chosen (length links) k) (opened links k) ≡ fitsIn links (wantedOne m) k)
-        (λ _ _. same) (λ _ _. simp (equal, and-false)) (λ _ _. same) (λ _ o. absurd (o refl)) (λ _ _. itself-fits)
-        (λ h _. absurd (omega arith)) (λ h _. absurd (omega arith)) kind l (omega arith) h o
+        by-kind 5
+        (λ m. m ≢ 4 → exists links k && retained m (chosen (length links) k) (chosen (length links) k) (opened links k) ≡ fitsIn links (wantedOne m) k)
+        ((λ _. same) & (λ _. simp (equal, and-false)) & (λ _. same) & (λ o. absurd (o refl)) & (λ _. itself-fits) & end) kind l h o
       where
         equal : eqb (chosen (length links) k) (chosen (length links) k) ≡ true
         equal = eq-eqb (chosen (length links) k) (chosen (length links) k) refl

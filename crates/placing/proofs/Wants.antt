@@ -1,5 +1,5 @@
 -- What is wanted of b, and of a, is what the kind retains.
-use mathlib.Core.Bool.{Bool, true, false, _&&_, _||_, cond}
+use mathlib.Core.Bool.{Bool, true, false, _&&_, _||_, cond, and-true}
 use mathlib.Core.List.{List}
 use mathlib.Core.Logic.{_≢_}
 use mathlib.Core.Path.{_≡_, refl, sym}
@@ -15,7 +15,7 @@ use Rattle.placing.specs.Retained.{At}
 use Rattle.placing.specs.Retained.{retained}
 use Rattle.placing.specs.Wanted.{fitsIn, onceIf, wantedNowhere, wantedFirst, wantedSecond}
 use Rattle.placing.specs.declared.Wanted.the-variants.{Nothing, Once}
-use Rattle.placing.proofs.Retaining.{and-true, beside-first, beside-second, one-fits}
+use Rattle.placing.proofs.Retaining.{beside-first, beside-second, one-fits}
 
 -- one choice, which changes nothing
 once-first : (links : List ℕ) (test : Bool) (k : ℕ) → k ≡ 0 → fitsIn links (onceIf test) k ≡ test

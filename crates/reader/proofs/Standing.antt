@@ -9,6 +9,7 @@ use lib.ListN.{length, getD, take, drop}
 use Rattle.lists.specs.Range.{range}
 use Rattle.lists.proofs.Reflect.{r-le, r-and}
 use Rattle.heap.specs.Operation.{kindOf}
+use Rattle.heap.proofs.Rows.{in-table}
 use Rattle.shape.specs.Shape.{InRange}
 use Rattle.run.specs.Run.{Transition, Located}
 use Rattle.number.specs.Number.{numberAt}
@@ -18,7 +19,7 @@ use Rattle.kinds.proofs.Rows.{known, most-bound}
 use Rattle.format.specs.Certificate.{Member, readMember}
 use Rattle.format.specs.Job.{readLocated, readTransition}
 use Rattle.format.specs.Parser.{parsed, many, Buffer}
-use Rattle.format.proofs.Files.{in-table, op-numbers, located-exact, transition-exact}
+use Rattle.format.proofs.Files.{op-numbers, located-exact, transition-exact}
 use Rattle.format.proofs.Parsing.{then}
 use Rattle.format.proofs.Sequence.{Reads, reads-first, reads-one, reads-split, reads-inside}
 use Rattle.layout.specs.Entries.{locatedAt, EntryInRange, entryEnd, entriesAt, placesAt, EntriesIn}

@@ -10,7 +10,7 @@ use Rattle.lists.proofs.Reflect.{r-le, r-lt, r-and, same-test, cond-true}
 use Rattle.heap.specs.Operation.{Kind, kindOf, allowsA, allowsB}
 use Rattle.run.specs.Run.{Transition}
 use Rattle.kinds.specs.Kinds.{leastA, leastB, mostB}
-use Rattle.kinds.proofs.Rows.{is-kind, no-kind}
+use Rattle.heap.proofs.Rows.{is-kind, no-kind}
 use Rattle.format.specs.Job.{readTransition}
 use Rattle.format.specs.Parser.{parsed, fault, Buffer, within, such, meant, readAs, ranged}
 use Rattle.format.proofs.Parsing.{read-complete, read-outside, read-fault, Faulty, ranged-exact}

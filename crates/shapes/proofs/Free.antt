@@ -9,7 +9,7 @@ use borrow.Author.Tests.{lt-ltb, le-ltb, le-leb, ne-eqb}
 use lib.Dec.{eqb}
 use lib.ListN.{take, drop}
 use Rattle.lists.specs.List.{absent, keep}
-use Rattle.lists.proofs.Reflect.{Reflect, r-and, r-iff, r-le, r-lt, is-true, is-false, passes}
+use Rattle.lists.proofs.Reflect.{Reflect, r-and, r-iff, r-le, r-lt, r-itself, is-true, is-false, passes}
 use Rattle.heap.specs.Operation.{delete}
 use Rattle.heap.specs.Place.{nowhere, null, dangling, cell}
 use Rattle.shape.specs.Shape.{Shape, linkAt}
@@ -65,9 +65,6 @@ pub record FreeCell (variables : ℕ) (s : List ℕ) (k : ℕ) : Type 0 where
   pub cells-fit : cellCount s ≤ 14
   pub is-cell : k < cellCount s
   pub free : isFree (cell k) (shapeIn variables s) ≡ true
-
-r-itself : (b : Bool) → Reflect (b ≡ true) b
-r-itself b = record { holds = is-true b; tests = passes b }
 
 module _ (variables : ℕ) (s : List ℕ) (k : ℕ) where
   r-free-cell : Reflect (FreeCell variables s k) (isFreeCell variables s k)

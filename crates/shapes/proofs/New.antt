@@ -1,6 +1,6 @@
 -- The predecessors under new, by where the variable stands: the results that loops need not make are dropped.
 use mathlib.Core.Bool.{Bool, true, false, not}
-use mathlib.Core.List.{List, [], _∷_, _++_, map, List·Memᴰ·head, List·Memᴰ·tail, Memᴰ·append-left}
+use mathlib.Core.List.{List, [], _∷_, _++_, map, append-nil, List·Memᴰ·head, List·Memᴰ·tail, Memᴰ·append-left}
 use mathlib.Core.Logic.{_≢_}
 use mathlib.Core.Path.{_≡_, refl, sym, ap, ap₂, _∙_}
 use Prim.Native.Nat.{ℕ, zero, suc, _+_, _≤_, _<_}
@@ -27,14 +27,10 @@ pub r-isFree : (c : ℕ) (s : Shape)
     → Reflect (((dangling < c) × (linkAt s c ≢ nowhere → linkAt s c ≡ dangling)) × ((¬ (c ∈ s .links)) × (¬ (c ∈ s .vars)))) (isFree c s)
 r-isFree c s = r-and (r-linkFits c dangling s) (r-and (r-absent c (s .links)) (r-absent c (s .vars)))
 
-pub append-none : {A : Type 0} (l : List A) → l ++ [] ≡ l
-append-none [] = refl
-append-none (x ∷ xs) = ap (λ l. x ∷ l) (append-none xs)
-
 -- ---- the variable has a place
 
 pub new-at-cell : (a i : ℕ) (s : Shape) → varAt s a ≡ cell i → predecessors (new a) s ≡ without (setVar a nowhere s) i
-new-at-cell a i s e = rw (e, e) (append-none (without (setVar a nowhere s) i))
+new-at-cell a i s e = rw (e, e) (append-nil (without (setVar a nowhere s) i))
 
 pub new-at-null : (a : ℕ) (s : Shape) → varAt s a ≡ null → predecessors (new a) s ≡ []
 new-at-null a s e = rw (e, e) refl
@@ -130,7 +126,7 @@ new-at-nowhere (suc v) s z b bv bl e =
     one i h = go (not (eqb (linkAt s (cell i)) nowhere))
       where
         go : (t : Bool) → concatMap (judged v) (keep t (setVar (suc v) (fresh s) (split i s))) ≡ []
-        go true = append-none _ ∙ judged-at v (fresh s) (s .vars) (split i s .links) b e ∙ gone-split s i h
+        go true = append-nil _ ∙ judged-at v (fresh s) (s .vars) (split i s .links) b e ∙ gone-split s i h
         go false = refl
 
     middles : (k n : ℕ) → k + n ≤ size s → concatMap (judged v) (concatMap middle (range k n)) ≡ []

@@ -1,5 +1,5 @@
 -- Kind 6: the predecessors by new, and the array without a cell.
-use mathlib.Core.List.{List, [], _∷_, _++_, map, Memᴰ·cast}
+use mathlib.Core.List.{List, [], _∷_, _++_, map, append-nil, Memᴰ·cast}
 use mathlib.Core.Logic.{_≢_}
 use mathlib.Core.Path.{_≡_, refl, sym, ap, ap₂, _∙_}
 use Prim.Native.Nat.{ℕ, zero, suc, _+_, _-_, _≤_, _<_}
@@ -24,7 +24,7 @@ use Rattle.layout.specs.ShapeArray.{cellCount, operandAt, linksIn, shapeIn, Sha
 use Rattle.shapes.specs.Change.{setOperand, slotFrom, slotWithout, arrayWithout}
 use Rattle.shapes.specs.Operands.{HoldsShape}
 use Rattle.shapes.specs.Without.{isFree, without}
-use Rattle.shapes.proofs.New.{r-isFree, append-none, new-at-cell, new-at-null, new-at-dangling, new-at-nowhere}
+use Rattle.shapes.proofs.New.{r-isFree, new-at-cell, new-at-null, new-at-dangling, new-at-nowhere}
 use Rattle.shapes.proofs.Slots.{size-in, vars-in, var-in, link-in, links-in-range, shape-operand}
 use Rattle.shapes.proofs.Tables.{table-length, table-at, operands-all, vars-mapped}
 
@@ -65,7 +65,7 @@ module _ (variables : ℕ) (s : List ℕ) (h : ShapeArray variables s) where
         let x-is : x ≡ cell (x - 3) = omega arith in
         let one : x - 2 - (x - 3) ≡ 1 = omega arith in
         new-at-cell a (x - 3) shape (var-in variables s h a ∙ e ∙ x-is)
-        ∙ sym (append-none (without (setVar a nowhere shape) (x - 3)))
+        ∙ sym (append-nil (without (setVar a nowhere shape) (x - 3)))
         ∙ ap₂ (λ (t : Shape) (m : ℕ). concatMap (without t) (range (x - 3) m)) (sym (shape-operand variables s a nowhere (h .cells-fit) some)) (sym one)
 
 -- ---- the array without cell k

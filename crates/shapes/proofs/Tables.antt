@@ -1,30 +1,22 @@
 -- Arrays given slot by slot.
 use mathlib.Core.List.{List, map}
-use mathlib.Core.Path.{_≡_, refl, sym, ap, _∙_}
-use Prim.Native.Nat.{ℕ, zero, suc, _+_, _≤_, _<_}
+use mathlib.Core.Path.{_≡_, sym, ap, _∙_}
+use Prim.Native.Nat.{ℕ, suc, _+_, _≤_, _<_}
 use native.Mathlib.Decide.{decLt}
 use native.Mathlib.Omega.{arith}
 use lib.ListN.{length, getD, take, drop, length-map, length-drop, List·getD-eq-default}
 use lib.Seq.{length-take-le, getD-take, getD-drop, ext-getD}
 use Rattle.lists.specs.Range.{range}
+use Rattle.lists.proofs.Range.{length-from, getD-from}
 use Rattle.heap.specs.Place.{nowhere, cell}
 use Rattle.shape.proofs.Laws.{link-map}
 use Rattle.layout.specs.ShapeArray.{operandAt}
-
-length-from : (f : ℕ → ℕ) (k n : ℕ) → length (map f (range k n)) ≡ n
-length-from f k zero = refl
-length-from f k (suc n) = ap suc (length-from f (suc k) n)
-
-getD-from : (f : ℕ → ℕ) (k n i : ℕ) → i < n → getD (map f (range k n)) i 0 ≡ f (k + i)
-getD-from f k zero i h = absurd (omega arith)
-getD-from f k (suc n) zero h = ap f (omega arith)
-getD-from f k (suc n) (suc i) h = getD-from f (suc k) n i (omega arith) ∙ ap f (omega arith)
 
 pub table-length : (f : ℕ → ℕ) → length (map f (range 0 28)) ≡ 28
 table-length f = length-from f 0 28
 
 pub table-at : (f : ℕ → ℕ) (i : ℕ) → i < 28 → getD (map f (range 0 28)) i 0 ≡ f i
-table-at f i h = getD-from f 0 28 i h ∙ ap f (omega arith)
+table-at f i h = getD-from f 0 0 28 i h ∙ ap f (omega arith)
 
 -- what is so of the slots of operands is so of all operands
 pub operands-all : (g : ℕ → ℕ) (s t : List ℕ) → length s ≡ 28 → length t ≡ 28 → g nowhere ≡ nowhere

@@ -1,8 +1,8 @@
 -- What the code reads and writes of a heap's bytes, and the call's promise by its outcome.
-use mathlib.Core.Bool.{Bool, true, false, _&&_}
+use mathlib.Core.Bool.{Bool, true, false, _&&_, and-true, and-false}
 use mathlib.Core.List.{List, [], _∷_}
 use mathlib.Core.Logic.{⊎-elim}
-use mathlib.Core.Path.{_≡_, refl, subst}
+use mathlib.Core.Path.{_≡_, refl, sym, subst}
 use Prim.Native.Nat.{ℕ, suc, _+_, _-_, _≤_, _<_}
 use native.Mathlib.Decide.{decLt}
 use native.Mathlib.Numerals.{add-one}
@@ -27,14 +27,6 @@ use Rattle.heapbytes.specs.HeapBytes.{readable, heapFrom, bytesAfter, StepsByte
 abbrev pub markFits : List ℕ → ℕ → Bool
 markFits bytes i = ltb (getD bytes (9 + i) 0) 2
 
-and-true : (b : Bool) → b ≡ b && true
-and-true true = refl
-and-true false = refl
-
-and-false : (b : Bool) → false ≡ b && false
-and-false true = refl
-and-false false = refl
-
 -- the largest of i marks is known, and then that of one more
 module _ (bytes : List ℕ) (i largest : ℕ) where
   left-marks : i < 64 → allFrom (64 - i) i (markFits bytes) ≡ markFits bytes i && allFrom (64 - (i + 1)) (i + 1) (markFits bytes)
@@ -46,7 +38,7 @@ module _ (bytes : List ℕ) (i largest : ℕ) where
     where
       go : Dec (getD bytes (9 + i) 0 < 2) → markFits bytes i && allFrom (64 - (i + 1)) (i + 1) (markFits bytes) ≡ ltb largest 2 && (markFits bytes i && allFrom (64 - (i + 1)) (i + 1) (markFits bytes))
       go (yes d) = rw (lt-ltb largest 2 (omega arith)) refl
-      go (no d) = rw (le-ltb (getD bytes (9 + i) 0) 2 (omega arith)) (and-false (ltb largest 2))
+      go (no d) = rw (le-ltb (getD bytes (9 + i) 0) 2 (omega arith)) (sym (and-false (ltb largest 2)))
 
   pub mark-smaller : i < 64 → getD bytes (9 + i) 0 ≤ largest → ltb largest 2 && allFrom (64 - (i + 1)) (i + 1) (markFits bytes) ≡ ltb largest 2 && allFrom (64 - i) i (markFits bytes)
   mark-smaller h l = rw (left-marks h) (go (decLt largest 2))
@@ -56,7 +48,7 @@ module _ (bytes : List ℕ) (i largest : ℕ) where
       go (no d) = rw (le-ltb largest 2 (omega arith)) refl
 
   pub marks-done : 64 ≤ i → ltb largest 2 ≡ ltb largest 2 && allFrom (64 - i) i (markFits bytes)
-  marks-done h = rw (all-done (markFits bytes) 64 i h) (and-true (ltb largest 2))
+  marks-done h = rw (all-done (markFits bytes) 64 i h) (sym (and-true (ltb largest 2)))
 
 module _ (bytes : List ℕ) where
   pub other-length : (length bytes ≡ 137 → ⊥) → false ≡ readable bytes
