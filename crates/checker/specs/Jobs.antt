@@ -1,8 +1,7 @@
 -- A job by its bytes and its header.
-use mathlib.Core.List.{List, map}
+use mathlib.Core.List.{List}
 use Prim.Native.Nat.{ℕ, _+_, _*_}
 use Rattle.lists.specs.List.{concatMap}
-use Rattle.lists.specs.Range.{range}
 use Rattle.run.specs.Run.{Transition, Located, Job}
 use Rattle.cover.specs.Cover.{predecessorsBy, owed}
 use Rattle.format.specs.Certificate.{readCover}
@@ -12,6 +11,7 @@ use Rattle.format.specs.Parser.{Parser, _>>_, return, each, certificateBuffer, 
 use Rattle.format.specs.Verdict.{Counts}
 use Rattle.layout.specs.Entries.{entriesAt}
 use Rattle.layout.specs.Transitions.{transitionAt}
+use Rattle.reader.specs.Transitions.{transitionsIn}
 use Rattle.reader.specs.declared.Header.{Header}
 
 module _ (job : List ℕ) (h : Header) where
@@ -22,9 +22,6 @@ module _ (job : List ℕ) (h : Header) where
   abbrev pub toState : ℕ → ℕ
   toState i = transitionIn i .to
 
-  abbrev pub transitionsIn : List Transition
-  transitionsIn = map transitionIn (range 0 (h .transitions))
-
   abbrev pub fileIn : JobFile
   fileIn =
       record {
@@ -33,14 +30,14 @@ module _ (job : List ℕ) (h : Header) where
             record {
               variables = h .variables;
               start = h .start;
-              transitions = transitionsIn;
+              transitions = transitionsIn job h;
               forbidden = entriesAt job (h .variables) (h .«bads_at») (h .bads);
             };
       }
 
   -- what is owed for one member
   abbrev pub owedBy : Located → List Located
-  owedBy m = concatMap (predecessorsBy m) transitionsIn
+  owedBy m = concatMap (predecessorsBy m) (transitionsIn job h)
 
 -- the covers that a job and members owe, and nothing after them
 unfoldable pub readCovers : List ℕ → Job → List Located → Parser Counts

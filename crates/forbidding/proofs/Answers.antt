@@ -27,9 +27,11 @@ use Rattle.layout.specs.Entries.{entriesAt}
 use Rattle.layout.specs.Transitions.{transitionAt}
 use Rattle.reader.specs.Job.{JobRead}
 use Rattle.reader.specs.declared.Header.{Header}
-use Rattle.forbidding.specs.Answers.{setOf, cellsOf, transitionsIn, setBytes, countPlace, withCount, PointIn}
+use Rattle.forbidding.specs.Answers.{setOf, cellsOf, setBytes, countPlace, withCount, PointIn}
 use Rattle.forbidding.specs.Put.{Put}
-use Rattle.forbidding.specs.Steps.{transitionsFrom, StepsIn}
+use Rattle.forbidding.specs.Steps.{StepsIn}
+use Rattle.layout.specs.Transitions.{transitionsFrom}
+use Rattle.reader.specs.Transitions.{transitionsIn}
 use Rattle.forbidding.specs.declared.Asked.{Asked}
 use Rattle.forbidding.specs.declared.Asked.the-variants.{NotList, LostBlock, BadSteps}
 use Rattle.forbidding.proofs.JobBytes.{place-inside, with-bytes}

@@ -17,11 +17,11 @@ use Rattle.heap.proofs.Rows.{column}
 use Rattle.run.specs.Run.{Located}
 use Rattle.format.specs.JobNumbers.{locatedNumbers}
 use Rattle.forbidden.specs.Sets.{atState, stepsThrough, badStep, badStepsOf, badSteps}
-use Rattle.layout.specs.Transitions.{opOf, transitionAt}
+use Rattle.layout.specs.Transitions.{opOf, transitionAt, transitionsFrom}
 use Rattle.transitions.specs.Transitions.{transitionBytes}
 use Rattle.transitions.specs.declared.Transition.{Transition as Bytes}
 use Rattle.forbidding.specs.Put.{Put}
-use Rattle.forbidding.specs.Steps.{throughOf, transitionsFrom, StepIn}
+use Rattle.forbidding.specs.Steps.{throughOf, StepIn}
 use Rattle.forbidding.specs.declared.steps.Through.{Through}
 use Rattle.forbidding.specs.declared.steps.Through.the-variants.{Variable, Nothing}
 use Rattle.forbidding.proofs.Putting.{put-none, put-more}

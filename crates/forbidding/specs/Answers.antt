@@ -5,12 +5,11 @@ use lib.ListN.{length, set}
 use Rattle.lists.specs.List.{concatMap}
 use Rattle.number.specs.CallResult.{CallResult}
 use Rattle.number.specs.Number.{bytesOf}
-use Rattle.run.specs.Run.{Transition}
 use Rattle.format.specs.JobNumbers.{locatedNumbers}
 use Rattle.forbidden.specs.Written.{ReadySet, not-list, lost-block, bad-steps, shapesOf}
+use Rattle.reader.specs.Transitions.{transitionsIn}
 use Rattle.reader.specs.declared.Header.{Header}
 use Rattle.verdict.specs.Verdict.{refusalNumber}
-use Rattle.forbidding.specs.Steps.{transitionsFrom}
 use Rattle.forbidding.specs.declared.Asked.{Asked}
 use Rattle.forbidding.specs.declared.Asked.the-variants.{NotList, LostBlock, BadSteps}
 use Rattle.forbidding.specs.declared.put.Point.{Point}
@@ -44,10 +43,6 @@ abbrev pub cellsOf : ReadySet → ℕ
 cellsOf (not-list x q) = 4
 cellsOf (lost-block x q) = 11
 cellsOf bad-steps = 0
-
--- the transitions of a job with this header
-abbrev pub transitionsIn : List ℕ → Header → List Transition
-transitionsIn job h = transitionsFrom job (h .«transitions_at») 0 (h .transitions)
 
 -- the bytes of the set's shapes
 abbrev pub setBytes : List ℕ → Header → ReadySet → List ℕ

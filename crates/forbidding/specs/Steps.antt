@@ -1,10 +1,8 @@
 -- The transitions of a job by their bytes, and what they step through.
-use mathlib.Core.List.{List, [], _∷_, map}
+use mathlib.Core.List.{List, [], _∷_}
 use Prim.Native.Nat.{ℕ, _+_, _*_, _≤_, _<_}
 use lib.ListN.{length}
 use Rattle.lists.specs.List.{_∈_}
-use Rattle.lists.specs.Range.{range}
-use Rattle.run.specs.Run.{Transition}
 use Rattle.forbidden.specs.Sets.{stepsThrough}
 use Rattle.layout.specs.Transitions.{transitionAt}
 use Rattle.forbidding.specs.declared.steps.Through.{Through}
@@ -14,10 +12,6 @@ use Rattle.forbidding.specs.declared.steps.Through.the-variants.{Variabl
 abbrev pub throughOf : Through → List ℕ
 throughOf (Variable v) = v ∷ []
 throughOf Nothing = []
-
--- so many transitions from the i-th on, of those from a place on
-abbrev pub transitionsFrom : List ℕ → ℕ → ℕ → ℕ → List Transition
-transitionsFrom job first i count = map (λ k. transitionAt job (first + 5 * k)) (range i count)
 
 -- the transition at a place is whole, and it leaves a state below 64 and steps through none but variables 1 to n
 pub record StepIn (job : List ℕ) (n at : ℕ) : Type 0 where

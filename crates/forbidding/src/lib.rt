@@ -19,7 +19,8 @@ ghost use Rattle.forbidden.specs.Written.{shapesOf, isInside, Rewrites};
 ghost use Rattle.format.specs.Parser.{within};
 ghost use Rattle.forbidden.proofs.Written.{Inside};
 ghost use Rattle.reader.specs.Job.{JobRead};
-ghost use Rattle.forbidding.specs.Answers.{setOf, answerResult, cellsOf, transitionsIn, setBytes, countPlace, withCount};
+ghost use Rattle.reader.specs.Transitions.{transitionsIn};
+ghost use Rattle.forbidding.specs.Answers.{setOf, answerResult, cellsOf, setBytes, countPlace, withCount};
 ghost use Rattle.forbidding.specs.Put.{Put};
 
 mod put;

@@ -9,9 +9,9 @@ ghost use Rattle.lists.specs.List.{concatMap};
 ghost use Rattle.heap.specs.Operation.{kindOf};
 ghost use Rattle.forbidden.specs.Sets.{stepsThrough, badStepsOf, badSteps};
 ghost use Rattle.format.specs.JobNumbers.{locatedNumbers};
-ghost use Rattle.layout.specs.Transitions.{opOf, transitionAt};
+ghost use Rattle.layout.specs.Transitions.{opOf, transitionAt, transitionsFrom};
 ghost use Rattle.forbidding.specs.Put.{Put};
-ghost use Rattle.forbidding.specs.Steps.{throughOf, transitionsFrom, StepIn, StepsIn};
+ghost use Rattle.forbidding.specs.Steps.{throughOf, StepIn, StepsIn};
 
 // The variable that an operation steps through, if it does.
 pub enum Through {

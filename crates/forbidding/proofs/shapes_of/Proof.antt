@@ -1,7 +1,8 @@
 use mathlib.Core.Path.{ap, sym, _∙_}
 use lib.ListN.{length}
 use Rattle.forbidden.specs.Written.{shapesOf}
-use Rattle.forbidding.specs.Answers.{setOf, transitionsIn}
+use Rattle.reader.specs.Transitions.{transitionsIn}
+use Rattle.forbidding.specs.Answers.{setOf}
 use Rattle.forbidding.proofs.Answers.{steps-in}
 use borrow.Author.Needs.{needs}
 use Rattle.forbidding.proofs.shapes_of.Statement.{statement}
