@@ -1,5 +1,5 @@
 -- Laws of marks.
-use mathlib.Core.Bool.{Bool, true, false, cond, _||_}
+use mathlib.Core.Bool.{Bool, true, false, cond, _||_, or-true}
 use mathlib.Core.List.{List, [], _∷_, _++_}
 use mathlib.Core.Logic.{_≢_}
 use mathlib.Core.Path.{_≡_, refl, sym, ap, _∙_}
@@ -84,10 +84,6 @@ module _ (images used marks : List ℕ) (m : Marks images used marks) where
 image-other : (xs : List ℕ) (y p : ℕ) → p ≢ cell y → isImage (xs ++ (y ∷ [])) p ≡ isImage xs p
 image-other [] y p n = rw (ne-eqb p (cell y) n) refl
 image-other (x ∷ xs) y p n = ap (λ (b : Bool). eqb p (cell x) || b) (image-other xs y p n)
-
-pub or-true : (b : Bool) → b || true ≡ true
-or-true true = refl
-or-true false = refl
 
 image-same : (xs : List ℕ) (y : ℕ) → isImage (xs ++ (y ∷ [])) (cell y) ≡ true
 image-same [] y = rw (is-true (eqb (cell y) (cell y)) (eqb-refl (cell y))) refl

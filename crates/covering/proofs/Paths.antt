@@ -1,5 +1,5 @@
 -- The paths of a member's links, followed one after the other.
-use mathlib.Core.Bool.{Bool, true, false, _&&_}
+use mathlib.Core.Bool.{Bool, true, false, _&&_, and-false}
 use mathlib.Core.List.{List, _++_}
 use mathlib.Core.Logic.{_≢_, _⊎_, inl, inr}
 use mathlib.Core.Path.{_≡_, refl, sym, _∙_}
@@ -13,10 +13,6 @@ use Rattle.cover.specs.Test.{imageMap, stops, betweenBelow}
 use Rattle.covering.specs.Images.{pathFits}
 use Rattle.covering.specs.Marks.{Marks, endFrom, pathFrom, Followed}
 use Rattle.covering.proofs.Images.{somewhere}
-
-pub and-false : (b : Bool) → b && false ≡ false
-and-false true = refl
-and-false false = refl
 
 module _ (member covered : Shape) (images : List ℕ) (i : ℕ) where
   abbrev to : ℕ

@@ -1,5 +1,5 @@
 -- The test of the variables.
-use mathlib.Core.Bool.{Bool, true, false}
+use mathlib.Core.Bool.{Bool, true, false, or-true}
 use mathlib.Core.List.{List}
 use mathlib.Core.Logic.{_≢_}
 use mathlib.Core.Path.{_≡_, refl, sym, ap, _∙_}
@@ -12,7 +12,6 @@ use Rattle.lists.specs.Test.{allFrom}
 use Rattle.lists.proofs.Test.{all-passed, all-failed, all-done}
 use Rattle.heap.specs.Place.{nowhere}
 use Rattle.covering.specs.Images.{imageIn, varFitsIn}
-use Rattle.covering.proofs.Marks.{or-true}
 
 module _ (cert : List ℕ) (first : ℕ) (codes s : List ℕ) (i p : ℕ) (e : p ≡ getD cert (first + i) 0) where
   pub unplaced : p ≡ nowhere → varFitsIn cert first codes s i ≡ true
