@@ -11,7 +11,7 @@ use lib.Dec.{eqb, eqb-refl, ltb}
 use lib.ListN.{length, getD, set, length-set, replicate, getD-replicate}
 use lib.Seq.{getD-set-same, getD-set-other}
 use Rattle.lists.specs.List.{_∈_, absent}
-use Rattle.lists.proofs.Reflect.{Reflect, is-true, is-false, r-iff, r-absent}
+use Rattle.lists.proofs.Reflect.{is-true, r-absent, same-test}
 use Rattle.heap.specs.Place.{cell}
 use Rattle.cover.specs.Test.{isImage, stops}
 use Rattle.covering.specs.Marks.{mark, Marks}
@@ -57,10 +57,6 @@ frees-less (m ∷ ms) (suc p) v b e n = go (eqb m 0) (frees-less ms p v (omega a
 
 -- ---- one place more is marked
 
-same-test : {P : Type 0} (a b : Bool) → Reflect P a → Reflect P b → a ≡ b
-same-test true b r s = sym (is-true b (s .tests (r .holds tt)))
-same-test false b r s = sym (is-false b (λ t. r .tests (s .holds t)))
-
 module _ (images used marks : List ℕ) (m : Marks images used marks) where
   -- the same, where the same cells are used
   pub marks-like : (used′ : List ℕ) → ((x : ℕ) → x ∈ used → x ∈ used′) → ((x : ℕ) → x ∈ used′ → x ∈ used) → Marks images used′ marks
@@ -70,7 +66,7 @@ module _ (images used marks : List ℕ) (m : Marks images used marks) where
         marked = λ p b.
             m .marked p b
             ∙ ap (mark (stops images p))
-            (same-test (absent p used) (absent p used′) (r-absent p used) (r-iff (λ o k. o (f p k)) (λ o k. o (g p k)) (r-absent p used′)));
+            (same-test (r-absent p used) (r-absent p used′) (λ o k. o (g p k)) (λ o k. o (f p k)));
       }
 
   pub marks-use : (q : ℕ) → q < 28 → stops images q ≡ false → Marks images (q ∷ used) (set marks q 2)
