@@ -2,12 +2,13 @@
 use mathlib.Core.Bool.{Bool, true, false, _&&_, _||_, not}
 use mathlib.Core.List.{List, []}
 use mathlib.Core.Path.{_≡_, refl, sym, ap, ap₂, _∙_}
-use Prim.Native.Nat.{ℕ, zero, suc, _+_, _<_, min}
+use Prim.Native.Nat.{ℕ, suc, _+_, _<_, min}
 use native.Mathlib.Omega.{arith}
 use lib.Dec.{eqb}
 use lib.ListN.{length, getD, drop, length-take, length-drop}
 use lib.Seq.{length-take-le, getD-take, getD-drop}
 use Rattle.lists.specs.Test.{allFrom}
+use Rattle.lists.proofs.Test.{all-same, all-and}
 use Rattle.heap.specs.Place.{cell}
 use Rattle.shape.specs.Shape.{Shape, varAt, size}
 use Rattle.cover.specs.Test.{imageMap, varFits, linkMeets, pathUnshared, embeds?}
@@ -16,24 +17,6 @@ use Rattle.layout.specs.Entries.{locatedAt, Whole}
 use Rattle.covering.specs.Images.{imagesIn, ImageCodes, imageIn, once, varFitsIn, pathFits}
 use Rattle.covering.specs.Marks.{Marks, LinksIn, Linking}
 use Rattle.covering.proofs.Images.{images-length, image-of}
-
--- ---- tests over a run of numbers
-
-all-same : (f g : ℕ → Bool) (k i : ℕ) → ((j : ℕ) → j < i + k → f j ≡ g j) → allFrom k i f ≡ allFrom k i g
-unfolding allFrom
-all-same f g zero i h = refl
-all-same f g (suc k) i h = ap₂ _&&_ (h i (omega arith)) (all-same f g k (suc i) (λ j b. h j (omega arith)))
-
-all-and : (f g : ℕ → Bool) (k i : ℕ) → allFrom k i f && allFrom k i g ≡ allFrom k i (λ j. f j && g j)
-unfolding allFrom
-all-and f g zero i = refl
-all-and f g (suc k) i = regroup (f i) (g i) (allFrom k (suc i) f) (allFrom k (suc i) g) ∙ ap (λ (b : Bool). (f i && g i) && b) (all-and f g k (suc i))
-  where
-    regroup : (a b c d : Bool) → (a && c) && (b && d) ≡ (a && b) && (c && d)
-    regroup false b c d = refl
-    regroup true false true d = refl
-    regroup true false false d = refl
-    regroup true true c d = refl
 
 -- ---- the covered shape
 
