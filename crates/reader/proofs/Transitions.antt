@@ -4,9 +4,10 @@ use mathlib.Core.Logic.{inl, inr}
 use mathlib.Core.Option.{none, some}
 use mathlib.Core.Path.{_≡_, refl, sym, ap, _∙_}
 use Prim.Native.Nat.{ℕ, _+_}
+use native.Mathlib.Numerals.{add-one}
 use native.Mathlib.Omega.{arith}
-use lib.Dec.{leb, ltb}
-use Rattle.lists.proofs.Reflect.{r-le, r-lt, r-and, same-test, cond-true}
+use lib.Dec.{leb}
+use Rattle.lists.proofs.Reflect.{r-le, r-lt, r-and, leb-ltb, cond-true}
 use Rattle.heap.specs.Operation.{Kind, kindOf, allowsA, allowsB}
 use Rattle.run.specs.Run.{Transition}
 use Rattle.kinds.specs.Kinds.{leastA, leastB, mostB}
@@ -43,12 +44,9 @@ module _ (s : Buffer) (at : ℕ) where
 
 -- ---- an operand
 
-most-limit : (a n : ℕ) → leb a n ≡ ltb a (n + 1)
-most-limit a n = same-test (r-le a n) (r-lt a (n + 1)) (λ h. omega arith) (λ h. omega arith)
-
 module _ (s : Buffer) (n kind : ℕ) (row : Kind) (r : kindOf kind ≡ some row) (at : ℕ) where
   operand : (low most low′ : ℕ) → low′ ≡ low → ranged s low′ (most + 1) at ≡ readAs s (such (λ a. leb low a && leb a most)) at
-  operand low most low′ e = rw e (ap (λ (test : ℕ → Bool). readAs s (such test) at) (λ i a. leb low a && sym (most-limit a most) i))
+  operand low most low′ e = rw (e, add-one most) (ap (λ (test : ℕ → Bool). readAs s (such test) at) (λ i a. leb low a && sym (leb-ltb a most) i))
 
   pub operand-a : ranged s (leastA kind) (n + 1) at ≡ readAs s (such (allowsA n row)) at
   unfolding leastA
