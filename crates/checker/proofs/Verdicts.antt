@@ -5,8 +5,7 @@ use mathlib.Core.Logic.{_↔_}
 use mathlib.Core.Path.{_≡_, refl, sym, ap, ap₂, _∙_}
 use Prim.Native.Nat.{ℕ, zero, suc, _+_, _≤_, _<_}
 use native.Mathlib.Omega.{arith}
-use native.Mathlib.Decide.{decLe}
-use borrow.Author.Tests.{lt-leb, le-leb, lt-ltb, le-ltb, ltb-true}
+use borrow.Author.Tests.{lt-leb, le-leb, ltb-true}
 use lib.Dec.{leb, ltb}
 use lib.ListN.{length}
 use Rattle.lists.proofs.Test.{and-right}
@@ -38,13 +37,6 @@ use Rattle.checker.specs.declared.checked.Position.{Position}
 use Rattle.checker.proofs.Checking.{checkAll-each}
 
 -- ---- lengths
-
-pub up-to : (n k : ℕ) → leb n k ≡ ltb n (suc k)
-up-to n k = go (decLe n k)
-  where
-    go : Dec (n ≤ k) → leb n k ≡ ltb n (suc k)
-    go (yes h) = le-leb n k h ∙ sym (lt-ltb n (suc k) (omega arith))
-    go (no h) = lt-leb n k (omega arith) ∙ sym (le-ltb n (suc k) (omega arith))
 
 pub fits-most : (s : List ℕ) → fits s ≡ true → length s ≤ 65536
 fits-most s e = let h = ltb-true (length s) 65537 (and-right (leb 1 (length s)) (ltb (length s) 65537) e) in omega arith
