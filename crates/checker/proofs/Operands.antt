@@ -1,16 +1,20 @@
 -- An operation of kinds 1 to 5 that the table of kinds allows, with the operand that plays b.
-use mathlib.Core.Bool.{true}
+use mathlib.Core.Bool.{true, _||_}
 use mathlib.Core.List.{List}
 use mathlib.Core.Logic.{_≢_}
+use mathlib.Core.Option.{some}
 use mathlib.Core.Path.{_≡_, refl, sym, ap, _∙_}
 use Prim.Native.Nat.{ℕ, suc, _≤_}
 use native.Mathlib.Decide.{ℕ-discrete}
 use native.Mathlib.Numerals.{add-one}
 use native.Mathlib.Omega.{arith}
-use Rattle.heap.specs.Operation.{kindOf}
+use lib.Dec.{ltb, leb}
+use Rattle.lists.proofs.Reflect.{r-lt, r-le, r-or}
+use Rattle.heap.specs.Operation.{Kind, kindOf}
+use Rattle.heap.proofs.Rows.{is-kind, tested}
 use Rattle.backward.specs.Predecessors.{predecessors}
-use Rattle.kinds.specs.Kinds.{allowed}
-use Rattle.kinds.proofs.Rows.{by-kind, known, row-of}
+use Rattle.kinds.specs.Kinds.{mostB, allowed}
+use Rattle.kinds.proofs.Rows.{known, row-of, most-bound}
 use Rattle.layout.specs.ShapeArray.{cellCount, shapeIn, ShapeArray}
 use Rattle.layout.specs.Transitions.{opOf}
 use Rattle.placing.specs.Retained.{firsts}
@@ -26,14 +30,16 @@ module _ (variables kind a b : ℕ) (most : kind ≤ 5) (allows : allowed variab
   least = known variables kind a b allows .0
 
   within : (3 ≤ kind → 1 ≤ a) × (a ≤ variables) × (b ≤ variables)
+  unfolding mostB
   within =
-      by-kind (λ k. k ≤ 5 → allowed variables k a b ≡ true → (3 ≤ k → 1 ≤ a) × (a ≤ variables) × (b ≤ variables))
-      (λ _ e. let r = row-of variables 1 a b _ refl e .0 in (λ z. absurd (omega arith), r .most-a, r .most-b))
-      (λ _ e. let r = row-of variables 2 a b _ refl e .0 in (λ z. absurd (omega arith), r .most-a, r .most-b))
-      (λ _ e. let r = row-of variables 3 a b _ refl e .0 in (λ _. r .least-a, r .most-a, r .most-b))
-      (λ _ e. let r = row-of variables 4 a b _ refl e .0 in (λ _. r .least-a, r .most-a, r .most-b))
-      (λ _ e. let r = row-of variables 5 a b _ refl e .0 in (λ _. r .least-a, r .most-a, r .most-b))
-      (λ h _. absurd (omega arith)) (λ h _. absurd (omega arith)) kind least (omega arith) most allows
+      let (row, found) = is-kind kind least (omega arith) in
+      let r = row-of variables kind a b row found allows .0 in
+      let most : mostB kind variables ≡ row .most-b variables = rw found refl in
+      (λ h. omega (arith, r .least-a, some-a row found h), r .most-a, omega (arith, r .most-b, most-bound kind variables))
+    where
+      -- from kind 3 on a is a variable
+      some-a : (row : Kind) → kindOf kind ≡ some row → 3 ≤ kind → 1 ≤ row .least-a
+      some-a row found h = r-or (r-lt kind 3) (r-le 1 (row .least-a)) .holds (tested (λ kind row. ltb kind 3 || leb 1 (row .least-a)) refl kind row found) (λ l. omega arith)
 
   module _ (s : List ℕ) (room : variables ≤ 8) (cells : cellCount s ≤ 12) (array : ShapeArray variables s) where
     -- d plays b: the shape to work on, and that its choices are the predecessors
