@@ -1,3 +1,3 @@
-pub mod FrontNumbers
+pub mod Preamble
 pub mod Readers
 pub mod OneNumber

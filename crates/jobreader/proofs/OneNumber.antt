@@ -8,28 +8,28 @@ use Rattle.number.specs.Number.{numberAt}
 use Rattle.number.specs.declared.Read.the-variants.{Number, Unreadable}
 use Rattle.format.specs.Parser.{Parsed, parsed, fault, Parser, jobBuffer, within, such, meant, readAs, ranged}
 use Rattle.format.proofs.Parsing.{read-complete, read-outside}
-use Rattle.jobreader.specs.Reader.{numberedOf, readOn}
+use Rattle.jobreader.specs.Reader.{lastReadOf, readOn}
 
-pub refused-before : (at refusal : ℕ) (p : Parser ℕ) → (refusal ≡ 0 → ⊥) → record { at = at; number = 0; refusal = refusal } ≡ numberedOf (readOn at refusal p)
+pub refused-before : (at refusal : ℕ) (p : Parser ℕ) → (refusal ≡ 0 → ⊥) → record { at = at; number = 0; refusal = refusal } ≡ lastReadOf (readOn at refusal p)
 refused-before at zero p h = absurd (h refl)
 refused-before at (suc k) p h = refl
 
 module _ (job : List ℕ) (at refusal low limit : ℕ) (go-on : refusal ≡ 0) where
-  on : (x : Parsed ℕ) → ranged (jobBuffer job) low limit at ≡ x → numberedOf x ≡ numberedOf (readOn at refusal (ranged (jobBuffer job) low limit))
-  on x e = ap numberedOf (sym e ∙ ap (λ r. readOn at r (ranged (jobBuffer job) low limit)) (sym go-on))
+  on : (x : Parsed ℕ) → ranged (jobBuffer job) low limit at ≡ x → lastReadOf x ≡ lastReadOf (readOn at refusal (ranged (jobBuffer job) low limit))
+  on x e = ap lastReadOf (sym e ∙ ap (λ r. readOn at r (ranged (jobBuffer job) low limit)) (sym go-on))
 
-  pub unread : (place : ℕ) → numberAt job at ≡ Unreadable place → numberedOf (fault 3 at) ≡ numberedOf (readOn at refusal (ranged (jobBuffer job) low limit))
+  pub unread : (place : ℕ) → numberAt job at ≡ Unreadable place → lastReadOf (fault 3 at) ≡ lastReadOf (readOn at refusal (ranged (jobBuffer job) low limit))
   unfolding readAs
   unread place g = on (fault 3 at) (ap (meant (jobBuffer job) (such (within low limit)) at) g)
 
   module _ (n next : ℕ) (g : numberAt job at ≡ Number n next) where
-    pub outside : ((low ≤ n) × (n < limit) → ⊥) → numberedOf (fault 4 at) ≡ numberedOf (readOn at refusal (ranged (jobBuffer job) low limit))
+    pub outside : ((low ≤ n) × (n < limit) → ⊥) → lastReadOf (fault 4 at) ≡ lastReadOf (readOn at refusal (ranged (jobBuffer job) low limit))
     outside h =
         on (fault 4 at)
         (read-outside (jobBuffer job) (such (within low limit)) at n next g
         (cond-false (within low limit n) (some n) none (λ t. h (r-and (r-le low n) (r-lt n limit) .holds t))))
 
-    pub value : low ≤ n → n < limit → numberedOf (parsed n next) ≡ numberedOf (readOn at refusal (ranged (jobBuffer job) low limit))
+    pub value : low ≤ n → n < limit → lastReadOf (parsed n next) ≡ lastReadOf (readOn at refusal (ranged (jobBuffer job) low limit))
     value l h =
         on (parsed n next)
         (read-complete (jobBuffer job) (such (within low limit)) at n next n g

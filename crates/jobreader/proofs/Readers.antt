@@ -28,7 +28,7 @@ use denote.Triple.Statement.{Contract}
 use denote.Triple.Spec.{tripleOf}
 use denote.Triple.Clauses.{ensured, lasts}
 use Rattle.format.specs.Parser.{jobBuffer, ranged}
-use Rattle.jobreader.specs.Reader.{numberedAfter, numberedIn}
+use Rattle.jobreader.specs.Reader.{lastReadAfter, lastReadIn}
 use Rattle.jobreader.specs.declared.Reader.{Reader}
 use Rattle.jobreader.proofs.Reader as T
 use Rattle.jobreader.proofs.Reader.Laws as T′
@@ -84,7 +84,7 @@ module _ {M : Type 1} (𝓤 : URA M) (H : Heap 𝓤) (A : Atoms 𝓤) (W : Given
         move ! (1 ∷ 0 ∷ []) $ fjoin ! $ move ! (1 ∷ 0 ∷ []) $ join ! $ frame ! $ done !
 
     abbrev pub NextSaid : Reader → Type 0
-    NextSaid t = (t .src ≡ r .src) × (numberedIn t ≡ numberedAfter (numberedIn r) (ranged (jobBuffer (now (r .src))) low limit))
+    NextSaid t = (t .src ≡ r .src) × (lastReadIn t ≡ lastReadAfter (lastReadIn r) (ranged (jobBuffer (now (r .src))) low limit))
 
     pub next-said : (t : Reader) → ent 𝓤 (ensured 𝓤 H A next.ended (next.clauses 𝓤 H A mem run) (κ, tt) (r, (low, (limit, tt))) tt t) (fact 𝓤 (NextSaid t))
     next-said t = exE 𝓤 _ (λ ws. snd∗ 𝓤 (sem 𝓤 H A (lasts next.ended (κ, tt) (r, (low, (limit, tt))) ws)) (fact 𝓤 (NextSaid t)))

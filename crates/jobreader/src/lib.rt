@@ -3,7 +3,7 @@
 use number::Read;
 ghost use mathlib.Core.Path.{_≡_};
 ghost use Rattle.format.specs.Parser.{jobBuffer, ranged};
-ghost use Rattle.jobreader.specs.Reader.{numberedOf, readOn, numberedAfter, numberedIn, frontRead};
+ghost use Rattle.jobreader.specs.Reader.{lastReadOf, readOn, lastReadAfter, lastReadIn, preambleRead};
 
 // The number read last and the place after it. Once a number is refused, `refusal` is the number of that refusal and not 0, and the
 // reader stays at the place of the number.
@@ -15,14 +15,14 @@ pub struct Reader<'a> {
 }
 
 // The same without the job.
-pub struct Numbered {
+pub struct LastRead {
     pub at: usize,
     pub number: usize,
     pub refusal: usize,
 }
 
 // The numbers of a job before its transitions, and the place after them; or a refusal, not 0, and its place.
-pub struct Front {
+pub struct Preamble {
     pub variables: usize,
     pub states: usize,
     pub start: usize,
@@ -32,11 +32,11 @@ pub struct Front {
 }
 
 // The number at a place, from `low` on and below `limit`, unless one was refused.
-fn read_on(job: &[u8], at: usize, refusal: usize, low: usize, limit: usize) -> Numbered
-    ensures { λ r. ⌜ r ≡ numberedOf (readOn at refusal (ranged (jobBuffer (now (job .entry))) low limit)) ⌝ }
+fn read_on(job: &[u8], at: usize, refusal: usize, low: usize, limit: usize) -> LastRead
+    ensures { λ r. ⌜ r ≡ lastReadOf (readOn at refusal (ranged (jobBuffer (now (job .entry))) low limit)) ⌝ }
 {
     if refusal != 0 {
-        return Numbered {
+        return LastRead {
             at,
             number: 0,
             refusal,
@@ -44,27 +44,27 @@ fn read_on(job: &[u8], at: usize, refusal: usize, low: usize, limit: usize) -> N
     }
     let r = number::read_number(job, at);
     let Read::Number(n, next) = r else {
-        return Numbered {
+        return LastRead {
             at,
             number: 0,
             refusal: 3,
         };
     };
     if n < low {
-        return Numbered {
+        return LastRead {
             at,
             number: 0,
             refusal: 4,
         };
     }
     if limit <= n {
-        return Numbered {
+        return LastRead {
             at,
             number: 0,
             refusal: 4,
         };
     }
-    Numbered {
+    LastRead {
         at: next,
         number: n,
         refusal: 0,
@@ -85,7 +85,7 @@ pub fn new<'a>(src: &'a [u8], at: usize) -> Reader<'a>
 
 // The reader moved on by one number, from `low` on and below `limit`.
 pub fn next<'a>(r: Reader<'a>, low: usize, limit: usize) -> Reader<'a>
-    ensures { λ q. ⌜ (q .src ≡ r .entry .src) × (numberedIn q ≡ numberedAfter (numberedIn (r .entry)) (ranged (jobBuffer (now (r .entry .src))) low limit)) ⌝ }
+    ensures { λ q. ⌜ (q .src ≡ r .entry .src) × (lastReadIn q ≡ lastReadAfter (lastReadIn (r .entry)) (ranged (jobBuffer (now (r .entry .src))) low limit)) ⌝ }
 {
     let s = read_on(r.src, r.at, r.refusal, low, limit);
     Reader {
@@ -97,11 +97,11 @@ pub fn next<'a>(r: Reader<'a>, low: usize, limit: usize) -> Reader<'a>
 }
 
 // One number of a job.
-pub fn read_at(job: &[u8], at: usize, low: usize, limit: usize) -> Numbered
-    ensures { λ r. ⌜ r ≡ numberedOf (ranged (jobBuffer (now (job .entry))) low limit at) ⌝ }
+pub fn read_at(job: &[u8], at: usize, low: usize, limit: usize) -> LastRead
+    ensures { λ r. ⌜ r ≡ lastReadOf (ranged (jobBuffer (now (job .entry))) low limit at) ⌝ }
 {
     let r = next(new(job, at), low, limit);
-    Numbered {
+    LastRead {
         at: r.at,
         number: r.number,
         refusal: r.refusal,
@@ -109,15 +109,15 @@ pub fn read_at(job: &[u8], at: usize, low: usize, limit: usize) -> Numbered
 }
 
 // The numbers of a job before its transitions: version, V, S, start, T.
-pub fn read_front(job: &[u8]) -> Front
-    ensures { λ r. ⌜ r ≡ frontRead (jobBuffer (now (job .entry))) ⌝ }
+pub fn read_preamble(job: &[u8]) -> Preamble
+    ensures { λ r. ⌜ r ≡ preambleRead (jobBuffer (now (job .entry))) ⌝ }
 {
     let version = next(new(job, 0), 1, 2);
     let variables = next(version, 1, 9);
     let states = next(variables, 1, 65);
     let start = next(states, 0, states.number);
     let transitions = next(start, 0, 257);
-    Front {
+    Preamble {
         variables: variables.number,
         states: states.number,
         start: start.number,

@@ -15,8 +15,8 @@ use Rattle.format.proofs.Sequence.{reads-one}
 use Rattle.number.specs.Number.{numberAt}
 use Rattle.number.specs.declared.Read.the-variants.{Number}
 use Rattle.reader.specs.Job.{readRest}
-use Rattle.jobreader.proofs.FrontNumbers.{unlessRefused, readFront, ranged-fault}
-use Rattle.jobreader.specs.declared.Front.{Front}
+use Rattle.jobreader.proofs.Preamble.{unlessRefused, readPreamble, ranged-fault}
+use Rattle.jobreader.specs.declared.Preamble.{Preamble}
 use Rattle.reader.specs.Number.{withoutValue}
 use Rattle.reader.proofs.Answers.{in-range}
 use Rattle.reader.proofs.Bytes.{single}
@@ -50,9 +50,9 @@ one-byte s low limit at n next h small =
     single (s .bytes) at n next (reads-one g) (omega arith) .after
 
 module _ (s : Buffer) (at : ℕ) where
-  pub front-fault : (number place : ℕ) → readFront s at ≡ fault number place → (number ≡ s .unreadable) ⊎ (number ≡ s .outside)
-  unfolding readFront
-  front-fault number place =
+  pub preamble-fault : (number place : ℕ) → readPreamble s at ≡ fault number place → (number ≡ s .unreadable) ⊎ (number ≡ s .outside)
+  unfolding readPreamble
+  preamble-fault number place =
       then-fault (ranged s 1 2 at) _
       (λ version p₁ h₁. then-fault (ranged s 1 9 p₁) _
       (λ variables p₂ h₂. then-fault (ranged s 1 65 p₂) _
@@ -61,9 +61,9 @@ module _ (s : Buffer) (at : ℕ) where
       (λ transitions p₅ h₅ e. let z : _≡_ {A = ℕ} 0 1 = cc in absurd (omega arith)) (ranged-fault s 0 257 p₄ number place))
       (ranged-fault s 0 states p₃ number place)) (ranged-fault s 1 65 p₂ number place)) (ranged-fault s 1 9 p₁ number place)) (ranged-fault s 1 2 at number place)
 
-  pub front-variables : (f : Front) (next : ℕ) → readFront s at ≡ parsed f next → f .variables ≤ 8
-  unfolding readFront
-  front-variables f next =
+  pub preamble-variables : (f : Preamble) (next : ℕ) → readPreamble s at ≡ parsed f next → f .variables ≤ 8
+  unfolding readPreamble
+  preamble-variables f next =
       then (ranged s 1 2 at) _
       (λ version p₁ h₁. then (ranged s 1 9 p₁) _
       (λ variables p₂ h₂. then (ranged s 1 65 p₂) _
@@ -75,9 +75,9 @@ module _ (s : Buffer) (at : ℕ) where
       omega arith)))))
 
   -- the numbers before that of the transitions are one byte each
-  pub front-place : (f : Front) (next : ℕ) → readFront s at ≡ parsed f next → numberAt (s .bytes) (at + 4) ≡ Number (f .transitions) (f .at)
-  unfolding readFront
-  front-place f next =
+  pub preamble-place : (f : Preamble) (next : ℕ) → readPreamble s at ≡ parsed f next → numberAt (s .bytes) (at + 4) ≡ Number (f .transitions) (f .at)
+  unfolding readPreamble
+  preamble-place f next =
       then (ranged s 1 2 at) _
       (λ version p₁ h₁. then (ranged s 1 9 p₁) _
       (λ variables p₂ h₂. then (ranged s 1 65 p₂) _
@@ -97,7 +97,7 @@ module _ (s : Buffer) (at : ℕ) where
 
 -- ---- what follows the transitions
 
-module _ (job : List ℕ) (f : Front) (at : ℕ) where
+module _ (job : List ℕ) (f : Preamble) (at : ℕ) where
   abbrev s : Buffer
   s = jobBuffer job
 

@@ -11,20 +11,20 @@ use Rattle.format.specs.Parser.{Parsed, parsed, fault, Parser, onward, _>>=_, _
 use Rattle.format.proofs.Files.{located-exact, transition-exact, job-exact, whole-sound, end-sound, end-complete}
 use Rattle.format.proofs.Parsing.{then, many-exact, ranged-exact}
 use Rattle.format.proofs.Sequence.{reads-one, reads-inside}
-use Rattle.jobreader.proofs.FrontNumbers.{readFront}
-use Rattle.jobreader.specs.declared.Front.{Front}
+use Rattle.jobreader.proofs.Preamble.{readPreamble}
+use Rattle.jobreader.specs.declared.Preamble.{Preamble}
 use Rattle.reader.specs.Job.{readRest, RestAnswered, JobRead, JobAnswered}
 use Rattle.reader.specs.Number.{withoutValue}
 use Rattle.reader.specs.declared.Header.{Header}
 use Rattle.reader.specs.declared.JobAnswer.{JobAnswer}
 use Rattle.reader.specs.declared.JobAnswer.the-variants.{Job, Refused}
 use Rattle.reader.proofs.Bytes.{number-inside}
-use Rattle.reader.proofs.Jobs.{front-place}
+use Rattle.reader.proofs.Jobs.{preamble-place}
 use Rattle.reader.proofs.Many.{remembered, without-value-fault, without-value-onward, bind-assoc}
 use Rattle.reader.proofs.Standing.{entries-read, transitions-read}
 
 module _ (job : List ℕ) where
-  fileRest : Front → List Transition → Parser JobFile
+  fileRest : Preamble → List Transition → Parser JobFile
   fileRest f transitions = do
     bads ← ranged (jobBuffer job) 1 65
     forbidden ← many bads (readLocated (jobBuffer job) (f .variables) (f .states))
@@ -36,13 +36,13 @@ module _ (job : List ℕ) where
         })
 
   parts : readWholeJob (jobBuffer job) 0
-      ≡ onward (readFront (jobBuffer job) 0)
+      ≡ onward (readPreamble (jobBuffer job) 0)
       (λ f p. onward (many (f .transitions) (readTransition (jobBuffer job) (f .variables) (f .states)) p) (fileRest f))
-  unfolding readWholeJob readJob readFront fileRest
+  unfolding readWholeJob readJob readPreamble fileRest
   parts = simp bind-assoc
 
   -- the rest is read alike, whatever is made of it
-  same-rest : (f : Front) (transitions : List Transition) (at : ℕ) → withoutValue (readRest job f at) ≡ withoutValue (fileRest f transitions at)
+  same-rest : (f : Preamble) (transitions : List Transition) (at : ℕ) → withoutValue (readRest job f at) ≡ withoutValue (fileRest f transitions at)
   unfolding readRest fileRest
   same-rest f transitions at =
       without-value-onward (ranged (jobBuffer job) 1 65 at) _ _
@@ -51,10 +51,10 @@ module _ (job : List ℕ) where
 
   -- ---- refusals
 
-  pub front-lost : {number place : ℕ} → readFront (jobBuffer job) 0 ≡ fault number place → readWholeJob (jobBuffer job) 0 ≡ fault number place
-  front-lost e = rw (parts, e) refl
+  pub preamble-lost : {number place : ℕ} → readPreamble (jobBuffer job) 0 ≡ fault number place → readWholeJob (jobBuffer job) 0 ≡ fault number place
+  preamble-lost e = rw (parts, e) refl
 
-  module _ (f : Front) (e₁ : readFront (jobBuffer job) 0 ≡ parsed f (f .at)) where
+  module _ (f : Preamble) (e₁ : readPreamble (jobBuffer job) 0 ≡ parsed f (f .at)) where
     abbrev steps : Parsed (List Transition)
     steps = many (f .transitions) (readTransition (jobBuffer job) (f .variables) (f .states)) (f .at)
 
@@ -111,7 +111,7 @@ module _ (job : List ℕ) where
             states = ok .states;
             start = ok .start;
             transitions-number = omega (arith, ok .transitions-number);
-            transitions-place = front-place s 0 f (f .at) e₁;
+            transitions-place = preamble-place s 0 f (f .at) e₁;
             transitions = λ i b. each i (omega arith) (omega arith);
             bads-number = rw bads-are at (ok .forbidden-number);
             bads-place = rw at-is at bads-read;

@@ -15,7 +15,7 @@ use Rattle.layout.specs.Transitions.{transitionAt}
 use Rattle.number.specs.Number.{numberAt}
 use Rattle.number.specs.declared.Read.the-variants.{Number}
 use Rattle.verdict.specs.Verdict.{refusalNumber}
-use Rattle.jobreader.specs.declared.Front.{Front}
+use Rattle.jobreader.specs.declared.Preamble.{Preamble}
 use Rattle.reader.specs.declared.Header.{Header}
 use Rattle.reader.specs.declared.JobAnswer.{JobAnswer}
 use Rattle.reader.specs.declared.JobAnswer.the-variants.{Job, Refused}
@@ -49,7 +49,7 @@ pub record JobRead (job : List ℕ) (h : Header) : Type 0 where
   pub bads : EntriesIn job (h .variables) (h .«bads_at») (h .bads)
 
 -- what follows the transitions: the forbidden shapes, and nothing after them; with the numbers before, it makes a header
-unfoldable pub readRest : List ℕ → Front → Parser Header
+unfoldable pub readRest : List ℕ → Preamble → Parser Header
 readRest job f = do
   bads ← ranged (jobBuffer job) 1 65
   bads-at ← here
@@ -66,7 +66,7 @@ readRest job f = do
         «bads_at» = bads-at;
       })
 
-abbrev pub RestAnswered : List ℕ → Front → ℕ → JobAnswer → Type 0
+abbrev pub RestAnswered : List ℕ → Preamble → ℕ → JobAnswer → Type 0
 RestAnswered job f at (Job h) = (next : ℕ) × (readRest job f at ≡ parsed h next)
 RestAnswered job f at (Refused r place) = readRest job f at ≡ fault (refusalNumber r) place
 

@@ -1,7 +1,7 @@
 // Reads the numbers of a job and of the members of a certificate, each held to its range.
 use crate::start::test_members;
-use jobreader::Front;
-use jobreader::read_front;
+use jobreader::Preamble;
+use jobreader::read_preamble;
 use kinds::least_a;
 use kinds::least_b;
 use kinds::most_b;
@@ -247,14 +247,14 @@ fn read_forbidden(
 }
 
 // What stands in a job after its transitions, and nothing behind it.
-fn read_rest(job: &[u8], front: Front, at: usize) -> JobAnswer
-    ensures { λ r. ⌜ RestAnswered (now (job .entry)) front at r ⌝ }
+fn read_rest(job: &[u8], preamble: Preamble, at: usize) -> JobAnswer
+    ensures { λ r. ⌜ RestAnswered (now (job .entry)) preamble at r ⌝ }
 {
     let number = job_ranged(job, at, 1, 65);
     match number {
         Ranged::Refused(why, place) => JobAnswer::Refused(why, place),
         Ranged::Value(bads, bads_at) => {
-            let r = read_forbidden(job, bads_at, bads, front.variables, front.states);
+            let r = read_forbidden(job, bads_at, bads, preamble.variables, preamble.states);
             match r {
                 Reached::Refused(why, place) => JobAnswer::Refused(why, place),
                 Reached::At(end) => {
@@ -262,11 +262,11 @@ fn read_rest(job: &[u8], front: Front, at: usize) -> JobAnswer
                         return JobAnswer::Refused(Refusal::JobLeft, end);
                     }
                     JobAnswer::Job(Header {
-                        variables: front.variables,
-                        states: front.states,
-                        start: front.start,
-                        transitions: front.transitions,
-                        transitions_at: front.at,
+                        variables: preamble.variables,
+                        states: preamble.states,
+                        start: preamble.start,
+                        transitions: preamble.transitions,
+                        transitions_at: preamble.at,
                         bads,
                         bads_at,
                     })
@@ -280,20 +280,20 @@ fn read_rest(job: &[u8], front: Front, at: usize) -> JobAnswer
 pub fn read_job(job: &[u8]) -> JobAnswer
     ensures { λ r. ⌜ JobAnswered (now (job .entry)) r ⌝ }
 {
-    let front = read_front(job);
-    if front.refusal != 0 {
-        return JobAnswer::Refused(job_refusal(front.refusal), front.at);
+    let preamble = read_preamble(job);
+    if preamble.refusal != 0 {
+        return JobAnswer::Refused(job_refusal(preamble.refusal), preamble.at);
     }
     let r = read_transitions(
         job,
-        front.at,
-        front.transitions,
-        front.variables,
-        front.states,
+        preamble.at,
+        preamble.transitions,
+        preamble.variables,
+        preamble.states,
     );
     match r {
         Reached::Refused(why, place) => JobAnswer::Refused(why, place),
-        Reached::At(at) => read_rest(job, front, at),
+        Reached::At(at) => read_rest(job, preamble, at),
     }
 }
 

@@ -44,13 +44,13 @@ use denote.Triple.Walked.{says, Stays, stay-none, walkOf, goes-none, Walks, ends
 use denote.Exit.{yes}
 use denote.Triple.Clauses.{ensured, lasts}
 use Rattle.format.specs.Parser.{jobBuffer, ranged}
-use Rattle.jobreader.specs.Reader.{numberedOf, readOn}
+use Rattle.jobreader.specs.Reader.{lastReadOf, readOn}
 use Rattle.jobreader.specs.declared.Reader.{Reader}
-use Rattle.jobreader.specs.declared.Numbered.{Numbered}
+use Rattle.jobreader.specs.declared.LastRead.{LastRead}
 use Rattle.jobreader.proofs.Reader as T
 use Rattle.jobreader.proofs.Reader.Laws as T′
-use Rattle.jobreader.proofs.Numbered as S
-use Rattle.jobreader.proofs.Numbered.Laws as S′
+use Rattle.jobreader.proofs.LastRead as S
+use Rattle.jobreader.proofs.LastRead.Laws as S′
 use Rattle.jobreader.proofs.read_on as read-on
 use Rattle.jobreader.proofs.read_on.Symbol as read-on-def
 use Rattle.jobreader.proofs.read_on.Symbol.{name as #jobreader·read-on}
@@ -89,8 +89,8 @@ module _ {M : Type 1} (𝓤 : URA M) (H : Heap 𝓤) (A : Atoms 𝓤) (W : Given
   abbrev at : Vals next.signature (κ, tt)
   at = (mach ∷ [], (vint w64 low ∷ [], (vint w64 limit ∷ [], tt)))
 
-  abbrev found : Numbered
-  found = numberedOf (readOn (d .at) (d .refusal) (ranged (jobBuffer (now (d .src))) low limit))
+  abbrev found : LastRead
+  found = lastReadOf (readOn (d .at) (d .refusal) (ranged (jobBuffer (now (d .src))) low limit))
 
   abbrev Post : Val → SProp 𝓤
   Post = walkOf 𝓤 H A next.ended stayed (next.clauses 𝓤 H A mem run) .post (((κ, tt), (q, tt), tt, a, at), tt)
@@ -109,7 +109,7 @@ module _ {M : Type 1} (𝓤 : URA M) (H : Heap 𝓤) (A : Atoms 𝓤) (W : Given
   vd = (d .src, (d .at, (d .number, (d .refusal, tt))))
 
   -- the struct that is made of the slice and of what the callee gives
-  abbrev moved : Numbered → Reader
+  abbrev moved : LastRead → Reader
   moved r = record { src = d .src; at = r .at; number = r .number; refusal = r .refusal }
 
   -- what the callee is passed
@@ -140,17 +140,17 @@ module _ {M : Type 1} (𝓤 : URA M) (H : Heap 𝓤) (A : Atoms 𝓤) (W : Given
       move ! (2 ∷ 0 ∷ []) $ use2 W (raw (ReadOn 𝓤 H A mem run .pre to)) asked $ frame ! $ done !)
 
   -- of the callee's `ensured`, the clause alone: it has no `&mut`, so what is said of last values is dropped
-  said : (r : Numbered) → ent 𝓤 (ensured 𝓤 H A read-on.ended (read-on.clauses 𝓤 H A mem run) (κ, tt) args tt r) (fact 𝓤 (r ≡ found))
+  said : (r : LastRead) → ent 𝓤 (ensured 𝓤 H A read-on.ended (read-on.clauses 𝓤 H A mem run) (κ, tt) args tt r) (fact 𝓤 (r ≡ found))
   said r = exE 𝓤 _ (λ ws. snd∗ 𝓤 (sem 𝓤 H A (lasts read-on.ended (κ, tt) args ws)) (fact 𝓤 (r ≡ found)))
 
   -- the numbers that the callee gives fit
-  abbrev Fits : Numbered → Type 0
+  abbrev Fits : LastRead → Type 0
   Fits r = (r .at < 2 ^ 64) × (r .number < 2 ^ 64) × (r .refusal < 2 ^ 64)
 
-  fits : (r : Numbered) (u : Val) → Is S.the-row r (u ∷ []) → Fits r
+  fits : (r : LastRead) (u : Val) → Is S.the-row r (u ∷ []) → Fits r
   fits r u is = let o = LL.owed S.the-type S′.the-laws r _ is in (o .0 .1, o .1 .0 .1, o .1 .1 .0 .1)
 
-  exits : (r : Numbered) → r ≡ found → Fits r → ent 𝓤 (⋆ 𝓤 H A ((‵ (flft κ q) ⊛ ‵ ftrue) ∷ ‵ Own ∷ [])) (Post (T′.lowered (moved r)))
+  exits : (r : LastRead) → r ≡ found → Fits r → ent 𝓤 (⋆ 𝓤 H A ((‵ (flft κ q) ⊛ ‵ ftrue) ∷ ‵ Own ∷ [])) (Post (T′.lowered (moved r)))
   exits r e ok =
       qed W ((‵ (flft κ q) ⊛ ‵ ftrue) ∷ ‵ Own ∷ []) ∵
       suffices ! _ (ends-at 𝓤 H A next.ended stayed (next.clauses 𝓤 H A mem run) W (((κ, tt), (q, tt), tt, a, at), tt) (T′.lowered (moved r)) (moved r) (tt, (tt, (tt, tt))) (tt, (tt, (tt, tt)))) $ says ! (refl, e) $
@@ -173,7 +173,7 @@ module _ {M : Type 1} (𝓤 : URA M) (H : Heap 𝓤) (A : Atoms 𝓤) (W : Given
         assigns ! (of-opd ! (load ! (from ! (fld ! refl (stop !))) (look-in ! 14 (sub ! 3 refl (whole !))))) (from ! (stop !)) (init ! 2 refl (tt, wt .1 .1 .1 .1 .0)) $
         move ! (18 ∷ []) $ use1 W (raw (ReadOn 𝓤 H A mem run .pre to) ⊛ ‵ Own) (apart (wt .1 .1 .0 .fits) (wt .1 .1 .1 .1 .0 .fits)) $ split ! $
         calls-at ! fm (ReadOn 𝓤 H A mem run) known to (and-then ! (load ! (from ! (stop !)) (look ! 8 refl)) (and-then ! (load ! (from ! (stop !)) (look ! 6 refl)) (and-then ! (load ! (from ! (stop !)) (look ! 4 refl)) (and-then ! (load ! (from ! (stop !)) (look ! 14 refl)) (and-then ! (load ! (from ! (stop !)) (look ! 12 refl)) (no-more !)))))) (λ u.
-        use1 W (later (some (λ (r : Numbered). ((‵ (flft κ q) ⊛ ‵ ftrue) ⊛ ‵ (S.the-row .own r (u ∷ []))) ⊛ raw (ensured 𝓤 H A read-on.ended (read-on.clauses 𝓤 H A mem run) (κ, tt) args tt r)))) (id⊢ 𝓤 _) $ await ! tt $ pick ! (λ r.
+        use1 W (later (some (λ (r : LastRead). ((‵ (flft κ q) ⊛ ‵ ftrue) ⊛ ‵ (S.the-row .own r (u ∷ []))) ⊛ raw (ensured 𝓤 H A read-on.ended (read-on.clauses 𝓤 H A mem run) (κ, tt) args tt r)))) (id⊢ 𝓤 _) $ await ! tt $ pick ! (λ r.
         split ! $ move ! (1 ∷ []) $ use1 W (raw (fact 𝓤 (r ≡ found))) (said r) $ heard ! (r ≡ found) (λ e. split ! $ move ! (1 ∷ []) $
         -- [the result; the token; what the struct owns; _8; …; _7; …; _6; …; _5; …; room for _4; …; _3; …; _2; …; _1; …; room for _0; …]
         peeks ! S.the-row (Is S.the-row) (shows 𝓤 H A S.the-row) r (u ∷ []) (λ is.

@@ -40,14 +40,14 @@ use denote.Triple.Walked.{says, Stays, stay-none-slice, walkOf, goes-none-slice,
 use denote.Exit.{yes}
 use denote.Triple.Clauses.{ensured}
 use Rattle.format.specs.Parser.{jobBuffer, ranged}
-use Rattle.jobreader.specs.Reader.{numberedOf, numberedAfter, numberedIn}
-use Rattle.jobreader.specs.declared.Numbered.{Numbered}
+use Rattle.jobreader.specs.Reader.{lastReadOf, lastReadAfter, lastReadIn}
+use Rattle.jobreader.specs.declared.LastRead.{LastRead}
 use Rattle.jobreader.specs.declared.Reader.{Reader}
 use Rattle.jobreader.proofs.Readers.{B, New, Next, OwnSlice, to-new, goes-new, NewSaid, new-said, to-next, goes-next, NextSaid, next-said, Fits, fits}
 use Rattle.jobreader.proofs.Reader as T
 use Rattle.jobreader.proofs.Reader.Laws as T′
-use Rattle.jobreader.proofs.Numbered as S
-use Rattle.jobreader.proofs.Numbered.Laws as S′
+use Rattle.jobreader.proofs.LastRead as S
+use Rattle.jobreader.proofs.LastRead.Laws as S′
 use Rattle.jobreader.proofs.new as new
 use Rattle.jobreader.proofs.new.Symbol as new-def
 use Rattle.jobreader.proofs.new.Symbol.{name as #jobreader·new}
@@ -86,14 +86,14 @@ module _ {M : Type 1} (𝓤 : URA M) (H : Heap 𝓤) (A : Atoms 𝓤) (W : Given
   Post = walkOf 𝓤 H A read-at.ended stayed (read-at.clauses 𝓤 H A mem run) .post (((κ, tt), (q, tt), tt, a, at), tt)
 
   -- the result, of the reader that was moved on
-  abbrev made : Reader → Numbered
+  abbrev made : Reader → LastRead
   made r = record { at = r .at; number = r .number; refusal = r .refusal }
 
   -- what the two calls say together
-  told : (r₀ : Reader) (u₀ : Val) (r₁ : Reader) → NewSaid 𝓤 H A W mem run κ q s n r₀ → NextSaid 𝓤 H A W mem run κ q r₀ u₀ low limit r₁ → made r₁ ≡ numberedOf (ranged (jobBuffer (now s)) low limit n)
-  told r₀ u₀ r₁ (src-is, at-is, _, none) (_, e) = e ∙ ap (λ (x : RefT (List ℕ)). numberedAfter (numberedIn r₀) (ranged (jobBuffer (now x)) low limit)) src-is ∙ rw (at-is, none) refl
+  told : (r₀ : Reader) (u₀ : Val) (r₁ : Reader) → NewSaid 𝓤 H A W mem run κ q s n r₀ → NextSaid 𝓤 H A W mem run κ q r₀ u₀ low limit r₁ → made r₁ ≡ lastReadOf (ranged (jobBuffer (now s)) low limit n)
+  told r₀ u₀ r₁ (src-is, at-is, _, none) (_, e) = e ∙ ap (λ (x : RefT (List ℕ)). lastReadAfter (lastReadIn r₀) (ranged (jobBuffer (now x)) low limit)) src-is ∙ rw (at-is, none) refl
 
-  exits : (r : Reader) → made r ≡ numberedOf (ranged (jobBuffer (now s)) low limit n) → Fits 𝓤 H A W mem run κ q r → ent 𝓤 (⋆ 𝓤 H A ((‵ (flft κ q) ⊛ ‵ ftrue) ∷ ‵ (OwnSlice 𝓤 H A W mem run κ q s n) ∷ [])) (Post (S′.lowered (made r)))
+  exits : (r : Reader) → made r ≡ lastReadOf (ranged (jobBuffer (now s)) low limit n) → Fits 𝓤 H A W mem run κ q r → ent 𝓤 (⋆ 𝓤 H A ((‵ (flft κ q) ⊛ ‵ ftrue) ∷ ‵ (OwnSlice 𝓤 H A W mem run κ q s n) ∷ [])) (Post (S′.lowered (made r)))
   exits r e ok =
       qed W ((‵ (flft κ q) ⊛ ‵ ftrue) ∷ ‵ (OwnSlice 𝓤 H A W mem run κ q s n) ∷ []) ∵
       suffices ! _ (ends-at 𝓤 H A read-at.ended stayed (read-at.clauses 𝓤 H A mem run) W (((κ, tt), (q, tt), tt, a, at), tt) (S′.lowered (made r)) (made r) (tt, (tt, (tt, (tt, tt)))) (tt, (tt, (tt, (tt, tt))))) $ says ! e $

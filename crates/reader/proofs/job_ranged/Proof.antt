@@ -2,7 +2,7 @@
 use mathlib.Core.Path.{sym, ap, _∙_}
 use native.Mathlib.Omega.{arith}
 use Rattle.format.specs.Parser.{jobBuffer}
-use Rattle.jobreader.proofs.FrontNumbers.{parsedNumbered, ranged-fault, numbered-parsed}
+use Rattle.jobreader.proofs.Preamble.{parsedLast, ranged-fault, last-parsed}
 use Rattle.reader.proofs.Jobs.{reader-refused, reader-read}
 use borrow.Author.Needs.{needs}
 use Rattle.reader.proofs.job_ranged.Statement.{statement}
@@ -20,7 +20,7 @@ returns c =
     let s = c .before .before .before .read-at .result in
     sym
     (reader-refused (s .refusal) (s .at) (s .number) _
-    (ap parsedNumbered (c .before .before .before .read-at .ensures) ∙ numbered-parsed (a .job .now) (a .low) (a .limit) (a .at)) (c .before .if1 .taken)
+    (ap parsedLast (c .before .before .before .read-at .ensures) ∙ last-parsed (a .job .now) (a .low) (a .limit) (a .at)) (c .before .if1 .taken)
     (ranged-fault (jobBuffer (a .job .now)) (a .low) (a .limit) (a .at)) (c .job-refusal .ensures))
 
 returns-2 : tie.Need-returns-2
@@ -29,7 +29,7 @@ returns-2 c =
     let s = c .before .before .read-at .result in
     sym
     (reader-read (s .refusal) (s .at) (s .number)
-    (ap parsedNumbered (c .before .before .read-at .ensures) ∙ numbered-parsed (a .job .now) (a .low) (a .limit) (a .at)) (omega arith))
+    (ap parsedLast (c .before .before .read-at .ensures) ∙ last-parsed (a .job .now) (a .low) (a .limit) (a .at)) (omega arith))
 
 pub job-ranged-spec : {M : Type 1} → statement M
 job-ranged-spec = tie.close (tie.spec read-at-requires job-refusal-requires returns returns-2)

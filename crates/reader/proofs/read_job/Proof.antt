@@ -1,17 +1,17 @@
--- `reader::read_job`: the front is refused, or a transition, or the rest answers.
+-- `reader::read_job`: the preamble is refused, or a transition, or the rest answers.
 use mathlib.Core.Path.{ap, _∙_}
 use native.Mathlib.Omega.{arith}
 use Rattle.format.specs.Parser.{jobBuffer}
-use Rattle.jobreader.proofs.FrontNumbers.{parsedFront, front-parsed}
+use Rattle.jobreader.proofs.Preamble.{parsedPreamble, preamble-parsed}
 use Rattle.reader.proofs.Answers.{reached-got, reached-lost}
-use Rattle.reader.proofs.Jobs.{front-fault, reader-refused, reader-read, front-variables}
-use Rattle.reader.proofs.WholeJob.{front-lost, transitions-lost, answered}
+use Rattle.reader.proofs.Jobs.{preamble-fault, reader-refused, reader-read, preamble-variables}
+use Rattle.reader.proofs.WholeJob.{preamble-lost, transitions-lost, answered}
 use borrow.Author.Needs.{needs}
 use Rattle.reader.proofs.read_job.Statement.{statement}
 use Rattle.reader.proofs.read_job.Tie as tie
 
-read-front-requires : tie.Need-read-front-requires
-read-front-requires c κs = search needs
+read-preamble-requires : tie.Need-read-preamble-requires
+read-preamble-requires c κs = search needs
 
 job-refusal-requires : tie.Need-job-refusal-requires
 job-refusal-requires c κs = search needs
@@ -19,16 +19,16 @@ job-refusal-requires c κs = search needs
 returns : tie.Need-returns
 returns c =
     let job = c .before .before .before .before .before .args .job .now in
-    let f = c .before .before .before .read-front .result in
-    front-lost job
-    (reader-refused (f .refusal) (f .at) f _ (ap parsedFront (c .before .before .before .read-front .ensures) ∙ front-parsed (c .before .before .before .before .before .args .job .now)) (c .before .if1 .taken) (front-fault (jobBuffer job) 0)
+    let f = c .before .before .before .read-preamble .result in
+    preamble-lost job
+    (reader-refused (f .refusal) (f .at) f _ (ap parsedPreamble (c .before .before .before .read-preamble .ensures) ∙ preamble-parsed (c .before .before .before .before .before .args .job .now)) (c .before .if1 .taken) (preamble-fault (jobBuffer job) 0)
     (c .job-refusal .ensures))
 
 read-transitions-requires : tie.Need-read-transitions-requires
 read-transitions-requires c κs =
-    let f = c .before .before .read-front .result in
-    front-variables (jobBuffer (c .before .before .before .before .args .job .now)) 0 f _
-    (reader-read (f .refusal) (f .at) f (ap parsedFront (c .before .before .read-front .ensures) ∙ front-parsed (c .before .before .before .before .args .job .now)) (omega arith))
+    let f = c .before .before .read-preamble .result in
+    preamble-variables (jobBuffer (c .before .before .before .before .args .job .now)) 0 f _
+    (reader-read (f .refusal) (f .at) f (ap parsedPreamble (c .before .before .read-preamble .ensures) ∙ preamble-parsed (c .before .before .before .before .args .job .now)) (omega arith))
 
 enum-known-r : tie.Need-enum-known-r
 enum-known-r c = search needs
@@ -41,16 +41,16 @@ read-rest-requires c κs = search needs
 
 returns-2 : tie.Need-returns-2
 returns-2 c =
-    let f = c .before .before .before .before .before .before .read-front .result in
+    let f = c .before .before .before .before .before .before .read-preamble .result in
     transitions-lost (c .before .before .before .before .before .before .before .before .args .job .now) f
-    (reader-read (f .refusal) (f .at) f (ap parsedFront (c .before .before .before .before .before .before .read-front .ensures) ∙ front-parsed (c .before .before .before .before .before .before .before .before .args .job .now)) (omega arith))
+    (reader-read (f .refusal) (f .at) f (ap parsedPreamble (c .before .before .before .before .before .before .read-preamble .ensures) ∙ preamble-parsed (c .before .before .before .before .before .before .before .before .args .job .now)) (omega arith))
     (reached-lost (c .before .before .before .read-transitions .ensures) (c .before .r .given .1))
 
 returns-3 : tie.Need-returns-3
 returns-3 c =
-    let f = c .before .before .before .before .before .before .before .read-front .result in
+    let f = c .before .before .before .before .before .before .before .read-preamble .result in
     answered (c .before .before .before .before .before .before .before .before .before .args .job .now) f
-    (reader-read (f .refusal) (f .at) f (ap parsedFront (c .before .before .before .before .before .before .before .read-front .ensures) ∙ front-parsed (c .before .before .before .before .before .before .before .before .before .args .job .now)) (omega arith))
+    (reader-read (f .refusal) (f .at) f (ap parsedPreamble (c .before .before .before .before .before .before .before .read-preamble .ensures) ∙ preamble-parsed (c .before .before .before .before .before .before .before .before .before .args .job .now)) (omega arith))
     _ (reached-got (c .before .before .before .before .read-transitions .ensures) (c .before .before .r2 .given .1)) (c .read-rest .result)
     (c .read-rest .ensures)
 
@@ -58,7 +58,7 @@ pub read-job-spec : {M : Type 1} → statement M
 read-job-spec =
     tie.close
     (tie.spec
-    read-front-requires
+    read-preamble-requires
     job-refusal-requires
     returns
     read-transitions-requires

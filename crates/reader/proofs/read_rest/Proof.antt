@@ -27,19 +27,19 @@ enum-known-r-2 c = search needs
 returns : tie.Need-returns
 returns c =
     let a = c .before .before .before .before .before .before .before .before .before .before .args in
-    left-over (a .job .now) (a .front) (a .at)
+    left-over (a .job .now) (a .preamble) (a .at)
     (got (c .before .before .before .before .before .before .before .before .job-ranged .ensures) (c .before .before .before .before .before .before .number2 .given .1))
     (reached-got (c .before .before .before .before .read-forbidden .ensures) (c .before .before .r2 .given .1)) (omega arith)
 
 returns-2 : tie.Need-returns-2
 returns-2 c =
     let a = c .before .before .before .before .before .args in
-    lost-bads (a .job .now) (a .front) (a .at) (lost (c .before .before .before .job-ranged .ensures) (c .before .number .given .1))
+    lost-bads (a .job .now) (a .preamble) (a .at) (lost (c .before .before .before .job-ranged .ensures) (c .before .number .given .1))
 
 returns-3 : tie.Need-returns-3
 returns-3 c =
     let a = c .before .before .before .before .before .before .before .before .before .args in
-    lost-forbidden (a .job .now) (a .front) (a .at)
+    lost-forbidden (a .job .now) (a .preamble) (a .at)
     (got (c .before .before .before .before .before .before .before .job-ranged .ensures) (c .before .before .before .before .before .number2 .given .1))
     (reached-lost (c .before .before .before .read-forbidden .ensures) (c .before .r .given .1))
 
@@ -47,7 +47,7 @@ returns-4 : tie.Need-returns-4
 returns-4 c =
     let a = c .before .before .before .before .before .before .before .before .before .before .args in (
       _,
-      rest-made (a .job .now) (a .front) (a .at)
+      rest-made (a .job .now) (a .preamble) (a .at)
           (got (c .before .before .before .before .before .before .before .before .job-ranged .ensures) (c .before .before .before .before .before .before .number2 .given .1))
           (reached-got (c .before .before .before .before .read-forbidden .ensures) (c .before .before .r2 .given .1)) (omega arith),
     )

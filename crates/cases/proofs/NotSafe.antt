@@ -8,7 +8,7 @@ use Rattle.format.specs.Job.{readShape, readLocated, readTransition, readJob, r
 use Rattle.format.specs.JobNumbers.{JobFile}
 use Rattle.format.specs.JobBytes.{SafeBytes}
 use Rattle.format.proofs.Exact.{job-read}
-use Rattle.threads.specs.Rows.{J}
+use Rattle.cases.specs.Rows.{J}
 
 -- what its bytes read as
 reads : readWholeJob (jobBuffer (J 3)) 0 ≡ parsed (record { states = 2; job = assignNull }) 14

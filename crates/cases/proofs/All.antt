@@ -17,7 +17,7 @@ use Rattle.format.specs.Parser.{many, each, readAs, end}
 use Rattle.format.specs.Job.{readShape, readLocated, readTransition, readJob, readWholeJob}
 use Rattle.format.specs.Certificate.{readMember, readMembers, readCover}
 use Rattle.format.specs.Verdict.{readCertificate, readBoth, verdict}
-use Rattle.threads.specs.Rows.{P10, P11, shape, twoLinks, oneLink, fourCells, rows, Conjunction}
+use Rattle.cases.specs.Rows.{P10, P11, shape, twoLinks, oneLink, fourCells, rows, Conjunction}
 
 below : (k : ℕ) (l : List ℕ) → AtMost k l → AllBelow (suc k) l
 below k [] t = λ x i. absurd (List·Memᴰ·not-nil i)

@@ -7,24 +7,24 @@ use Prim.Native.Nat.{ℕ, zero, suc}
 use native.Mathlib.Omega.{arith}
 use Rattle.format.specs.Parser.{Parsed, parsed, fault, Parser, onward, _>>=_, _>>_, return, here, Buffer, jobBuffer, within, such, ranged}
 use Rattle.format.proofs.Parsing.{Faulty, read-fault}
-use Rattle.jobreader.specs.Reader.{numberedOf, readOn, numberedAfter, frontRead}
-use Rattle.jobreader.specs.declared.Front.{Front}
-use Rattle.jobreader.specs.declared.Numbered.{Numbered}
+use Rattle.jobreader.specs.Reader.{lastReadOf, readOn, lastReadAfter, preambleRead}
+use Rattle.jobreader.specs.declared.Preamble.{Preamble}
+use Rattle.jobreader.specs.declared.LastRead.{LastRead}
 
 -- a value with the place after it or, where the refusal is not 0, that refusal with its place
 abbrev pub unlessRefused : {A : Type 0} → ℕ → A → ℕ → Parsed A
 unlessRefused zero value at = parsed value at
 unlessRefused (suc k) value at = fault (suc k) at
 
-abbrev pub parsedNumbered : Numbered → Parsed ℕ
-parsedNumbered s = unlessRefused (s .refusal) (s .number) (s .at)
+abbrev pub parsedLast : LastRead → Parsed ℕ
+parsedLast s = unlessRefused (s .refusal) (s .number) (s .at)
 
-abbrev pub parsedFront : Front → Parsed Front
-parsedFront f = unlessRefused (f .refusal) f (f .at)
+abbrev pub parsedPreamble : Preamble → Parsed Preamble
+parsedPreamble f = unlessRefused (f .refusal) f (f .at)
 
 -- the numbers of a job before its transitions, and the place after them, as a parser of jobs reads them
-unfoldable pub readFront : Buffer → Parser Front
-readFront s = do
+unfoldable pub readPreamble : Buffer → Parser Preamble
+readPreamble s = do
   ranged s 1 2
   variables ← ranged s 1 9
   states ← ranged s 1 65
@@ -44,7 +44,7 @@ ranged-fault s low limit at number place e = go (read-fault s (such (within low 
     go (inl (k, _)) = inl k
     go (inr (k, _)) = inr k
 
-as-parsed : (x : Parsed ℕ) → ((place : ℕ) → x ≡ fault 0 place → ⊥) → parsedNumbered (numberedOf x) ≡ x
+as-parsed : (x : Parsed ℕ) → ((place : ℕ) → x ≡ fault 0 place → ⊥) → parsedLast (lastReadOf x) ≡ x
 as-parsed (parsed n next) h = refl
 as-parsed (fault zero place) h = absurd (h place refl)
 as-parsed (fault (suc k) place) h = refl
@@ -57,11 +57,11 @@ module _ (job : List ℕ) (low limit : ℕ) where
       go (inl z) = omega arith
       go (inr z) = omega arith
 
-  pub numbered-parsed : (at : ℕ) → parsedNumbered (numberedOf (ranged (jobBuffer job) low limit at)) ≡ ranged (jobBuffer job) low limit at
-  numbered-parsed at = as-parsed (ranged (jobBuffer job) low limit at) (not-zero at)
+  pub last-parsed : (at : ℕ) → parsedLast (lastReadOf (ranged (jobBuffer job) low limit at)) ≡ ranged (jobBuffer job) low limit at
+  last-parsed at = as-parsed (ranged (jobBuffer job) low limit at) (not-zero at)
 
-  on-parsed : (at refusal : ℕ) → parsedNumbered (numberedOf (readOn at refusal (ranged (jobBuffer job) low limit))) ≡ readOn at refusal (ranged (jobBuffer job) low limit)
-  on-parsed at zero = numbered-parsed at
+  on-parsed : (at refusal : ℕ) → parsedLast (lastReadOf (readOn at refusal (ranged (jobBuffer job) low limit))) ≡ readOn at refusal (ranged (jobBuffer job) low limit)
+  on-parsed at zero = last-parsed at
   on-parsed at (suc k) = refl
 
 -- ---- one number after the other
@@ -72,26 +72,26 @@ earlier : {A : Type 0} (refusal number at : ℕ) (p : ℕ → Parser ℕ) {x : P
 earlier zero number at p k e h = h ∙ ap (λ x. onward x (k number)) e
 earlier (suc j) number at p k e h = h ∙ ap (λ x. onward x (k number)) e
 
-made : ℕ → ℕ → ℕ → ℕ → Parser Front
+made : ℕ → ℕ → ℕ → ℕ → Parser Preamble
 made v s t n a = parsed (record { variables = v; states = s; start = t; transitions = n; at = a; refusal = 0 }) a
 
-front-made : (refusal v s t n a : ℕ)
+preamble-made : (refusal v s t n a : ℕ)
     → unlessRefused refusal (record { variables = v; states = s; start = t; transitions = n; at = a; refusal = refusal }) a
     ≡ onward (unlessRefused refusal n a) (made v s t)
 unfolding made
-front-made zero v s t n a = refl
-front-made (suc k) v s t n a = refl
+preamble-made zero v s t n a = refl
+preamble-made (suc k) v s t n a = refl
 
-pub front-parsed : (job : List ℕ) → parsedFront (frontRead (jobBuffer job)) ≡ readFront (jobBuffer job) 0
-unfolding made readFront frontRead
-front-parsed job =
+pub preamble-parsed : (job : List ℕ) → parsedPreamble (preambleRead (jobBuffer job)) ≡ readPreamble (jobBuffer job) 0
+unfolding made readPreamble preambleRead
+preamble-parsed job =
     let p = ranged (jobBuffer job) in
-    let version = numberedOf (p 1 2 0) in
-    let variables = numberedAfter version (p 1 9) in
-    let states = numberedAfter variables (p 1 65) in
-    let start = numberedAfter states (p 0 (states .number)) in
-    let transitions = numberedAfter start (p 0 257) in
-    let h₅ = front-made (transitions .refusal) (variables .number) (states .number) (start .number) (transitions .number) (transitions .at) in
+    let version = lastReadOf (p 1 2 0) in
+    let variables = lastReadAfter version (p 1 9) in
+    let states = lastReadAfter variables (p 1 65) in
+    let start = lastReadAfter states (p 0 (states .number)) in
+    let transitions = lastReadAfter start (p 0 257) in
+    let h₅ = preamble-made (transitions .refusal) (variables .number) (states .number) (start .number) (transitions .number) (transitions .at) in
     let h₄ = earlier (start .refusal) (start .number) (start .at) (λ n. p 0 257) (λ t n a. made (variables .number) (states .number) t n a)
     (on-parsed job 0 257 (start .at) (start .refusal)) h₅ in
     let h₃ = earlier (states .refusal) (states .number) (states .at) (λ n. p 0 n) (λ s t a. onward (p 0 257 a) (made (variables .number) s t))
@@ -100,4 +100,4 @@ front-parsed job =
     (λ v s a. onward (p 0 s a) (λ t b. onward (p 0 257 b) (made v s t))) (on-parsed job 1 65 (variables .at) (variables .refusal)) h₃ in
     let h₁ = earlier (version .refusal) (version .number) (version .at) (λ n. p 1 9)
     (λ _ v a. onward (p 1 65 a) (λ s b. onward (p 0 s b) (λ t c. onward (p 0 257 c) (made v s t)))) (on-parsed job 1 9 (version .at) (version .refusal)) h₂ in
-    h₁ ∙ ap (λ x. onward x (λ _ a. onward (p 1 9 a) (λ v b. onward (p 1 65 b) (λ s c. onward (p 0 s c) (λ t d. onward (p 0 257 d) (made v s t)))))) (numbered-parsed job 1 2 0)
+    h₁ ∙ ap (λ x. onward x (λ _ a. onward (p 1 9 a) (λ v b. onward (p 1 65 b) (λ s c. onward (p 0 s c) (λ t d. onward (p 0 257 d) (made v s t)))))) (last-parsed job 1 2 0)

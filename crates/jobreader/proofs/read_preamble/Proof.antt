@@ -1,4 +1,4 @@
--- `jobreader::read_front` meets its contract: a walk of its MIR, by hand. A `Reader` that `new` returns is held in a local and passed to `next`, the one that comes back likewise, five times, and the result is made of their numbers. All that the proof knows of `new` and of `next` is that each meets its contract (`Readers.antt`).
+-- `jobreader::read_preamble` meets its contract: a walk of its MIR, by hand. A `Reader` that `new` returns is held in a local and passed to `next`, the one that comes back likewise, five times, and the result is made of their numbers. All that the proof knows of `new` and of `next` is that each meets its contract (`Readers.antt`).
 -- In a local of a body MIR erases the lifetime of the struct's type, so the value is shown to have the type at `erased`: what the struct owns does not say the lifetime's name.
 -- Assumes nothing.
 use denote.Plain.{uint-makes}
@@ -41,15 +41,15 @@ use denote.Triple.Walked.{says, Stays, stay-none-slice, walkOf, goes-none-slice,
 use denote.Exit.{yes}
 use denote.Triple.Clauses.{ensured}
 use Rattle.format.specs.Parser.{jobBuffer, ranged}
-use Rattle.jobreader.specs.Reader.{numberedOf, numberedAfter, numberedIn, frontRead}
-use Rattle.jobreader.specs.declared.Front.{Front}
+use Rattle.jobreader.specs.Reader.{lastReadOf, lastReadAfter, lastReadIn, preambleRead}
+use Rattle.jobreader.specs.declared.Preamble.{Preamble}
 use Rattle.jobreader.specs.declared.Reader.{Reader}
-use Rattle.jobreader.specs.declared.Numbered.{Numbered}
+use Rattle.jobreader.specs.declared.LastRead.{LastRead}
 use Rattle.jobreader.proofs.Readers.{B, New, Next, OwnSlice, to-new, goes-new, NewSaid, new-said, to-next, goes-next, NextSaid, next-said, Fits, fits}
 use Rattle.jobreader.proofs.Reader as T
 use Rattle.jobreader.proofs.Reader.Laws as T′
-use Rattle.jobreader.proofs.Front as S
-use Rattle.jobreader.proofs.Front.Laws as S′
+use Rattle.jobreader.proofs.Preamble as S
+use Rattle.jobreader.proofs.Preamble.Laws as S′
 use Rattle.jobreader.proofs.new as new
 use Rattle.jobreader.proofs.new.Symbol as new-def
 use Rattle.jobreader.proofs.new.Symbol.{name as #jobreader·new}
@@ -58,12 +58,12 @@ use Rattle.jobreader.proofs.next as next
 use Rattle.jobreader.proofs.next.Symbol as next-def
 use Rattle.jobreader.proofs.next.Symbol.{name as #jobreader·next}
 use Rattle.jobreader.proofs.next.Met as next-thm
-use Rattle.jobreader.proofs.read_front.Key.{name as #jobreader·read-front}
-use Rattle.jobreader.proofs.read_front as read-front
-use Rattle.jobreader.proofs.read_front.Statement as stated
-use Rattle.jobreader.proofs.read_front.Code as code
+use Rattle.jobreader.proofs.read_preamble.Key.{name as #jobreader·read-preamble}
+use Rattle.jobreader.proofs.read_preamble as read-preamble
+use Rattle.jobreader.proofs.read_preamble.Statement as stated
+use Rattle.jobreader.proofs.read_preamble.Code as code
 
-abbrev stayed : Stays (read-front.ended .signature .params) (read-front.ended .kept)
+abbrev stayed : Stays (read-preamble.ended .signature .params) (read-preamble.ended .kept)
 stayed = (stay-none-slice (0 ∷ []) tt (plain (λ _. u8)) yes, tt)
 
 module _ {M : Type 1} (𝓤 : URA M) (H : Heap 𝓤) (A : Atoms 𝓤) (W : Given 𝓤 H A) (mem : Memory → SProp 𝓤) (run : Routine → Fun 𝓤) (κ : Lft) (q : Share) (s : RefT (List ℕ)) where
@@ -76,46 +76,46 @@ module _ {M : Type 1} (𝓤 : URA M) (H : Heap 𝓤) (A : Atoms 𝓤) (W : Given
   αᵉ = record { mir = erased; lft = κ }
 
   abbrev Post : Val → SProp 𝓤
-  Post = walkOf 𝓤 H A read-front.ended stayed (read-front.clauses 𝓤 H A mem run) .post (((κ, tt), (q, tt), tt, (s, tt), (v ∷ [], tt)), tt)
+  Post = walkOf 𝓤 H A read-preamble.ended stayed (read-preamble.clauses 𝓤 H A mem run) .post (((κ, tt), (q, tt), tt, (s, tt), (v ∷ [], tt)), tt)
 
   -- the result, of the readers that were moved on one after the other
-  abbrev made : Reader → Reader → Reader → Reader → Front
+  abbrev made : Reader → Reader → Reader → Reader → Preamble
   made r₂ r₃ r₄ r₅ = record { variables = r₂ .number; states = r₃ .number; start = r₄ .number; transitions = r₅ .number; at = r₅ .at; refusal = r₅ .refusal }
 
   -- what a call of `next` says where the reader passed has the job, and what it read before is known
-  read-next : (r t : Reader) (low limit : ℕ) (x : Numbered) → r .src ≡ s → numberedIn r ≡ x → numberedIn t ≡ numberedAfter (numberedIn r) (ranged (jobBuffer (now (r .src))) low limit)
-      → numberedIn t ≡ numberedAfter x (ranged (jobBuffer (now s)) low limit)
+  read-next : (r t : Reader) (low limit : ℕ) (x : LastRead) → r .src ≡ s → lastReadIn r ≡ x → lastReadIn t ≡ lastReadAfter (lastReadIn r) (ranged (jobBuffer (now (r .src))) low limit)
+      → lastReadIn t ≡ lastReadAfter x (ranged (jobBuffer (now s)) low limit)
   read-next r t low limit x src-is r-is e =
-      e ∙ ap (λ (y : RefT (List ℕ)). numberedAfter (numberedIn r) (ranged (jobBuffer (now y)) low limit)) src-is ∙ ap (λ (y : Numbered). numberedAfter y (ranged (jobBuffer (now s)) low limit)) r-is
+      e ∙ ap (λ (y : RefT (List ℕ)). lastReadAfter (lastReadIn r) (ranged (jobBuffer (now y)) low limit)) src-is ∙ ap (λ (y : LastRead). lastReadAfter y (ranged (jobBuffer (now s)) low limit)) r-is
 
   -- what the six calls say together
   told : (r₀ : Reader) (u₀ : Val) (r₁ : Reader) (u₁ : Val) (r₂ : Reader) (u₂ : Val) (r₃ : Reader) (u₃ : Val) (r₄ : Reader) (u₄ : Val) (r₅ : Reader)
       → NewSaid 𝓤 H A W mem run κ q s 0 r₀ → NextSaid 𝓤 H A W mem run κ q r₀ u₀ 1 2 r₁ → NextSaid 𝓤 H A W mem run κ q r₁ u₁ 1 9 r₂ → NextSaid 𝓤 H A W mem run κ q r₂ u₂ 1 65 r₃
-      → NextSaid 𝓤 H A W mem run κ q r₃ u₃ 0 (r₃ .number) r₄ → NextSaid 𝓤 H A W mem run κ q r₄ u₄ 0 257 r₅ → made r₂ r₃ r₄ r₅ ≡ frontRead (jobBuffer (now s))
-  unfolding frontRead
+      → NextSaid 𝓤 H A W mem run κ q r₃ u₃ 0 (r₃ .number) r₄ → NextSaid 𝓤 H A W mem run κ q r₄ u₄ 0 257 r₅ → made r₂ r₃ r₄ r₅ ≡ preambleRead (jobBuffer (now s))
+  unfolding preambleRead
   told r₀ u₀ r₁ u₁ r₂ u₂ r₃ u₃ r₄ u₄ r₅ (s₀, at-first, _, none) (s₁, e₁) (s₂, e₂) (s₃, e₃) (s₄, e₄) (s₅, e₅) =
       let p = ranged (jobBuffer (now s)) in
-      let version : Numbered = numberedOf (p 1 2 0) in
-      let variables : Numbered = numberedAfter version (p 1 9) in
-      let states : Numbered = numberedAfter variables (p 1 65) in
-      let start : Numbered = numberedAfter states (p 0 (states .number)) in
-      let transitions : Numbered = numberedAfter start (p 0 257) in
+      let version : LastRead = lastReadOf (p 1 2 0) in
+      let variables : LastRead = lastReadAfter version (p 1 9) in
+      let states : LastRead = lastReadAfter variables (p 1 65) in
+      let start : LastRead = lastReadAfter states (p 0 (states .number)) in
+      let transitions : LastRead = lastReadAfter start (p 0 257) in
       let z₁ : r₁ .src ≡ s = s₁ ∙ s₀ in
       let z₂ : r₂ .src ≡ s = s₂ ∙ z₁ in
       let z₃ : r₃ .src ≡ s = s₃ ∙ z₂ in
       let z₄ : r₄ .src ≡ s = s₄ ∙ z₃ in
-      let q₁ : numberedIn r₁ ≡ version = read-next r₀ r₁ 1 2 (numberedIn r₀) s₀ refl e₁ ∙ rw (at-first, none) refl in
-      let q₂ : numberedIn r₂ ≡ variables = read-next r₁ r₂ 1 9 version z₁ q₁ e₂ in
-      let q₃ : numberedIn r₃ ≡ states = read-next r₂ r₃ 1 65 variables z₂ q₂ e₃ in
-      let q₄ : numberedIn r₄ ≡ start = read-next r₃ r₄ 0 (r₃ .number) states z₃ q₃ e₄ ∙ ap (λ (n : ℕ). numberedAfter states (p 0 n)) (ap (λ (x : Numbered). x .number) q₃) in
-      let q₅ : numberedIn r₅ ≡ transitions = read-next r₄ r₅ 0 257 start z₄ q₄ e₅ in
+      let q₁ : lastReadIn r₁ ≡ version = read-next r₀ r₁ 1 2 (lastReadIn r₀) s₀ refl e₁ ∙ rw (at-first, none) refl in
+      let q₂ : lastReadIn r₂ ≡ variables = read-next r₁ r₂ 1 9 version z₁ q₁ e₂ in
+      let q₃ : lastReadIn r₃ ≡ states = read-next r₂ r₃ 1 65 variables z₂ q₂ e₃ in
+      let q₄ : lastReadIn r₄ ≡ start = read-next r₃ r₄ 0 (r₃ .number) states z₃ q₃ e₄ ∙ ap (λ (n : ℕ). lastReadAfter states (p 0 n)) (ap (λ (x : LastRead). x .number) q₃) in
+      let q₅ : lastReadIn r₅ ≡ transitions = read-next r₄ r₅ 0 257 start z₄ q₄ e₅ in
       λ i. record { variables = q₂ i .number; states = q₃ i .number; start = q₄ i .number; transitions = q₅ i .number; at = q₅ i .at; refusal = q₅ i .refusal }
 
-  exits : (r₂ r₃ r₄ r₅ : Reader) → made r₂ r₃ r₄ r₅ ≡ frontRead (jobBuffer (now s)) → r₂ .number < 2 ^ 64 → r₃ .number < 2 ^ 64 → r₄ .number < 2 ^ 64 → Fits 𝓤 H A W mem run κ q r₅
+  exits : (r₂ r₃ r₄ r₅ : Reader) → made r₂ r₃ r₄ r₅ ≡ preambleRead (jobBuffer (now s)) → r₂ .number < 2 ^ 64 → r₃ .number < 2 ^ 64 → r₄ .number < 2 ^ 64 → Fits 𝓤 H A W mem run κ q r₅
       → ent 𝓤 (⋆ 𝓤 H A ((‵ (flft κ q) ⊛ ‵ ftrue) ∷ ‵ (OwnSlice 𝓤 H A W mem run κ q s 0) ∷ [])) (Post (S′.lowered (made r₂ r₃ r₄ r₅)))
   exits r₂ r₃ r₄ r₅ e ok₂ ok₃ ok₄ ok =
       qed W ((‵ (flft κ q) ⊛ ‵ ftrue) ∷ ‵ (OwnSlice 𝓤 H A W mem run κ q s 0) ∷ []) ∵
-      suffices ! _ (ends-at 𝓤 H A read-front.ended stayed (read-front.clauses 𝓤 H A mem run) W (((κ, tt), (q, tt), tt, (s, tt), (v ∷ [], tt)), tt) (S′.lowered (made r₂ r₃ r₄ r₅)) (made r₂ r₃ r₄ r₅) (tt, tt) (tt, tt)) $ says ! e $
+      suffices ! _ (ends-at 𝓤 H A read-preamble.ended stayed (read-preamble.clauses 𝓤 H A mem run) W (((κ, tt), (q, tt), tt, (s, tt), (v ∷ [], tt)), tt) (S′.lowered (made r₂ r₃ r₄ r₅)) (made r₂ r₃ r₄ r₅) (tt, tt) (tt, tt)) $ says ! e $
       frame ! $ nothing ! $ move ! (1 ∷ 0 ∷ []) $ fjoin ! $ frame ! $
       nothing ! $ owned ! usize (Is usize) (uint-makes 𝓤 H A W w64) (r₅ .refusal) _ (refl, ok .2) $ fjoin ! $ owned ! usize (Is usize) (uint-makes 𝓤 H A W w64) (r₅ .at) _ (refl, ok .0) $ fjoin ! $
       owned ! usize (Is usize) (uint-makes 𝓤 H A W w64) (r₅ .number) _ (refl, ok .1) $ fjoin ! $ owned ! usize (Is usize) (uint-makes 𝓤 H A W w64) (r₄ .number) _ (refl, ok₄) $ fjoin ! $
@@ -123,7 +123,7 @@ module _ {M : Type 1} (𝓤 : URA M) (H : Heap 𝓤) (A : Atoms 𝓤) (W : Given
       by ! (own-shut 𝓤 H A W S.the-type S′.the-laws (r₂ .number, (r₃ .number, (r₄ .number, (r₅ .number, (r₅ .at, (r₅ .refusal, tt)))))))
 
   module _ (C : Calls 𝓤 H) (Λ : Loops 𝓤 H) (fm : FmC 𝓤 H (W .laws) C) (known-new : Triple 𝓤 (C #jobreader·new) (New 𝓤 H A mem run)) (known-next : Triple 𝓤 (C #jobreader·next) (Next 𝓤 H A mem run)) where
-    walk : Is (ShrSlice (named 0) κ u8) s (v ∷ []) → ent 𝓤 (onEntry 𝓤 H A read-front.signature (κ, tt) (q, tt) (s, tt) (v ∷ [], tt)) (WpFn 𝓤 H C Λ code.function (v ∷ []) Post)
+    walk : Is (ShrSlice (named 0) κ u8) s (v ∷ []) → ent 𝓤 (onEntry 𝓤 H A read-preamble.signature (κ, tt) (q, tt) (s, tt) (v ∷ [], tt)) (WpFn 𝓤 H C Λ code.function (v ∷ []) Post)
     walk p =
         qed W ((‵ (flft κ q) ⊛ ‵ ftrue) ∷ ‵ (owns (ShrSlice (named 0) κ u8 ∷ []) (s, tt) (v ∷ [], tt)) ∷ []) ∵ enter ! C Λ code.function (v ∷ []) _ $
         alloc1 ! (λ l₀. alloc1 ! (λ l₁. alloc1 ! (λ l₂. alloc1 ! (λ l₃. alloc1 ! (λ l₄. alloc1 ! (λ l₅. alloc1 ! (λ l₆. alloc1 ! (λ l₇. alloc1 ! (λ l₈. alloc1 ! (λ l₉. alloc1 ! (λ l₁₀. alloc1 ! (λ l₁₁. alloc1 ! (λ l₁₂. alloc1 ! (λ l₁₃. alloc1 ! (λ l₁₄. alloc1 ! (λ l₁₅. alloc1 ! (λ l₁₆. alloc1 ! (λ l₁₇. alloc1 ! (λ l₁₈. alloc0 ! $ params1 ! $
@@ -187,22 +187,22 @@ module _ {M : Type 1} (𝓤 : URA M) (H : Heap 𝓤) (A : Atoms 𝓤) (W : Given
         by ! (exits r₂ r₃ r₄ r₅ (told r₀ u₀ r₁ u₁ r₂ u₂ r₃ u₃ r₄ u₄ r₅ e₀ e₁ e₂ e₃ e₄ e₅) (fits 𝓤 H A W mem run κ q r₂ u₂ is₂ .1) (fits 𝓤 H A W mem run κ q r₃ u₃ is₃ .1) (fits 𝓤 H A W mem run κ q r₄ u₄ is₄ .1) (fits 𝓤 H A W mem run κ q r₅ u₅ is₅)))))))))))))))))))))))))))))))))))))))))))))
 
 module _ {M : Type 1} (𝓤 : URA M) (H : Heap 𝓤) (A : Atoms 𝓤) (W : Given 𝓤 H A) (mem : Memory → SProp 𝓤) (run : Routine → Fun 𝓤) where
-  read-front-walks : (C : Calls 𝓤 H) (Λ : Loops 𝓤 H) → FmC 𝓤 H (W .laws) C → Triple 𝓤 (C #jobreader·new) (New 𝓤 H A mem run) → Triple 𝓤 (C #jobreader·next) (Next 𝓤 H A mem run)
-      → Walks 𝓤 H A read-front.ended stayed (WpFn 𝓤 H C Λ code.function) (read-front.clauses 𝓤 H A mem run)
-  read-front-walks C Λ fm known-new known-next = walked 𝓤 H A read-front.ended stayed (read-front.clauses 𝓤 H A mem run) (WpFn 𝓤 H C Λ code.function) (λ κs. (slice-vals, tt)) (λ κs. (shr-slice-tells (named 0) (κs .0) u8, tt))
+  read-preamble-walks : (C : Calls 𝓤 H) (Λ : Loops 𝓤 H) → FmC 𝓤 H (W .laws) C → Triple 𝓤 (C #jobreader·new) (New 𝓤 H A mem run) → Triple 𝓤 (C #jobreader·next) (Next 𝓤 H A mem run)
+      → Walks 𝓤 H A read-preamble.ended stayed (WpFn 𝓤 H C Λ code.function) (read-preamble.clauses 𝓤 H A mem run)
+  read-preamble-walks C Λ fm known-new known-next = walked 𝓤 H A read-preamble.ended stayed (read-preamble.clauses 𝓤 H A mem run) (WpFn 𝓤 H C Λ code.function) (λ κs. (slice-vals, tt)) (λ κs. (shr-slice-tells (named 0) (κs .0) u8, tt))
       (λ κs qs bounds a g are. via 𝓤 _ (fst∗ 𝓤 _ (emp 𝓤)) (walk 𝓤 H A W mem run (κs .0) (qs .0) (a .0) C Λ fm known-new known-next (are .0)))
 
-read-front-meets : {M : Type 1} (𝓤 : URA M) (H : Heap 𝓤) (A : Atoms 𝓤) (W : Given 𝓤 H A) (mem : Memory → SProp 𝓤) (run : Routine → Fun 𝓤) (𝓣 : Tables 𝓤 H)
+read-preamble-meets : {M : Type 1} (𝓤 : URA M) (H : Heap 𝓤) (A : Atoms 𝓤) (W : Given 𝓤 H A) (mem : Memory → SProp 𝓤) (run : Routine → Fun 𝓤) (𝓣 : Tables 𝓤 H)
     → Triple 𝓤 (𝓣 .C #jobreader·new) (New 𝓤 H A mem run) → Triple 𝓤 (𝓣 .C #jobreader·next) (Next 𝓤 H A mem run)
-    → Meets 𝓤 H A read-front.signature (WpFn 𝓤 H (𝓣 .C) (𝓣 .Λ) code.function) (read-front.spec 𝓤 H A mem run)
-read-front-meets 𝓤 H A W mem run 𝓣 known-new known-next = walk-meets 𝓤 H A read-front.ended stayed W (goes-none-slice 𝓤 H A W 1 (0 ∷ []) tt (plain (λ _. u8)) yes, tt) (read-front.clauses 𝓤 H A mem run) (WpFn 𝓤 H (𝓣 .C) (𝓣 .Λ) code.function) (WpFn-mono 𝓤 H (W .laws) 𝓣 code.function)
-    (read-front-walks 𝓤 H A W mem run (𝓣 .C) (𝓣 .Λ) (fmOf 𝓤 H (W .laws) 𝓣) known-new known-next)
+    → Meets 𝓤 H A read-preamble.signature (WpFn 𝓤 H (𝓣 .C) (𝓣 .Λ) code.function) (read-preamble.spec 𝓤 H A mem run)
+read-preamble-meets 𝓤 H A W mem run 𝓣 known-new known-next = walk-meets 𝓤 H A read-preamble.ended stayed W (goes-none-slice 𝓤 H A W 1 (0 ∷ []) tt (plain (λ _. u8)) yes, tt) (read-preamble.clauses 𝓤 H A mem run) (WpFn 𝓤 H (𝓣 .C) (𝓣 .Λ) code.function) (WpFn-mono 𝓤 H (W .laws) 𝓣 code.function)
+    (read-preamble-walks 𝓤 H A W mem run (𝓣 .C) (𝓣 .Λ) (fmOf 𝓤 H (W .laws) 𝓣) known-new known-next)
 
-pub read-front-spec : {M : Type 1} → stated.statement M
+pub read-preamble-spec : {M : Type 1} → stated.statement M
 unfolding code.routine tablesOf
-read-front-spec 𝓤 H 𝓜 𝓖 𝓡 =
-    entered 𝓤 H (tripleOf 𝓤 H (𝓖 .A) read-front.signature (read-front.spec 𝓤 H (𝓖 .A) (𝓜 .mem) (𝓡 .run)))
-    (tables 𝓤 H 𝓜 𝓡 code.env .C) (tables 𝓤 H 𝓜 𝓡 code.env .Λ) #jobreader·read-front code.function (code.unfolded 𝓤 H 𝓜 𝓡)
-    (read-front-meets 𝓤 H (𝓖 .A) (givenOf 𝓤 H 𝓜 𝓖) (𝓜 .mem) (𝓡 .run) (tablesOf 𝓤 H 𝓜 (tables 𝓤 H 𝓜 𝓡 code.env))
+read-preamble-spec 𝓤 H 𝓜 𝓖 𝓡 =
+    entered 𝓤 H (tripleOf 𝓤 H (𝓖 .A) read-preamble.signature (read-preamble.spec 𝓤 H (𝓖 .A) (𝓜 .mem) (𝓡 .run)))
+    (tables 𝓤 H 𝓜 𝓡 code.env .C) (tables 𝓤 H 𝓜 𝓡 code.env .Λ) #jobreader·read-preamble code.function (code.unfolded 𝓤 H 𝓜 𝓡)
+    (read-preamble-meets 𝓤 H (𝓖 .A) (givenOf 𝓤 H 𝓜 𝓖) (𝓜 .mem) (𝓡 .run) (tablesOf 𝓤 H 𝓜 (tables 𝓤 H 𝓜 𝓡 code.env))
     (cited 𝓤 H (New 𝓤 H (𝓖 .A) (𝓜 .mem) (𝓡 .run)) 𝓜 𝓡 code.env #jobreader·new new-def.routine code.calls-jobreader·new (new-thm.met 𝓤 H 𝓜 𝓖 𝓡))
     (cited 𝓤 H (Next 𝓤 H (𝓖 .A) (𝓜 .mem) (𝓡 .run)) 𝓜 𝓡 code.env #jobreader·next next-def.routine code.calls-jobreader·next (next-thm.met 𝓤 H 𝓜 𝓖 𝓡)))
