@@ -1,3 +1,3 @@
-pub mod Preamble
+pub mod PreambleNumbers
 pub mod Readers
 pub mod OneNumber

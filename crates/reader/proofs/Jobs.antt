@@ -15,7 +15,7 @@ use Rattle.format.proofs.Sequence.{reads-one}
 use Rattle.number.specs.Number.{numberAt}
 use Rattle.number.specs.declared.Read.the-variants.{Number}
 use Rattle.reader.specs.Job.{readRest}
-use Rattle.jobreader.proofs.Preamble.{unlessRefused, readPreamble, ranged-fault}
+use Rattle.jobreader.proofs.PreambleNumbers.{unlessRefused, readPreamble, ranged-fault}
 use Rattle.jobreader.specs.declared.Preamble.{Preamble}
 use Rattle.reader.specs.Number.{withoutValue}
 use Rattle.reader.proofs.Answers.{in-range}

@@ -11,7 +11,7 @@ use Rattle.format.specs.Parser.{Parsed, parsed, fault, Parser, onward, _>>=_, _
 use Rattle.format.proofs.Files.{located-exact, transition-exact, job-exact, whole-sound, end-sound, end-complete}
 use Rattle.format.proofs.Parsing.{then, many-exact, ranged-exact}
 use Rattle.format.proofs.Sequence.{reads-one, reads-inside}
-use Rattle.jobreader.proofs.Preamble.{readPreamble}
+use Rattle.jobreader.proofs.PreambleNumbers.{readPreamble}
 use Rattle.jobreader.specs.declared.Preamble.{Preamble}
 use Rattle.reader.specs.Job.{readRest, RestAnswered, JobRead, JobAnswered}
 use Rattle.reader.specs.Number.{withoutValue}

@@ -2,7 +2,7 @@
 use mathlib.Core.Path.{sym, ap, _∙_}
 use native.Mathlib.Omega.{arith}
 use Rattle.format.specs.Parser.{jobBuffer}
-use Rattle.jobreader.proofs.Preamble.{parsedLast, ranged-fault, last-parsed}
+use Rattle.jobreader.proofs.PreambleNumbers.{parsedLast, ranged-fault, last-parsed}
 use Rattle.reader.proofs.Jobs.{reader-refused, reader-read}
 use borrow.Author.Needs.{needs}
 use Rattle.reader.proofs.job_ranged.Statement.{statement}

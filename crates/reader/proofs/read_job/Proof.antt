@@ -2,7 +2,7 @@
 use mathlib.Core.Path.{ap, _∙_}
 use native.Mathlib.Omega.{arith}
 use Rattle.format.specs.Parser.{jobBuffer}
-use Rattle.jobreader.proofs.Preamble.{parsedPreamble, preamble-parsed}
+use Rattle.jobreader.proofs.PreambleNumbers.{parsedPreamble, preamble-parsed}
 use Rattle.reader.proofs.Answers.{reached-got, reached-lost}
 use Rattle.reader.proofs.Jobs.{preamble-fault, reader-refused, reader-read, preamble-variables}
 use Rattle.reader.proofs.WholeJob.{preamble-lost, transitions-lost, answered}
