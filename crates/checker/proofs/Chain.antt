@@ -5,8 +5,8 @@ use Prim.Native.Nat.{ℕ, zero, suc, _+_, _-_, _≤_, _<_}
 use native.Mathlib.Omega.{arith}
 use lib.ListN.{getD}
 use Rattle.run.specs.Run.{Located}
-use Rattle.order.specs.Index.{nextInto, Follows}
-use Rattle.order.proofs.Into.{before, owedFrom, FirstInto, none-into, some-into}
+use Rattle.transitions.specs.Index.{nextInto, Follows}
+use Rattle.checker.proofs.Into.{before, owedFrom, FirstInto, none-into, some-into}
 use Rattle.reader.specs.declared.Header.{Header}
 use Rattle.verdict.specs.declared.Refusal.{Refusal}
 use Rattle.checker.specs.Jobs.{transitionIn, toState, owedBy}

@@ -7,8 +7,8 @@ use native.Mathlib.Numerals.{add-one}
 use native.Mathlib.Omega.{arith}
 use borrow.Author.Tests.{lt-ltb}
 use lib.ListN.{length, replicate}
-use Rattle.order.specs.Index.{IndexedFrom}
-use Rattle.order.proofs.Index.{linked-none, linked-more}
+use Rattle.transitions.specs.Index.{IndexedFrom}
+use Rattle.transitions.proofs.Linked.{linked-none, linked-more}
 use Rattle.reader.specs.Job.{JobRead}
 use Rattle.reader.specs.declared.Header.{Header}
 use Rattle.transitions.specs.Transitions.{toByte, indexOne, indexWith, areThere, indexed}

@@ -6,6 +6,7 @@ pub mod Checks
 pub mod ChoiceLoop
 pub mod Helper
 pub mod Operands
+pub mod Into
 pub mod Chain
 pub mod Verdicts
 pub mod Indexed

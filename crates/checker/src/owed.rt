@@ -26,7 +26,7 @@ ghost use Rattle.kinds.specs.Kinds.{allowed};
 ghost use Rattle.layout.specs.ShapeArray.{cellCount, shapeIn, ShapeArray};
 ghost use Rattle.layout.specs.Entries.{locatedAt, entriesAt, EntriesIn, membersAt, Table};
 ghost use Rattle.layout.specs.Transitions.{transitionAt};
-ghost use Rattle.order.specs.Index.{IndexedFrom};
+ghost use Rattle.transitions.specs.Index.{IndexedFrom};
 ghost use Rattle.reader.specs.Job.{JobRead};
 
 // Covers of so many forbidden shapes, from a place of the job on.

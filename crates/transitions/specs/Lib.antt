@@ -1,1 +1,2 @@
 pub mod Transitions
+pub mod Index

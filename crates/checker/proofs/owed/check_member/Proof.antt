@@ -3,8 +3,8 @@ use native.Mathlib.Omega.{arith}
 use lib.ListN.{getD}
 use Rattle.layout.specs.Entries.{locatedAt}
 use Rattle.covering.specs.Members.{membersFrom}
-use Rattle.order.proofs.Index.{linked-head}
-use Rattle.order.proofs.Into.{before}
+use Rattle.transitions.proofs.Linked.{linked-head}
+use Rattle.checker.proofs.Into.{before}
 use Rattle.reader.proofs.Loaded.{Loaded, loaded}
 use Rattle.checker.specs.Checking.{ChecksAll}
 use Rattle.checker.specs.Jobs.{transitionIn, toState}

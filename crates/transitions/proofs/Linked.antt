@@ -1,4 +1,4 @@
--- The index of transitions, built back to front.
+-- The index of transitions, built last to first: each slot is the next transition into its state.
 use mathlib.Core.List.{List}
 use mathlib.Core.Path.{_≡_, refl, sym, ap, _∙_}
 use Prim.Native.Nat.{ℕ, suc, _+_, _-_, _≤_, _<_}
@@ -8,7 +8,7 @@ use lib.Dec.{eqb}
 use lib.ListN.{length, getD, set, length-set, replicate, getD-replicate}
 use lib.Seq.{getD-set-same, getD-set-other}
 use Rattle.lists.proofs.Reflect.{cond-true, cond-false, r-eq}
-use Rattle.order.specs.Index.{nextInto, IndexedFrom}
+use Rattle.transitions.specs.Index.{nextInto, IndexedFrom}
 
 module _ (to : ℕ → ℕ) (state left i : ℕ) where
   pub into-here : to i ≡ state → nextInto to state (suc left) i ≡ suc i

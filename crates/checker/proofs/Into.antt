@@ -11,8 +11,8 @@ use Rattle.lists.proofs.Reflect.{cond-true, cond-false, r-eq}
 use Rattle.run.specs.Run.{Transition, Located}
 use Rattle.backward.specs.Predecessors.{predecessors}
 use Rattle.cover.specs.Cover.{predecessorsBy}
-use Rattle.order.specs.Index.{nextInto}
-use Rattle.order.proofs.Index.{into-here, into-later}
+use Rattle.transitions.specs.Index.{nextInto}
+use Rattle.transitions.proofs.Linked.{into-here, into-later}
 
 -- the predecessors of a member by one transition, at its from state
 abbrev pub before : Located → Transition → List Located

@@ -1,1 +1,0 @@
-// The order of covers: definitions and laws, no code.
