@@ -29,6 +29,7 @@ ImageForEach ms c = (m : Located) → getElem? ms (c .member) ≡ some m → len
 abbrev pub countsOf : Job → List Located → Counts
 countsOf j ms = record { bads = length (j .forbidden); members = length ms; covers = length (owed j ms) }
 
+-- The conditions of acceptance, with the counts that are then told.
 pub record Conditions (job certificate : List ℕ) (counts : Counts) : Type 0 where
   pub job-length : Between 1 65536 (length job)
   pub certificate-length : Between 1 65536 (length certificate)

@@ -49,6 +49,7 @@ module _ (L : List ℕ → Type 0) (s : List ℕ) (place : ℕ) where
 abbrev pub OfJob : List ℕ → Type 0
 OfJob ns = (f : JobFile) × JobInRange f × (jobNumbers f ≡ ns)
 
+-- what a refusal 3 to 5 says of the job
 pub data InJob (job : List ℕ) : ℕ → ℕ → Type 0 where
   -- "3. A number of the job can't be read: past the end, above 65,535, or longer than needed (place: its first byte)."
   job-number : (place : ℕ) → Unread OfJob job place → InJob job 3 place
@@ -116,6 +117,7 @@ pub data CoverDue (f : JobFile) (certificate : List ℕ) (place limit : ℕ) : T
   image-due : (first : ℕ) (c : CoverBegun f certificate first place) → length (c .cover .images) < size (c .member .shape)
       → limit ≡ size (c .shape .shape) → CoverDue f certificate place limit
 
+-- what a refusal 6 to 10 says of the certificate of a job that is read
 pub data InCertificate (f : JobFile) (certificate : List ℕ) : ℕ → ℕ → Type 0 where
   -- "6. A number of the certificate can't be read, as in 3."
   member-unread : (place : ℕ) → Unread (OfMembers f) certificate place → InCertificate f certificate 6 place
@@ -131,6 +133,7 @@ pub data InCertificate (f : JobFile) (certificate : List ℕ) : ℕ → ℕ → 
   -- "10. Bytes are left after the last cover (the first of them)."
   certificate-left : (place : ℕ) → Covered f certificate place [] → place < length certificate → InCertificate f certificate 10 place
 
+-- what each refusal, by its number and place, says of the two buffers
 pub data Meaning (job certificate : List ℕ) : ℕ → ℕ → Type 0 where
   -- "1. The job's length is 0 or above 65,536 (place 0)."
   job-length : ¬ Between 1 65536 (length job) → Meaning job certificate 1 0

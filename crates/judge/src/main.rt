@@ -18,17 +18,20 @@ fn load(path: &[u8], room: &mut [u8]) -> usize
     n
 }
 
+// Prints a text and a number.
 fn print(text: &[u8], n: u64) {
     io::write_all(STDOUT_FILENO, text);
     io::print_decimal(STDOUT_FILENO, n);
 }
 
+// Prints what is told of an accepted pair.
 fn print_counts(counts: Counts) {
     print(b"accepted bads ", counts.bads as u64);
     print(b" members ", counts.members as u64);
     print(b" covers ", counts.covers as u64);
 }
 
+// Judges the two files.
 fn main() {
     let mut job = [0u8; 65537];
     let mut cert = [0u8; 65537];

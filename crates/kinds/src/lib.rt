@@ -26,6 +26,7 @@ const LEAST_B: [usize; 8] = [0, 0, 0, 0, 1, 0, 0, 0];
 
 const TAKES_B: [usize; 8] = [0, 1, 1, 1, 1, 1, 0, 0];
 
+// The least a of a kind; 0 for a number that is no kind.
 pub fn least_a(kind: usize) -> usize
     ensures { λ r. ⌜ r ≡ leastA kind ⌝ }
 {
@@ -35,6 +36,7 @@ pub fn least_a(kind: usize) -> usize
     LEAST_A[kind]
 }
 
+// The least b.
 pub fn least_b(kind: usize) -> usize
     ensures { λ r. ⌜ r ≡ leastB kind ⌝ }
 {
@@ -44,6 +46,7 @@ pub fn least_b(kind: usize) -> usize
     LEAST_B[kind]
 }
 
+// The most b where there are so many variables.
 pub fn most_b(kind: usize, variables: usize) -> usize
     ensures { λ r. ⌜ r ≡ mostB kind variables ⌝ }
 {

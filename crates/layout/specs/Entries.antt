@@ -31,6 +31,7 @@ entryEnd bytes variables at = at + 2 + variables + getD bytes (at + 1) 0
 unfoldable pub isWhole : List ℕ → ℕ → ℕ → Bool
 isWhole bytes variables at = leb variables 9 && (leb (getD bytes (at + 1) 0) 12 && leb (entryEnd bytes variables at) (length bytes))
 
+-- what the test says
 pub record Whole (bytes : List ℕ) (variables at : ℕ) : Type 0 where
   pub variables-most : variables ≤ 9
   pub cells : getD bytes (at + 1) 0 ≤ 12

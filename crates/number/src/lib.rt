@@ -19,6 +19,7 @@ pub enum Written {
     TooShort(usize),
 }
 
+// A byte as a number.
 fn wide(byte: u8) -> usize
     ensures { λ r. ⌜ (r ≡ byte) × (r < 256) ⌝ }
 {

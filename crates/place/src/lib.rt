@@ -3,7 +3,6 @@ ghost use mathlib.Core.Path.{_≡_};
 ghost use Rattle.lists.specs.List.{absent};
 ghost use Rattle.place.specs.Place.{cellPlace};
 
-// A place by its code: nowhere, # (null), * (dangling), or a cell.
 // The codes of places: "Nowhere, # and * are the codes 0, 1 and 2 of a place; cell i is 3 + i."
 pub const NOWHERE: u8 = 0;
 
@@ -13,6 +12,7 @@ pub const DANGLING: u8 = 2;
 
 pub const FIRST_CELL: u8 = 3;
 
+// A place by its code: nowhere, # (null), * (dangling), or a cell.
 pub struct Place {
     pub code: u8,
 }

@@ -138,6 +138,7 @@ fn source_fits(links: &[u8], p: Place, k: usize) -> bool
     link == p.code
 }
 
+// A byte as a number.
 fn wide(byte: u8) -> usize
     ensures { λ r. ⌜ r ≡ byte ⌝ }
 {
@@ -177,6 +178,7 @@ pub fn is_wanted(links: &[u8], wanted: Wanted, k: usize) -> bool
     }
 }
 
+// All choices from one on up to another.
 fn one_by_one(from: usize, to: usize) -> Choices
     ensures { λ r. ⌜ r ≡ oneByOne from to ⌝ }
 {
@@ -258,6 +260,7 @@ fn wanted_beside(starting: u8, kind: u8, links: &[u8], q: Place) -> Wanted
     target_of(links, q)
 }
 
+// Once, or nothing.
 fn once_if(test: bool) -> Wanted
     ensures { λ r. ⌜ r ≡ onceIf test ⌝ }
 {

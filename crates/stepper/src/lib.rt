@@ -23,12 +23,14 @@ pub struct Heap64 {
     pub links: [Place; 64],
 }
 
+// Why a step is refused: document 01's 13, 14 and 15.
 pub enum StepRefusal {
     IllFormed,
     BadOperation,
     Full,
 }
 
+// What became of a step.
 pub enum Outcome {
     Moved,
     Blocked,

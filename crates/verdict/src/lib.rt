@@ -2,6 +2,7 @@
 ghost use mathlib.Core.Path.{_≡_};
 ghost use Rattle.verdict.specs.Verdict.{refusalNumber};
 
+// The refusals 1 to 10 of document 01, in their order.
 pub enum Refusal {
     JobLength,
     CertificateLength,
@@ -15,12 +16,14 @@ pub enum Refusal {
     CertificateLeft,
 }
 
+// The counts of an accepted pair: forbidden shapes, members, covers.
 pub struct Counts {
     pub bads: u32,
     pub members: u32,
     pub covers: u32,
 }
 
+// Accepted with the counts, or a refusal with its place.
 pub enum Verdict {
     Accepted(Counts),
     Refused(Refusal, usize),

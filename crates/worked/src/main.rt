@@ -7,21 +7,25 @@ use stepper::Heap64;
 use verdict::Counts;
 use verdict::Verdict;
 
+// Prints a text.
 fn say(text: &[u8]) {
     io::write_all(STDOUT_FILENO, text);
 }
 
+// Prints a text and a number.
 fn say_number(text: &[u8], n: u64) {
     say(text);
     io::print_decimal(STDOUT_FILENO, n);
 }
 
+// Prints what is told of an accepted pair.
 fn say_counts(counts: Counts) {
     say_number(b"accepted bads ", counts.bads as u64);
     say_number(b" members ", counts.members as u64);
     say_number(b" covers ", counts.covers as u64);
 }
 
+// Prints the verdict on a case.
 fn judge(name: &[u8], job: &[u8], cert: &[u8]) {
     say(name);
     match checker::check(job, cert) {
@@ -34,6 +38,7 @@ fn judge(name: &[u8], job: &[u8], cert: &[u8]) {
     say(b"\n");
 }
 
+// Prints what is read at the start of some bytes.
 fn read(name: &[u8], bytes: &[u8]) {
     say(name);
     match number::read_number(bytes, 0) {
@@ -46,6 +51,7 @@ fn read(name: &[u8], bytes: &[u8]) {
     say(b"\n");
 }
 
+// Prints what writing a list answers.
 fn write(name: &[u8], numbers: &[u64]) {
     let mut bytes = [0u8; 4];
     say(name);
@@ -117,6 +123,7 @@ fn embeddings() {
     judge(b"P11 embeds: ", &fork, &[1u8, 1, 0, 2, 0, 4, 0, 0, 0, 3]);
 }
 
+// Shapes of 12 and of 13 cells.
 fn sizes() {
     judge(
         b"12 cells in the job: ",
@@ -208,6 +215,7 @@ fn blocked() {
     say(b"\n");
 }
 
+// All cases, in the order of the rules.
 fn main() {
     verdicts();
     predecessors();

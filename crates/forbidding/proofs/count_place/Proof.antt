@@ -1,3 +1,4 @@
+-- The sum of the code is the place by the number of bytes that T takes.
 use mathlib.Core.Path.{ap}
 use native.Mathlib.Omega.{arith}
 use lib.ListN.{length}

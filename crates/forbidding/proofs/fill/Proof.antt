@@ -1,3 +1,4 @@
+-- The copied job, the number put in its place and the set after it are the bytes of the rewritten job, one after the other.
 use mathlib.Core.Path.{_∙_}
 use native.Mathlib.Omega.{arith}
 use lib.ListN.{length-set}

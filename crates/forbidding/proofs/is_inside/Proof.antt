@@ -1,3 +1,4 @@
+-- By the set that is asked for: the test of its variable and state, or true.
 use mathlib.Core.Path.{ap, sym, _∙_}
 use Rattle.forbidden.specs.Written.{isInside}
 use Rattle.forbidding.specs.Answers.{setOf}

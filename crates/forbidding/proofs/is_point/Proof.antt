@@ -1,3 +1,4 @@
+-- Test after test, the variable and the state are in range or not.
 use Rattle.forbidding.proofs.Answers.{point-zero, point-above, point-there}
 use Rattle.forbidding.proofs.is_point.Statement.{statement}
 use Rattle.forbidding.proofs.is_point.Tie as tie

@@ -1,3 +1,4 @@
+-- By the set that is asked for: what is put is the bytes of its shapes, and there is room for them.
 use native.Mathlib.Omega.{arith}
 use Rattle.forbidding.proofs.Answers.{point-in, asked-inside, asked-room, asked-whole, asked-put, steps-in}
 use borrow.Author.Needs.{needs}

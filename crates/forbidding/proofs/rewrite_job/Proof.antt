@@ -1,3 +1,4 @@
+-- A job that is not read is refused as it is; one that is read goes on.
 use mathlib.Core.Path.{ap, subst, _∙_}
 use native.Mathlib.Omega.{arith}
 use lib.ListN.{length}

@@ -1,3 +1,4 @@
+-- Test after test in the order of the rules; where all pass, the bytes filled are those of the rewritten job.
 use borrow.Author.Tests.{not-true, not-false}
 use lib.ListN.{length}
 use Rattle.lists.proofs.Reflect.{passes}

@@ -1,3 +1,4 @@
+-- By the set that is asked for: four, six, or the count over the transitions.
 use mathlib.Core.Path.{ap, sym, _∙_}
 use lib.ListN.{length}
 use Rattle.forbidden.specs.Written.{shapesOf}

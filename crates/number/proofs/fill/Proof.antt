@@ -1,3 +1,4 @@
+-- The loop: the numbers before the i-th are written, what is after them is as before, and there is room for the rest.
 use Prim.Native.Nat.{_-_}
 use native.Mathlib.Omega.{arith}
 use lib.ListN.{length}

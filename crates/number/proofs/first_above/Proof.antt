@@ -1,3 +1,4 @@
+-- The loop: no number before the i-th is above 65,535.
 use Prim.Native.Nat.{_+_, _-_, _≤_}
 use mathlib.Core.Path.{_≡_}
 use native.Mathlib.Omega.{arith}

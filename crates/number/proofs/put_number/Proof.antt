@@ -1,3 +1,4 @@
+-- Byte after byte, what is written is the number's bytes, in place of as many.
 use Prim.Native.Nat.{_+_}
 use mathlib.Core.Path.{ap}
 use native.Mathlib.Omega.{arith}

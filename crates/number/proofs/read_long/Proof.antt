@@ -1,3 +1,4 @@
+-- Byte after byte, by the cases of the definition: unreadable, two bytes, three bytes.
 use native.Mathlib.Omega.{arith}
 use Rattle.number.proofs.Reading.{cut-at-one, zero-second, two-bytes, cut-at-two, zero-third, three-bytes, too-large}
 use borrow.Author.Needs.{needs}

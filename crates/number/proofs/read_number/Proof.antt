@@ -1,3 +1,4 @@
+-- Past the end, one byte, or more than one.
 use native.Mathlib.Omega.{arith}
 use Rattle.number.proofs.Reading.{past-end, one-byte}
 use borrow.Author.Needs.{needs}

@@ -1,3 +1,4 @@
+-- The loop: the bytes of the numbers before the i-th and of the rest make those of the list.
 use Prim.Native.Nat.{_+_, _-_, _*_, _≤_}
 use mathlib.Core.Path.{_≡_, ap}
 use native.Mathlib.Omega.{arith}

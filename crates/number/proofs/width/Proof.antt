@@ -1,3 +1,4 @@
+-- By size: one byte, two or three.
 use mathlib.Core.Path.{ap}
 use native.Mathlib.Omega.{arith}
 use lib.ListN.{length}

@@ -1,3 +1,4 @@
+-- A number too large, too little room, or the list filled: each is the answer and the output of the definition.
 use mathlib.Core.Path.{refl}
 use native.Mathlib.Omega.{arith}
 use lib.ListN.{length}

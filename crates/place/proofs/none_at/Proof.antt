@@ -1,3 +1,4 @@
+-- The loop: none of the places before the i-th is that one.
 use Prim.Native.Nat.{_-_, _≤_}
 use mathlib.Core.Path.{_≡_, refl, _∙_, sym}
 use native.Mathlib.Omega.{arith}

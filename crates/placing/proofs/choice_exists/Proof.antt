@@ -1,3 +1,4 @@
+-- The first n + 2 choices are there, and one within a link where the link has a place.
 use native.Mathlib.Omega.{arith}
 use Rattle.placing.proofs.Tests.{exists-near, exists-within, exists-past}
 use borrow.Author.Needs.{needs}

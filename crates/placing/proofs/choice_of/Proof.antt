@@ -1,3 +1,4 @@
+-- The number of the choice at #, and at a cell; 0 for other codes.
 use mathlib.Core.Path.{sym}
 use native.Mathlib.Omega.{arith}
 use Rattle.placing.proofs.Chosen.{choice-of-null, choice-of-cell}

@@ -1,3 +1,4 @@
+-- By what is wanted, the choices tried are those of the definition.
 use mathlib.Core.Path.{_∙_}
 use native.Mathlib.Omega.{arith}
 use Rattle.placing.proofs.Ranges.{choice-of-under, choices-nothing, choices-once, choices-any, choices-at, choices-off, choices-source, choices-itself, choices-target}

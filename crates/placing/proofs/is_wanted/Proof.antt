@@ -1,3 +1,4 @@
+-- By what is wanted, the test of the choice is that of the definition.
 use mathlib.Core.Path.{_∙_}
 use native.Mathlib.Omega.{arith}
 use Rattle.placing.proofs.Tests.{fits-nothing, fits-once, fits-any, fits-itself, fits-source, fits-at, fits-off, fits-not-off, fits-within, fits-end, fits-dangling}

@@ -1,3 +1,4 @@
+-- By the number of the choice: at a cell, by its link; at a fresh cell or within a link, as the definition says.
 use native.Mathlib.Omega.{arith}
 use Rattle.placing.proofs.Tests.{itself-free, itself-equal, itself-fresh}
 use borrow.Author.Needs.{needs}

@@ -1,3 +1,4 @@
+-- The link in the list, or none where the code is no cell's of it.
 use native.Mathlib.Omega.{arith}
 use Rattle.heap.proofs.Codes.{link-slot, link-low, link-past}
 use borrow.Author.Needs.{needs}

@@ -1,3 +1,4 @@
+-- No cell, a link nowhere, or a link at q.
 use native.Mathlib.Omega.{arith}
 use Rattle.placing.proofs.Tests.{open-none, open-free, open-equal}
 use borrow.Author.Needs.{needs}

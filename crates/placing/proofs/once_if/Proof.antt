@@ -1,3 +1,4 @@
+-- By the test.
 use Rattle.placing.proofs.Tests.{once-true, once-false}
 use Rattle.placing.proofs.once_if.Statement.{statement}
 use Rattle.placing.proofs.once_if.Tie as tie

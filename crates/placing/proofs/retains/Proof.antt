@@ -1,3 +1,4 @@
+-- By kind, the test of the code is that of the definition.
 use mathlib.Core.Path.{_∙_}
 use native.Mathlib.Omega.{arith}
 use Rattle.placing.proofs.Tests.{retains-different, retains-equal, retains-load, retains-store}

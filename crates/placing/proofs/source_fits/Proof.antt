@@ -1,3 +1,4 @@
+-- By the number of the choice: at a cell, by its link; at a fresh cell or within a link, as the definition says.
 use native.Mathlib.Omega.{arith}
 use Rattle.placing.proofs.Tests.{source-free, source-equal, source-near, source-past, source-unlinked, source-within}
 use borrow.Author.Needs.{needs}

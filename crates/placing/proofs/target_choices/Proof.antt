@@ -1,3 +1,4 @@
+-- A link at * has one choice; else the choice of its place, and the one within the link.
 use mathlib.Core.Path.{refl, _∙_}
 use native.Mathlib.Omega.{arith}
 use Rattle.placing.proofs.Ranges.{target-dangling, target-placed}

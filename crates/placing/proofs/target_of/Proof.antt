@@ -1,3 +1,4 @@
+-- By the cell at q and its link: nothing, a free link, or a link that stands somewhere.
 use native.Mathlib.Omega.{arith}
 use Rattle.placing.proofs.Tests.{target-none, target-free, target-linked}
 use borrow.Author.Needs.{needs}

@@ -1,3 +1,4 @@
+-- By kind, what is wanted beside a placed variable.
 use mathlib.Core.Path.{_∙_}
 use native.Mathlib.Omega.{arith}
 use Rattle.placing.proofs.Tests.{beside-different, beside-equal, beside-source, beside-target}

@@ -1,3 +1,4 @@
+-- One variable, b placed, or b nowhere too.
 use mathlib.Core.Path.{_∙_}
 use native.Mathlib.Omega.{arith}
 use Rattle.placing.proofs.Tests.{nowhere-one, nowhere-both, nowhere-beside}

@@ -1,3 +1,4 @@
+-- By kind, what is wanted of the one variable.
 use native.Mathlib.Omega.{arith}
 use Rattle.placing.proofs.Tests.{one-different, one-store, one-any}
 use Rattle.placing.proofs.wanted_of_one.Statement.{statement}

@@ -1,3 +1,4 @@
+-- Test after test: a cell, nothing at it, its link nowhere or *.
 use mathlib.Core.Path.{_∙_, sym}
 use native.Mathlib.Omega.{arith}
 use borrow.Author.Tests.{not-true, not-false}

@@ -1,3 +1,4 @@
+-- Test after test: room for the variables, room for the cells, a cell of the shape, free.
 use mathlib.Core.Path.{_∙_}
 use native.Mathlib.Omega.{arith}
 use Rattle.shapes.proofs.Free.{not-free-cell, by-parts}

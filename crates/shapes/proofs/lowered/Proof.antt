@@ -1,3 +1,4 @@
+-- By the order of the two codes.
 use Prim.Native.Nat.{pred, _-_}
 use mathlib.Core.Path.{_≡_, refl}
 use native.Mathlib.Omega.{arith}

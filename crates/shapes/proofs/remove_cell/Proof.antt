@@ -1,3 +1,4 @@
+-- The array changes where the cell is free, and else stays as it is.
 use mathlib.Core.Path.{refl, sym, _∙_}
 use borrow.Author.Tests.{not-true, not-false}
 use Rattle.shapes.proofs.Free.{free-cell}

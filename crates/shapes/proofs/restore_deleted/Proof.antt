@@ -1,3 +1,4 @@
+-- Without room the array stays; with room, what nothing stands at * in gets the fresh cell and a at it.
 use mathlib.Core.Path.{refl}
 use native.Mathlib.Omega.{arith}
 use Rattle.shapes.proofs.Free.{no-room, room}

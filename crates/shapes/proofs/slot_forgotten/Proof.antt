@@ -1,3 +1,4 @@
+-- By the slot: one that holds no place stays, a place at * goes.
 use mathlib.Core.Path.{refl}
 use native.Mathlib.Omega.{arith}
 use borrow.Author.Tests.{lt-ltb, le-ltb, eq-eqb, ne-eqb}

@@ -1,3 +1,4 @@
+-- By the slot: below the links, among them, or above.
 use Prim.Native.Nat.{suc, _+_}
 use mathlib.Core.Path.{_≡_, sym}
 use native.Mathlib.Omega.{arith}

@@ -1,3 +1,4 @@
+-- By the slot: the number of cells, a link, a variable, and each place lowered.
 use Prim.Native.Nat.{_+_}
 use mathlib.Core.Path.{_≡_, sym, _∙_}
 use native.Mathlib.Omega.{arith}

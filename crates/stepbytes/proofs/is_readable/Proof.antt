@@ -1,3 +1,4 @@
+-- The loop: the largest of the marks so far, with what is left to test, decides.
 use Prim.Native.Nat.{_-_, _≤_}
 use mathlib.Core.Bool.{_&&_}
 use mathlib.Core.Logic.{⊎-elim}

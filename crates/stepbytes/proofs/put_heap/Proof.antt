@@ -1,3 +1,4 @@
+-- Three loops, one after the other: variables, marks and links stand as the heap has them.
 use Prim.Native.Nat.{_-_, _≤_}
 use mathlib.Core.Path.{refl, _∙_, sym}
 use native.Mathlib.Omega.{arith}

@@ -1,3 +1,4 @@
+-- Bytes that are no heap's are refused; else the step's outcome and heap, as bytes.
 use mathlib.Core.Path.{_≡_, refl, _∙_, sym}
 use native.Mathlib.Omega.{arith}
 use lib.ListN.{length, getD}

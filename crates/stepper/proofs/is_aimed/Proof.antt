@@ -1,3 +1,4 @@
+-- By the code: no cell's, outside the heap, or a cell's mark.
 use native.Mathlib.Omega.{arith}
 use Rattle.stepper.proofs.Fits.{aimed-low, aimed-cell, aimed-high}
 use borrow.Author.Needs.{needs}

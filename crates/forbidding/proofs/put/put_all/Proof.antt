@@ -1,3 +1,4 @@
+-- The loop: the codes before the i-th stand in the output, what is after them as before.
 use Prim.Native.Nat.{_-_}
 use native.Mathlib.Omega.{arith}
 use lib.ListN.{length}

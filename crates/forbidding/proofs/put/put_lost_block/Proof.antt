@@ -1,3 +1,4 @@
+-- The four shapes with a loose cell, and then two more.
 use Rattle.forbidding.proofs.Putting.{put-more, put-end}
 use Rattle.forbidding.proofs.Shapes.{put-lost}
 use borrow.Author.Needs.{needs}

@@ -1,3 +1,4 @@
+-- State, number of cells, places and links, put in this order, are the numbers of the shape at its state.
 use native.Mathlib.Omega.{arith}
 use Rattle.forbidding.proofs.Shapes.{taken-length, put-parts}
 use borrow.Author.Needs.{needs}

@@ -1,3 +1,4 @@
+-- The loop: what is counted and what is left to count make the whole number.
 use Prim.Native.Nat.{_-_}
 use native.Mathlib.Omega.{arith}
 use Rattle.forbidding.proofs.Stepping.{Counting, count-none, count-more, count-all}

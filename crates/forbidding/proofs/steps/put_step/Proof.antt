@@ -1,3 +1,4 @@
+-- Two shapes where the transition steps through a variable, else none.
 use native.Mathlib.Omega.{arith}
 use Rattle.forbidding.proofs.Stepping.{from-is, step-bytes, put-through, put-nothing, variable-in}
 use borrow.Author.Needs.{needs}

@@ -1,3 +1,4 @@
+-- The loop: the shapes of the transitions before the i-th are put, and there is room for the rest.
 use Prim.Native.Nat.{_-_}
 use native.Mathlib.Omega.{arith}
 use Rattle.forbidding.proofs.Stepping.{Putting, steps-none, step-room, steps-more, steps-all}

@@ -1,3 +1,4 @@
+-- Two where the transition steps through a variable, else none.
 use mathlib.Core.Path.{ap, sym}
 use native.Mathlib.Omega.{arith}
 use lib.ListN.{length}

@@ -1,3 +1,4 @@
+-- By the kind: b of a load, a of a store, else none.
 use Rattle.forbidding.proofs.Stepping.{through-load, through-store, through-none}
 use Rattle.forbidding.proofs.steps.steps_through.Statement.{statement}
 use Rattle.forbidding.proofs.steps.steps_through.Tie as tie

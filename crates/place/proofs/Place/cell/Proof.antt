@@ -1,3 +1,4 @@
+-- By size: a code, or nowhere.
 use borrow.Author.Tests.{lt-ltb, le-ltb}
 use borrow.Author.Needs.{needs}
 use Rattle.place.proofs.Place.cell.Statement.{statement}

@@ -1,3 +1,4 @@
+-- Blocked where b is at *; else a stands where b does.
 use Prim.Native.Nat.{_-_}
 use mathlib.Core.Path.{refl, _∙_, sym}
 use native.Mathlib.Omega.{arith}

@@ -1,3 +1,4 @@
+-- The loop: every cell before the i-th fits, by the test of its link in halves.
 use Prim.Native.Nat.{ℕ, _+_, _-_, _≤_, _<_}
 use mathlib.Core.Bool.{false}
 use mathlib.Core.Path.{_≡_, refl, ap, _∙_, sym, subst}

@@ -1,3 +1,4 @@
+-- Blocked where an operand is at * or the comparison fails; else the heap stays.
 use mathlib.Core.Path.{_∙_, sym}
 use native.Mathlib.Omega.{arith}
 use Rattle.heap.specs.Operation.{equal}

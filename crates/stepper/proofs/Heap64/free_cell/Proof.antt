@@ -1,3 +1,4 @@
+-- Blocked where a is at no cell; else the cell goes, and what stood at it stands at *.
 use mathlib.Core.Path.{refl, ap, _∙_, sym}
 use native.Mathlib.Omega.{arith}
 use Rattle.heap.specs.Codes.{linkIn}

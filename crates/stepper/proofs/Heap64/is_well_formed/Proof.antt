@@ -1,3 +1,4 @@
+-- Both tests, of the slots and of the cells, make that of the definition.
 use borrow.Author.Tests.{le-leb, lt-leb, not-true, not-false}
 use lib.ListN.{length-map}
 use Rattle.stepper.specs.Table.{wellFormed, Sized}

@@ -1,3 +1,4 @@
+-- Blocked where b is at no cell or its link is at *; else a stands where the link does.
 use Prim.Native.Nat.{_-_}
 use mathlib.Core.Path.{refl, ap, _∙_, sym}
 use native.Mathlib.Omega.{arith}

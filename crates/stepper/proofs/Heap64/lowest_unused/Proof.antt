@@ -1,3 +1,4 @@
+-- The loop: every cell before the i-th is used.
 use Prim.Native.Nat.{_+_, _-_, _≤_}
 use mathlib.Core.Path.{_≡_}
 use native.Mathlib.Omega.{arith}

@@ -1,3 +1,4 @@
+-- Operand 0 is at #; another is in the list of the variables.
 use Prim.Native.Nat.{_-_}
 use mathlib.Core.Path.{refl, _∙_}
 use native.Mathlib.Omega.{arith}

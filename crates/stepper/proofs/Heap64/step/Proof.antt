@@ -1,3 +1,4 @@
+-- Ill formed, not allowed, or performed: each is the step of the definition, with its promise.
 use mathlib.Core.Path.{_∙_, sym}
 use borrow.Author.Tests.{not-true, not-false}
 use Rattle.stepper.proofs.Steps.{steps, ill-formed, not-allowed, by-table}

@@ -1,3 +1,4 @@
+-- Blocked where a is at no cell or b at *; else the link of a's cell stands where b does.
 use Prim.Native.Nat.{_-_}
 use mathlib.Core.Path.{refl, ap, _∙_, sym}
 use native.Mathlib.Omega.{arith}

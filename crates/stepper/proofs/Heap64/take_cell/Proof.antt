@@ -1,3 +1,4 @@
+-- Full where no cell is unused; else the lowest unused one is taken, and a stands at it.
 use Prim.Native.Nat.{_-_}
 use native.Mathlib.Omega.{arith}
 use Rattle.stepper.proofs.Formed.{formed}

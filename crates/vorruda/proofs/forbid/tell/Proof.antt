@@ -1,3 +1,4 @@
+-- By the answer: its number, and the value lent.
 use mathlib.Core.Path.{refl}
 use Rattle.vorruda.proofs.Telling.{told}
 use borrow.Author.Needs.{needs}

@@ -1,3 +1,4 @@
+-- The verdict's number; 0 exactly where the conditions hold, and then no run meets a forbidden shape.
 use mathlib.Core.Path.{refl}
 use Rattle.vorruda.proofs.Judging.{told-accepted, told-refused}
 use borrow.Author.Needs.{needs}

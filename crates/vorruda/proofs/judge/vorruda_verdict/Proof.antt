@@ -1,3 +1,4 @@
+-- The same as of `vorruda_check`, and the counts or the place lent.
 use mathlib.Core.Path.{refl}
 use Rattle.vorruda.proofs.Judging.{told-accepted, told-refused, told-values}
 use borrow.Author.Needs.{needs}

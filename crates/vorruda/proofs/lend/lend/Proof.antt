@@ -1,3 +1,4 @@
+-- The loop: the values before the i-th are lent; an array too short stays as it is.
 use Prim.Native.Nat.{_-_}
 use native.Mathlib.Omega.{arith}
 use lib.ListN.{length}

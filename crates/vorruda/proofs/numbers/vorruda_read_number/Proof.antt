@@ -1,3 +1,4 @@
+-- What is read at the place, told and lent.
 use mathlib.Core.Path.{refl}
 use borrow.Author.Needs.{needs}
 use Rattle.vorruda.proofs.numbers.vorruda_read_number.Statement.{statement}

@@ -1,3 +1,4 @@
+-- By the answer of the writer: its number, the bytes, and the value lent.
 use mathlib.Core.Path.{refl}
 use borrow.Author.Needs.{needs}
 use Rattle.vorruda.proofs.numbers.vorruda_write_numbers.Statement.{statement}
