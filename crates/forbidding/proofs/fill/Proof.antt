@@ -27,23 +27,26 @@ slice-write-bytes c =
 
 put-set-requires : tie.Need-put-set-requires
 put-set-requires c κs =
+    let at-put-all = c .before .before .before .before in
     let s = c .before .before .before .before .before .before .before .before in
-    let p = c .before .before .before .before .put-all .ensures in (
+    let p = at-put-all .put-all .ensures in (
       s .pre .0,
       s .pre .1,
-      omega (arith, length-set (c .before .before .before .before .put-all .last .0) (c .before .count-place .result) (s .args .count), p .same, p .next-is, s .pre .3),
+      omega (arith, length-set (at-put-all .put-all .last .0) (c .before .count-place .result) (s .args .count), p .same, p .next-is, s .pre .3),
     )
 
 same-length : tie.Need-same-length
 same-length c =
-    c .before .before .put-set .ensures .same ∙ length-set (c .before .before .before .before .before .before .before .put-all .last .0) (c .before .before .before .before .count-place .result) (c .before .before .before .before .before .before .before .before .before .before .before .args .count) ∙ c .before .before .before .before .before .before .before .put-all .ensures .same
+    let at-put-all = c .before .before .before .before .before .before .before in
+    c .before .before .put-set .ensures .same ∙ length-set (at-put-all .put-all .last .0) (c .before .before .before .before .count-place .result) (c .before .before .before .before .before .before .before .before .before .before .before .args .count) ∙ at-put-all .put-all .ensures .same
 
 returns : tie.Need-returns
 returns c =
+    let at-count-place = c .before .before .before .before in
     let s = c .before .before .before .before .before .before .before .before .before .before .before in
     let job = s .args .job .now in
     let limit = bytes-at-most job (λ i. omega (arith, c .before .before .before .before .before .before .before .before .before .before .shared-slice-known .given i)) in
-    put-job job (s .args .h) (s .pre .0) (c .before .before .before .before .count-place .result) (s .args .count) _ limit (c .before .before .before .before .count-place .ensures) (c .before .before .before .before .before .before .before .put-all .ensures) (c .before .before .put-set .ensures)
+    put-job job (s .args .h) (s .pre .0) (at-count-place .count-place .result) (s .args .count) _ limit (at-count-place .count-place .ensures) (c .before .before .before .before .before .before .before .put-all .ensures) (c .before .before .put-set .ensures)
 
 pub fill-spec : {M : Type 1} → statement M
 fill-spec =

@@ -41,12 +41,13 @@ add-count c = search needs
 
 returns-2 : tie.Need-returns-2
 returns-2 c =
+    let at-is-inside = c .before .before .before .before in
     let s = c .before .before .before .before .before .before .before in
     let job = s .args .job .now in
     let h = s .args .h in
     let set = setOf (s .args .asked) in
     let room = length (s .args .bytes .now) in
-    let inside = sym (c .before .before .before .before .is-inside .ensures) ∙ not-false (c .before .before .before .before .is-inside .result) (c .before .before .before .if1 .left) in
+    let inside = sym (at-is-inside .is-inside .ensures) ∙ not-false (at-is-inside .is-inside .result) (c .before .before .before .if1 .left) in
     rewrites-none job set _ 31 0 (omega arith) (fits s ∙ too-many job h (s .pre .0) set room inside (omega (arith, c .before .before .shapes-of .ensures .0, c .if2 .taken)))
 
 add-needed : tie.Need-add-needed
@@ -78,32 +79,35 @@ add-needed-3 c =
 
 returns-3 : tie.Need-returns-3
 returns-3 c =
+    let at-is-inside = c .before .before .before .before .before .before .before in
     let s = c .before .before .before .before .before .before .before .before .before .before in
     let job = s .args .job .now in
     let h = s .args .h in
     let set = setOf (s .args .asked) in
     let room = length (s .args .bytes .now) in
     let limit = bytes-at-most job (λ i. omega (arith, c .before .before .before .before .before .before .before .before .before .shared-slice-known .given i)) in
-    let inside = sym (c .before .before .before .before .before .before .before .is-inside .ensures) ∙ not-false (c .before .before .before .before .before .before .before .is-inside .result) (c .before .before .before .before .before .before .if1 .left) in
+    let inside = sym (at-is-inside .is-inside .ensures) ∙ not-false (at-is-inside .is-inside .result) (c .before .before .before .before .before .before .if1 .left) in
     let shapes = c .before .before .before .before .before .shapes-of in
     rewrites-none job set _ 12 _ (omega arith)
     (fits s ∙ too-short job h (s .pre .0) set room inside limit (shapes .result) (shapes .ensures .0) (c .before .before .before .if2 .left) (c .before .cells-of .result) (c .before .cells-of .ensures) (c .if3 .taken))
 
 fill-requires : tie.Need-fill-requires
 fill-requires c κs =
+    let at-if2 = c .before .before .before .before in
+    let at-is-inside = at-if2 .before .before .before .before in
     let s = c .before .before .before .before .before .before .before .before .before .before .before in
     let job = s .args .job .now in
     let h = s .args .h in
     let set = setOf (s .args .asked) in
     let room = length (s .args .bytes .now) in
     let limit = bytes-at-most job (λ i. omega (arith, c .before .before .before .before .before .before .before .before .before .before .shared-slice-known .given i)) in
-    let inside = sym (c .before .before .before .before .before .before .before .before .is-inside .ensures) ∙ not-false (c .before .before .before .before .before .before .before .before .is-inside .result) (c .before .before .before .before .before .before .before .if1 .left) in
+    let inside = sym (at-is-inside .is-inside .ensures) ∙ not-false (at-is-inside .is-inside .result) (c .before .before .before .before .before .before .before .if1 .left) in
     let shapes = c .before .before .before .before .before .before .shapes-of in
     let cells = c .before .before .cells-of in (
       s .pre .0,
       r-inside set (h .variables) (h .states) .holds (passes _ inside),
-      c .before .before .before .before .if2 .left,
-      room-for job h (s .pre .0) set room inside limit (shapes .result) (shapes .ensures .0) (c .before .before .before .before .if2 .left) (cells .result) (cells .ensures) (c .before .if3 .left),
+      at-if2 .if2 .left,
+      room-for job h (s .pre .0) set room inside limit (shapes .result) (shapes .ensures .0) (at-if2 .if2 .left) (cells .result) (cells .ensures) (c .before .if3 .left),
     )
 
 same-length : tie.Need-same-length
@@ -111,18 +115,20 @@ same-length c = search needs
 
 returns-4 : tie.Need-returns-4
 returns-4 c =
+    let at-if2 = c .before .before .before .before .before .before .before in
+    let at-is-inside = at-if2 .before .before .before .before in
     let s = c .before .before .before .before .before .before .before .before .before .before .before .before .before .before in
     let job = s .args .job .now in
     let h = s .args .h in
     let set = setOf (s .args .asked) in
     let room = length (s .args .bytes .now) in
     let limit = bytes-at-most job (λ i. omega (arith, c .before .before .before .before .before .before .before .before .before .before .before .before .before .shared-slice-known .given i)) in
-    let inside = sym (c .before .before .before .before .before .before .before .before .before .before .before .is-inside .ensures) ∙ not-false (c .before .before .before .before .before .before .before .before .before .before .before .is-inside .result) (c .before .before .before .before .before .before .before .before .before .before .if1 .left) in
+    let inside = sym (at-is-inside .is-inside .ensures) ∙ not-false (at-is-inside .is-inside .result) (c .before .before .before .before .before .before .before .before .before .before .if1 .left) in
     let shapes = c .before .before .before .before .before .before .before .before .before .shapes-of in
     let cells = c .before .before .before .before .before .cells-of in
     rewrites-all job set _ _ _ _
-    (fits s ∙ filled job h (s .pre .0) set room inside limit (shapes .result) (shapes .ensures .0) (c .before .before .before .before .before .before .before .if2 .left) (cells .result) (cells .ensures) (c .before .before .before .before .if3 .left))
-    (needed-is job h (s .pre .0) set room inside limit (shapes .result) (shapes .ensures .0) (c .before .before .before .before .before .before .before .if2 .left) (cells .result) (cells .ensures))
+    (fits s ∙ filled job h (s .pre .0) set room inside limit (shapes .result) (shapes .ensures .0) (at-if2 .if2 .left) (cells .result) (cells .ensures) (c .before .before .before .before .if3 .left))
+    (needed-is job h (s .pre .0) set room inside limit (shapes .result) (shapes .ensures .0) (at-if2 .if2 .left) (cells .result) (cells .ensures))
     (put-first (c .before .before .fill .ensures))
 
 pub rewrite-read-spec : {M : Type 1} → statement M

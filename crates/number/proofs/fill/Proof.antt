@@ -24,9 +24,10 @@ shared-slice-read-put-number c = search needs
 
 put-number-requires : tie.Need-put-number-requires Inv-loop μ-loop
 put-number-requires c κs =
-    let ns = c .before .before .before .before .before .before .args .numbers .now in
+    let start = c .before .before .before .before .before .before in
+    let ns = start .args .numbers .now in
     let i = c .before .before .before .loop .i in
-    (omega (arith, length-left ns i (omega arith)), small ns i (c .before .before .before .before .before .before .pre .0) (omega arith))
+    (omega (arith, length-left ns i (omega arith)), small ns i (start .pre .0) (omega arith))
 
 add-i : tie.Need-add-i Inv-loop μ-loop
 add-i c = search needs

@@ -15,7 +15,9 @@ returns-2 : tie.Need-returns-2
 returns-2 c = let a = c .before .before .before .before .before .before .args in open-free (a .links .now) (a .p .code) (a .q .code) (omega arith) (c .before .before .link-at .result .code) (c .before .before .link-at .ensures) (omega arith)
 
 returns-3 : tie.Need-returns-3
-returns-3 c = let a = c .before .before .before .before .before .before .before .before .args in open-equal (a .links .now) (a .p .code) (a .q .code) (omega arith) (c .before .before .before .before .link-at .result .code) (c .before .before .before .before .link-at .ensures) (c .before .before .if2 .left)
+returns-3 c =
+    let at-link-at = c .before .before .before .before in
+    let a = c .before .before .before .before .before .before .before .before .args in open-equal (a .links .now) (a .p .code) (a .q .code) (omega arith) (at-link-at .link-at .result .code) (at-link-at .link-at .ensures) (c .before .before .if2 .left)
 
 pub link-open-spec : {M : Type 1} → statement M
 link-open-spec = tie.close (tie.spec returns link-at-requires returns-2 returns-3)

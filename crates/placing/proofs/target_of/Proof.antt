@@ -18,7 +18,9 @@ sub-t5 : tie.Need-sub-t5
 sub-t5 c = search needs
 
 returns-3 : tie.Need-returns-3
-returns-3 c = let a = c .before .before .before .before .before .before .before .args in target-linked (a .links .now) (a .q .code) (omega arith) (c .before .before .before .link-at .result) (c .before .before .before .link-at .ensures) (c .before .if2 .left)
+returns-3 c =
+    let at-link-at = c .before .before .before in
+    let a = c .before .before .before .before .before .before .before .args in target-linked (a .links .now) (a .q .code) (omega arith) (at-link-at .link-at .result) (at-link-at .link-at .ensures) (c .before .if2 .left)
 
 pub target-of-spec : {M : Type 1} → statement M
 target-of-spec = tie.close (tie.spec returns link-at-requires returns-2 sub-t5 returns-3)

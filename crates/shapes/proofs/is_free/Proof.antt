@@ -24,13 +24,17 @@ none-at-requires : tie.Need-none-at-requires
 none-at-requires c κs = search needs
 
 returns-4 : tie.Need-returns-4
-returns-4 c = let a = c .before .before .before .before .before .before .before .before .before .before .before .args in let s : Shape = record { vars = a .vars .now; links = a .links .now } in link-at s (a .p .code) (omega arith) (λ e. c .before .before .before .before .if2 .left (c .before .before .before .before .before .before .link-at .ensures ∙ e)) (omega (arith, c .before .before .before .before .before .before .link-at .ensures)) (sym (c .before .none-at .ensures) ∙ not-true _ (c .if4 .taken))
+returns-4 c =
+    let at-link-at = c .before .before .before .before .before .before in
+    let a = c .before .before .before .before .before .before .before .before .before .before .before .args in let s : Shape = record { vars = a .vars .now; links = a .links .now } in link-at s (a .p .code) (omega arith) (λ e. c .before .before .before .before .if2 .left (at-link-at .link-at .ensures ∙ e)) (omega (arith, at-link-at .link-at .ensures)) (sym (c .before .none-at .ensures) ∙ not-true _ (c .if4 .taken))
 
 none-at-requires-2 : tie.Need-none-at-requires-2
 none-at-requires-2 c κs = search needs
 
 returns-5 : tie.Need-returns-5
-returns-5 c = let a = c .before .before .before .before .before .before .before .before .before .before .before .before .args in let s : Shape = record { vars = a .vars .now; links = a .links .now } in c .none-at2 .ensures ∙ var-at s (a .p .code) (omega arith) (λ e. c .before .before .before .before .before .if2 .left (c .before .before .before .before .before .before .before .link-at .ensures ∙ e)) (omega (arith, c .before .before .before .before .before .before .before .link-at .ensures)) (sym (c .before .before .none-at .ensures) ∙ not-false _ (c .before .if4 .left))
+returns-5 c =
+    let at-link-at = c .before .before .before .before .before .before .before in
+    let a = c .before .before .before .before .before .before .before .before .before .before .before .before .args in let s : Shape = record { vars = a .vars .now; links = a .links .now } in c .none-at2 .ensures ∙ var-at s (a .p .code) (omega arith) (λ e. c .before .before .before .before .before .if2 .left (at-link-at .link-at .ensures ∙ e)) (omega (arith, at-link-at .link-at .ensures)) (sym (c .before .before .none-at .ensures) ∙ not-false _ (c .before .if4 .left))
 
 pub is-free-spec : {M : Type 1} → statement M
 is-free-spec =

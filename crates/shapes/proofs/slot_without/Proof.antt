@@ -34,8 +34,9 @@ add-lowered c = search needs
 
 element-copy-out-lowered : tie.Need-element-copy-out-lowered
 element-copy-out-lowered c =
-    let a = c .before .before .before .before .args in
-    let p = c .before .before .before .before .pre in
+    let start = c .before .before .before .before in
+    let a = start .args in
+    let p = start .pre in
     omega (arith, c .slot-from .ensures, from-most _ (a .k) (a .i) (p .0) (p .2))
 
 lowered-requires : tie.Need-lowered-requires

@@ -39,10 +39,11 @@ loop-less c = search needs
 
 loop-again : tie.Need-loop-again Inv-loop μ-loop
 loop-again c =
+    let at-loop = c .before .before .before in
     let bs = c .before .before .before .before .before .args .bytes .now in
-    let i = c .before .before .before .loop .i in
-    let n = c .before .before .before .loop .largest in
-    let v = c .before .before .before .loop .inv in
+    let i = at-loop .loop .i in
+    let n = at-loop .loop .largest in
+    let v = at-loop .loop .inv in
     ⊎-elim (λ w. (omega arith, v .1, rw (w .1) (mark-larger bs i n (omega arith) (w .0 .taken)) ∙ v .2))
     (λ w. (omega arith, v .1, rw (w .1) (mark-smaller bs i n (omega arith) (w .0 .left)) ∙ v .2)) (c .if2 .came)
 

@@ -2,6 +2,8 @@
 use mathlib.Core.Path.{_≡_, refl, _∙_, sym}
 use native.Mathlib.Omega.{arith}
 use lib.ListN.{length, getD}
+use mathlib.Core.List.{List}
+use Prim.Native.Nat.{ℕ}
 use mathlib.Core.Bool.{true}
 use borrow.Author.Tests.{not-true, not-false}
 use Rattle.stepper.specs.declared.Heap64.{Heap64}
@@ -18,16 +20,29 @@ reads-well c = sym (c .before .is-readable .ensures) ∙ not-false (c .before .i
 size : (c : tie.Else1) → length (c .before .before .before .before .args .heap .now) ≡ 137
 size c = readable-length (c .before .before .before .before .args .heap .now) (reads-well c)
 
+-- the bytes, once the three arrays are made of them
+abbrev given : tie.After-links-from → List ℕ
+given c = c .before .before .before .before .before .before .before .before .before .before .before .args .heap .now
+
 -- the heap that is made of the bytes
 abbrev table : tie.After-links-from → Heap64
 table c =
-    record
-    { variables = getD (c .before .before .before .before .before .before .before .before .before .before .before .args .heap .now) 0 0; vars = c .before .before .before .before .slots-from .result; used = c .before .before .marks-from .result; links = c .links-from .result }
+    record {
+      variables = getD (given c) 0 0;
+      vars = c .before .before .before .before .slots-from .result;
+      used = c .before .before .marks-from .result;
+      links = c .links-from .result;
+    }
 
-table-is : (c : tie.After-links-from) → table c ≡ heapFrom (c .before .before .before .before .before .before .before .before .before .before .before .args .heap .now)
+table-is : (c : tie.After-links-from) → table c ≡ heapFrom (given c)
 unfolding heapFrom
 table-is c =
-    λ k. record { variables = getD (c .before .before .before .before .before .before .before .before .before .before .before .args .heap .now) 0 0; vars = c .before .before .before .before .slots-from .ensures k; used = c .before .before .marks-from .ensures k; links = c .links-from .ensures k }
+    λ k. record {
+      variables = getD (given c) 0 0;
+      vars = c .before .before .before .before .slots-from .ensures k;
+      used = c .before .before .marks-from .ensures k;
+      links = c .links-from .ensures k;
+    }
 
 is-readable-requires : tie.Need-is-readable-requires
 is-readable-requires c κs = search needs
@@ -37,8 +52,9 @@ same-length c = search needs
 
 returns : tie.Need-returns
 returns c =
-    unread (c .before .before .before .before .args .heap .now) (c .before .before .before .before .args .kind)
-    (c .before .before .before .before .args .a) (c .before .before .before .before .args .b)
+    let start = c .before .before .before .before in
+    unread (start .args .heap .now) (start .args .kind)
+    (start .args .a) (start .args .b)
     (sym (c .before .is-readable .ensures) ∙ not-true (c .before .is-readable .result) (c .if1 .taken))
 
 slice-read-t14 : tie.Need-slice-read-t14
@@ -82,16 +98,18 @@ same-length-3 c = search needs
 
 returns-3 : tie.Need-returns-3
 returns-3 c =
+    let at-enum-told = c .before .before .before .before .before in
+    let at-step = at-enum-told .before .before in
     let a = c .before .before .before .before .before .before .before .before .before .before .before .before .before .before .before .before .before .before .before .args in
     let bytes = a .heap .now in
     done bytes (a .kind) (a .a) (a .b)
     (reads-well (c .before .before .before .before .before .before .before .before .before .before .before .before .before .before .before))
     (table (c .before .before .before .before .before .before .before .before))
     (table-is (c .before .before .before .before .before .before .before .before))
-    (c .before .before .before .before .before .before .before .step .result)
-    (c .before .before .before .before .before .before .before .step .ensures) _ _
-    (rw (c .before .before .before .before .before .enum-told .given .1) refl)
-    (rw (c .before .before .before .before .before .enum-told .given .1) (c .before .before .put-heap .ensures))
+    (at-step .step .result)
+    (at-step .step .ensures) _ _
+    (rw (at-enum-told .enum-told .given .1) refl)
+    (rw (at-enum-told .enum-told .given .1) (c .before .before .put-heap .ensures))
 
 pub step-bytes-spec : {M : Type 1} → statement M
 step-bytes-spec =

@@ -19,7 +19,9 @@ element-copy-out-result : tie.Need-element-copy-out-result
 element-copy-out-result c = search needs
 
 returns-3 : tie.Need-returns-3
-returns-3 c = aimed-cell (c .before .before .before .args .used .now) (c .before .before .before .args .code) (omega arith)
+returns-3 c =
+    let start = c .before .before .before in
+    aimed-cell (start .args .used .now) (start .args .code) (omega arith)
 
 pub is-aimed-spec : {M : Type 1} → statement M
 is-aimed-spec = tie.close (tie.spec returns returns-2 cast-i element-copy-out-result returns-3)

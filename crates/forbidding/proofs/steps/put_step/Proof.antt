@@ -19,12 +19,13 @@ cast-state c = search needs
 
 put-bad-step-requires : tie.Need-put-bad-step-requires
 put-bad-step-requires c κs =
+    let at-step = c .before .before .before in
     let s = c .before .before .before .before .before .before .before .before .before in
     let job = s .args .job .now in
     let t = c .before .before .before .before .before .before .transition-at in
     let step = c .before .before .before .before .before .steps-through in
-    let in-range = variable-in job (s .args .from) (t .result) (t .ensures) (s .pre .0 .whole) (step .result) (step .ensures) (s .args .variables) _ (c .before .before .before .step .given .1) (s .pre .0) in
-    let size = step-bytes job (s .args .from) (t .result) (t .ensures) (s .pre .0 .whole) (step .result) (step .ensures) (s .args .variables) _ (c .before .before .before .step .given .1) in (
+    let in-range = variable-in job (s .args .from) (t .result) (t .ensures) (s .pre .0 .whole) (step .result) (step .ensures) (s .args .variables) _ (at-step .step .given .1) (s .pre .0) in
+    let size = step-bytes job (s .args .from) (t .result) (t .ensures) (s .pre .0 .whole) (step .result) (step .ensures) (s .args .variables) _ (at-step .step .given .1) in (
       record {
         most = s .pre .1;
         some = in-range .0;

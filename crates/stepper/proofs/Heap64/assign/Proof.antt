@@ -15,25 +15,29 @@ place-of-requires c κs = omega (arith, formed (c .args .self) (c .pre .0 .forme
 
 returns : tie.Need-returns
 returns c =
-    let t = c .before .before .before .args .self in
-    blocked t (assign (c .before .before .before .args .a) (c .before .before .before .args .b)) refl
+    let start = c .before .before .before in
+    let t = start .args .self in
+    blocked t (assign (start .args .a) (start .args .b)) refl
     (λ d. d (sym (c .before .before .place-of .ensures) ∙ c .if1 .taken))
 
 sub-p : tie.Need-sub-p
 sub-p c = search needs
 
 element-set-from-p : tie.Need-element-set-from-p
-element-set-from-p c = omega (arith, formed (c .before .before .before .args .self) (c .before .before .before .pre .0 .formed) .most)
+element-set-from-p c =
+    let start = c .before .before .before in
+    omega (arith, formed (start .args .self) (start .pre .0 .formed) .most)
 
 returns-2 : tie.Need-returns-2
 returns-2 c =
-    let t = c .before .before .before .args .self in
-    let a = c .before .before .before .args .a in
-    let b = c .before .before .before .args .b in
-    let f = formed t (c .before .before .before .pre .0 .formed) in
+    let start = c .before .before .before in
+    let t = start .args .self in
+    let a = start .args .a in
+    let b = start .args .b in
+    let f = formed t (start .pre .0 .formed) in
     let p = c .before .before .place-of in
     moved t (assign a b) (withVar t (a - 1) (p .result))
-    (put t (c .before .before .before .pre .0 .sized) f (assign a b) a (p .result) refl (λ z. c .if1 .left (p .ensures ∙ z)) (omega arith) (omega arith) (rw (p .ensures) (operand-stands t (c .before .before .before .pre .0 .sized) f b (omega arith))) (rw (p .ensures) refl))
+    (put t (start .pre .0 .sized) f (assign a b) a (p .result) refl (λ z. c .if1 .left (p .ensures ∙ z)) (omega arith) (omega arith) (rw (p .ensures) (operand-stands t (start .pre .0 .sized) f b (omega arith))) (rw (p .ensures) refl))
 
 pub assign-spec : {M : Type 1} → statement M
 assign-spec = tie.close (tie.spec place-of-requires returns sub-p element-set-from-p returns-2)

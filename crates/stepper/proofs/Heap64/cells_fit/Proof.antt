@@ -81,9 +81,10 @@ is-aimed-requires c κs = search needs
 
 returns-2 : tie.Need-returns-2 Inv-loop μ-loop Inv-loop2 μ-loop2
 returns-2 c =
+    let at-loop2 = c .before .before .before .before in
     let t = c .before .before .before .before .before .before .before .before .args .t1 in
-    let v = c .before .before .before .before .loop2 .inv in
-    let i = c .before .before .before .before .loop2 .i in
+    let v = at-loop2 .loop2 .inv in
+    let i = at-loop2 .loop2 .i in
     sym (all-failed (cellFits t) 64 i (omega arith) (v .1 i (omega arith) ∙ sym (c .before .is-aimed .ensures) ∙ not-true _ (c .if2 .taken)))
     ∙ v .2
 
@@ -95,9 +96,10 @@ loop2-less c = search needs
 
 loop2-again : tie.Need-loop2-again Inv-loop μ-loop Inv-loop2 μ-loop2
 loop2-again c =
+    let at-loop2 = c .before .before .before .before in
     let t = c .before .before .before .before .before .before .before .before .args .t1 in
-    let v = c .before .before .before .before .loop2 .inv in
-    let i = c .before .before .before .before .loop2 .i in (
+    let v = at-loop2 .loop2 .inv in
+    let i = at-loop2 .loop2 .i in (
       omega arith,
       v .1,
       sym (all-passed (cellFits t) 64 i (omega arith) (v .1 i (omega arith) ∙ sym (c .before .is-aimed .ensures) ∙ not-false _ (c .if2 .left)))

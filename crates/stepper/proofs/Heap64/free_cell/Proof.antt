@@ -22,8 +22,9 @@ link-of-requires c κs = search needs
 
 returns : tie.Need-returns
 returns c =
-    let t = c .before .before .before .before .args .self in
-    blocked t (delete (c .before .before .before .before .args .a)) refl
+    let start = c .before .before .before .before in
+    let t = start .args .self in
+    blocked t (delete (start .args .a)) refl
     (λ d. d (sym (c .before .before .link-of .ensures ∙ ap (linkIn (codes (t .links))) (c .before .before .before .place-of .ensures)) ∙ c .if1 .taken))
 
 -- a stands at a used cell
@@ -52,12 +53,14 @@ element-set-from-next c = omega (arith, at-cell (c .before .before) .is-cell, at
 
 returns-2 : tie.Need-returns-2
 returns-2 c =
-    let t = c .before .before .before .before .before .before .args .self in
-    let y = c .before .before .before .before .before .place-of .result .code in
+    let at-place-of = c .before .before .before .before .before in
+    let start = at-place-of .before in
+    let t = start .args .self in
+    let y = at-place-of .place-of .result .code in
     let same = c .dangle-links .ensures ∙ ap (λ (u : Heap64). dangleLinks u y) (c .before .dangle-vars .ensures) in
     ap (λ (u : Heap64). stays (cut u y) Moved) same
-    ∙ moved t (delete (c .before .before .before .before .before .before .args .a)) (withoutPlace t y)
-    (freed t (c .before .before .before .before .before .before .pre .0 .sized) (formed t (c .before .before .before .before .before .before .pre .0 .formed)) (c .before .before .before .before .before .before .args .a) y (c .before .before .before .before .before .place-of .ensures) (λ z. c .before .before .if1 .left (c .before .before .before .before .link-of .ensures ∙ z)))
+    ∙ moved t (delete (start .args .a)) (withoutPlace t y)
+    (freed t (start .pre .0 .sized) (formed t (start .pre .0 .formed)) (start .args .a) y (at-place-of .place-of .ensures) (λ z. c .before .before .if1 .left (c .before .before .before .before .link-of .ensures ∙ z)))
 
 pub free-cell-spec : {M : Type 1} → statement M
 free-cell-spec =

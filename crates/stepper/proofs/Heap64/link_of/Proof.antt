@@ -28,8 +28,9 @@ element-copy-out-result c = search needs
 
 returns-3 : tie.Need-returns-3
 returns-3 c =
-    let t = c .before .before .before .args .t1 in
-    let p = c .before .before .before .args .p .code in
+    let start = c .before .before .before in
+    let t = start .args .t1 in
+    let p = start .args .p .code in
     code-at (t .links) (p - 3) ∙ link-slot _ p (omega arith)
 
 pub link-of-spec : {M : Type 1} → statement M

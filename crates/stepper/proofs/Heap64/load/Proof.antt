@@ -20,17 +20,19 @@ link-of-requires c κs = search needs
 
 returns : tie.Need-returns
 returns c =
-    let t = c .before .before .before .before .args .self in
+    let start = c .before .before .before .before in
+    let t = start .args .self in
     let le = c .before .before .link-of .ensures ∙ ap (linkIn (codes (t .links))) (c .before .before .before .place-of .ensures) in
-    blocked t (load (c .before .before .before .before .args .a) (c .before .before .before .before .args .b)) refl
+    blocked t (load (start .args .a) (start .args .b)) refl
     (λ d. d .0 (sym le ∙ c .if1 .taken))
 
 returns-2 : tie.Need-returns-2
 returns-2 c =
-    let t = c .before .before .before .before .before .before .args .self in
+    let start = c .before .before .before .before .before .before in
+    let t = start .args .self in
     let le = c .before .before .before .before .link-of .ensures ∙ ap (linkIn (codes (t .links))) (c .before .before .before .before .before .place-of .ensures) in
     blocked t
-    (load (c .before .before .before .before .before .before .args .a) (c .before .before .before .before .before .before .args .b)) refl
+    (load (start .args .a) (start .args .b)) refl
     (λ d. d .1 (sym le ∙ c .if2 .taken))
 
 sub-p : tie.Need-sub-p
@@ -38,18 +40,21 @@ sub-p c = search needs
 
 element-set-from-p : tie.Need-element-set-from-p
 element-set-from-p c =
+    let start = c .before .before .before .before .before .before in
     omega
-    (arith, formed (c .before .before .before .before .before .before .args .self) (c .before .before .before .before .before .before .pre .0 .formed) .most)
+    (arith, formed (start .args .self) (start .pre .0 .formed) .most)
 
 returns-3 : tie.Need-returns-3
 returns-3 c =
-    let t = c .before .before .before .before .before .before .args .self in
-    let s = c .before .before .before .before .before .before .pre .0 .sized in
-    let f = formed t (c .before .before .before .before .before .before .pre .0 .formed) in
-    let le = c .before .before .before .before .link-of .ensures ∙ ap (linkIn (codes (t .links))) (c .before .before .before .before .before .place-of .ensures) in
-    moved t (load (c .before .before .before .before .before .before .args .a) (c .before .before .before .before .before .before .args .b))
-    (withVar t (c .before .before .before .before .before .before .args .a - 1) (c .before .before .before .before .link-of .result))
-    (put t s f (load (c .before .before .before .before .before .before .args .a) (c .before .before .before .before .before .before .args .b)) (c .before .before .before .before .before .before .args .a) (c .before .before .before .before .link-of .result) refl (λ z. c .before .before .if1 .left (le ∙ z), λ z. c .if2 .left (le ∙ z)) (omega arith) (omega arith) (rw le (linked-stands t s f (varIn (codes (t .vars)) (c .before .before .before .before .before .before .args .b)) (λ z. c .before .before .if1 .left (le ∙ z)))) (rw le refl))
+    let at-link-of = c .before .before .before .before in
+    let start = at-link-of .before .before in
+    let t = start .args .self in
+    let s = start .pre .0 .sized in
+    let f = formed t (start .pre .0 .formed) in
+    let le = at-link-of .link-of .ensures ∙ ap (linkIn (codes (t .links))) (c .before .before .before .before .before .place-of .ensures) in
+    moved t (load (start .args .a) (start .args .b))
+    (withVar t (start .args .a - 1) (at-link-of .link-of .result))
+    (put t s f (load (start .args .a) (start .args .b)) (start .args .a) (at-link-of .link-of .result) refl (λ z. c .before .before .if1 .left (le ∙ z), λ z. c .if2 .left (le ∙ z)) (omega arith) (omega arith) (rw le (linked-stands t s f (varIn (codes (t .vars)) (start .args .b)) (λ z. c .before .before .if1 .left (le ∙ z)))) (rw le refl))
 
 pub load-spec : {M : Type 1} → statement M
 load-spec =

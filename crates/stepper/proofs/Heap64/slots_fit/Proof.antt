@@ -48,10 +48,11 @@ tested c =
 
 returns-2 : tie.Need-returns-2 Inv-loop μ-loop
 returns-2 c =
+    let at-loop = c .before .before .before .before .before in
     let t = c .before .before .before .before .before .before .before .args .t1 in
-    let i = c .before .before .before .before .before .loop .i in
+    let i = at-loop .loop .i in
     sym (all-failed (slotFits t) 8 i (omega arith) (tested (c .before) ∙ not-true _ (c .if2 .taken)))
-    ∙ c .before .before .before .before .before .loop .inv .1
+    ∙ at-loop .loop .inv .1
 
 add-i : tie.Need-add-i Inv-loop μ-loop
 add-i c = search needs
@@ -61,11 +62,12 @@ loop-less c = search needs
 
 loop-again : tie.Need-loop-again Inv-loop μ-loop
 loop-again c =
+    let at-loop = c .before .before .before .before .before in
     let t = c .before .before .before .before .before .before .before .args .t1 in
-    let i = c .before .before .before .before .before .loop .i in (
+    let i = at-loop .loop .i in (
       omega arith,
       sym (all-passed (slotFits t) 8 i (omega arith) (tested (c .before) ∙ not-false _ (c .if2 .left)))
-          ∙ c .before .before .before .before .before .loop .inv .1,
+          ∙ at-loop .loop .inv .1,
     )
 
 returns-3 : tie.Need-returns-3 Inv-loop μ-loop

@@ -21,27 +21,37 @@ link-of-requires c κs = search needs
 
 returns : tie.Need-returns
 returns c =
-    let t = c .before .before .before .before .args .self in
+    let start = c .before .before .before .before in
+    let t = start .args .self in
     let le = c .before .before .link-of .ensures ∙ ap (linkIn (codes (t .links))) (c .before .before .before .place-of .ensures) in
-    blocked t (store (c .before .before .before .before .args .a) (c .before .before .before .before .args .b)) refl
+    blocked t (store (start .args .a) (start .args .b)) refl
     (λ d. d .0 (sym le ∙ c .if1 .taken))
 
 place-of-requires-2 : tie.Need-place-of-requires-2
 place-of-requires-2 c κs =
-    omega (arith, formed (c .before .before .before .before .args .self) (c .before .before .before .before .pre .0 .formed) .most)
+    let start = c .before .before .before .before in
+    omega (arith, formed (start .args .self) (start .pre .0 .formed) .most)
 
 returns-2 : tie.Need-returns-2
 returns-2 c =
-    let t = c .before .before .before .before .before .before .before .args .self in
+    let start = c .before .before .before .before .before .before .before in
+    let t = start .args .self in
     blocked t
-    (store (c .before .before .before .before .before .before .before .args .a) (c .before .before .before .before .before .before .before .args .b))
+    (store (start .args .a) (start .args .b))
     refl (λ d. d .1 (sym (c .before .before .place-of2 .ensures) ∙ c .if2 .taken))
 
 -- a stands at a used cell
-at-cell : (c : tie.After-struct-known3) → UsedCell (c .before .before .before .before .before .before .before .before .args .self) (c .before .before .before .before .before .before .before .before .pre .0 .sized) (formed (c .before .before .before .before .before .before .before .before .args .self) (c .before .before .before .before .before .before .before .before .pre .0 .formed)) (c .before .before .before .before .before .before .before .place-of .result .code)
-at-cell c =
-    linked (c .before .before .before .before .before .before .before .before .args .self) (c .before .before .before .before .before .before .before .before .pre .0 .sized) (formed (c .before .before .before .before .before .before .before .before .args .self) (c .before .before .before .before .before .before .before .before .pre .0 .formed)) (c .before .before .before .before .before .before .before .place-of .result .code)
-    (λ z. c .before .before .before .before .if1 .left (c .before .before .before .before .before .before .link-of .ensures ∙ z))
+module _ (c : tie.After-struct-known3) where
+  abbrev called : tie.After-link-of
+  called = c .before .before .before .before .before .before
+
+  abbrev start : tie.Start
+  start = called .before .before
+
+  at-cell : UsedCell (start .args .self) (start .pre .0 .sized) (formed (start .args .self) (start .pre .0 .formed)) (called .before .place-of .result .code)
+  at-cell =
+      linked (start .args .self) (start .pre .0 .sized) (formed (start .args .self) (start .pre .0 .formed)) (called .before .place-of .result .code)
+      (λ z. c .before .before .before .before .if1 .left (called .link-of .ensures ∙ z))
 
 sub-i : tie.Need-sub-i
 sub-i c = omega (arith, at-cell c .is-cell)
@@ -54,10 +64,13 @@ element-set-from-p c = omega (arith, at-cell c .is-cell, at-cell c .inside)
 
 returns-3 : tie.Need-returns-3
 returns-3 c =
-    let t = c .before .before .before .before .before .before .before .before .args .self in
-    let le = c .before .before .before .before .before .before .link-of .ensures ∙ ap (linkIn (codes (t .links))) (c .before .before .before .before .before .before .before .place-of .ensures) in
-    rw (c .before .before .before .before .before .before .before .place-of .ensures)
-    (moved t (store (c .before .before .before .before .before .before .before .before .args .a) (c .before .before .before .before .before .before .before .before .args .b)) (withLink t (varIn (codes (t .vars)) (c .before .before .before .before .before .before .before .before .args .a) - 3) (c .before .before .before .place-of2 .result)) (stored t (c .before .before .before .before .before .before .before .before .pre .0 .sized) (formed t (c .before .before .before .before .before .before .before .before .pre .0 .formed)) (c .before .before .before .before .before .before .before .before .args .a) (c .before .before .before .before .before .before .before .before .args .b) (c .before .before .before .place-of2 .result) (λ z. c .before .before .before .before .if1 .left (le ∙ z)) (c .before .before .before .place-of2 .ensures) (c .before .if2 .left) (omega arith)))
+    let at-place-of2 = c .before .before .before in
+    let at-place-of = at-place-of2 .before .before .before .before in
+    let start = at-place-of .before in
+    let t = start .args .self in
+    let le = c .before .before .before .before .before .before .link-of .ensures ∙ ap (linkIn (codes (t .links))) (at-place-of .place-of .ensures) in
+    rw (at-place-of .place-of .ensures)
+    (moved t (store (start .args .a) (start .args .b)) (withLink t (varIn (codes (t .vars)) (start .args .a) - 3) (at-place-of2 .place-of2 .result)) (stored t (start .pre .0 .sized) (formed t (start .pre .0 .formed)) (start .args .a) (start .args .b) (at-place-of2 .place-of2 .result) (λ z. c .before .before .before .before .if1 .left (le ∙ z)) (at-place-of2 .place-of2 .ensures) (c .before .if2 .left) (omega arith)))
 
 pub store-spec : {M : Type 1} → statement M
 store-spec =

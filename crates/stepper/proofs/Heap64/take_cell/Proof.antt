@@ -35,13 +35,16 @@ sub-p : tie.Need-sub-p
 sub-p c = search needs
 
 element-set-from-p : tie.Need-element-set-from-p
-element-set-from-p c = omega (arith, formed (c .before .before .before .args .self) (c .before .before .before .pre .0 .formed) .most)
+element-set-from-p c =
+    let start = c .before .before .before in
+    omega (arith, formed (start .args .self) (start .pre .0 .formed) .most)
 
 returns-2 : tie.Need-returns-2
 returns-2 c =
-    let t = c .before .before .before .args .self in
+    let start = c .before .before .before in
+    let t = start .args .self in
     rw (c .cell .ensures)
-    (moved t (new (c .before .before .before .args .a)) (withVar (withCell t (c .before .before .lowest-unused .result)) (c .before .before .before .args .a - 1) (cellPlace (c .before .before .lowest-unused .result))) (taken t (c .before .before .before .pre .0 .sized) (formed t (c .before .before .before .pre .0 .formed)) (c .before .before .before .args .a) (c .before .before .lowest-unused .result) (c .before .before .lowest-unused .ensures) (omega arith) (omega arith) (omega arith)))
+    (moved t (new (start .args .a)) (withVar (withCell t (c .before .before .lowest-unused .result)) (start .args .a - 1) (cellPlace (c .before .before .lowest-unused .result))) (taken t (start .pre .0 .sized) (formed t (start .pre .0 .formed)) (start .args .a) (c .before .before .lowest-unused .result) (c .before .before .lowest-unused .ensures) (omega arith) (omega arith) (omega arith)))
 
 pub take-cell-spec : {M : Type 1} → statement M
 take-cell-spec =

@@ -42,11 +42,12 @@ same-length-2 c = search needs
 
 returns : tie.Need-returns
 returns c =
+    let at-k = c .before .before .before .before .before .before in
     let w = c .before .before .before .before .before .before .before .before .before .before .write-numbers in (
-      rw (← w .ensures .0, c .before .before .before .before .before .before .k .given .1) refl,
+      rw (← w .ensures .0, at-k .k .given .1) refl,
       (
         rw (← w .ensures .0) (w .ensures .1),
-        rw (← w .ensures .0, c .before .before .before .before .before .before .k .given .1) (c .before .before .lend .ensures),
+        rw (← w .ensures .0, at-k .k .given .1) (c .before .before .lend .ensures),
       ),
     )
 
@@ -58,11 +59,12 @@ same-length-4 c = search needs
 
 returns-2 : tie.Need-returns-2
 returns-2 c =
+    let at-i = c .before .before .before .before .before .before in
     let w = c .before .before .before .before .before .before .before .before .before .before .write-numbers in (
-      rw (← w .ensures .0, c .before .before .before .before .before .before .i .given .1) refl,
+      rw (← w .ensures .0, at-i .i .given .1) refl,
       (
         rw (← w .ensures .0) (w .ensures .1),
-        rw (← w .ensures .0, c .before .before .before .before .before .before .i .given .1) (c .before .before .lend2 .ensures),
+        rw (← w .ensures .0, at-i .i .given .1) (c .before .before .lend2 .ensures),
       ),
     )
 
@@ -74,11 +76,12 @@ same-length-6 c = search needs
 
 returns-3 : tie.Need-returns-3
 returns-3 c =
+    let at-k2 = c .before .before .before .before .before .before in
     let w = c .before .before .before .before .before .before .before .before .before .before .write-numbers in (
-      rw (← w .ensures .0, c .before .before .before .before .before .before .k2 .given .1) refl,
+      rw (← w .ensures .0, at-k2 .k2 .given .1) refl,
       (
         rw (← w .ensures .0) (w .ensures .1),
-        rw (← w .ensures .0, c .before .before .before .before .before .before .k2 .given .1) (c .before .before .lend3 .ensures),
+        rw (← w .ensures .0, at-k2 .k2 .given .1) (c .before .before .lend3 .ensures),
       ),
     )
 
