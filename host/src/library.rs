@@ -117,16 +117,20 @@ pub fn verdict(job: &[u8], certificate: &[u8], out: &mut [u64]) -> u32 {
     }
 }
 
-pub fn forbid_not_list(
+/// The two calls that forbid shapes of a variable at a state.
+type ForbidAt =
+    unsafe extern "C" fn(*const u8, usize, u32, u32, *mut u8, usize, *mut u64, usize) -> u32;
+
+fn forbid_at(
+    call: ForbidAt,
     job: &[u8],
-    variable: u32,
-    state: u32,
+    (variable, state): (u32, u32),
     bytes: &mut [u8],
     out: &mut [u64],
 ) -> u32 {
     // SAFETY: each pointer goes with the length of the slice that it came from.
     unsafe {
-        vorruda_forbid_not_list(
+        call(
             lent(job),
             job.len(),
             variable,
@@ -139,6 +143,16 @@ pub fn forbid_not_list(
     }
 }
 
+pub fn forbid_not_list(
+    job: &[u8],
+    variable: u32,
+    state: u32,
+    bytes: &mut [u8],
+    out: &mut [u64],
+) -> u32 {
+    forbid_at(vorruda_forbid_not_list, job, (variable, state), bytes, out)
+}
+
 pub fn forbid_lost_block(
     job: &[u8],
     variable: u32,
@@ -146,19 +160,13 @@ pub fn forbid_lost_block(
     bytes: &mut [u8],
     out: &mut [u64],
 ) -> u32 {
-    // SAFETY: each pointer goes with the length of the slice that it came from.
-    unsafe {
-        vorruda_forbid_lost_block(
-            lent(job),
-            job.len(),
-            variable,
-            state,
-            lent_mut(bytes),
-            bytes.len(),
-            lent_mut(out),
-            out.len(),
-        )
-    }
+    forbid_at(
+        vorruda_forbid_lost_block,
+        job,
+        (variable, state),
+        bytes,
+        out,
+    )
 }
 
 pub fn forbid_bad_steps(job: &[u8], bytes: &mut [u8], out: &mut [u64]) -> u32 {

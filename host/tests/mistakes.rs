@@ -3,20 +3,7 @@
 use vorruda_host::reference::job::Job;
 use vorruda_host::routine::{parse, Mistake};
 
-const SMALL: &str = "\
--- Makes one cell.
-variables x y
-start     begin
-
-begin     new(x)         -> linked  -- a cell
-linked    x.next := null -> end
-end       y := x.next    -> end
-end       skip           -> end
-
-forbidden
-end       x at c, c -> d, d -> *, cell e
-steps
-";
+const SMALL: &str = include_str!("small.txt");
 
 /// The mistake after a change of the small routine.
 fn mistake(old: &str, new: &str) -> String {

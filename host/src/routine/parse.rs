@@ -323,20 +323,7 @@ fn no_transition(first: Word, mut words: Words) -> Mistake {
 mod tests {
     use super::*;
 
-    const SMALL: &str = "\
--- Makes one cell.
-variables x y
-start     begin
-
-begin     new(x)         -> linked  -- a cell
-linked    x.next := null -> end
-end       y := x.next    -> end
-end       skip           -> end
-
-forbidden
-end       x at c, c -> d, d -> *, cell e
-steps
-";
+    const SMALL: &str = include_str!("../../tests/small.txt");
 
     #[test]
     fn a_small_routine() {
