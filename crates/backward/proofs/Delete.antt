@@ -26,6 +26,9 @@ use Rattle.shape.proofs.Placing.{Placed, unlinked}
 use Rattle.run.proofs.WellFormed.{WellFormed, heap-proper, after-formed}
 use Rattle.backward.specs.Predecessors.{forget, forgetDangling, predecessors}
 
+pub forget-below : (k p : ℕ) → p < k → forget p < k
+forget-below k p b = cond-cases (λ q. q < k) (r-eq p dangling) (λ _. omega arith) (λ _. b)
+
 forget-other : (p : ℕ) → p ≢ dangling → forget p ≡ p
 forget-other p n = cond-cases (λ q. q ≡ p) (r-eq p dangling) (λ e. absurd (n e)) (λ _. refl)
 

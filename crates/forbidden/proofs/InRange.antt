@@ -28,7 +28,7 @@ module _ (n x most : ℕ) (x≢0 : x ≢ 0) (x≤n : x ≤ n) (room : 3 ≤ most
   base-in-range : (s : Shape) → Base n x nowhere s → InRange n most s
   base-in-range s b =
       record {
-        variables-number = ap length (b .only-x) ∙ only-length n x (b .place) x≢0 x≤n;
+        variables-number = ap length (b .only-x) ∙ only-length n x (b .place);
         cells = let k = b .small in omega arith;
         vars = subst (AllBelow (cell (size s))) (sym (b .only-x))
             (only-below n x (b .place) x≢0 x≤n (cell (size s)) (b .inside (b .place) (List·Memᴰ·head refl) .1));

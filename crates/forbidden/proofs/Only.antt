@@ -19,6 +19,9 @@ all-nowhere zero i = refl
 all-nowhere (suc n) zero = refl
 all-nowhere (suc n) (suc i) = all-nowhere n i
 
+pub only-length : (n x p : ℕ) → length (only n x p) ≡ n
+only-length n x p = vars-set-length x p (replicate n nowhere) ∙ length-replicate n nowhere
+
 module _ (n x p : ℕ) (x≢0 : x ≢ 0) (x≤n : x ≤ n) where
   pub only-at : varIn (only n x p) x ≡ p
   only-at = var-set-same x p (replicate n nowhere) x≢0 (omega (arith, length-replicate n nowhere))
@@ -63,6 +66,3 @@ module _ (n x p : ℕ) (x≢0 : x ≢ 0) (x≤n : x ≤ n) where
       go i e (the-one _ j) = omega arith
       go i e (the-null z _) = absurd (omega arith)
       go i e (another j) = omega arith
-
-  pub only-length : length (only n x p) ≡ n
-  only-length = vars-set-length x p (replicate n nowhere) ∙ length-replicate n nowhere

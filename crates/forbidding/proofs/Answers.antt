@@ -1,8 +1,8 @@
 -- What is answered, test by test.
 use mathlib.Core.Bool.{true, false, _&&_, cond}
 use mathlib.Core.List.{List, _++_, Memᴰ·map}
-use mathlib.Core.Path.{_≡_, refl, sym, ap, ap₂, _∙_, subst}
-use Prim.Native.Nat.{ℕ, zero, suc, _+_, _*_, _≤_, _<_}
+use mathlib.Core.Path.{_≡_, sym, ap, ap₂, _∙_, subst}
+use Prim.Native.Nat.{ℕ, suc, _+_, _*_, _≤_, _<_}
 use native.Mathlib.Nat.{mul-le-mul}
 use native.Mathlib.Omega.{arith}
 use borrow.Author.Tests.{le-leb, lt-leb, lt-ltb, le-ltb}
@@ -10,6 +10,7 @@ use lib.Dec.{ltb}
 use lib.ListN.{length, set, length-append, length-set}
 use Rattle.lists.specs.List.{_∈_, concatMap}
 use Rattle.lists.proofs.List.{mem-below}
+use Rattle.lists.proofs.Range.{length-from}
 use Rattle.lists.proofs.Reflect.{passes}
 use Rattle.number.specs.NumberList.{encode}
 use Rattle.number.specs.Range.{AtMost}
@@ -23,14 +24,13 @@ use Rattle.format.proofs.Guarantee.{job-bytes}
 use Rattle.forbidden.specs.Written.{ReadySet, shapesOf, isInside, withSet, Rewritten, written, refused, rewriteFile, rewriteRead, rewrite}
 use Rattle.forbidden.proofs.Runs.{through-range}
 use Rattle.forbidden.proofs.Written.{read-is, Inside, r-inside}
-use Rattle.layout.specs.Entries.{entriesAt}
 use Rattle.layout.specs.Transitions.{transitionAt}
 use Rattle.reader.specs.Job.{JobRead}
 use Rattle.reader.specs.declared.Header.{Header}
 use Rattle.forbidding.specs.Answers.{setOf, cellsOf, setBytes, countPlace, withCount, PointIn}
 use Rattle.forbidding.specs.Put.{Put}
 use Rattle.forbidding.specs.Steps.{StepsIn}
-use Rattle.layout.specs.Transitions.{transitionsFrom}
+use Rattle.layout.proofs.Entries.{entries-number}
 use Rattle.reader.specs.Transitions.{transitionsIn}
 use Rattle.forbidding.specs.declared.Asked.{Asked}
 use Rattle.forbidding.specs.declared.Asked.the-variants.{NotList, LostBlock, BadSteps}
@@ -83,15 +83,6 @@ cells-few BadSteps = omega arith
 
 -- ---- a job that was read
 
-entries-number : (bytes : List ℕ) (variables at n : ℕ) → length (entriesAt bytes variables at n) ≡ n
-unfolding entriesAt
-entries-number bytes variables at zero = refl
-entries-number bytes variables at (suc n) = ap suc (entries-number bytes variables _ n)
-
-transitions-count : (job : List ℕ) (first i n : ℕ) → length (transitionsFrom job first i n) ≡ n
-transitions-count job first i zero = refl
-transitions-count job first i (suc n) = ap suc (transitions-count job first (suc i) n)
-
 module _ (job : List ℕ) (h : Header) (r : JobRead job h) where
   job-is : IsJob job (r .file)
   job-is = read-is job (r .file) (length job) (r .read)
@@ -100,7 +91,7 @@ module _ (job : List ℕ) (h : Header) (r : JobRead job h) where
   bytes-are limit = job-bytes job (r .file) limit job-is
 
   place-is : countPlace (h .transitions) ≡ countPlace (length (r .file .job .transitions))
-  place-is = ap countPlace (sym (ap length (r .transitions-are) ∙ transitions-count job (h .«transitions_at») 0 (h .transitions)))
+  place-is = ap countPlace (sym (ap length (r .transitions-are) ∙ length-from (λ k. transitionAt job (h .«transitions_at» + 5 * k)) 0 (h .transitions)))
 
   pub count-inside : AtMost 255 job → countPlace (h .transitions) < length job
   count-inside limit = place-inside (r .file) (job-is .in-range) job (bytes-are limit) (countPlace (h .transitions)) place-is

@@ -3,17 +3,17 @@ use mathlib.Core.List.{List, [], _∷_, _++_, map}
 use mathlib.Core.Path.{_≡_, refl, sym, ap, _∙_, subst}
 use Prim.Native.Nat.{ℕ, zero, suc, _+_, _-_, _*_, _≤_}
 use native.Mathlib.Omega.{arith}
-use lib.ListN.{length, set, take, replicate, length-append, length-replicate, length-set}
+use lib.ListN.{length, set, take, replicate, length-append, length-set}
 use lib.Seq.{length-take-le, take-set-lt}
 use Rattle.lists.specs.List.{concatMap}
 use Rattle.lists.proofs.List.{All, all-concat, concatMap-append}
 use Rattle.heap.specs.Place.{nowhere, null, dangling, cell}
 use Rattle.shape.specs.Placing.{grow}
 use Rattle.shape.specs.Shape.{size}
-use Rattle.shape.proofs.Laws.{vars-set-length}
 use Rattle.run.specs.Run.{Transition, Located}
 use Rattle.format.specs.JobNumbers.{locatedNumbers}
 use Rattle.forbidden.specs.Sets.{only, ending, notList, lostBlock, atState, badStep, badStepsOf, badSteps, stepsThrough}
+use Rattle.forbidden.proofs.Only.{only-length}
 use Rattle.forbidden.specs.Written.{ReadySet, not-list, lost-block, bad-steps, shapesOf}
 use Rattle.forbidding.specs.Answers.{cellsOf}
 use Rattle.forbidding.specs.Put.{Put}
@@ -33,9 +33,6 @@ only-taken n (suc v) p a b c =
 
 pub taken-length : (n x p : ℕ) → n ≤ 8 → n ≡ length (take n (set (replicate 8 nowhere) (x - 1) p))
 taken-length n x p h = sym (length-take-le n (set (replicate 8 nowhere) (x - 1) p) (omega (arith, length-set (replicate 8 nowhere) (x - 1) p)))
-
-pub only-length : (n x p : ℕ) → length (only n x p) ≡ n
-only-length n x p = vars-set-length x p (replicate n nowhere) ∙ length-replicate n nowhere
 
 -- a shape, put by its parts: state and number of cells, variables, links
 pub put-parts : {at m k next : ℕ} {before b₁ b₂ after : List ℕ} (q n x p : ℕ) (links : List ℕ) → 1 ≤ x → x ≤ n → n ≤ 8

@@ -27,7 +27,7 @@ open-at : (links : List ℕ) (p q l : ℕ) → 2 < p → linkIn links p ≡ l �
 unfolding linkOpen
 open-at links p q l h e = rw (lt-ltb dangling p h, e) refl
 
-open-none : (links : List ℕ) (p q : ℕ) → p ≤ 2 → linkOpen links p q ≡ false
+pub open-none : (links : List ℕ) (p q : ℕ) → p ≤ 2 → linkOpen links p q ≡ false
 unfolding linkOpen
 open-none links p q h = simp (le-ltb dangling p h)
 

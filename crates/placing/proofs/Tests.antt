@@ -20,10 +20,6 @@ use Rattle.placing.specs.declared.Wanted.the-variants.{Nothing, Once, An
 -- ---- what is retained
 
 module _ (links : List ℕ) (p q : ℕ) where
-  pub open-none : p ≤ 2 → false ≡ linkOpen links p q
-  unfolding linkOpen
-  open-none h = simp (le-ltb dangling p h)
-
   pub open-free : 2 < p → (l : ℕ) → l ≡ linkIn links p → l ≡ nowhere → true ≡ linkOpen links p q
   unfolding linkOpen
   open-free h l e z = simp (lt-ltb dangling p h, eq-eqb (linkIn links p) nowhere (sym e ∙ z))

@@ -10,21 +10,18 @@ use lib.Dec.{eqb}
 use lib.ListN.{length, getD, set, length-map}
 use lib.Seq.{ext-getD}
 use Rattle.lists.specs.List.{keep}
-use Rattle.lists.proofs.Reflect.{r-eq, cond-cases}
 use Rattle.heap.specs.Operation.{delete}
 use Rattle.heap.specs.Place.{nowhere, null, dangling, cell}
 use Rattle.shape.specs.Placing.{setVar, fresh, grow}
 use Rattle.shape.specs.Shape.{Shape}
 use Rattle.shape.proofs.Laws.{link-map}
 use Rattle.backward.specs.Predecessors.{forget, forgetDangling, predecessors}
+use Rattle.backward.proofs.Delete.{forget-below}
 use Rattle.layout.specs.ShapeArray.{cellCount, operandAt, linksIn, shapeIn, ShapeArray}
 use Rattle.shapes.specs.Change.{setOperand, addCell, slotForgotten, arrayForgotten, arrayRestored}
 use Rattle.shapes.specs.Operands.{HoldsShape}
 use Rattle.shapes.proofs.Slots.{size-in, var-in, link-in, shape-operand, array-operand, count-cell, shape-cell, array-cell}
 use Rattle.shapes.proofs.Tables.{table-length, table-at, operands-all, vars-mapped}
-
-forget-below : (p k : ℕ) → p < k → forget p < k
-forget-below p k b = cond-cases (λ q. q < k) (r-eq p dangling) (λ e. omega arith) (λ e. b)
 
 slot-low : (s : List ℕ) → slotForgotten s 0 ≡ cellCount s
 unfolding slotForgotten
@@ -57,13 +54,13 @@ module _ (variables : ℕ) (s : List ℕ) (h : ShapeArray variables s) (f : List
         variables-fit = h .variables-fit;
         cells-fit = rw count (h .cells-fit);
         null-place = operand 0 ∙ ap forget (h .null-place);
-        operands-range = λ y. rw (count, operand y) (forget-below (operandAt s y) (cell (cellCount s)) (h .operands-range y));
+        operands-range = λ y. rw (count, operand y) (forget-below (cell (cellCount s)) (operandAt s y) (h .operands-range y));
         operands-above = λ y a. operand y ∙ ap forget (h .operands-above y a);
         links-range = λ i b. range i (rw count at b);
       }
     where
       range : (i : ℕ) → i < cellCount s → getD f (cell i) nowhere < cell (cellCount f)
-      range i b = rw (count, link i b) (forget-below (getD s (cell i) nowhere) (cell (cellCount s)) (h .links-range i b))
+      range i b = rw (count, link i b) (forget-below (cell (cellCount s)) (getD s (cell i) nowhere) (h .links-range i b))
 
   shape-forgotten : shapeIn variables f ≡ forgetDangling old
   shape-forgotten =

@@ -1,12 +1,14 @@
 -- No cell, a link nowhere, or a link at q.
+use mathlib.Core.Path.{sym}
 use native.Mathlib.Omega.{arith}
-use Rattle.placing.proofs.Tests.{open-none, open-free, open-equal}
+use Rattle.placing.proofs.Retaining.{open-none}
+use Rattle.placing.proofs.Tests.{open-free, open-equal}
 use borrow.Author.Needs.{needs}
 use Rattle.placing.proofs.link_open.Statement.{statement}
 use Rattle.placing.proofs.link_open.Tie as tie
 
 returns : tie.Need-returns
-returns c = let a = c .before .before .before .args in open-none (a .links .now) (a .p .code) (a .q .code) (omega arith)
+returns c = let a = c .before .before .before .args in sym (open-none (a .links .now) (a .p .code) (a .q .code) (omega arith))
 
 link-at-requires : tie.Need-link-at-requires
 link-at-requires c κs = search needs
