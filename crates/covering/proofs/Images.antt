@@ -1,7 +1,6 @@
 -- Images in an array.
 use mathlib.Core.Bool.{true, cond}
 use mathlib.Core.List.{List, [], _∷_, map}
-use mathlib.Core.Logic.{_≢_}
 use mathlib.Core.Path.{_≡_, refl, sym, ap, _∙_}
 use Prim.Native.Nat.{ℕ, zero, suc, _+_, _-_, _≤_, _<_}
 use native.Mathlib.Decide.{decLt}
@@ -11,7 +10,7 @@ use lib.Dec.{ltb}
 use lib.ListN.{length, getD, take, drop, length-map, length-take, length-drop, replicate, getD-replicate, List·getD-eq-default}
 use lib.Seq.{getD-take, getD-drop}
 use Rattle.lists.proofs.Reflect.{is-true}
-use Rattle.heap.specs.Place.{nowhere, cell}
+use Rattle.heap.specs.Place.{cell}
 use Rattle.cover.specs.Test.{imageMap, stops}
 use Rattle.cover.proofs.Embeds.{r-stops}
 use Rattle.covering.specs.Images.{imagesIn, ImageCodes, imageIn}
@@ -20,12 +19,6 @@ getD-sub : (l : List ℕ) (i : ℕ) → getD (map (λ p. p - 3) l) i 0 ≡ getD 
 getD-sub [] i = refl
 getD-sub (x ∷ xs) zero = refl
 getD-sub (x ∷ xs) (suc i) = getD-sub xs i
-
-pub somewhere : (images : List ℕ) (p : ℕ) → p ≢ nowhere → imageMap images p ≢ nowhere
-somewhere images zero n = absurd (n refl)
-somewhere images (suc zero) n = n
-somewhere images (suc (suc zero)) n = n
-somewhere images (suc (suc (suc i))) n = omega arith
 
 module _ (count n : ℕ) (codes : List ℕ) (m : ImageCodes count n codes) where
   pub images-length : length (imagesIn count codes) ≡ count

@@ -12,7 +12,7 @@ use Rattle.shape.specs.Shape.{Shape, linkAt}
 use Rattle.cover.specs.Test.{imageMap, stops, betweenBelow}
 use Rattle.covering.specs.Images.{pathFits}
 use Rattle.covering.specs.Marks.{Marks, endFrom, pathFrom, Followed}
-use Rattle.covering.proofs.Images.{somewhere}
+use Rattle.cover.proofs.Embeds.{somewhere}
 
 module _ (member covered : Shape) (images : List ℕ) (i : ℕ) where
   abbrev to : ℕ
