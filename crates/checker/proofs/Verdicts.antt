@@ -3,7 +3,7 @@ use mathlib.Core.Bool.{true, false}
 use mathlib.Core.List.{List, []}
 use mathlib.Core.Logic.{_↔_}
 use mathlib.Core.Path.{_≡_, refl, sym, ap, ap₂, _∙_}
-use Prim.Native.Nat.{ℕ, zero, suc, _+_, _≤_, _<_}
+use Prim.Native.Nat.{ℕ, _+_, _≤_, _<_}
 use native.Mathlib.Omega.{arith}
 use borrow.Author.Tests.{lt-leb, le-leb, ltb-true}
 use lib.Dec.{leb, ltb}
@@ -20,7 +20,6 @@ use Rattle.format.specs.Parser.{Parsed, parsed, fault, Parser, onward, each, ce
 use Rattle.format.specs.Verdict.{Counts, accepted, refused, conclude, readCertificate, fits, verdict, readBoth}
 use Rattle.format.proofs.Exact.{exact}
 use Rattle.format.proofs.Guarantee.{safe-bytes}
-use Rattle.layout.specs.Entries.{entryEnd, entriesAt}
 use Rattle.reader.specs.Job.{JobRead}
 use Rattle.reader.specs.Members.{Bounds, tested, readTested}
 use Rattle.reader.specs.declared.Header.{Header}
@@ -88,13 +87,6 @@ module _ (cert : List ℕ) (j : Job) (ms : List Located) (at : ℕ) (g : Checked
         → accepted (record { bads = bads; members = members; covers = t .covers }) ≡ conclude (readCovers cert j ms at)
     unfolding end
     covers-taken bads members h bads-is members-is = rw (reached .1, le-leb (length cert) (t .at) h, bads-is, members-is, reached .0) refl
-
--- ---- how many
-
-pub entries-number : (bytes : List ℕ) (variables at n : ℕ) → n ≡ length (entriesAt bytes variables at n)
-unfolding entriesAt
-entries-number bytes variables at zero = refl
-entries-number bytes variables at (suc n) = ap suc (entries-number bytes variables (entryEnd bytes variables at) n)
 
 -- ---- the certificate
 

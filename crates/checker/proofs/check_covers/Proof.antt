@@ -3,7 +3,8 @@ use mathlib.Core.Path.{sym}
 use lib.ListN.{length-map}
 use Rattle.layout.specs.Entries.{locatedAt, membersAt}
 use Rattle.checker.specs.Jobs.{fileIn}
-use Rattle.checker.proofs.Verdicts.{covers-refused, covers-left, covers-taken, entries-number}
+use Rattle.checker.proofs.Verdicts.{covers-refused, covers-left, covers-taken}
+use Rattle.layout.proofs.Entries.{entries-number}
 use borrow.Author.Needs.{needs}
 use Rattle.checker.proofs.check_covers.Statement.{statement}
 use Rattle.checker.proofs.check_covers.Tie as tie
@@ -39,7 +40,7 @@ returns-3 : tie.Need-returns-3
 returns-3 c =
     let a = c .before .before .before .before .before .before .before .before .before .before .args in
     let v = c .before .before .before .before .g2 .given in
-    covers-taken (a .cert .now) (fileIn (a .job .now) (a .h) .job) (membersAt (a .cert .now) (a .h .variables) (a .starts .now)) (a .at) _ (c .before .before .before .before .before .before .check-owed .ensures) (v .0 .0) (v .1) (a .h .bads) _ (omega arith) (entries-number (a .job .now) (a .h .variables) (a .h .«bads_at») (a .h .bads)) (sym (length-map (a .starts .now) (locatedAt (a .cert .now) (a .h .variables))))
+    covers-taken (a .cert .now) (fileIn (a .job .now) (a .h) .job) (membersAt (a .cert .now) (a .h .variables) (a .starts .now)) (a .at) _ (c .before .before .before .before .before .before .check-owed .ensures) (v .0 .0) (v .1) (a .h .bads) _ (omega arith) (sym (entries-number (a .job .now) (a .h .variables) (a .h .«bads_at») (a .h .bads))) (sym (length-map (a .starts .now) (locatedAt (a .cert .now) (a .h .variables))))
 
 pub check-covers-spec : {M : Type 1} → statement M
 check-covers-spec =
