@@ -3,7 +3,7 @@ use mathlib.Core.Bool.{_||_}
 use mathlib.Core.List.{_∷_, List·Memᴰ·tail, Memᴰ·cast}
 use mathlib.Core.Logic.{_≢_, _⊎_, inl, inr, if-pos, if-neg}
 use mathlib.Core.Path.{_≡_, refl, sym, ap, _∙_, subst}
-use Prim.Native.Nat.{ℕ, _≤_}
+use Prim.Native.Nat.{ℕ, _≤_, _<_}
 use native.Mathlib.Decide.{ℕ-discrete}
 use native.Mathlib.Omega.{arith}
 use lib.Dec.{eqb}
