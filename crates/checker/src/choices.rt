@@ -1,37 +1,40 @@
-// Kinds 1 to 5: covers of the predecessors, by first choices, of a, and second choices, of b.
+// Kinds 1 to 5: covers of the predecessors, by the choices of the operand that is placed first and of the one that is placed last.
 use crate::change::place_operand;
 use crate::change::undo;
 use crate::checked::Checked;
 use crate::checked::Position;
 use crate::single::check_quickly;
 use crate::wanted::is_wanted_in;
-use crate::wanted::wanted_of_a;
-use crate::wanted::wanted_of_b;
+use crate::wanted::last_operand;
+use crate::wanted::wanted_of_first;
+use crate::wanted::wanted_of_last;
 use kinds::LOAD;
+use place::Place;
+use placing::both_nowhere;
 use placing::choices_of;
 use transitions::Transition;
 ghost use mathlib.Core.Bool.{true};
 ghost use mathlib.Core.Path.{_≡_};
 ghost use Prim.Native.Nat.{_+_, _≤_, _<_};
-ghost use Rattle.layout.specs.ShapeArray.{cellCount, linksIn, shapeIn};
+ghost use Rattle.layout.specs.ShapeArray.{cellCount, linksIn};
 ghost use Rattle.placing.specs.Choice.{put};
-ghost use Rattle.placing.specs.Retained.{changed, seconds, firsts};
+ghost use Rattle.placing.specs.Retained.{changed, firsts};
 ghost use Rattle.placing.specs.Wanted.{fitsIn};
-ghost use Rattle.shapes.specs.Operands.{HoldsShape, working, Working, Placed, wantedB};
+ghost use Rattle.shapes.specs.Operands.{HoldsShape, shapeUnder, Working, OneToPlace, firstPlacedIn, lastOperandIn, wantedLastIn};
 ghost use Rattle.checker.specs.Checking.{checkedOf, Within};
 ghost use Rattle.checker.specs.Placing.{checkShapes, withHelper};
 
-// The predecessor by choice k of b, which is wanted, in place.
-pub(crate) fn undo_choice(variables: usize, by: Transition, s: &mut [u8; 28], k: u8)
-    requires { ⌜ (Placed variables (by .kind) (by .a) (by .b) (now s)) × (k < cellCount (now s) + (2 + cellCount (now s))) × (fitsIn (linksIn (now s)) (wantedB (by .kind) (by .a) (by .b) (now s)) k ≡ true) ⌝ }
-    ensures { λ r. ⌜ HoldsShape variables (now (s .exit)) (changed variables (by .kind) (by .a) (by .b) (put (by .b) (shapeIn (working variables (by .b)) (now (s .entry))) k)) ⌝ }
+// The predecessor by choice k of the operand that is placed last, which is wanted, in place.
+pub(crate) fn undo_choice(variables: usize, by: Transition, operand: u8, s: &mut [u8; 28], k: u8)
+    requires { ⌜ (OneToPlace variables (by .kind) (by .a) (by .b) (now s)) × (operand ≡ lastOperandIn (by .a) (by .b) (now s)) × (k < cellCount (now s) + (2 + cellCount (now s))) × (fitsIn (linksIn (now s)) (wantedLastIn (by .kind) (by .a) (by .b) (now s)) k ≡ true) ⌝ }
+    ensures { λ r. ⌜ HoldsShape variables (now (s .exit)) (changed variables (by .kind) (by .a) (by .b) (put operand (shapeUnder variables (by .b) (now (s .entry))) k)) ⌝ }
 {
-    place_operand(s, by.b, k);
+    place_operand(s, operand, k);
     undo(variables, by, s);
 }
 
-// Covers of the predecessors that share a first choice: a is placed.
-pub(crate) fn check_second_choices(
+// Covers of the predecessors where at most one variable is still to be placed.
+pub(crate) fn check_last_choices(
     cert: &[u8],
     starts: &[u16],
     variables: usize,
@@ -39,10 +42,11 @@ pub(crate) fn check_second_choices(
     s: &[u8; 28],
     from: Position,
 ) -> Checked
-    requires { ⌜ (Placed variables (by .kind) (by .a) (by .b) (now s)) × (Within (now cert) from) ⌝ }
-    ensures { λ r. ⌜ checkedOf r ≡ checkShapes (now (cert .entry)) variables (now (starts .entry)) (by .from) (seconds variables (by .kind) (by .a) (by .b) (shapeIn (working variables (by .b)) (now (s .entry)))) from ⌝ }
+    requires { ⌜ (OneToPlace variables (by .kind) (by .a) (by .b) (now s)) × (Within (now cert) from) ⌝ }
+    ensures { λ r. ⌜ checkedOf r ≡ checkShapes (now (cert .entry)) variables (now (starts .entry)) (by .from) (firsts variables (by .kind) (by .a) (by .b) (shapeUnder variables (by .b) (now (s .entry)))) from ⌝ }
 {
-    let wanted = wanted_of_b(by, s);
+    let operand = last_operand(by, s);
+    let wanted = wanted_of_last(by, s);
     let c = choices_of(s[0], wanted);
     let mut t = from;
     let mut k = c.from;
@@ -51,7 +55,7 @@ pub(crate) fn check_second_choices(
         k += c.step;
         if is_wanted_in(s, wanted, j) {
             let mut v = *s;
-            undo_choice(variables, by, &mut v, j);
+            undo_choice(variables, by, operand, &mut v, j);
             let g = check_quickly(cert, starts, variables, by.from, &v, t);
             let Checked::Upto(u) = g else {
                 return g;
@@ -62,7 +66,23 @@ pub(crate) fn check_second_choices(
     Checked::Upto(t)
 }
 
-// Covers of all choices of a and b.
+// Places a by choice k, where both operands are nowhere.
+fn place_first(by: Transition, s: &mut [u8; 28], k: u8)
+    requires { ⌜ (by .a ≤ 9) × (by .b ≤ 9) × (cellCount (now s) ≤ 13) × (k < cellCount (now s) + (2 + cellCount (now s))) ⌝ }
+    ensures { λ r. ⌜ now (s .exit) ≡ firstPlacedIn (by .a) (by .b) (now (s .entry)) k ⌝ }
+{
+    let x = Place {
+        code: s[17 + by.a as usize],
+    };
+    let y = Place {
+        code: s[17 + by.b as usize],
+    };
+    if both_nowhere(by.a == by.b, x, y) {
+        place_operand(s, by.a, k);
+    }
+}
+
+// Covers of the predecessors by all choices of a and b.
 pub(crate) fn check_first_choices(
     cert: &[u8],
     starts: &[u16],
@@ -72,9 +92,9 @@ pub(crate) fn check_first_choices(
     from: Position,
 ) -> Checked
     requires { ⌜ (Working 12 variables (by .kind) (by .a) (by .b) (now s)) × (Within (now cert) from) ⌝ }
-    ensures { λ r. ⌜ checkedOf r ≡ checkShapes (now (cert .entry)) variables (now (starts .entry)) (by .from) (firsts variables (by .kind) (by .a) (by .b) (shapeIn (working variables (by .b)) (now (s .entry)))) from ⌝ }
+    ensures { λ r. ⌜ checkedOf r ≡ checkShapes (now (cert .entry)) variables (now (starts .entry)) (by .from) (firsts variables (by .kind) (by .a) (by .b) (shapeUnder variables (by .b) (now (s .entry)))) from ⌝ }
 {
-    let wanted = wanted_of_a(by, s);
+    let wanted = wanted_of_first(by, s);
     let c = choices_of(s[0], wanted);
     let mut t = from;
     let mut k = c.from;
@@ -83,8 +103,8 @@ pub(crate) fn check_first_choices(
         k += c.step;
         if is_wanted_in(s, wanted, j) {
             let mut v = *s;
-            place_operand(&mut v, by.a, j);
-            let g = check_second_choices(cert, starts, variables, by, &v, t);
+            place_first(by, &mut v, j);
+            let g = check_last_choices(cert, starts, variables, by, &v, t);
             let Checked::Upto(u) = g else {
                 return g;
             };

@@ -1,16 +1,17 @@
 // Which choices of its operands an operation of kinds 1 to 5 retains, in the shape of an array.
+use place::NOWHERE;
 use place::Place;
 use placing::Wanted;
 use placing::is_wanted;
 use placing::wanted_first;
-use placing::wanted_second;
+use placing::wanted_last;
 use transitions::Transition;
 ghost use mathlib.Core.Path.{_≡_};
 ghost use Prim.Native.Nat.{_≤_};
 ghost use Rattle.layout.specs.ShapeArray.{cellCount, operandAt, linksIn};
 ghost use Rattle.place.specs.Place.{placeOf};
 ghost use Rattle.placing.specs.Wanted.{fitsIn};
-ghost use Rattle.shapes.specs.Operands.{wantedA, wantedB};
+ghost use Rattle.shapes.specs.Operands.{wantedFirstIn, wantedLastIn, lastOperandIn};
 
 // Where an operand stands.
 fn place_of(s: &[u8; 28], operand: u8) -> Place
@@ -22,28 +23,38 @@ fn place_of(s: &[u8; 28], operand: u8) -> Place
     }
 }
 
-// What is wanted of a.
-pub(crate) fn wanted_of_a(by: Transition, s: &[u8; 28]) -> Wanted
-    requires { ⌜ (by .a ≤ 9) × (by .b ≤ 9) × (cellCount (now s) ≤ 14) ⌝ }
-    ensures { λ r. ⌜ r ≡ wantedA (by .kind) (by .a) (by .b) (now (s .entry)) ⌝ }
+// What is wanted of the operand that is placed first.
+pub(crate) fn wanted_of_first(by: Transition, s: &[u8; 28]) -> Wanted
+    requires { ⌜ (by .a ≤ 9) × (by .b ≤ 9) ⌝ }
+    ensures { λ r. ⌜ r ≡ wantedFirstIn (by .a) (by .b) (now (s .entry)) ⌝ }
 {
     let x = place_of(s, by.a);
     let y = place_of(s, by.b);
-    let n = s[0] as usize;
-    let all = &s[..];
-    wanted_first(by.kind, by.a == by.b, &all[3..3 + n], x, y)
+    wanted_first(by.a == by.b, x, y)
 }
 
-// What is wanted of b, where a is placed.
-pub(crate) fn wanted_of_b(by: Transition, s: &[u8; 28]) -> Wanted
+// What is wanted of the operand that is placed last.
+pub(crate) fn wanted_of_last(by: Transition, s: &[u8; 28]) -> Wanted
     requires { ⌜ (by .a ≤ 9) × (by .b ≤ 9) × (cellCount (now s) ≤ 14) ⌝ }
-    ensures { λ r. ⌜ r ≡ wantedB (by .kind) (by .a) (by .b) (now (s .entry)) ⌝ }
+    ensures { λ r. ⌜ r ≡ wantedLastIn (by .kind) (by .a) (by .b) (now (s .entry)) ⌝ }
 {
     let x = place_of(s, by.a);
     let y = place_of(s, by.b);
     let n = s[0] as usize;
     let all = &s[..];
-    wanted_second(by.kind, &all[3..3 + n], x, y)
+    wanted_last(by.kind, by.a == by.b, &all[3..3 + n], x, y)
+}
+
+// The operand that is placed last: a where it is nowhere, else b.
+pub(crate) fn last_operand(by: Transition, s: &[u8; 28]) -> u8
+    requires { ⌜ by .a ≤ 9 ⌝ }
+    ensures { λ r. ⌜ r ≡ lastOperandIn (by .a) (by .b) (now (s .entry)) ⌝ }
+{
+    let x = place_of(s, by.a);
+    if x.code == NOWHERE {
+        return by.a;
+    }
+    by.b
 }
 
 // Whether choice k is wanted.

@@ -130,21 +130,8 @@ place-keeps v s t u m n =
         ap (λ (t : Shape). varAt t u) t-is ∙ made-other v s k u (λ z. n (ap (varAt s) z ∙ e))
     go (suc p) e k i = let t-is = List·Memᴰ·eq-of-singleton i in ap (λ (t : Shape). varAt t u) t-is
 
--- a variable that has a place stays where it is
-pub place-placed : (v : ℕ) (s t : Shape) → varAt s v ≢ nowhere → t ∈ place v s → t ≡ s
-place-placed v s t n = go (varAt s v) n
-  where
-    go : (p : ℕ) → p ≢ nowhere → t ∈ placedFrom p v s → t ≡ s
-    go zero n m = absurd (n refl)
-    go (suc zero) n m = List·Memᴰ·eq-of-singleton m
-    go (suc (suc zero)) n m = absurd (List·Memᴰ·not-nil m)
-    go (suc (suc (suc i))) n m = List·Memᴰ·eq-of-singleton m
-
 pub place-dangling : (v : ℕ) (s : Shape) → varAt s v ≡ dangling → place v s ≡ []
 place-dangling v s e = rw e refl
-
-pub retain-none : (test : Shape → Bool) (change : Shape → Shape) (l : List Shape) → ((t : Shape) → t ∈ l → test t ≡ false) → retain test change l ≡ []
-retain-none test change l h = concatMap-none (λ s. keep (test s) (change s)) l (λ t m. ap (λ b. keep b (change t)) (h t m))
 
 -- ---- what is retained
 

@@ -18,7 +18,7 @@ use Rattle.place.specs.declared.Place.{Place}
 use Rattle.placing.specs.Choice.{choiceOf}
 use Rattle.placing.specs.Retained.{retained}
 use Rattle.placing.proofs.Chosen.{choice-of-most}
-use Rattle.placing.specs.Wanted.{targetFits, fitsIn, oneByOne, targetChoices, choicesOf, targetOf, beside, onceIf, wantedOne, wantedNowhere, wantedFirst, wantedSecond}
+use Rattle.placing.specs.Wanted.{targetFits, fitsIn, oneByOne, targetChoices, choicesOf, targetOf, beside, onceIf, wantedOne, bothNowhere, wantedFirst, wantedLast}
 use Rattle.placing.specs.declared.Choices.{Choices}
 use Rattle.placing.specs.declared.Wanted.{Wanted}
 use Rattle.placing.specs.declared.Wanted.the-variants.{Nothing, Once, Any, At, Off, Source, Itself, Target}
@@ -221,7 +221,7 @@ sound-target links q inside range = go (decLt 2 q)
     go (no h) = rw (le-leb q dangling (omega arith)) tt
     go (yes h) = rw (lt-leb q dangling (omega arith)) (linked h (ℕ-discrete (linkIn links q) nowhere))
 
-pub sound-beside : (starting kind : ℕ) (links : List ℕ) (q : ℕ) → q < cell (length links)
+sound-beside : (starting kind : ℕ) (links : List ℕ) (q : ℕ) → q < cell (length links)
     → ((i : ℕ) → i < length links → getD links i nowhere < cell (length links)) → Sound (length links) (beside starting kind links (placeOf q))
 unfolding beside
 sound-beside starting kind links q inside range = go (eqb kind 2) (ltb kind 4) (eqb kind starting)
@@ -246,26 +246,26 @@ sound-one n kind = go (eqb kind 2) (eqb kind 5)
     go false true = tt
     go false false = tt
 
-module _ (kind : ℕ) (links : List ℕ) (x y : ℕ) (range : (i : ℕ) → i < length links → getD links i nowhere < cell (length links)) where
-  pub sound-second : x < cell (length links) → Sound (length links) (wantedSecond kind links (placeOf x) (placeOf y))
-  unfolding wantedSecond
-  sound-second inside = go (eqb y nowhere)
-    where
-      go : (t : Bool) → Sound (length links) (cond t (beside 4 kind links (placeOf x)) (onceIf (retained kind x y links)))
-      go true = sound-beside 4 kind links x inside range
-      go false = sound-once (length links) (retained kind x y links)
+pub sound-first : (n : ℕ) (same : Bool) (x y : ℕ) → Sound n (wantedFirst same (placeOf x) (placeOf y))
+unfolding wantedFirst
+sound-first n same x y = go (eqb x dangling || eqb y dangling) (bothNowhere same x y)
+  where
+    go : (d t : Bool) → Sound n (cond d Nothing (cond t Any Once))
+    go true t = tt
+    go false true = tt
+    go false false = tt
 
-  pub sound-first : (same : Bool) → y < cell (length links) → Sound (length links) (wantedFirst kind same links (placeOf x) (placeOf y))
-  unfolding wantedFirst wantedNowhere
-  sound-first same inside = go (eqb x dangling || eqb y dangling) (eqb x nowhere) same (eqb y nowhere)
-    where
-      go : (d n s m : Bool)
-          → Sound (length links)
-          (cond d Nothing
-          (cond n (cond s (wantedOne kind) (cond m Any (beside 5 kind links (placeOf y)))) (cond m Once (onceIf (retained kind x y links)))))
-      go true n s m = tt
-      go false true true m = sound-one (length links) kind
-      go false true false true = tt
-      go false true false false = sound-beside 5 kind links y inside range
-      go false false s true = tt
-      go false false s false = sound-once (length links) (retained kind x y links)
+pub sound-last : (kind : ℕ) (same : Bool) (links : List ℕ) (x y : ℕ) → x < cell (length links) → y < cell (length links)
+    → ((i : ℕ) → i < length links → getD links i nowhere < cell (length links))
+    → Sound (length links) (wantedLast kind same links (placeOf x) (placeOf y))
+unfolding wantedLast
+sound-last kind same links x y x-in y-in range = go (eqb x nowhere) same (eqb y nowhere)
+  where
+    go : (n s m : Bool)
+        → Sound (length links)
+        (cond n (cond s (wantedOne kind) (beside 5 kind links (placeOf y)))
+        (cond m (beside 4 kind links (placeOf x)) (onceIf (retained kind x y links))))
+    go true true m = sound-one (length links) kind
+    go true false m = sound-beside 5 kind links y y-in range
+    go false s true = sound-beside 4 kind links x x-in range
+    go false s false = sound-once (length links) (retained kind x y links)

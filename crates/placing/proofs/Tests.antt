@@ -13,7 +13,7 @@ use Rattle.heap.specs.Place.{nowhere, null, dangling, cell}
 use Rattle.placing.specs.Choice.{choiceOf, exists}
 use Rattle.placing.specs.Retained.{linkOpen, retained}
 use Rattle.place.specs.declared.Place.{Place}
-use Rattle.placing.specs.Wanted.{sourceFits, itselfFits, targetFits, fitsIn, targetOf, beside, onceIf, wantedOne, wantedNowhere, wantedFirst, wantedSecond}
+use Rattle.placing.specs.Wanted.{sourceFits, itselfFits, targetFits, fitsIn, targetOf, beside, onceIf, wantedOne, bothNowhere, wantedFirst, wantedLast}
 use Rattle.placing.specs.declared.Wanted.{Wanted}
 use Rattle.placing.specs.declared.Wanted.the-variants.{Nothing, Once, Any, At, Off, Source, Itself, Target}
 
@@ -219,51 +219,53 @@ module _ (kind : ℕ) where
     unfolding wantedOne
     one-any e = simp (ne-eqb kind 2 n, ne-eqb kind 5 e)
 
-module _ (kind : ℕ) (same : Bool) (links : List ℕ) (y : Place) where
-  pub nowhere-one : same ≡ true → wantedOne kind ≡ wantedNowhere kind same links y
-  unfolding wantedNowhere
-  nowhere-one e = simp e
+module _ (same : Bool) (x y : ℕ) where
+  pub both-not-a : x ≢ nowhere → false ≡ bothNowhere same x y
+  unfolding bothNowhere
+  both-not-a n = simp (ne-eqb x nowhere n)
 
-  module _ (n : same ≡ false) where
-    pub nowhere-both : y .code ≡ nowhere → Any ≡ wantedNowhere kind same links y
-    unfolding wantedNowhere
-    nowhere-both e = simp (n, eq-eqb (y .code) nowhere e)
+  pub both-not-b : x ≡ nowhere → y ≢ nowhere → false ≡ bothNowhere same x y
+  unfolding bothNowhere
+  both-not-b e n = simp (eq-eqb x nowhere e, ne-eqb y nowhere n)
 
-    pub nowhere-beside : y .code ≢ nowhere → beside 5 kind links y ≡ wantedNowhere kind same links y
-    unfolding wantedNowhere
-    nowhere-beside e = simp (n, ne-eqb (y .code) nowhere e)
+  pub both-two : x ≡ nowhere → y ≡ nowhere → not same ≡ bothNowhere same x y
+  unfolding bothNowhere
+  both-two e f = simp (eq-eqb x nowhere e, eq-eqb y nowhere f)
 
-module _ (kind : ℕ) (same : Bool) (links : List ℕ) (x y : Place) where
-  pub first-dangling : x .code ≡ dangling → Nothing ≡ wantedFirst kind same links x y
+module _ (same : Bool) (x y : Place) where
+  pub first-a-dangling : x .code ≡ dangling → Nothing ≡ wantedFirst same x y
   unfolding wantedFirst
-  first-dangling e = simp (eq-eqb (x .code) dangling e)
+  first-a-dangling e = simp (eq-eqb (x .code) dangling e)
 
   module _ (nx : x .code ≢ dangling) where
-    pub first-beside-dangling : y .code ≡ dangling → Nothing ≡ wantedFirst kind same links x y
+    pub first-b-dangling : y .code ≡ dangling → Nothing ≡ wantedFirst same x y
     unfolding wantedFirst
-    first-beside-dangling e = simp (ne-eqb (x .code) dangling nx, eq-eqb (y .code) dangling e)
+    first-b-dangling e = simp (ne-eqb (x .code) dangling nx, eq-eqb (y .code) dangling e)
 
     module _ (ny : y .code ≢ dangling) where
-      pub first-nowhere : x .code ≡ nowhere → wantedNowhere kind same links y ≡ wantedFirst kind same links x y
+      pub first-any : bothNowhere same (x .code) (y .code) ≡ true → Any ≡ wantedFirst same x y
       unfolding wantedFirst
-      first-nowhere e = simp (ne-eqb (x .code) dangling nx, ne-eqb (y .code) dangling ny, eq-eqb (x .code) nowhere e)
+      first-any e = simp (ne-eqb (x .code) dangling nx, ne-eqb (y .code) dangling ny, e)
 
-      module _ (px : x .code ≢ nowhere) where
-        pub first-later : y .code ≡ nowhere → Once ≡ wantedFirst kind same links x y
-        unfolding wantedFirst
-        first-later e =
-            simp (ne-eqb (x .code) dangling nx, ne-eqb (y .code) dangling ny, ne-eqb (x .code) nowhere px, eq-eqb (y .code) nowhere e)
+      pub first-once : bothNowhere same (x .code) (y .code) ≡ false → Once ≡ wantedFirst same x y
+      unfolding wantedFirst
+      first-once e = simp (ne-eqb (x .code) dangling nx, ne-eqb (y .code) dangling ny, e)
 
-        pub first-placed : y .code ≢ nowhere → onceIf (retained kind (x .code) (y .code) links) ≡ wantedFirst kind same links x y
-        unfolding wantedFirst
-        first-placed e =
-            simp (ne-eqb (x .code) dangling nx, ne-eqb (y .code) dangling ny, ne-eqb (x .code) nowhere px, ne-eqb (y .code) nowhere e)
+module _ (kind : ℕ) (same : Bool) (links : List ℕ) (x y : Place) where
+  module _ (e : x .code ≡ nowhere) where
+    pub last-one : same ≡ true → wantedOne kind ≡ wantedLast kind same links x y
+    unfolding wantedLast
+    last-one f = simp (eq-eqb (x .code) nowhere e, f)
 
-module _ (kind : ℕ) (links : List ℕ) (x y : Place) where
-  pub second-nowhere : y .code ≡ nowhere → beside 4 kind links x ≡ wantedSecond kind links x y
-  unfolding wantedSecond
-  second-nowhere e = simp (eq-eqb (y .code) nowhere e)
+    pub last-beside-b : same ≡ false → beside 5 kind links y ≡ wantedLast kind same links x y
+    unfolding wantedLast
+    last-beside-b f = simp (eq-eqb (x .code) nowhere e, f)
 
-  pub second-placed : y .code ≢ nowhere → onceIf (retained kind (x .code) (y .code) links) ≡ wantedSecond kind links x y
-  unfolding wantedSecond
-  second-placed e = simp (ne-eqb (y .code) nowhere e)
+  module _ (n : x .code ≢ nowhere) where
+    pub last-beside-a : y .code ≡ nowhere → beside 4 kind links x ≡ wantedLast kind same links x y
+    unfolding wantedLast
+    last-beside-a f = simp (ne-eqb (x .code) nowhere n, eq-eqb (y .code) nowhere f)
+
+    pub last-placed : y .code ≢ nowhere → onceIf (retained kind (x .code) (y .code) links) ≡ wantedLast kind same links x y
+    unfolding wantedLast
+    last-placed f = simp (ne-eqb (x .code) nowhere n, ne-eqb (y .code) nowhere f)

@@ -76,7 +76,7 @@ unfoldable pub beside : ℕ → ℕ → List ℕ → Place → Wanted
 beside starting kind links q =
     cond (eqb kind 2) (Off q) (cond (ltb kind 4) (At q) (cond (eqb kind starting) (Source q) (targetOf links (q .code))))
 
--- ---- what it wants of a at x, and then of b at y
+-- ---- what it wants of the operands, a at x and b at y; `same` says that a and b are one variable
 
 unfoldable pub onceIf : Bool → Wanted
 onceIf test = cond test Once Nothing
@@ -85,16 +85,17 @@ onceIf test = cond test Once Nothing
 unfoldable pub wantedOne : ℕ → Wanted
 wantedOne kind = cond (eqb kind 2) Nothing (cond (eqb kind 5) Itself Any)
 
--- where a is nowhere: `same` says that b is the same variable
-unfoldable pub wantedNowhere : ℕ → Bool → List ℕ → Place → Wanted
-wantedNowhere kind same links y = cond same (wantedOne kind) (cond (eqb (y .code) nowhere) Any (beside 5 kind links y))
+-- both are nowhere, and they are two
+unfoldable pub bothNowhere : Bool → ℕ → ℕ → Bool
+bothNowhere same x y = eqb x nowhere && (eqb y nowhere && not same)
 
-unfoldable pub wantedFirst : ℕ → Bool → List ℕ → Place → Place → Wanted
-wantedFirst kind same links x y =
-    cond (eqb (x .code) dangling || eqb (y .code) dangling) Nothing
-    (cond (eqb (x .code) nowhere) (wantedNowhere kind same links y)
-    (cond (eqb (y .code) nowhere) Once (onceIf (retained kind (x .code) (y .code) links))))
+-- of the operand placed first: any choice of a where both are nowhere; else there is nothing to place
+unfoldable pub wantedFirst : Bool → Place → Place → Wanted
+wantedFirst same x y =
+    cond (eqb (x .code) dangling || eqb (y .code) dangling) Nothing (cond (bothNowhere same (x .code) (y .code)) Any Once)
 
-unfoldable pub wantedSecond : ℕ → List ℕ → Place → Place → Wanted
-wantedSecond kind links x y =
-    cond (eqb (y .code) nowhere) (beside 4 kind links x) (onceIf (retained kind (x .code) (y .code) links))
+-- of the operand placed last, a where it is nowhere and else b; the other one has a place
+unfoldable pub wantedLast : ℕ → Bool → List ℕ → Place → Place → Wanted
+wantedLast kind same links x y =
+    cond (eqb (x .code) nowhere) (cond same (wantedOne kind) (beside 5 kind links y))
+    (cond (eqb (y .code) nowhere) (beside 4 kind links x) (onceIf (retained kind (x .code) (y .code) links)))

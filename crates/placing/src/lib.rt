@@ -13,7 +13,7 @@ ghost use Prim.Native.Nat.{_<_};
 ghost use Rattle.heap.specs.Codes.{linkIn};
 ghost use Rattle.placing.specs.Choice.{choiceOf, exists};
 ghost use Rattle.placing.specs.Retained.{linkOpen, retained};
-ghost use Rattle.placing.specs.Wanted.{sourceFits, itselfFits, fitsIn, oneByOne, targetChoices, choicesOf, targetOf, beside, onceIf, wantedOne, wantedNowhere, wantedFirst, wantedSecond};
+ghost use Rattle.placing.specs.Wanted.{sourceFits, itselfFits, fitsIn, oneByOne, targetChoices, choicesOf, targetOf, beside, onceIf, wantedOne, bothNowhere, wantedFirst, wantedLast};
 
 // The choices of a variable that are retained.
 pub enum Wanted {
@@ -283,22 +283,23 @@ fn wanted_of_one(kind: u8) -> Wanted
     Wanted::Any
 }
 
-// What is wanted of a, which is nowhere, where b is at y; `same` says that b is the same variable.
-fn wanted_nowhere(kind: u8, same: bool, links: &[u8], y: Place) -> Wanted
-    ensures { λ r. ⌜ r ≡ wantedNowhere kind same (now (links .entry)) y ⌝ }
+// Whether a at x and b at y are nowhere, and are two; `same` says that they are one variable.
+pub fn both_nowhere(same: bool, x: Place, y: Place) -> bool
+    ensures { λ r. ⌜ r ≡ bothNowhere same (x .code) (y .code) ⌝ }
 {
-    if same {
-        return wanted_of_one(kind);
+    if x.code != NOWHERE {
+        return false;
     }
-    if y.code == NOWHERE {
-        return Wanted::Any;
+    if y.code != NOWHERE {
+        return false;
     }
-    wanted_beside(STORE, kind, links, y)
+    !same
 }
 
-// What is wanted of a, at x, where b is at y; `same` says that b is the same variable.
-pub fn wanted_first(kind: u8, same: bool, links: &[u8], x: Place, y: Place) -> Wanted
-    ensures { λ r. ⌜ r ≡ wantedFirst kind same (now (links .entry)) x y ⌝ }
+// What is wanted of the operand that is placed first, where a is at x and b at y: any choice of a where both are nowhere; where one has a place
+// there is nothing to place, and with one at * there is no choice.
+pub fn wanted_first(same: bool, x: Place, y: Place) -> Wanted
+    ensures { λ r. ⌜ r ≡ wantedFirst same x y ⌝ }
 {
     if x.code == DANGLING {
         return Wanted::Nothing;
@@ -306,19 +307,22 @@ pub fn wanted_first(kind: u8, same: bool, links: &[u8], x: Place, y: Place) -> W
     if y.code == DANGLING {
         return Wanted::Nothing;
     }
-    if x.code == NOWHERE {
-        return wanted_nowhere(kind, same, links, y);
+    if both_nowhere(same, x, y) {
+        return Wanted::Any;
     }
-    if y.code == NOWHERE {
-        return Wanted::Once;
-    }
-    once_if(retains(kind, links, x, y))
+    Wanted::Once
 }
 
-// What is wanted of b, at y, where a is placed, at x.
-pub fn wanted_second(kind: u8, links: &[u8], x: Place, y: Place) -> Wanted
-    ensures { λ r. ⌜ r ≡ wantedSecond kind (now (links .entry)) x y ⌝ }
+// What is wanted of the operand that is placed last, a where it is nowhere and else b; the other one has a place.
+pub fn wanted_last(kind: u8, same: bool, links: &[u8], x: Place, y: Place) -> Wanted
+    ensures { λ r. ⌜ r ≡ wantedLast kind same (now (links .entry)) x y ⌝ }
 {
+    if x.code == NOWHERE {
+        if same {
+            return wanted_of_one(kind);
+        }
+        return wanted_beside(STORE, kind, links, y);
+    }
     if y.code == NOWHERE {
         return wanted_beside(LOAD, kind, links, x);
     }

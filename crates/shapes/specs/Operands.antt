@@ -5,13 +5,13 @@ use mathlib.Core.Logic.{_≢_}
 use mathlib.Core.Path.{_≡_}
 use Prim.Native.Nat.{ℕ, suc, _≤_, _<_}
 use lib.Dec.{eqb, ltb}
-use Rattle.heap.specs.Place.{dangling}
+use Rattle.heap.specs.Place.{nowhere, dangling}
 use Rattle.place.specs.Place.{placeOf}
 use Rattle.shape.specs.Shape.{Shape}
 use Rattle.layout.specs.ShapeArray.{cellCount, operandAt, linksIn, shapeIn, ShapeArray}
-use Rattle.placing.specs.Retained.{At}
-use Rattle.placing.specs.Wanted.{wantedFirst, wantedSecond}
+use Rattle.placing.specs.Wanted.{bothNowhere, wantedFirst, wantedLast}
 use Rattle.placing.specs.declared.Wanted.{Wanted}
+use Rattle.shapes.specs.Change.{placedIn}
 
 -- the array holds the shape t
 pub record HoldsShape (variables : ℕ) (s : List ℕ) (t : Shape) : Type 0 where
@@ -33,21 +33,33 @@ pub record Operands (variables kind a b : ℕ) : Type 0 where
 unfoldable pub working : ℕ → ℕ → ℕ
 working variables b = cond (ltb variables b) (suc variables) variables
 
--- the array holds a shape of at most so many cells, with room for both operands
+-- the shape under work: that of the array, with room for both operands
+abbrev pub shapeUnder : ℕ → ℕ → List ℕ → Shape
+shapeUnder variables b s = shapeIn (working variables b) s
+
+-- it has at most so many cells
 pub record Working (most variables kind a b : ℕ) (s : List ℕ) : Type 0 where
   pub operands : Operands variables kind a b
   pub cells : cellCount s ≤ most
   pub array : ShapeArray (working variables b) s
 
--- and a is placed
-pub record Placed (variables kind a b : ℕ) (s : List ℕ) : Type 0 where
+-- neither is at *, and at most one variable is still to be placed
+pub record OneToPlace (variables kind a b : ℕ) (s : List ℕ) : Type 0 where
   pub work : Working 13 variables kind a b s
-  pub a-at : At (cellCount s) (operandAt s a)
+  pub a-safe : operandAt s a ≢ dangling
   pub b-safe : operandAt s b ≢ dangling
+  pub one : operandAt s a ≡ nowhere → a ≢ b → operandAt s b ≢ nowhere
 
--- what is wanted of a, and then of b, in the shape of the array
-abbrev pub wantedA : ℕ → ℕ → ℕ → List ℕ → Wanted
-wantedA kind a b s = wantedFirst kind (eqb a b) (linksIn s) (placeOf (operandAt s a)) (placeOf (operandAt s b))
+-- what is wanted of the operand placed first, in the shape of the array; the array with it placed by choice k
+abbrev pub wantedFirstIn : ℕ → ℕ → List ℕ → Wanted
+wantedFirstIn a b s = wantedFirst (eqb a b) (placeOf (operandAt s a)) (placeOf (operandAt s b))
 
-abbrev pub wantedB : ℕ → ℕ → ℕ → List ℕ → Wanted
-wantedB kind a b s = wantedSecond kind (linksIn s) (placeOf (operandAt s a)) (placeOf (operandAt s b))
+unfoldable pub firstPlacedIn : ℕ → ℕ → List ℕ → ℕ → List ℕ
+firstPlacedIn a b s k = cond (bothNowhere (eqb a b) (operandAt s a) (operandAt s b)) (placedIn s a k) s
+
+-- which operand is placed last, a where it is nowhere and else b, and what is wanted of it
+unfoldable pub lastOperandIn : ℕ → ℕ → List ℕ → ℕ
+lastOperandIn a b s = cond (eqb (operandAt s a) nowhere) a b
+
+abbrev pub wantedLastIn : ℕ → ℕ → ℕ → List ℕ → Wanted
+wantedLastIn kind a b s = wantedLast kind (eqb a b) (linksIn s) (placeOf (operandAt s a)) (placeOf (operandAt s b))

@@ -3,12 +3,12 @@ use mathlib.Core.List.{[]}
 use mathlib.Core.Path.{_≡_, _∙_, sym}
 use Prim.Native.Nat.{_+_, _-_, _<_}
 use native.Mathlib.Omega.{arith}
-use Rattle.layout.specs.ShapeArray.{cellCount, linksIn, shapeIn}
+use Rattle.layout.specs.ShapeArray.{cellCount, linksIn}
 use Rattle.covering.specs.Members.{membersFrom}
 use Rattle.placing.specs.Chosen.{firstOf}
 use Rattle.placing.specs.Wanted.{fitsIn}
 use Rattle.placing.proofs.Ranges.{Covers, step-most}
-use Rattle.shapes.specs.Operands.{working, wantedA}
+use Rattle.shapes.specs.Operands.{shapeUnder, wantedFirstIn}
 use Rattle.shapes.proofs.Steps.{first-covers, first-range, first-none, first-some, first-placed}
 use Rattle.checker.specs.Checking.{checkedOf}
 use Rattle.checker.specs.Placing.{checkShapes}
@@ -18,7 +18,7 @@ use Rattle.checker.proofs.choices.check_first_choices.Statement.{statem
 use Rattle.checker.proofs.choices.check_first_choices.Tie as tie
 
 abbrev Inv-loop : tie.InvT-loop
-Inv-loop cert starts variables by s wanted c t₀ k₀ t k = ChoiceLoop cert (membersFrom cert variables starts) (by .from) (firstOf variables (by .kind) (by .a) (by .b) (shapeIn (working variables (by .b)) s)) c 0 (cellCount s + (2 + cellCount s)) t₀ k t
+Inv-loop cert starts variables by s wanted c t₀ k₀ t k = ChoiceLoop cert (membersFrom cert variables starts) (by .from) (firstOf variables (by .kind) (by .a) (by .b) (shapeUnder variables (by .b) s)) c 0 (cellCount s + (2 + cellCount s)) t₀ k t
 
 abbrev μ-loop : tie.MeasureT-loop
 μ-loop cert starts variables by s wanted c t₀ k₀ t k = c .to - k
@@ -26,34 +26,34 @@ abbrev μ-loop : tie.MeasureT-loop
 -- the choices to try leave none out
 covers : (c : tie.After-choices-of Inv-loop μ-loop)
     → let a = c .before .before .before .before .before .args in
-    Covers (c .choices-of .result) (λ j. firstOf (a .variables) (a .by .kind) (a .by .a) (a .by .b) (shapeIn (working (a .variables) (a .by .b)) (a .s .now)) j ≡ []) 0 (cellCount (a .s .now) + (2 + cellCount (a .s .now)))
-covers c = first-covers (c .before .before .before .before .before .pre .0) (c .before .before .wanted-of-a .ensures) (c .choices-of .ensures)
+    Covers (c .choices-of .result) (λ j. firstOf (a .variables) (a .by .kind) (a .by .a) (a .by .b) (shapeUnder (a .variables) (a .by .b) (a .s .now)) j ≡ []) 0 (cellCount (a .s .now) + (2 + cellCount (a .s .now)))
+covers c = first-covers (c .before .before .before .before .before .pre .0) (c .before .before .wanted-of-first .ensures) (c .choices-of .ensures)
 
 -- this choice is wanted
 fits : (c : tie.Then2 Inv-loop μ-loop)
     → let l = c .before .before .before .before .before in
     let a = l .before .before .before .before .before .before .args in
-    fitsIn (linksIn (a .s .now)) (wantedA (a .by .kind) (a .by .a) (a .by .b) (a .s .now)) (l .loop .k) ≡ true
-fits c = let l = c .before .before .before .before .before in rw (← l .before .before .before .wanted-of-a .ensures) (sym (c .before .is-wanted-in .ensures) ∙ c .if2 .taken)
+    fitsIn (linksIn (a .s .now)) (wantedFirstIn (a .by .a) (a .by .b) (a .s .now)) (l .loop .k) ≡ true
+fits c = let l = c .before .before .before .before .before in rw (← l .before .before .before .wanted-of-first .ensures) (sym (c .before .is-wanted-in .ensures) ∙ c .if2 .taken)
 
 -- it is one of the choices
 past : (c : tie.Then2 Inv-loop μ-loop) → let l = c .before .before .before .before .before in let a = l .before .before .before .before .before .before .args in l .loop .k < (cellCount (a .s .now) + (2 + cellCount (a .s .now)))
 past c = let l = c .before .before .before .before .before in omega (arith, covers (l .before) .most, c .before .before .before .if1 .taken)
 
 -- what it gives is checked
-taken : (c : tie.After-check-second-choices Inv-loop μ-loop)
+taken : (c : tie.After-check-last-choices Inv-loop μ-loop)
     → let l = c .before .before .before .before .before .before .before .before .before .before in
     let a = l .before .before .before .before .before .before .args in
-    checkedOf (c .check-second-choices .result) ≡ checkShapes (a .cert .now) (a .variables) (a .starts .now) (a .by .from) (firstOf (a .variables) (a .by .kind) (a .by .a) (a .by .b) (shapeIn (working (a .variables) (a .by .b)) (a .s .now)) (l .loop .k)) (l .loop .t)
+    checkedOf (c .check-last-choices .result) ≡ checkShapes (a .cert .now) (a .variables) (a .starts .now) (a .by .from) (firstOf (a .variables) (a .by .kind) (a .by .a) (a .by .b) (shapeUnder (a .variables) (a .by .b) (a .s .now)) (l .loop .k)) (l .loop .t)
 taken c =
     let l = c .before .before .before .before .before .before .before .before .before .before in
     let i = c .before .before .before .before .before in
-    rw (first-some (l .before .before .before .before .before .before .pre .0) (l .loop .k) (fits i) (past i), ← c .before .before .place-operand .ensures) (c .check-second-choices .ensures)
+    rw (first-some (l .before .before .before .before .before .before .pre .0) (l .loop .k) (fits i) (past i), ← c .before .before .place-first .ensures) (c .check-last-choices .ensures)
 
-wanted-of-a-requires : tie.Need-wanted-of-a-requires Inv-loop μ-loop
-wanted-of-a-requires c κs =
+wanted-of-first-requires : tie.Need-wanted-of-first-requires Inv-loop μ-loop
+wanted-of-first-requires c κs =
     let o = c .before .before .pre .0 .operands in
-    (omega arith, omega arith, omega (arith, c .before .before .pre .0 .cells))
+    (omega arith, omega arith)
 
 element-copy-out-choices-of : tie.Need-element-copy-out-choices-of Inv-loop μ-loop
 element-copy-out-choices-of c = search needs
@@ -79,17 +79,17 @@ is-wanted-in-requires c κs =
     let l = c .before .before .before in
     omega (arith, l .before .before .before .before .before .before .pre .0 .cells)
 
-place-operand-requires : tie.Need-place-operand-requires Inv-loop μ-loop
-place-operand-requires c κs =
+place-first-requires : tie.Need-place-first-requires Inv-loop μ-loop
+place-first-requires c κs =
     let l = c .before .before .before .before .before .before .before in
     let w = l .before .before .before .before .before .before .pre .0 in
-    (omega (arith, w .operands .a-most, w .operands .variables-most), omega (arith, w .cells), past (c .before .before))
+    (omega (arith, w .operands .a-most, w .operands .variables-most), omega (arith, w .operands .b-most, w .operands .variables-most), omega (arith, w .cells), past (c .before .before))
 
-check-second-choices-requires : tie.Need-check-second-choices-requires Inv-loop μ-loop
-check-second-choices-requires c κs =
+check-last-choices-requires : tie.Need-check-last-choices-requires Inv-loop μ-loop
+check-last-choices-requires c κs =
     let l = c .before .before .before .before .before .before .before .before .before in
     let i = c .before .before .before .before in
-    (rw (c .before .place-operand .ensures) (first-placed (l .before .before .before .before .before .before .pre .0) (l .loop .k) (fits i) (past i)), l .loop .inv .progress .within)
+    (rw (c .before .place-first .ensures) (first-placed (l .before .before .before .before .before .before .pre .0) (l .loop .k) (fits i) (past i)), l .loop .inv .progress .within)
 
 enum-known-g : tie.Need-enum-known-g Inv-loop μ-loop
 enum-known-g c = search needs
@@ -123,7 +123,7 @@ loop-again-2 : tie.Need-loop-again-2 Inv-loop μ-loop
 loop-again-2 c =
     let l = c .before .before .before .before .before in
     loop-past (covers (l .before)) (l .loop .inv) (c .before .before .before .if1 .taken)
-    (first-none (l .before .before .before .before .before .before .pre .0) (l .loop .k) (rw (← l .before .before .before .wanted-of-a .ensures) (sym (c .before .is-wanted-in .ensures) ∙ c .if2 .left)))
+    (first-none (l .before .before .before .before .before .before .pre .0) (l .loop .k) (rw (← l .before .before .before .wanted-of-first .ensures) (sym (c .before .is-wanted-in .ensures) ∙ c .if2 .left)))
 
 returns-2 : tie.Need-returns-2 Inv-loop μ-loop
 returns-2 c =
@@ -136,15 +136,15 @@ check-first-choices-spec =
     (tie.spec
     Inv-loop
     μ-loop
-    wanted-of-a-requires
+    wanted-of-first-requires
     element-copy-out-choices-of
     choices-of-requires
     loop-holds
     cast-j
     add-k
     is-wanted-in-requires
-    place-operand-requires
-    check-second-choices-requires
+    place-first-requires
+    check-last-choices-requires
     enum-known-g
     enum-told
     returns

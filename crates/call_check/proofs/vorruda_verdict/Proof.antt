@@ -1,0 +1,84 @@
+-- The same as of `vorruda_check`, and the counts or the place lent.
+use mathlib.Core.Path.{refl}
+use Rattle.call_check.proofs.Judging.{told-accepted, told-refused, told-values}
+use borrow.Author.Needs.{needs}
+use Rattle.call_check.proofs.vorruda_verdict.Statement.{statement}
+use Rattle.call_check.proofs.vorruda_verdict.Tie as tie
+
+check-requires : tie.Need-check-requires
+check-requires c κs = search needs
+
+enum-known-counts : tie.Need-enum-known-counts
+enum-known-counts c = search needs
+
+cast-t11 : tie.Need-cast-t11
+cast-t11 c = search needs
+
+cast-t12 : tie.Need-cast-t12
+cast-t12 c = search needs
+
+cast-t13 : tie.Need-cast-t13
+cast-t13 c = search needs
+
+slice-aggregate-lend : tie.Need-slice-aggregate-lend
+slice-aggregate-lend c = search needs
+
+lend-requires : tie.Need-lend-requires
+lend-requires c κs = search needs
+
+enum-known-refusal : tie.Need-enum-known-refusal
+enum-known-refusal c = search needs
+
+slice-aggregate-lend-2 : tie.Need-slice-aggregate-lend-2
+slice-aggregate-lend-2 c = search needs
+
+lend-requires-2 : tie.Need-lend-requires-2
+lend-requires-2 c κs = search needs
+
+refusal-number-requires : tie.Need-refusal-number-requires
+refusal-number-requires c κs = search needs
+
+same-length : tie.Need-same-length
+same-length c = search needs
+
+returns : tie.Need-returns
+returns c =
+    let k = c .before .before .before .before .before .before .before .before .before .before .before .check .ensures in
+    let r-is = c .before .before .before .before .before .before .before .before .before .counts .given .1 in (
+      rw (← k .0, r-is) refl,
+      told-values _ _ _ (k .0) (k .1 .0) (k .1 .1) _ _ _ (told-accepted _ _ _ (k .0) (k .1 .0) (k .1 .1) _ r-is)
+          (rw (← k .0, r-is) (c .before .before .lend .ensures)),
+    )
+
+same-length-2 : tie.Need-same-length-2
+same-length-2 c = search needs
+
+returns-2 : tie.Need-returns-2
+returns-2 c =
+    let k = c .before .before .before .before .before .before .before .before .before .check .ensures in
+    let r-is = c .before .before .before .before .before .before .before .refusal .given .1 in (
+      rw (← k .0, r-is) (c .refusal-number .ensures),
+      told-values _ _ _ (k .0) (k .1 .0) (k .1 .1) _ _ _
+          (told-refused _ _ _ (k .0) (k .1 .0) (k .1 .1) _ _ _ r-is (c .refusal-number .ensures))
+          (rw (← k .0, r-is) (c .before .before .before .lend2 .ensures)),
+    )
+
+pub vorruda-verdict-spec : {M : Type 1} → statement M
+vorruda-verdict-spec =
+    tie.close
+    (tie.spec
+    check-requires
+    enum-known-counts
+    cast-t11
+    cast-t12
+    cast-t13
+    slice-aggregate-lend
+    lend-requires
+    enum-known-refusal
+    slice-aggregate-lend-2
+    lend-requires-2
+    refusal-number-requires
+    same-length
+    returns
+    same-length-2
+    returns-2)

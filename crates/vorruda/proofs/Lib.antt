@@ -1,3 +1,0 @@
-pub mod Judging
-pub mod Lending
-pub mod Telling
