@@ -142,3 +142,9 @@ module _ (links images used s marks₀ : List ℕ) (n from : ℕ) (w : Walking l
           marked-stop = rw (w .cells) met-stop;
           stop-marked = rw (w .cells) met-marked;
         }
+
+  -- a path of one step, to an end
+  pub follow-direct : (r : ℕ) → getD s from 0 ≡ r → stops images r ≡ true → Followed links images used from r marks₀
+  follow-direct r e stop =
+      let f = rw e at follow-none in
+      follow-met marks₀ r f (λ z. let one : 1 ≡ 0 = sym (met-marked marks₀ r f stop) ∙ z in omega arith)

@@ -92,8 +92,11 @@ fn quick_links(
                 return false;
             }
             let from = wide(images[i + 3]);
-            if walk(n, s, marks, from) != wide(images[p]) {
-                return false;
+            // no walk where the link is to the image itself
+            if s[from] != images[p] {
+                if walk(n, s, marks, from) != wide(images[p]) {
+                    return false;
+                }
             }
         }
         i += 1;

@@ -9,5 +9,6 @@ pub mod WholeJob
 pub mod Testing
 pub mod Quick
 pub mod Noting
+pub mod Copies
 pub mod Loading
 pub mod Loaded

@@ -1,18 +1,21 @@
 -- What a cleared array holds once an entry in range is loaded: the shape of the entry.
-use mathlib.Core.List.{List, _++_}
+use mathlib.Core.List.{List}
 use mathlib.Core.Path.{_≡_, refl, sym, ap, ap₂, _∙_}
 use Prim.Native.Nat.{ℕ, zero, suc, _+_, _-_, _≤_, _<_}
 use native.Mathlib.Decide.{decLt}
 use native.Mathlib.Omega.{arith}
-use lib.ListN.{length, getD, take, drop, set, length-set, length-drop, replicate, getD-replicate, List·getD-append, List·getD-eq-default}
-use lib.Seq.{length-take-le, getD-append-add, getD-set-same, getD-set-other, getD-take, getD-drop, ext-getD, paste, length-paste-head, length-paste}
+use lib.ListN.{length, getD, take, drop, set, length-set, length-drop, replicate, getD-replicate, List·getD-eq-default}
+use lib.Seq.{length-take-le, getD-set-same, getD-set-other, getD-take, getD-drop, ext-getD, paste, length-paste}
 use Rattle.lists.proofs.List.{getD-mem}
+use Rattle.lists.proofs.Reflect.{cond-cases}
 use Rattle.heap.specs.Place.{null, cell}
 use Rattle.shape.specs.Shape.{Shape, AllBelow}
 use Rattle.layout.specs.Entries.{EntryInRange, locatedAt}
 use Rattle.layout.specs.ShapeArray.{cellCount, operandAt, shapeIn, ShapeArray}
 use Rattle.layout.proofs.Whole.{is-whole}
-use Rattle.reader.specs.Loading.{loadedShape}
+use Rattle.reader.specs.Loading.{loadedCodes, loadedShape}
+use Rattle.reader.proofs.Copies.{in-copy, above-copy}
+use Rattle.reader.proofs.Loading.{r-most}
 
 -- the array holds the shape of the entry at a place
 pub record Loaded (bytes : List ℕ) (variables at : ℕ) (s : List ℕ) : Type 0 where
@@ -21,178 +24,161 @@ pub record Loaded (bytes : List ℕ) (variables at : ℕ) (s : List ℕ) : Type 
   pub array : ShapeArray variables s
   pub shape : shapeIn variables s ≡ locatedAt bytes variables at .shape
 
--- ---- a list with n elements of another copied into it
-
-module _ (d : List ℕ) (at : ℕ) (s : List ℕ) (n : ℕ) (room : at + n ≤ length d) (enough : n ≤ length s) where
-  abbrev front : List ℕ
-  front = take at d ++ take n s
-
-  first-length : length (take at d) ≡ at
-  first-length = length-take-le at d (omega arith)
-
-  front-length : length front ≡ at + n
-  front-length = length-paste-head d at s n (omega arith) enough
-
-  in-copy : (i : ℕ) → i < n → getD (paste d at s n) (at + i) 0 ≡ getD s i 0
-  in-copy i b =
-      let e : at + i ≡ length (take at d) + i = omega (arith, first-length) in
-      List·getD-append front (drop (at + n) d) 0 (at + i) (omega (arith, front-length))
-      ∙ ap (λ (k : ℕ). getD front k 0) e
-      ∙ getD-append-add (take at d) (take n s) i 0
-      ∙ getD-take n s i 0 b
-
-  below-copy : (i : ℕ) → i < at → getD (paste d at s n) i 0 ≡ getD d i 0
-  below-copy i b =
-      List·getD-append front (drop (at + n) d) 0 i (omega (arith, front-length))
-      ∙ List·getD-append (take at d) (take n s) 0 i (omega (arith, first-length))
-      ∙ getD-take at d i 0 b
-
-  above-copy : (i : ℕ) → at + n ≤ i → getD (paste d at s n) i 0 ≡ getD d i 0
-  above-copy i b =
-      let k = i - (at + n) in
-      let e : i ≡ length front + k = omega (arith, front-length) in
-      let f : at + n + k ≡ i = omega arith in
-      ap (λ (j : ℕ). getD (paste d at s n) j 0) e
-      ∙ getD-append-add front (drop (at + n) d) k 0
-      ∙ getD-drop (at + n) d k 0
-      ∙ ap (λ (j : ℕ). getD d j 0) f
-
--- the first elements of a list, by index
-same-front : (k at : ℕ) (l xs : List ℕ) → at + k ≤ length l → k ≤ length xs → ((i : ℕ) → i < k → getD l (at + i) 0 ≡ getD xs i 0)
-    → take k (drop at l) ≡ take k xs
-same-front k at l xs room enough h =
+-- so many elements of a list, by index
+same-front : (k at : ℕ) (l : List ℕ) (from : ℕ) (xs : List ℕ) → at + k ≤ length l → from + k ≤ length xs
+    → ((i : ℕ) → i < k → getD l (at + i) 0 ≡ getD xs (from + i) 0) → take k (drop at l) ≡ take k (drop from xs)
+same-front k at l from xs room enough h =
     let a : length (take k (drop at l)) ≡ k = length-take-le k (drop at l) (omega (arith, length-drop at l)) in
-    ext-getD 0 (take k (drop at l)) (take k xs) (a ∙ sym (length-take-le k xs enough))
-    (λ i b.
-    let c : i < k = omega arith in
-    getD-take k (drop at l) i 0 c ∙ getD-drop at l i 0 ∙ h i c ∙ sym (getD-take k xs i 0 c))
+    let b : length (take k (drop from xs)) ≡ k = length-take-le k (drop from xs) (omega (arith, length-drop from xs)) in
+    ext-getD 0 (take k (drop at l)) (take k (drop from xs)) (a ∙ sym b)
+    (λ i c.
+    let d : i < k = omega arith in
+    getD-take k (drop at l) i 0 d ∙ getD-drop at l i 0 ∙ h i d ∙ sym (getD-drop from xs i 0) ∙ sym (getD-take k (drop from xs) i 0 d))
 
-module _ (bytes : List ℕ) (variables at : ℕ) (entry : EntryInRange bytes variables at) (few : variables ≤ 8) (s : List ℕ)
-    (slots : length s ≡ 28) (clear : (i : ℕ) → getD s i 0 ≡ 0) where
+module _ (bytes : List ℕ) (variables at : ℕ) (entry : EntryInRange bytes variables at) (s : List ℕ) (slots : length s ≡ 28)
+    (clear : (i : ℕ) → getD s i 0 ≡ 0) where
   abbrev n : ℕ
   n = getD bytes (at + 1) 0
 
-  abbrev codes : List ℕ
-  codes = drop (at + 2) bytes
-
-  abbrev places : List ℕ
-  places = drop (at + 2 + variables) bytes
-
-  enough-codes : variables ≤ length codes
-  enough-codes = omega (arith, length-drop (at + 2) bytes, entry .inside)
-
-  enough-places : n ≤ length places
-  enough-places = omega (arith, length-drop (at + 2 + variables) bytes, entry .inside)
+  abbrev first : ℕ
+  first = at + 2 + variables
 
   -- the codes of an entry are in range
-  below-at : (xs : List ℕ) (k : ℕ) → k ≤ length xs → AllBelow (cell (length (take n places))) (take k xs) → (i : ℕ) → i < k → getD xs i 0 < cell n
-  below-at xs k enough h i b =
-      rw (getD-take k xs i 0 b, length-take-le n places enough-places)
-      at (h (getD (take k xs) i 0) (getD-mem (take k xs) i (omega (arith, length-take-le k xs enough))))
+  below-at : (from k : ℕ) → from + k ≤ length bytes → AllBelow (cell (length (take n (drop first bytes)))) (take k (drop from bytes)) → (i : ℕ) → i < k
+      → getD bytes (from + i) 0 < cell n
+  below-at from k enough h i b =
+      let xs = drop from bytes in
+      let full : length (take k xs) ≡ k = length-take-le k xs (omega (arith, length-drop from bytes)) in
+      let cells : length (take n (drop first bytes)) ≡ n = length-take-le n (drop first bytes) (omega (arith, length-drop first bytes, entry .inside)) in
+      rw (getD-take k xs i 0 b, getD-drop from bytes i 0, cells) at (h (getD (take k xs) i 0) (getD-mem (take k xs) i (omega (arith, full))))
 
-  abbrev begun : List ℕ
-  begun = set (set s 0 n) 17 null
+  -- once v codes ahead of the first link are copied and l from it on, at least those that the entry has
+  module _ (v l : ℕ) (few : v ≤ 8) (vars-enough : variables ≤ v) (vars-inside : v ≤ first) (most : l ≤ 12) (links-enough : n ≤ l)
+      (links-inside : first + l ≤ length bytes) where
+    abbrev start : ℕ
+    start = 18 + variables - v
 
-  abbrev placed : List ℕ
-  placed = paste begun 18 codes variables
+    abbrev codes : List ℕ
+    codes = drop (first - v) bytes
 
-  abbrev all : List ℕ
-  all = paste placed 3 places n
+    abbrev placed : List ℕ
+    placed = paste s start codes v
 
-  begun-length : length begun ≡ 28
-  begun-length = length-set (set s 0 n) 17 null ∙ length-set s 0 n ∙ slots
+    abbrev linked : List ℕ
+    linked = paste placed 3 (drop first bytes) l
 
-  room-vars : 18 + variables ≤ length begun
-  room-vars = omega (arith, begun-length)
+    abbrev all : List ℕ
+    all = set (set linked 17 null) 0 n
 
-  placed-length : length placed ≡ 28
-  placed-length = length-paste begun 18 codes variables room-vars enough-codes ∙ begun-length
+    room-vars : start + v ≤ length s
+    room-vars = omega arith
 
-  room-links : 3 + n ≤ length placed
-  room-links = omega (arith, placed-length, entry .cells)
+    enough-codes : v ≤ length codes
+    enough-codes = omega (arith, length-drop (first - v) bytes)
 
-  all-length : length all ≡ 28
-  all-length = length-paste placed 3 places n room-links enough-places ∙ placed-length
+    placed-length : length placed ≡ 28
+    placed-length = length-paste s start codes v room-vars enough-codes ∙ slots
 
-  -- slot by slot
-  count-at : getD all 0 0 ≡ n
-  count-at =
-      below-copy placed 3 places n room-links enough-places 0 (omega arith)
-      ∙ below-copy begun 18 codes variables room-vars enough-codes 0 (omega arith)
-      ∙ getD-set-other (set s 0 n) 17 0 null 0 (omega arith)
-      ∙ getD-set-same s 0 n 0 (omega arith)
+    room-links : 3 + l ≤ length placed
+    room-links = omega (arith, placed-length)
 
-  -- what is above the links
-  high : (i : ℕ) → 17 ≤ i → getD all i 0 ≡ getD placed i 0
-  high i b = above-copy placed 3 places n room-links enough-places i (omega (arith, entry .cells))
+    enough-links : l ≤ length (drop first bytes)
+    enough-links = omega (arith, length-drop first bytes)
 
-  null-at : getD all 17 0 ≡ null
-  null-at =
-      high 17 (omega arith)
-      ∙ below-copy begun 18 codes variables room-vars enough-codes 17 (omega arith)
-      ∙ getD-set-same (set s 0 n) 17 null 0 (omega (arith, length-set s 0 n))
+    linked-length : length linked ≡ 28
+    linked-length = length-paste placed 3 (drop first bytes) l room-links enough-links ∙ placed-length
 
-  var-at : (i : ℕ) → i < variables → getD all (18 + i) 0 ≡ getD codes i 0
-  var-at i b = high (18 + i) (omega arith) ∙ in-copy begun 18 codes variables room-vars enough-codes i b
+    all-length : length all ≡ 28
+    all-length = length-set (set linked 17 null) 0 n ∙ length-set linked 17 null ∙ linked-length
 
-  above-at : (i : ℕ) → variables ≤ i → getD all (18 + i) 0 ≡ 0
-  above-at i b =
-      high (18 + i) (omega arith)
-      ∙ above-copy begun 18 codes variables room-vars enough-codes (18 + i) (omega arith)
-      ∙ getD-set-other (set s 0 n) 17 (18 + i) null 0 (omega arith)
-      ∙ getD-set-other s 0 (18 + i) n 0 (omega arith)
-      ∙ clear (18 + i)
+    -- slot by slot
+    count-at : getD all 0 0 ≡ n
+    count-at = getD-set-same (set linked 17 null) 0 n 0 (omega (arith, length-set linked 17 null, linked-length))
 
-  link-at : (i : ℕ) → i < n → getD all (3 + i) 0 ≡ getD places i 0
-  link-at i b = in-copy placed 3 places n room-links enough-places i b
+    other-at : (i : ℕ) → 0 < i → (i ≡ 17 → ⊥) → getD all i 0 ≡ getD linked i 0
+    other-at i a b = getD-set-other (set linked 17 null) 0 i n 0 (omega arith) ∙ getD-set-other linked 17 i null 0 b
 
-  operand-below : (x : ℕ) → operandAt all x < cell n
-  operand-below zero = omega (arith, null-at)
-  operand-below (suc i) = go (decLt i variables)
-    where
-      swap : 17 + suc i ≡ 18 + i
-      swap = omega arith
+    null-at : getD all 17 0 ≡ null
+    null-at = getD-set-other (set linked 17 null) 0 17 n 0 (omega arith) ∙ getD-set-same linked 17 null 0 (omega (arith, linked-length))
 
-      go : Dec (i < variables) → operandAt all (suc i) < cell n
-      go (yes b) = rw (swap, var-at i b) (below-at codes variables enough-codes (entry .range .vars) i b)
-      go (no b) = rw (swap, above-at i (omega arith)) (omega arith)
+    -- what is above the links
+    high : (i : ℕ) → 17 < i → getD all i 0 ≡ getD placed i 0
+    high i b = other-at i (omega arith) (omega arith) ∙ above-copy placed 3 (drop first bytes) l room-links enough-links i (omega arith)
 
-  operand-above : (x : ℕ) → variables < x → operandAt all x ≡ 0
-  operand-above zero b = absurd (omega arith)
-  operand-above (suc i) b = let swap : 17 + suc i ≡ 18 + i = omega arith in rw swap (above-at i (omega arith))
+    var-at : (i : ℕ) → i < variables → getD all (18 + i) 0 ≡ getD bytes (at + 2 + i) 0
+    var-at i b =
+        let k = v - variables + i in
+        let slot : 18 + i ≡ start + k = omega arith in
+        let place : first - v + k ≡ at + 2 + i = omega arith in
+        high (18 + i) (omega arith)
+        ∙ ap (λ (j : ℕ). getD placed j 0) slot
+        ∙ in-copy s start codes v room-vars enough-codes k (omega arith)
+        ∙ getD-drop (first - v) bytes k 0
+        ∙ ap (λ (j : ℕ). getD bytes j 0) place
 
-  link-below : (i : ℕ) → i < n → getD all (cell i) 0 < cell n
-  link-below i b =
-      let swap : 3 + i ≡ cell i = omega arith in
-      rw (← swap, link-at i b) (below-at places n enough-places (entry .range .links) i b)
+    above-at : (i : ℕ) → variables ≤ i → getD all (18 + i) 0 ≡ 0
+    above-at i b = high (18 + i) (omega arith) ∙ above-copy s start codes v room-vars enough-codes (18 + i) (omega arith) ∙ clear (18 + i)
 
-  all-loaded : Loaded bytes variables at all
-  all-loaded =
-      record {
-        count = count-at;
-        cells = omega (arith, count-at, entry .cells);
-        array =
-            record {
-              slots = all-length;
-              variables-fit = omega arith;
-              cells-fit = omega (arith, count-at, entry .cells);
-              null-place = null-at;
-              operands-range = λ x. rw count-at (operand-below x);
-              operands-above = operand-above;
-              links-range = λ i b. rw count-at (link-below i (omega (arith, count-at)));
-            };
-        shape =
-            ap₂ {C = Shape} (λ v l. record { vars = v; links = l })
-            (same-front variables 18 all codes (omega (arith, all-length)) enough-codes var-at)
-            (rw count-at (same-front n 3 all places (omega (arith, all-length, entry .cells)) enough-places link-at));
-      }
+    link-at : (i : ℕ) → i < n → getD all (3 + i) 0 ≡ getD bytes (first + i) 0
+    link-at i b =
+        other-at (3 + i) (omega arith) (omega arith)
+        ∙ in-copy placed 3 (drop first bytes) l room-links enough-links i (omega arith)
+        ∙ getD-drop first bytes i 0
+
+    operand-below : (x : ℕ) → operandAt all x < cell n
+    operand-below zero = omega (arith, null-at)
+    operand-below (suc i) = go (decLt i variables)
+      where
+        swap : 17 + suc i ≡ 18 + i
+        swap = omega arith
+
+        go : Dec (i < variables) → operandAt all (suc i) < cell n
+        go (yes b) = rw (swap, var-at i b) (below-at (at + 2) variables (omega arith) (entry .range .vars) i b)
+        go (no b) = rw (swap, above-at i (omega arith)) (omega arith)
+
+    operand-above : (x : ℕ) → variables < x → operandAt all x ≡ 0
+    operand-above zero b = absurd (omega arith)
+    operand-above (suc i) b = let swap : 17 + suc i ≡ 18 + i = omega arith in rw swap (above-at i (omega arith))
+
+    link-below : (i : ℕ) → i < n → getD all (cell i) 0 < cell n
+    link-below i b =
+        let swap : 3 + i ≡ cell i = omega arith in
+        rw (← swap, link-at i b) (below-at first n (entry .inside) (entry .range .links) i b)
+
+    all-loaded : Loaded bytes variables at all
+    all-loaded =
+        record {
+          count = count-at;
+          cells = omega (arith, count-at, entry .cells);
+          array =
+              record {
+                slots = all-length;
+                variables-fit = omega arith;
+                cells-fit = omega (arith, count-at, entry .cells);
+                null-place = null-at;
+                operands-range = λ x. rw count-at (operand-below x);
+                operands-above = operand-above;
+                links-range = λ i b. rw count-at (link-below i (omega (arith, count-at)));
+              };
+          shape =
+              ap₂ {C = Shape} (λ v l. record { vars = v; links = l })
+              (same-front variables 18 all (at + 2) bytes (omega (arith, all-length)) (omega arith) var-at)
+              (rw count-at (same-front n 3 all first bytes (omega (arith, all-length)) (omega arith) link-at));
+        }
 
 -- a cleared array, once the entry is loaded
 pub loaded : (bytes : List ℕ) (variables at : ℕ) (s : List ℕ) → EntryInRange bytes variables at → variables ≤ 8
     → s ≡ loadedShape bytes variables at (replicate 28 0) → Loaded bytes variables at s
+unfolding loadedCodes
 loaded bytes variables at s entry few e =
     let fit = is-whole bytes variables at (record { variables-most = omega arith; cells = entry .cells; inside = entry .inside }) in
-    rw (e, fit) (all-loaded bytes variables at entry few (replicate 28 0) refl clear)
+    let links = at + 2 + variables in
+    let cells = getD bytes (at + 1) 0 in
+    let made = all-loaded bytes variables at entry (replicate 28 0) refl clear in
+    rw (e, fit)
+    (cond-cases (λ z. Loaded bytes variables at (set (set z 17 null) 0 cells)) (r-most bytes variables links)
+    (λ m. made 8 12 (omega arith) (m .0) (m .1 .0) (omega arith) (entry .cells) (m .1 .1))
+    (λ _. made variables cells few (omega arith) (omega arith) (entry .cells) (omega arith) (entry .inside)))
   where
     clear : (i : ℕ) → getD {A = ℕ} (replicate 28 0) i 0 ≡ 0
     clear i = go (decLt i 28)

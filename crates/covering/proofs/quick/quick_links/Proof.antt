@@ -1,10 +1,12 @@
--- The loop follows the paths in turn, as `links_fit` does. The image of a place that the member has is an end, so what is met there is one.
+-- The loop follows the paths in turn, as `links_fit` does. The image of a place that the member has is an end, so what is met there is one. A link
+-- that stands there at once is a path of one step (`follow-direct`).
 use Prim.Native.Nat.{ℕ, _-_, _≤_}
 use mathlib.Core.Logic.{⊎-elim}
-use mathlib.Core.Path.{_≡_, sym, _∙_}
+use mathlib.Core.Path.{_≡_, refl, sym, _∙_}
 use native.Mathlib.Omega.{arith}
 use Rattle.shape.specs.Shape.{Shape}
 use Rattle.covering.specs.Marks.{Linking}
+use Rattle.covering.proofs.Follow.{follow-direct}
 use Rattle.covering.proofs.Images.{image-read, image-stops}
 use Rattle.covering.proofs.Links.{Fitting, fit-none, fit-all, fit-skip, fit-walk, fit-good}
 use borrow.Author.Needs.{needs}
@@ -47,13 +49,25 @@ element-copy-out-wide c = let (m, p, l) = c .before .before .before .before .bef
 wide-requires-2 : tie.Need-wide-requires-2 Inv-loop μ-loop
 wide-requires-2 c κs = search needs
 
+element-copy-out-if3 : tie.Need-element-copy-out-if3 Inv-loop μ-loop
+element-copy-out-if3 c =
+    let (m, p, l) = c .before .before .before .before .before .before .before .before .before .pre in
+    let f = c .before .before .before .before .before .before .before .loop .inv .1 m p l in
+    let w = fit-walk _ _ _ _ _ _ _ _ _ l _ _ f (omega arith) _ (c .before .before .before .before .wide .ensures .0) _ (c .wide2 .ensures .0) in
+    omega (arith, w .high, l .linked .fit)
+
+element-copy-out-if3-2 : tie.Need-element-copy-out-if3-2 Inv-loop μ-loop
+element-copy-out-if3-2 c = let (m, p, l) = c .before .before .before .before .before .before .before .before .before .before .pre in omega (arith, l .images .few)
+
 walk-requires : tie.Need-walk-requires Inv-loop μ-loop
 walk-requires c κs =
-    let (m, p, l) = c .before .before .before .before .before .before .before .before .before .before .pre in
-    (p .links, _, _, fit-walk _ _ _ _ _ _ _ _ _ l _ _ (c .before .before .before .before .before .before .before .before .loop .inv .1 m p l) (omega arith) _ (c .before .before .before .before .before .wide .ensures .0) _ (c .before .wide2 .ensures .0))
+    let (m, p, l) = c .before .before .before .before .before .before .before .before .before .before .before .before .before .pre in
+    let f = c .before .before .before .before .before .before .before .before .before .before .before .loop .inv .1 m p l in
+    let e = c .before .before .before .before .before .before .before .before .wide .ensures .0 in
+    (p .links, _, _, fit-walk _ _ _ _ _ _ _ _ _ l _ _ f (omega arith) _ e _ (c .before .before .before .before .wide2 .ensures .0))
 
 element-copy-out-wide-2 : tie.Need-element-copy-out-wide-2 Inv-loop μ-loop
-element-copy-out-wide-2 c = let (m, p, l) = c .before .before .before .before .before .before .before .before .before .before .before .pre in omega (arith, l .images .few)
+element-copy-out-wide-2 c = let (m, p, l) = c .before .before .before .before .before .before .before .before .before .before .before .before .before .before .pre in omega (arith, l .images .few)
 
 wide-requires-3 : tie.Need-wide-requires-3 Inv-loop μ-loop
 wide-requires-3 c κs = search needs
@@ -73,16 +87,25 @@ loop-again c = (
   λ m p l.
       let f = c .before .before .before .before .loop .inv .1 m p l in
       let e = c .before .wide .ensures .0 in
-      ⊎-elim
-      (λ (n, b, _, s, _, w, _, t, z, y).
       let images = c .before .before .before .before .before .before .args .images .now in
       let q = c .before .wide .result in
-      let read = image-read images q (omega (arith, b .left, l .images .few)) in
+      ⊎-elim
+      (λ (n, b, _, s, _, _, _, _, w, _, t, z, y).
       let v = w .ensures _ _ _ (fit-walk _ _ _ _ _ _ _ _ _ l _ _ f (omega arith) _ e _ (s .ensures .0)) in
+      let stop = image-stops _ _ images (l .images) q (omega (arith, b .left)) in
+      let read = image-read images q (omega (arith, b .left, l .images .few)) in
       rw y
       (fit-good _ _ _ _ _ _ _ _ _ l _ _ f (omega arith) _ e _ (s .ensures .0) (n .taken) _ (t .ensures .0 ∙ sym read) _ _ v (z .left)
-      (rw (z .left, t .ensures .0, ← read) (image-stops _ _ images (l .images) q (omega (arith, b .left))))))
-      (λ (n, y). fit-skip _ _ _ _ _ _ _ _ _ l _ _ f (omega arith) _ e _ y (n .left)) (c .if1 .came),
+      (rw (z .left, t .ensures .0, ← read) stop)))
+      (⊎-elim
+      (λ (n, b, _, s, _, _, d, y).
+      let stop = image-stops _ _ images (l .images) q (omega (arith, b .left)) in
+      let read = image-read images q (omega (arith, b .left, l .images .few)) in
+      let w = fit-walk _ _ _ _ _ _ _ _ _ l _ _ f (omega arith) _ e _ (s .ensures .0) in
+      let v = follow-direct _ _ _ _ _ _ _ w _ (d .left ∙ sym read) stop in
+      rw y (fit-good _ _ _ _ _ _ _ _ _ l _ _ f (omega arith) _ e _ (s .ensures .0) (n .taken) _ refl _ _ v refl stop))
+      (λ (n, y). fit-skip _ _ _ _ _ _ _ _ _ l _ _ f (omega arith) _ e _ y (n .left)))
+      (c .if1 .came),
 )
 
 returns-3 : tie.Need-returns-3 Inv-loop μ-loop
@@ -103,6 +126,8 @@ quick-links-spec =
     add-wide-2
     element-copy-out-wide
     wide-requires-2
+    element-copy-out-if3
+    element-copy-out-if3-2
     walk-requires
     element-copy-out-wide-2
     wide-requires-3

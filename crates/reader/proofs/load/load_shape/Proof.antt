@@ -1,4 +1,4 @@
--- The two copies after the two stores are `loadedShape`, where the entry stands whole.
+-- The codes are loaded, and the two stores after them make `loadedShape`, where the entry stands whole.
 use mathlib.Core.Bool.{true}
 use mathlib.Core.Path.{_≡_, refl, sym, _∙_}
 use native.Mathlib.Omega.{arith}
@@ -28,32 +28,26 @@ add-n c = let w = stands c in omega arith
 shared-slice-read-n : tie.Need-shared-slice-read-n
 shared-slice-read-n c = let w = stands (c .before) in omega arith
 
+add-load-codes : tie.Need-add-load-codes
+add-load-codes c = let w = stands (c .before) in omega arith
+
+add-load-codes-2 : tie.Need-add-load-codes-2
+add-load-codes-2 c = let w = stands (c .before) in omega arith
+
+cast-load-codes : tie.Need-cast-load-codes
+cast-load-codes c = let w = stands (c .before) in omega arith
+
+load-codes-requires : tie.Need-load-codes-requires
+load-codes-requires c κs = let w = stands (c .before .before) in (w .variables-most, w .cells, omega arith, w .inside)
+
 element-write-s : tie.Need-element-write-s
 element-write-s c = search needs
 
 element-write-s-2 : tie.Need-element-write-s-2
 element-write-s-2 c = search needs
 
-add-copy-bytes : tie.Need-add-copy-bytes
-add-copy-bytes c = let w = stands (c .before) in omega arith
-
-copy-bytes-requires : tie.Need-copy-bytes-requires
-copy-bytes-requires c κs = let w = stands (c .before .before) in omega (arith, c .copy-bytes-arg .given .0 .1)
-
-add-copy-bytes-2 : tie.Need-add-copy-bytes-2
-add-copy-bytes-2 c = let w = stands (c .before .before .before) in omega arith
-
-add-copy-bytes-3 : tie.Need-add-copy-bytes-3
-add-copy-bytes-3 c = let w = stands (c .before .before .before) in omega arith
-
-cast-copy-bytes : tie.Need-cast-copy-bytes
-cast-copy-bytes c = let w = stands (c .before .before .before) in omega arith
-
-copy-bytes-requires-2 : tie.Need-copy-bytes-requires-2
-copy-bytes-requires-2 c κs = let w = stands (c .before .before .before .before) in omega (arith, c .copy-bytes-arg2 .given .0 .1)
-
 returns-2 : tie.Need-returns-2
-returns-2 c = rw (passed (c .before .before .before .before .before)) (c .copy-bytes2 .ensures ∙ rw (c .before .before .copy-bytes .ensures) refl)
+returns-2 c = rw (passed (c .before .before .before), c .load-codes .ensures) refl
 
 pub load-shape-spec : {M : Type 1} → statement M
 load-shape-spec =
@@ -63,12 +57,10 @@ load-shape-spec =
     returns
     add-n
     shared-slice-read-n
+    add-load-codes
+    add-load-codes-2
+    cast-load-codes
+    load-codes-requires
     element-write-s
     element-write-s-2
-    add-copy-bytes
-    copy-bytes-requires
-    add-copy-bytes-2
-    add-copy-bytes-3
-    cast-copy-bytes
-    copy-bytes-requires-2
     returns-2)
