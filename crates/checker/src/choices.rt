@@ -10,7 +10,7 @@ use crate::wanted::wanted_of_first;
 use crate::wanted::wanted_of_last;
 use kinds::LOAD;
 use place::Place;
-use placing::both_nowhere;
+use place::both_nowhere;
 use placing::choices_of;
 use transitions::Transition;
 ghost use mathlib.Core.Bool.{true};

@@ -1,8 +1,8 @@
 // Checking one cover.
 use crate::checked::Checked;
 use crate::checked::Position;
+use covering::exact_cover;
 use covering::quick_cover;
-use covering::take_cover;
 use verdict::Reached;
 ghost use mathlib.Core.List.{[], _∷_};
 ghost use Rattle.checker.specs.Checking.{Within, Checks};
@@ -21,7 +21,7 @@ pub(crate) fn check_cover(
     requires { ⌜ Within (now cert) t ⌝ }
     ensures { λ r. ⌜ Checks (now (cert .entry)) (membersFrom (now (cert .entry)) variables (now (starts .entry))) state (shapeIn variables (now (s .entry)) ∷ []) t r ⌝ }
 {
-    let r = take_cover(cert, starts, variables, t.at, state, s);
+    let r = exact_cover(cert, starts, variables, t.at, state, s);
     match r {
         Reached::At(at) => Checked::Upto(Position {
             at,

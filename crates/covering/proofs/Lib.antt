@@ -10,5 +10,5 @@ pub mod Whole
 pub mod Elements
 pub mod ReadImages
 pub mod Covers
-pub mod Taking
-pub mod TakeImages
+pub mod CoverCases
+pub mod ReadAndMark

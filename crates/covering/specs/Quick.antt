@@ -13,7 +13,7 @@ use Rattle.covering.specs.Marks.{Marks}
 use Rattle.covering.specs.Reading.{ImagesRead}
 
 -- so many images of one byte are read from a place on into an array; they differ, and are marked
-pub record ImagesTaken (cert : List ℕ) (first n count : ℕ) (codes marks : List ℕ) : Type 0 where
+pub record ImagesMarked (cert : List ℕ) (first n count : ℕ) (codes marks : List ℕ) : Type 0 where
   pub read : ImagesRead cert first n count (At (first + count)) codes
   pub apart : once (imagesIn count codes) ≡ true
   pub marked : Marks (imagesIn count codes) [] marks

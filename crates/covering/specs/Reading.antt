@@ -44,6 +44,7 @@ module _ (cert : List ℕ) (variables : ℕ) (starts : List ℕ) where
       require (holds? (locatedAt cert variables (getD starts m 0)) (imagesIn (cellsAt m) codes) covered) 9 at next
   coverOf at covered (NotRead r place) codes = fault (refusalNumber r) place
 
+  -- what is known of a cover that was read, or refused
   pub record CoverIs (at n : ℕ) (r : CoverRead) (codes : List ℕ) : Type 0 where
     pub reads : (covered : Located) → covered .state < 256 → size (covered .shape) ≡ n
         → coverOf at covered r codes ≡ readCover (certificateBuffer cert) (membersFrom cert variables starts) covered at

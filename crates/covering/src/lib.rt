@@ -33,8 +33,8 @@ fn refused(read: CoverRead) -> Reached
     }
 }
 
-// Takes the cover at a place, of a shape at a state: the place after it, or a refusal.
-pub fn take_cover(
+// Checks the cover at a place by the exact test, of a shape at a state: the place after it, or a refusal.
+pub fn exact_cover(
     cert: &[u8],
     starts: &[u16],
     variables: usize,
@@ -60,7 +60,7 @@ pub fn take_cover(
     Reached::At(next)
 }
 
-// A quick test of the cover at a place: the place after it, or 0 where it is left to `take_cover`. An entry of 9 variables and 12 cells has 23
+// A quick test of the cover at a place: the place after it, or 0 where it is left to `exact_cover`. An entry of 9 variables and 12 cells has 23
 // bytes.
 pub fn quick_cover(
     cert: &[u8],

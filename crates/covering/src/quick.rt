@@ -14,11 +14,11 @@ ghost use Rattle.shape.specs.Shape.{Shape};
 ghost use Rattle.layout.specs.Entries.{Whole};
 ghost use Rattle.covering.specs.Images.{imagesIn, ImageCodes, varFitsIn, pathFits};
 ghost use Rattle.covering.specs.Marks.{Linking};
-ghost use Rattle.covering.specs.Quick.{ImagesTaken, ImagesEmbed};
+ghost use Rattle.covering.specs.Quick.{ImagesMarked, ImagesEmbed};
 
-// Takes so many images, each one byte and below n, and marks them as stops, as well as nowhere, # and *. False where an image is not so, or
+// Reads so many images, each one byte and below n, and marks them as stops, as well as nowhere, # and *. False where an image is not so, or
 // two are the same.
-fn take_images(
+fn read_and_mark(
     cert: &[u8],
     first: usize,
     count: usize,
@@ -27,7 +27,7 @@ fn take_images(
     marks: &mut [u8; 28],
 ) -> bool
     requires { ⌜ (first + count ≤ length (now cert)) × (count ≤ 12) × (n ≤ 25) × ImageCodes 0 n (now images) × (now marks ≡ replicate 28 0) ⌝ }
-    ensures { λ r. ⌜ (r ≡ true → ImagesTaken (now (cert .entry)) first n count (now (images .exit)) (now (marks .exit))) ⌝ }
+    ensures { λ r. ⌜ (r ≡ true → ImagesMarked (now (cert .entry)) first n count (now (images .exit)) (now (marks .exit))) ⌝ }
 {
     marks[0] = STOP;
     marks[1] = STOP;
@@ -119,7 +119,7 @@ pub(crate) fn images_embed(
     let n = cells_held(s);
     let mut images = NO_IMAGES;
     let mut marks = [0u8; 28];
-    if !take_images(cert, first, count, n, &mut images, &mut marks) {
+    if !read_and_mark(cert, first, count, n, &mut images, &mut marks) {
         return false;
     }
     if !quick_vars(cert, start + 2, variables, &images, s) {

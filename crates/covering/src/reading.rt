@@ -1,8 +1,8 @@
 // Reading a cover.
 use crate::fitting::wide;
+use layout::is_whole;
 use number::Read;
 use number::read_number;
-use reader::load::is_whole;
 use verdict::Reached;
 use verdict::Refusal;
 ghost use Prim.Native.Nat.{_≤_};

@@ -1,2 +1,5 @@
 pub mod Whole
 pub mod Entries
+pub mod Copies
+pub mod Loading
+pub mod Loaded

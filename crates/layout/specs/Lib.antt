@@ -1,3 +1,4 @@
 pub mod ShapeArray
 pub mod Entries
 pub mod Transitions
+pub mod Loading

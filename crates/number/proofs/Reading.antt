@@ -122,3 +122,11 @@ module _ (s : List ℕ) (at : ℕ) where
             too-large nc hc =
                 rw (← ea, ← eb, ← ec)
                 (simp (lt-leb (length s - at) 0 (omega arith), le-ltb a 128 ha, lt-leb (length s - at) 1 h1, ne-eqb b 0 nb, le-ltb b 128 hb, lt-leb (length s - at) 2 h2, ne-eqb c 0 nc, le-ltb c 4 hc))
+
+-- what is known of a number that is read at a place
+module _ (s : List ℕ) (at n next : ℕ) (g : numberAt s at ≡ Number n next) where
+  pub number-known : KnownNumber at (length s - at) (getD s at 0) n next
+  number-known = known-number at (length s - at) (getD s at 0) (getD s (at + 1) 0) (getD s (at + 2) 0) n next g
+
+  pub number-inside : next ≤ length s
+  number-inside = let t = number-known in omega (arith, t .some, t .inside)

@@ -1,8 +1,8 @@
 -- The place type of the code and the codes of document 01.
-use mathlib.Core.Bool.{cond}
+use mathlib.Core.Bool.{Bool, _&&_, not, cond}
 use mathlib.Core.List.{List, map}
 use Prim.Native.Nat.{ℕ, _+_}
-use lib.Dec.{ltb}
+use lib.Dec.{eqb, ltb}
 use Rattle.heap.specs.Place.{nowhere}
 use Rattle.place.specs.declared.Place.{Place}
 
@@ -15,3 +15,7 @@ cellPlace i = cond (ltb i 253) (placeOf (3 + i)) (placeOf nowhere)
 
 abbrev pub codes : List Place → List ℕ
 codes places = map (λ (p : Place). p .code) places
+
+-- two variables, at x and y, are both nowhere; `same` says that they are one variable
+unfoldable pub bothNowhere : Bool → ℕ → ℕ → Bool
+bothNowhere same x y = eqb x nowhere && (eqb y nowhere && not same)

@@ -1,7 +1,8 @@
-// The place type: where a variable or a link stands.
+// The place type: where a variable or a link stands, and tests of places.
 ghost use mathlib.Core.Path.{_≡_};
+ghost use Rattle.heap.specs.Codes.{linkIn};
 ghost use Rattle.lists.specs.List.{absent};
-ghost use Rattle.place.specs.Place.{cellPlace};
+ghost use Rattle.place.specs.Place.{cellPlace, bothNowhere};
 
 // The codes of places: "Nowhere, # and * are the codes 0, 1 and 2 of a place; cell i is 3 + i."
 pub const NOWHERE: u8 = 0;
@@ -49,4 +50,31 @@ pub fn none_at(places: &[u8], code: u8) -> bool
         i += 1;
     }
     true
+}
+
+// The link of the cell at p; nowhere if there is none.
+pub fn link_at(links: &[u8], p: Place) -> Place
+    ensures { λ r. ⌜ r .code ≡ linkIn (now (links .entry)) (p .code) ⌝ }
+{
+    if p.code <= DANGLING {
+        return Place::NOWHERE;
+    }
+    let i = (p.code - FIRST_CELL) as usize;
+    if i < links.len() {
+        return Place { code: links[i] };
+    }
+    Place::NOWHERE
+}
+
+// Whether two variables, at x and at y, are both nowhere; `same` says that they are one variable and not two.
+pub fn both_nowhere(same: bool, x: Place, y: Place) -> bool
+    ensures { λ r. ⌜ r ≡ bothNowhere same (x .code) (y .code) ⌝ }
+{
+    if x.code != NOWHERE {
+        return false;
+    }
+    if y.code != NOWHERE {
+        return false;
+    }
+    !same
 }

@@ -14,6 +14,7 @@ use Rattle.lists.specs.Range.{range}
 use Rattle.lists.proofs.List.{range-mem}
 use Rattle.lists.proofs.Test.{and-right}
 use Rattle.heap.specs.Place.{nowhere, dangling, cell}
+use Rattle.place.specs.Place.{bothNowhere}
 use Rattle.shape.specs.Placing.{place, placedFrom}
 use Rattle.shape.specs.Shape.{Shape, varAt, size}
 use Rattle.shape.proofs.PlacingByNumber.{choice, choices-by-number}
@@ -37,7 +38,7 @@ use Rattle.placing.proofs.Chosen.{
 use Rattle.placing.proofs.Lists.{concatMap-none, concatMap-same, concatMap-concatMap, concatMap-stretch}
 use Rattle.placing.proofs.Putting.{put-nothing, put-made}
 use Rattle.placing.specs.Chosen.{lastOperand, wantedOfLast, lastOf, putFirst, firstOf}
-use Rattle.placing.specs.Wanted.{fitsIn, bothNowhere}
+use Rattle.placing.specs.Wanted.{fitsIn}
 use Rattle.placing.proofs.Wants.{last-a, last-b, last-once, last-later, first-a-dangling, first-b-dangling, first-both, first-one}
 
 -- only choice 0 gives something

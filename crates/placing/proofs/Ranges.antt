@@ -13,12 +13,12 @@ use Rattle.lists.specs.List.{concatMap}
 use Rattle.lists.specs.Range.{range}
 use Rattle.heap.specs.Codes.{linkIn}
 use Rattle.heap.specs.Place.{nowhere, null, dangling, cell}
-use Rattle.place.specs.Place.{placeOf}
+use Rattle.place.specs.Place.{placeOf, bothNowhere}
 use Rattle.place.specs.declared.Place.{Place}
 use Rattle.placing.specs.Choice.{choiceOf}
 use Rattle.placing.specs.Retained.{retained}
 use Rattle.placing.proofs.Chosen.{choice-of-most}
-use Rattle.placing.specs.Wanted.{targetFits, fitsIn, oneByOne, targetChoices, choicesOf, targetOf, beside, onceIf, wantedOne, bothNowhere, wantedFirst, wantedLast}
+use Rattle.placing.specs.Wanted.{targetFits, fitsIn, oneByOne, targetChoices, choicesOf, targetOf, beside, onceIf, wantedOne, wantedFirst, wantedLast}
 use Rattle.placing.specs.declared.Choices.{Choices}
 use Rattle.placing.specs.declared.Wanted.{Wanted}
 use Rattle.placing.specs.declared.Wanted.the-variants.{Nothing, Once, Any, At, Off, Source, Itself, Target}

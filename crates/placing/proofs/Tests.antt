@@ -12,8 +12,9 @@ use Rattle.heap.specs.Codes.{linkIn}
 use Rattle.heap.specs.Place.{nowhere, null, dangling, cell}
 use Rattle.placing.specs.Choice.{choiceOf, exists}
 use Rattle.placing.specs.Retained.{linkOpen, retained}
+use Rattle.place.specs.Place.{bothNowhere}
 use Rattle.place.specs.declared.Place.{Place}
-use Rattle.placing.specs.Wanted.{sourceFits, itselfFits, targetFits, fitsIn, targetOf, beside, onceIf, wantedOne, bothNowhere, wantedFirst, wantedLast}
+use Rattle.placing.specs.Wanted.{sourceFits, itselfFits, targetFits, fitsIn, targetOf, beside, onceIf, wantedOne, wantedFirst, wantedLast}
 use Rattle.placing.specs.declared.Wanted.{Wanted}
 use Rattle.placing.specs.declared.Wanted.the-variants.{Nothing, Once, Any, At, Off, Source, Itself, Target}
 
@@ -218,19 +219,6 @@ module _ (kind : ℕ) where
     pub one-any : kind ≢ 5 → Any ≡ wantedOne kind
     unfolding wantedOne
     one-any e = simp (ne-eqb kind 2 n, ne-eqb kind 5 e)
-
-module _ (same : Bool) (x y : ℕ) where
-  pub both-not-a : x ≢ nowhere → false ≡ bothNowhere same x y
-  unfolding bothNowhere
-  both-not-a n = simp (ne-eqb x nowhere n)
-
-  pub both-not-b : x ≡ nowhere → y ≢ nowhere → false ≡ bothNowhere same x y
-  unfolding bothNowhere
-  both-not-b e n = simp (eq-eqb x nowhere e, ne-eqb y nowhere n)
-
-  pub both-two : x ≡ nowhere → y ≡ nowhere → not same ≡ bothNowhere same x y
-  unfolding bothNowhere
-  both-two e f = simp (eq-eqb x nowhere e, eq-eqb y nowhere f)
 
 module _ (same : Bool) (x y : Place) where
   pub first-a-dangling : x .code ≡ dangling → Nothing ≡ wantedFirst same x y

@@ -9,11 +9,11 @@ use borrow.Author.Tests.{eq-eqb, ne-eqb}
 use lib.Dec.{eqb}
 use lib.ListN.{length, getD}
 use Rattle.heap.specs.Place.{nowhere, dangling, cell}
-use Rattle.place.specs.Place.{placeOf}
+use Rattle.place.specs.Place.{placeOf, bothNowhere}
 use Rattle.placing.specs.Choice.{chosen, exists, opened}
 use Rattle.placing.specs.Retained.{At}
 use Rattle.placing.specs.Retained.{retained}
-use Rattle.placing.specs.Wanted.{fitsIn, onceIf, bothNowhere, wantedFirst, wantedLast}
+use Rattle.placing.specs.Wanted.{fitsIn, onceIf, wantedFirst, wantedLast}
 use Rattle.placing.specs.declared.Wanted.the-variants.{Nothing, Once, Any}
 use Rattle.placing.proofs.Retaining.{beside-first, beside-second, one-fits}
 

@@ -5,11 +5,11 @@ use Prim.Native.Nat.{ℕ}
 use lib.Dec.{eqb}
 use Rattle.lists.specs.List.{keep}
 use Rattle.heap.specs.Place.{nowhere}
-use Rattle.place.specs.Place.{placeOf}
+use Rattle.place.specs.Place.{placeOf, bothNowhere}
 use Rattle.shape.specs.Shape.{Shape, varAt}
 use Rattle.placing.specs.Choice.{put}
 use Rattle.placing.specs.Retained.{changed, firsts}
-use Rattle.placing.specs.Wanted.{fitsIn, bothNowhere, wantedFirst, wantedLast}
+use Rattle.placing.specs.Wanted.{fitsIn, wantedFirst, wantedLast}
 use Rattle.placing.specs.declared.Wanted.{Wanted}
 
 -- ---- the operand placed last

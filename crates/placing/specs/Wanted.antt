@@ -6,7 +6,7 @@ use lib.Dec.{eqb, ltb, leb}
 use lib.ListN.{length, getD}
 use Rattle.heap.specs.Codes.{linkIn}
 use Rattle.heap.specs.Place.{nowhere, dangling, cell}
-use Rattle.place.specs.Place.{placeOf}
+use Rattle.place.specs.Place.{placeOf, bothNowhere}
 use Rattle.place.specs.declared.Place.{Place}
 use Rattle.placing.specs.Choice.{choiceOf, exists}
 use Rattle.placing.specs.Retained.{retained}
@@ -84,10 +84,6 @@ onceIf test = cond test Once Nothing
 -- where a and b are one variable, which is nowhere
 unfoldable pub wantedOne : ℕ → Wanted
 wantedOne kind = cond (eqb kind 2) Nothing (cond (eqb kind 5) Itself Any)
-
--- both are nowhere, and they are two
-unfoldable pub bothNowhere : Bool → ℕ → ℕ → Bool
-bothNowhere same x y = eqb x nowhere && (eqb y nowhere && not same)
 
 -- of the operand placed first: any choice of a where both are nowhere; else there is nothing to place
 unfoldable pub wantedFirst : Bool → Place → Place → Wanted

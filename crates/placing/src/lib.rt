@@ -8,12 +8,13 @@ use place::FIRST_CELL;
 use place::NOWHERE;
 use place::NULL;
 use place::Place;
+use place::both_nowhere;
+use place::link_at;
 ghost use mathlib.Core.Path.{_≡_};
 ghost use Prim.Native.Nat.{_<_};
-ghost use Rattle.heap.specs.Codes.{linkIn};
 ghost use Rattle.placing.specs.Choice.{choiceOf, exists};
 ghost use Rattle.placing.specs.Retained.{linkOpen, retained};
-ghost use Rattle.placing.specs.Wanted.{sourceFits, itselfFits, fitsIn, oneByOne, targetChoices, choicesOf, targetOf, beside, onceIf, wantedOne, bothNowhere, wantedFirst, wantedLast};
+ghost use Rattle.placing.specs.Wanted.{sourceFits, itselfFits, fitsIn, oneByOne, targetChoices, choicesOf, targetOf, beside, onceIf, wantedOne, wantedFirst, wantedLast};
 
 // The choices of a variable that are retained.
 pub enum Wanted {
@@ -38,20 +39,6 @@ pub struct Choices {
     pub from: usize,
     pub step: usize,
     pub to: usize,
-}
-
-// The link of the cell at p; nowhere if there is none.
-pub fn link_at(links: &[u8], p: Place) -> Place
-    ensures { λ r. ⌜ r .code ≡ linkIn (now (links .entry)) (p .code) ⌝ }
-{
-    if p.code <= DANGLING {
-        return Place::NOWHERE;
-    }
-    let i = (p.code - FIRST_CELL) as usize;
-    if i < links.len() {
-        return Place { code: links[i] };
-    }
-    Place::NOWHERE
 }
 
 // Whether p is a cell whose link is nowhere or at q.
@@ -281,19 +268,6 @@ fn wanted_of_one(kind: u8) -> Wanted
         return Wanted::Itself;
     }
     Wanted::Any
-}
-
-// Whether a at x and b at y are nowhere, and are two; `same` says that they are one variable.
-pub fn both_nowhere(same: bool, x: Place, y: Place) -> bool
-    ensures { λ r. ⌜ r ≡ bothNowhere same (x .code) (y .code) ⌝ }
-{
-    if x.code != NOWHERE {
-        return false;
-    }
-    if y.code != NOWHERE {
-        return false;
-    }
-    !same
 }
 
 // What is wanted of the operand that is placed first, where a is at x and b at y: any choice of a where both are nowhere; where one has a place

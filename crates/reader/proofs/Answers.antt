@@ -15,8 +15,8 @@ use Rattle.verdict.specs.declared.Refusal.{Refusal}
 use Rattle.reader.specs.Number.{bufferOf, rangedOf, withoutValue}
 use Rattle.reader.specs.declared.Ranged.{Ranged}
 use Rattle.reader.specs.declared.Ranged.the-variants.{Value, Refused}
-use Rattle.reader.specs.declared.Side.{Side}
-use Rattle.reader.specs.declared.Side.the-variants.{Job, Certificate}
+use Rattle.reader.specs.declared.Input.{Input}
+use Rattle.reader.specs.declared.Input.the-variants.{Job, Certificate}
 
 -- ---- a number that was read, or refused
 
@@ -43,38 +43,38 @@ module _ {r : Reached} {x : Parsed (Unit {0})} (h : reachedOf r ≡ x) where
 
 -- ---- a number in its range
 
-bytes-of : (side : Side) (bytes : List ℕ) → bufferOf side bytes .bytes ≡ bytes
+bytes-of : (input : Input) (bytes : List ℕ) → bufferOf input bytes .bytes ≡ bytes
 bytes-of Job bytes = refl
 bytes-of Certificate bytes = refl
 
-outside-of : (side : Side) (bytes : List ℕ) → bufferOf side [] .outside ≡ bufferOf side bytes .outside
+outside-of : (input : Input) (bytes : List ℕ) → bufferOf input [] .outside ≡ bufferOf input bytes .outside
 outside-of Job bytes = refl
 outside-of Certificate bytes = refl
 
-unreadable-of : (side : Side) (bytes : List ℕ) → bufferOf side [] .unreadable ≡ bufferOf side bytes .unreadable
+unreadable-of : (input : Input) (bytes : List ℕ) → bufferOf input [] .unreadable ≡ bufferOf input bytes .unreadable
 unreadable-of Job bytes = refl
 unreadable-of Certificate bytes = refl
 
-module _ (side : Side) (bytes : List ℕ) (at low limit : ℕ) where
-  pub unread : (k p : ℕ) → k ≡ bufferOf side [] .unreadable → numberAt bytes at ≡ Unreadable p
-      → fault k at ≡ ranged (bufferOf side bytes) low limit at
+module _ (input : Input) (bytes : List ℕ) (at low limit : ℕ) where
+  pub unread : (k p : ℕ) → k ≡ bufferOf input [] .unreadable → numberAt bytes at ≡ Unreadable p
+      → fault k at ≡ ranged (bufferOf input bytes) low limit at
   unfolding readAs
   unread k p e g =
-      ap (λ z. fault z at) (e ∙ unreadable-of side bytes)
-      ∙ sym (ap (meant (bufferOf side bytes) (such (within low limit)) at) (ap (λ l. numberAt l at) (bytes-of side bytes) ∙ g))
+      ap (λ z. fault z at) (e ∙ unreadable-of input bytes)
+      ∙ sym (ap (meant (bufferOf input bytes) (such (within low limit)) at) (ap (λ l. numberAt l at) (bytes-of input bytes) ∙ g))
 
   module _ (n next : ℕ) (g : numberAt bytes at ≡ Number n next) where
-    pub outside : (k : ℕ) → k ≡ bufferOf side [] .outside → ((low ≤ n) × (n < limit) → ⊥) → fault k at ≡ ranged (bufferOf side bytes) low limit at
+    pub outside : (k : ℕ) → k ≡ bufferOf input [] .outside → ((low ≤ n) × (n < limit) → ⊥) → fault k at ≡ ranged (bufferOf input bytes) low limit at
     outside k e h =
-        ap (λ z. fault z at) (e ∙ outside-of side bytes)
+        ap (λ z. fault z at) (e ∙ outside-of input bytes)
         ∙ sym
-        (read-outside (bufferOf side bytes) (such (within low limit)) at n next (ap (λ l. numberAt l at) (bytes-of side bytes) ∙ g)
+        (read-outside (bufferOf input bytes) (such (within low limit)) at n next (ap (λ l. numberAt l at) (bytes-of input bytes) ∙ g)
         (cond-false (within low limit n) (some n) none (λ t. h (r-and (r-le low n) (r-lt n limit) .holds t))))
 
-    pub value : low ≤ n → n < limit → parsed n next ≡ ranged (bufferOf side bytes) low limit at
+    pub value : low ≤ n → n < limit → parsed n next ≡ ranged (bufferOf input bytes) low limit at
     value l h =
         sym
-        (read-complete (bufferOf side bytes) (such (within low limit)) at n next n (ap (λ l. numberAt l at) (bytes-of side bytes) ∙ g)
+        (read-complete (bufferOf input bytes) (such (within low limit)) at n next n (ap (λ l. numberAt l at) (bytes-of input bytes) ∙ g)
         (cond-true (within low limit n) (some n) none (r-and (r-le low n) (r-lt n limit) .tests (l, h))))
 
 pub in-range : (s : Buffer) (low limit at n next : ℕ) → ranged s low limit at ≡ parsed n next → (low ≤ n) × (n < limit)

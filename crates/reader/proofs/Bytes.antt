@@ -7,7 +7,7 @@ use lib.ListN.{length, getD, take, drop}
 use lib.Seq.{drop-cons}
 use Rattle.number.specs.Number.{numberAt}
 use Rattle.number.specs.declared.Read.the-variants.{Number}
-use Rattle.number.proofs.Reading.{KnownNumber, known-number}
+use Rattle.number.proofs.Reading.{number-known}
 use Rattle.shape.specs.Shape.{AllBelow}
 use Rattle.format.proofs.Sequence.{Reads, done, more}
 
@@ -18,14 +18,8 @@ pub record Single (s : List ℕ) (at n next : ℕ) : Type 0 where
   pub after : next ≡ at + 1
 
 module _ (s : List ℕ) (at n next : ℕ) (g : numberAt s at ≡ Number n next) where
-  number-known : KnownNumber at (length s - at) (getD s at 0) n next
-  number-known = known-number at (length s - at) (getD s at 0) (getD s (at + 1) 0) (getD s (at + 2) 0) n next g
-
   pub single : n < 128 → Single s at n next
-  single h = let t = number-known in record { inside = omega (arith, t .some); value = t .value h; after = t .after h }
-
-  pub number-inside : next ≤ length s
-  number-inside = let t = number-known in omega (arith, t .some, t .inside)
+  single h = let t = number-known s at n next g in record { inside = omega (arith, t .some); value = t .value h; after = t .after h }
 
 module _ {s : List ℕ} where
   -- numbers below 128 are as many bytes

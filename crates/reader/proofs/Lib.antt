@@ -8,7 +8,4 @@ pub mod Standing
 pub mod WholeJob
 pub mod Testing
 pub mod Quick
-pub mod Noting
-pub mod Copies
-pub mod Loading
-pub mod Loaded
+pub mod MemberPlaces

@@ -18,7 +18,7 @@ use Rattle.reader.specs.Number.{withoutValue}
 use Rattle.reader.specs.declared.Header.{Header}
 use Rattle.reader.specs.declared.JobAnswer.{JobAnswer}
 use Rattle.reader.specs.declared.JobAnswer.the-variants.{Job, Refused}
-use Rattle.reader.proofs.Bytes.{number-inside}
+use Rattle.number.proofs.Reading.{number-inside}
 use Rattle.reader.proofs.Jobs.{preamble-place}
 use Rattle.reader.proofs.Many.{remembered, without-value-fault, without-value-onward, bind-assoc}
 use Rattle.reader.proofs.Standing.{entries-read, transitions-read}

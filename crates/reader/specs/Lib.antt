@@ -1,5 +1,4 @@
 pub mod Number
 pub mod Job
 pub mod Members
-pub mod Loading
 pub mod Transitions

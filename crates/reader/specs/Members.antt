@@ -45,8 +45,8 @@ memberPlaces s variables states =
     0)
 
 -- A table with places in its first slots, each less a multiple of 65,536, so that it fits 16 bits. What it held behind them stays.
-abbrev pub noted : List ℕ → List ℕ → List ℕ
-noted places before = map (λ at. at % 65536) places ++ drop (length places) before
+abbrev pub withPlaces : List ℕ → List ℕ → List ℕ
+withPlaces places before = map (λ at. at % 65536) places ++ drop (length places) before
 
 -- ---- the members
 

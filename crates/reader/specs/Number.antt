@@ -5,11 +5,11 @@ use Rattle.format.specs.Parser.{Parsed, parsed, fault, Buffer, jobBuffer, certi
 use Rattle.verdict.specs.Verdict.{refusalNumber}
 use Rattle.reader.specs.declared.Ranged.{Ranged}
 use Rattle.reader.specs.declared.Ranged.the-variants.{Value, Refused}
-use Rattle.reader.specs.declared.Side.{Side}
-use Rattle.reader.specs.declared.Side.the-variants.{Job, Certificate}
+use Rattle.reader.specs.declared.Input.{Input}
+use Rattle.reader.specs.declared.Input.the-variants.{Job, Certificate}
 
 -- the buffer that is read, with its refusals
-abbrev pub bufferOf : Side → List ℕ → Buffer
+abbrev pub bufferOf : Input → List ℕ → Buffer
 bufferOf Job bytes = jobBuffer bytes
 bufferOf Certificate bytes = certificateBuffer bytes
 

@@ -21,14 +21,13 @@ ghost use Rattle.format.specs.Parser.{parsed, jobBuffer, certificateBuffer, man
 ghost use Rattle.number.specs.Number.{numberAt};
 ghost use Rattle.verdict.specs.Verdict.{refusalNumber, reachedOf};
 ghost use Rattle.reader.specs.Job.{RestAnswered, JobAnswered};
-ghost use Rattle.reader.specs.Members.{placesRead, memberPlaces, noted, MembersAnswered};
+ghost use Rattle.reader.specs.Members.{placesRead, memberPlaces, withPlaces, MembersAnswered};
 ghost use Rattle.reader.specs.Number.{bufferOf, rangedOf, withoutValue};
 
-pub mod load;
 mod start;
 
 // Which buffer is read: it decides the refusals.
-pub enum Side {
+pub enum Input {
     Job,
     Certificate,
 }
@@ -50,6 +49,7 @@ pub struct Header {
     pub bads_at: usize,
 }
 
+// A job that was read, by its header, or a refusal with its place.
 pub enum JobAnswer {
     Job(Header),
     Refused(Refusal, usize),
@@ -62,37 +62,37 @@ pub enum MembersAnswer {
 }
 
 // The refusal of a number that can't be read.
-fn unreadable(side: Side) -> Refusal
-    ensures { λ r. ⌜ refusalNumber r ≡ bufferOf side [] .unreadable ⌝ }
+fn unreadable(input: Input) -> Refusal
+    ensures { λ r. ⌜ refusalNumber r ≡ bufferOf input [] .unreadable ⌝ }
 {
-    match side {
-        Side::Job => Refusal::JobUnreadable,
-        Side::Certificate => Refusal::CertificateUnreadable,
+    match input {
+        Input::Job => Refusal::JobUnreadable,
+        Input::Certificate => Refusal::CertificateUnreadable,
     }
 }
 
 // The refusal of a number that breaks its range.
-fn outside(side: Side) -> Refusal
-    ensures { λ r. ⌜ refusalNumber r ≡ bufferOf side [] .outside ⌝ }
+fn outside(input: Input) -> Refusal
+    ensures { λ r. ⌜ refusalNumber r ≡ bufferOf input [] .outside ⌝ }
 {
-    match side {
-        Side::Job => Refusal::JobRange,
-        Side::Certificate => Refusal::CertificateRange,
+    match input {
+        Input::Job => Refusal::JobRange,
+        Input::Certificate => Refusal::CertificateRange,
     }
 }
 
 // What was read at a place, held to a range: from `low` on and below `limit`.
-fn held(side: Side, read: Read, at: usize, low: usize, limit: usize) -> Ranged
-    ensures { λ r. ⌜ ((bytes : List ℕ) → read ≡ numberAt bytes at → rangedOf r ≡ ranged (bufferOf side bytes) low limit at) ⌝ }
+fn check_range(input: Input, read: Read, at: usize, low: usize, limit: usize) -> Ranged
+    ensures { λ r. ⌜ ((bytes : List ℕ) → read ≡ numberAt bytes at → rangedOf r ≡ ranged (bufferOf input bytes) low limit at) ⌝ }
 {
     match read {
-        Read::Unreadable(_) => Ranged::Refused(unreadable(side), at),
+        Read::Unreadable(_) => Ranged::Refused(unreadable(input), at),
         Read::Number(n, next) => {
             if n < low {
-                return Ranged::Refused(outside(side), at);
+                return Ranged::Refused(outside(input), at);
             }
             if limit <= n {
-                return Ranged::Refused(outside(side), at);
+                return Ranged::Refused(outside(input), at);
             }
             Ranged::Value(n, next)
         }
@@ -100,10 +100,10 @@ fn held(side: Side, read: Read, at: usize, low: usize, limit: usize) -> Ranged
 }
 
 // The number at a place, from `low` on and below `limit`.
-pub fn read_ranged(side: Side, bytes: &[u8], at: usize, low: usize, limit: usize) -> Ranged
-    ensures { λ r. ⌜ rangedOf r ≡ ranged (bufferOf side (now (bytes .entry))) low limit at ⌝ }
+pub fn read_ranged(input: Input, bytes: &[u8], at: usize, low: usize, limit: usize) -> Ranged
+    ensures { λ r. ⌜ rangedOf r ≡ ranged (bufferOf input (now (bytes .entry))) low limit at ⌝ }
 {
-    held(side, number::read_number(bytes, at), at, low, limit)
+    check_range(input, number::read_number(bytes, at), at, low, limit)
 }
 
 // The refusal of a job's number that has the number 3 or 4.
@@ -139,13 +139,13 @@ fn reached(r: Ranged) -> Reached
 }
 
 // So many numbers below a limit.
-fn read_codes(side: Side, bytes: &[u8], first: usize, count: usize, limit: usize) -> Reached
-    ensures { λ r. ⌜ reachedOf r ≡ withoutValue (many count (ranged (bufferOf side (now (bytes .entry))) 0 limit) first) ⌝ }
+fn read_codes(input: Input, bytes: &[u8], first: usize, count: usize, limit: usize) -> Reached
+    ensures { λ r. ⌜ reachedOf r ≡ withoutValue (many count (ranged (bufferOf input (now (bytes .entry))) 0 limit) first) ⌝ }
 {
     let mut at = first;
     let mut i = 0;
     while i < count {
-        let r = read_ranged(side, bytes, at, 0, limit);
+        let r = read_ranged(input, bytes, at, 0, limit);
         let Ranged::Value(_, next) = r else {
             return reached(r);
         };
@@ -156,22 +156,22 @@ fn read_codes(side: Side, bytes: &[u8], first: usize, count: usize, limit: usize
 }
 
 // A state and a shape: state, n, the places of the variables, n links.
-fn read_entry(side: Side, bytes: &[u8], first: usize, variables: usize, states: usize) -> Reached
-    ensures { λ r. ⌜ reachedOf r ≡ withoutValue (readLocated (bufferOf side (now (bytes .entry))) variables states first) ⌝ }
+fn read_entry(input: Input, bytes: &[u8], first: usize, variables: usize, states: usize) -> Reached
+    ensures { λ r. ⌜ reachedOf r ≡ withoutValue (readLocated (bufferOf input (now (bytes .entry))) variables states first) ⌝ }
 {
-    let state = read_ranged(side, bytes, first, 0, states);
+    let state = read_ranged(input, bytes, first, 0, states);
     let Ranged::Value(_, n_at) = state else {
         return reached(state);
     };
-    let size = read_ranged(side, bytes, n_at, 0, 13);
+    let size = read_ranged(input, bytes, n_at, 0, 13);
     let Ranged::Value(n, vars_at) = size else {
         return reached(size);
     };
-    let vars = read_codes(side, bytes, vars_at, variables, 3 + n);
+    let vars = read_codes(input, bytes, vars_at, variables, 3 + n);
     let Reached::At(links_at) = vars else {
         return vars;
     };
-    read_codes(side, bytes, links_at, n, 3 + n)
+    read_codes(input, bytes, links_at, n, 3 + n)
 }
 
 // One transition: from, kind, a, b, to.
@@ -179,24 +179,24 @@ fn read_transition(job: &[u8], first: usize, variables: usize, states: usize) ->
     requires { ⌜ variables ≤ 8 ⌝ }
     ensures { λ r. ⌜ reachedOf r ≡ withoutValue (readTransition (jobBuffer (now (job .entry))) variables states first) ⌝ }
 {
-    let from = read_ranged(Side::Job, job, first, 0, states);
+    let from = read_ranged(Input::Job, job, first, 0, states);
     let Ranged::Value(_, kind_at) = from else {
         return reached(from);
     };
-    let number = read_ranged(Side::Job, job, kind_at, 1, 8);
+    let number = read_ranged(Input::Job, job, kind_at, 1, 8);
     let Ranged::Value(kind, a_at) = number else {
         return reached(number);
     };
-    let a = read_ranged(Side::Job, job, a_at, least_a(kind), variables + 1);
+    let a = read_ranged(Input::Job, job, a_at, least_a(kind), variables + 1);
     let Ranged::Value(_, b_at) = a else {
         return reached(a);
     };
     let most = most_b(kind, variables);
-    let b = read_ranged(Side::Job, job, b_at, least_b(kind), most + 1);
+    let b = read_ranged(Input::Job, job, b_at, least_b(kind), most + 1);
     let Ranged::Value(_, to_at) = b else {
         return reached(b);
     };
-    reached(read_ranged(Side::Job, job, to_at, 0, states))
+    reached(read_ranged(Input::Job, job, to_at, 0, states))
 }
 
 // The transitions of a job.
@@ -236,7 +236,7 @@ fn read_forbidden(
     let mut at = first;
     let mut i = 0;
     while i < count {
-        let r = read_entry(Side::Job, job, at, variables, states);
+        let r = read_entry(Input::Job, job, at, variables, states);
         let Reached::At(next) = r else {
             return r;
         };
@@ -354,13 +354,13 @@ fn read_member(cert: &[u8], at: usize, variables: usize, states: usize) -> Reach
 {
     let next = quick_entry(cert, at, variables, states);
     if next == 0 {
-        return read_entry(Side::Certificate, cert, at, variables, states);
+        return read_entry(Input::Certificate, cert, at, variables, states);
     }
     Reached::At(next)
 }
 
 // The members of a certificate; the place where each starts goes to the table.
-fn note_members(
+fn read_entries(
     cert: &[u8],
     first: usize,
     count: usize,
@@ -370,7 +370,7 @@ fn note_members(
 ) -> Reached
     requires { ⌜ count ≤ length (now starts) ⌝ }
     ensures answer { λ r. ⌜ reachedOf r ≡ withoutValue (many count (readMember (certificateBuffer (now (cert .entry))) variables states) first) ⌝ }
-    ensures starts { λ r. ⌜ now (starts .exit) ≡ noted (placesRead count (readMember (certificateBuffer (now (cert .entry))) variables states) first) (now (starts .entry)) ⌝ }
+    ensures starts { λ r. ⌜ now (starts .exit) ≡ withPlaces (placesRead count (readMember (certificateBuffer (now (cert .entry))) variables states) first) (now (starts .entry)) ⌝ }
 {
     let mut at = first;
     let mut i = 0;
@@ -396,18 +396,18 @@ pub fn read_members(
     starts: &mut [u16; 512],
 ) -> MembersAnswer
     ensures answer { λ r. ⌜ MembersAnswered (now (cert .entry)) variables states start (now (starts .exit)) r ⌝ }
-    ensures starts { λ r. ⌜ now (starts .exit) ≡ noted (memberPlaces (certificateBuffer (now (cert .entry))) variables states) (now (starts .entry)) ⌝ }
+    ensures starts { λ r. ⌜ now (starts .exit) ≡ withPlaces (memberPlaces (certificateBuffer (now (cert .entry))) variables states) (now (starts .entry)) ⌝ }
 {
-    let version = read_ranged(Side::Certificate, cert, 0, 1, 2);
+    let version = read_ranged(Input::Certificate, cert, 0, 1, 2);
     let at = match version {
         Ranged::Refused(why, place) => return MembersAnswer::Refused(why, place),
         Ranged::Value(_, next) => next,
     };
-    let number = read_ranged(Side::Certificate, cert, at, 1, 513);
+    let number = read_ranged(Input::Certificate, cert, at, 1, 513);
     match number {
         Ranged::Refused(why, place) => MembersAnswer::Refused(why, place),
         Ranged::Value(count, first) => {
-            let r = note_members(cert, first, count, variables, states, starts);
+            let r = read_entries(cert, first, count, variables, states, starts);
             match r {
                 Reached::Refused(why, place) => MembersAnswer::Refused(why, place),
                 Reached::At(_) => {

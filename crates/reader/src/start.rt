@@ -1,6 +1,6 @@
 // Refusal 8: a member at the start state that the empty heap satisfies.
+use crate::Input;
 use crate::Ranged;
-use crate::Side;
 use crate::reached;
 use crate::read_ranged;
 use place::Place;
@@ -23,7 +23,7 @@ fn test_member(cert: &[u8], at: usize, variables: usize, states: usize, start: u
     requires { ⌜ ((l : Located) × (next : ℕ) × (readLocated (certificateBuffer (now cert)) variables states at ≡ parsed l next)) ⌝ }
     ensures { λ r. ⌜ ((l : Located) (next : ℕ) → readLocated (certificateBuffer (now (cert .entry))) variables states at ≡ parsed l next → reachedOf r ≡ testStart start (record { first = at; located = l }) next) ⌝ }
 {
-    let number = read_ranged(Side::Certificate, cert, at, 0, states);
+    let number = read_ranged(Input::Certificate, cert, at, 0, states);
     let Ranged::Value(state, n_at) = number else {
         return reached(number);
     };

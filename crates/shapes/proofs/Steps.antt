@@ -12,12 +12,13 @@ use lib.ListN.{length, getD}
 use Rattle.lists.specs.List.{concatMap}
 use Rattle.lists.specs.Range.{range}
 use Rattle.heap.specs.Place.{nowhere, dangling, cell}
+use Rattle.place.specs.Place.{bothNowhere}
 use Rattle.shape.specs.Shape.{Shape, varAt, size}
 use Rattle.layout.specs.ShapeArray.{cellCount, operandAt, linksIn, shapeIn}
 use Rattle.placing.specs.Choice.{put}
 use Rattle.placing.specs.Chosen.{lastOperand, lastOf, putFirst, firstOf}
 use Rattle.placing.specs.Retained.{retainedIn, changed, firsts}
-use Rattle.placing.specs.Wanted.{fitsIn, choicesOf, bothNowhere}
+use Rattle.placing.specs.Wanted.{fitsIn, choicesOf}
 use Rattle.placing.specs.declared.Choices.{Choices}
 use Rattle.placing.specs.declared.Wanted.{Wanted}
 use Rattle.placing.proofs.ByNumber.{clash, both-nowhere, lasts-by-number, last-retained, firsts-by-number}

@@ -6,10 +6,10 @@ use mathlib.Core.Path.{_≡_}
 use Prim.Native.Nat.{ℕ, suc, _≤_, _<_}
 use lib.Dec.{eqb, ltb}
 use Rattle.heap.specs.Place.{nowhere, dangling}
-use Rattle.place.specs.Place.{placeOf}
+use Rattle.place.specs.Place.{placeOf, bothNowhere}
 use Rattle.shape.specs.Shape.{Shape}
 use Rattle.layout.specs.ShapeArray.{cellCount, operandAt, linksIn, shapeIn, ShapeArray}
-use Rattle.placing.specs.Wanted.{bothNowhere, wantedFirst, wantedLast}
+use Rattle.placing.specs.Wanted.{wantedFirst, wantedLast}
 use Rattle.placing.specs.declared.Wanted.{Wanted}
 use Rattle.shapes.specs.Change.{placedIn}
 

@@ -1,3 +1,4 @@
+-- A length, a job that is not read, or the certificate's verdict: each is the verdict of the bytes, and with it what acceptance says.
 use mathlib.Core.Path.{_∙_, sym}
 use Rattle.checker.proofs.Verdicts.{job-length, certificate-length, job-refused, job-read, promised}
 use borrow.Author.Tests.{not-true, not-false}

@@ -1,3 +1,4 @@
+-- Members that are refused give the verdict; else the covers do, for the members at the table's places.
 use mathlib.Core.Path.{ap, _∙_, sym}
 use native.Mathlib.Omega.{arith}
 use lib.Seq.{length-take-le}

@@ -1,3 +1,4 @@
+-- A cover refused, bytes left, or all covered: each is what reading the covers gives.
 use native.Mathlib.Omega.{arith}
 use mathlib.Core.Path.{sym}
 use lib.ListN.{length-map}

@@ -1,3 +1,4 @@
+-- By length: none, too long, or judged.
 use native.Mathlib.Omega.{arith}
 use borrow.Author.Tests.{lt-leb, le-leb}
 use Rattle.lists.proofs.Reflect.{leb-ltb}

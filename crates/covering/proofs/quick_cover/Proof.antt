@@ -8,8 +8,8 @@ use borrow.Author.Tests.{not-false}
 use Rattle.number.specs.Number.{numberAt}
 use Rattle.number.specs.declared.Read.the-variants.{Number}
 use Rattle.layout.specs.Entries.{Whole}
-use Rattle.reader.proofs.Bytes.{number-inside}
-use Rattle.covering.proofs.Taking.{quick-embedding}
+use Rattle.number.proofs.Reading.{number-inside}
+use Rattle.covering.proofs.CoverCases.{quick-embedding}
 use Rattle.covering.proofs.quick_cover.Statement.{statement}
 use Rattle.covering.proofs.quick_cover.Tie as tie
 

@@ -1,3 +1,4 @@
+-- By where both stand: beside the other, as one, or both placed.
 use mathlib.Core.Path.{_∙_, ap}
 use native.Mathlib.Omega.{arith}
 use Rattle.placing.proofs.Tests.{last-one, last-beside-b, last-beside-a, last-placed}

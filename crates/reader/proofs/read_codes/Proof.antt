@@ -1,3 +1,4 @@
+-- The loop: the numbers before the i-th are read, and what is left of the parser goes on at the place.
 use Prim.Native.Nat.{_-_}
 use mathlib.Core.Path.{ap, _∙_}
 use native.Mathlib.Omega.{arith}
@@ -10,13 +11,13 @@ use Rattle.reader.proofs.read_codes.Statement.{statement}
 use Rattle.reader.proofs.read_codes.Tie as tie
 
 abbrev Inv-loop : tie.InvT-loop
-Inv-loop side bytes first count limit at₀ i₀ at i = Left (ranged (bufferOf side bytes) 0 limit) count first at i
+Inv-loop input bytes first count limit at₀ i₀ at i = Left (ranged (bufferOf input bytes) 0 limit) count first at i
 
 abbrev μ-loop : tie.MeasureT-loop
-μ-loop side bytes first count limit at₀ i₀ at i = count - i
+μ-loop input bytes first count limit at₀ i₀ at i = count - i
 
 loop-holds : tie.Need-loop-holds Inv-loop μ-loop
-loop-holds c = let a = c .before .args in left-none (ranged (bufferOf (a .side) (a .bytes .now)) 0 (a .limit)) (a .count) (a .first)
+loop-holds c = let a = c .before .args in left-none (ranged (bufferOf (a .input) (a .bytes .now)) 0 (a .limit)) (a .count) (a .first)
 
 read-ranged-requires : tie.Need-read-ranged-requires Inv-loop μ-loop
 read-ranged-requires c κs = search needs
@@ -35,7 +36,7 @@ returns c =
     let a = c .before .before .before .before .before .before .before .args in
     let e = c .before .enum-told .given .1 in
     passed (c .before .before .before .read-ranged .ensures) (c .reached .ensures) e
-    ∙ left-lost (ranged (bufferOf (a .side) (a .bytes .now)) 0 (a .limit)) (a .count) (a .first)
+    ∙ left-lost (ranged (bufferOf (a .input) (a .bytes .now)) 0 (a .limit)) (a .count) (a .first)
     (c .before .before .before .before .before .loop .at) (c .before .before .before .before .before .loop .i)
     (c .before .before .before .before .before .loop .inv) _ _ (omega arith)
     (ap withoutValue (lost (c .before .before .before .read-ranged .ensures) e))
@@ -49,7 +50,7 @@ loop-less c = search needs
 loop-again : tie.Need-loop-again Inv-loop μ-loop
 loop-again c =
     let a = c .before .before .before .before .before .before .before .args in
-    left-more (ranged (bufferOf (a .side) (a .bytes .now)) 0 (a .limit)) (a .count) (a .first)
+    left-more (ranged (bufferOf (a .input) (a .bytes .now)) 0 (a .limit)) (a .count) (a .first)
     (c .before .before .before .before .before .loop .at) (c .before .before .before .before .before .loop .i)
     (c .before .before .before .before .before .loop .inv) _ (omega arith)
     (ap withoutValue (got (c .before .before .before .read-ranged .ensures) (c .before .r .given .1)))
@@ -57,7 +58,7 @@ loop-again c =
 returns-2 : tie.Need-returns-2 Inv-loop μ-loop
 returns-2 c =
     let a = c .before .before .before .args in
-    left-all (ranged (bufferOf (a .side) (a .bytes .now)) 0 (a .limit)) (a .count) (a .first) (c .before .loop .at) (c .before .loop .i)
+    left-all (ranged (bufferOf (a .input) (a .bytes .now)) 0 (a .limit)) (a .count) (a .first) (c .before .loop .at) (c .before .loop .i)
     (c .before .loop .inv) (omega arith)
 
 pub read-codes-spec : {M : Type 1} → statement M

@@ -1,3 +1,4 @@
+-- Number after number as the parser of an entry reads them; each refusal is the parser's.
 use mathlib.Core.Path.{ap, _∙_}
 use native.Mathlib.Omega.{arith}
 use Rattle.reader.specs.Number.{bufferOf}
@@ -25,7 +26,7 @@ returns c =
     let a = c .before .before .before .before .before .args in
     let e = c .before .enum-told .given .1 in
     passed (c .before .before .before .read-ranged .ensures) (c .reached .ensures) e
-    ∙ lost-state (bufferOf (a .side) (a .bytes .now)) (a .variables) (a .states) (a .first)
+    ∙ lost-state (bufferOf (a .input) (a .bytes .now)) (a .variables) (a .states) (a .first)
     (lost (c .before .before .before .read-ranged .ensures) e)
 
 read-ranged-requires-2 : tie.Need-read-ranged-requires-2
@@ -45,14 +46,14 @@ returns-2 c =
     let a = c .before .before .before .before .before .before .before .before .before .args in
     let e = c .before .enum-told2 .given .1 in
     passed (c .before .before .before .read-ranged2 .ensures) (c .reached2 .ensures) e
-    ∙ lost-size (bufferOf (a .side) (a .bytes .now)) (a .variables) (a .states) (a .first)
+    ∙ lost-size (bufferOf (a .input) (a .bytes .now)) (a .variables) (a .states) (a .first)
     (got (c .before .before .before .before .before .before .before .read-ranged .ensures) (c .before .before .before .before .before .state .given .1))
     (lost (c .before .before .before .read-ranged2 .ensures) e)
 
 add-read-codes : tie.Need-add-read-codes
 add-read-codes c =
     let a = c .before .before .before .before .before .before .before .before .before .args in
-    let (l, h) = in-range (bufferOf (a .side) (a .bytes .now)) 0 13 _ _ _ (got (c .before .before .before .read-ranged2 .ensures) (c .before .size .given .1)) in
+    let (l, h) = in-range (bufferOf (a .input) (a .bytes .now)) 0 13 _ _ _ (got (c .before .before .before .read-ranged2 .ensures) (c .before .size .given .1)) in
     omega arith
 
 read-codes-requires : tie.Need-read-codes-requires
@@ -68,7 +69,7 @@ returns-3 : tie.Need-returns-3
 returns-3 c =
     let a = c .before .before .before .before .before .before .before .before .before .before .before .before .args in
     ap reachedOf (c .enum-told3 .given .1)
-    ∙ lost-vars (bufferOf (a .side) (a .bytes .now)) (a .variables) (a .states) (a .first)
+    ∙ lost-vars (bufferOf (a .input) (a .bytes .now)) (a .variables) (a .states) (a .first)
     (got (c .before .before .before .before .before .before .before .before .before .before .read-ranged .ensures) (c .before .before .before .before .before .before .before .before .state .given .1))
     (got (c .before .before .before .before .before .before .read-ranged2 .ensures) (c .before .before .before .before .size .given .1))
     (reached-lost (c .before .before .read-codes .ensures) (c .enum-told3 .given .1))
@@ -76,7 +77,7 @@ returns-3 c =
 add-read-codes-2 : tie.Need-add-read-codes-2
 add-read-codes-2 c =
     let a = c .before .before .before .before .before .before .before .before .before .before .before .before .before .args in
-    let (l, h) = in-range (bufferOf (a .side) (a .bytes .now)) 0 13 _ _ _ (got (c .before .before .before .before .before .before .before .read-ranged2 .ensures) (c .before .before .before .before .before .size .given .1)) in
+    let (l, h) = in-range (bufferOf (a .input) (a .bytes .now)) 0 13 _ _ _ (got (c .before .before .before .before .before .before .before .read-ranged2 .ensures) (c .before .before .before .before .before .size .given .1)) in
     omega arith
 
 read-codes-requires-2 : tie.Need-read-codes-requires-2
@@ -86,7 +87,7 @@ returns-4 : tie.Need-returns-4
 returns-4 c =
     let a = c .before .before .before .before .before .before .before .before .before .before .before .before .before .before .args in
     c .read-codes2 .ensures
-    ∙ links-last (bufferOf (a .side) (a .bytes .now)) (a .variables) (a .states) (a .first)
+    ∙ links-last (bufferOf (a .input) (a .bytes .now)) (a .variables) (a .states) (a .first)
     (got (c .before .before .before .before .before .before .before .before .before .before .before .before .read-ranged .ensures) (c .before .before .before .before .before .before .before .before .before .before .state .given .1))
     (got (c .before .before .before .before .before .before .before .before .read-ranged2 .ensures) (c .before .before .before .before .before .before .size .given .1))
     (reached-got (c .before .before .before .before .read-codes .ensures) (c .before .before .vars .given .1))

@@ -3,10 +3,10 @@ use mathlib.Core.Path.{refl, sym, ap, _∙_}
 use native.Mathlib.Omega.{arith}
 use Rattle.format.specs.Certificate.{readMember}
 use Rattle.format.specs.Parser.{certificateBuffer, many}
-use Rattle.reader.specs.Members.{noted}
+use Rattle.reader.specs.Members.{withPlaces}
 use Rattle.reader.proofs.Answers.{got, lost, reached-got, reached-lost, in-range}
 use Rattle.reader.proofs.Many.{remembered}
-use Rattle.reader.proofs.Noting.{lost-version, lost-number, places-are, lost-member, lost-test, members-made}
+use Rattle.reader.proofs.MemberPlaces.{lost-version, lost-number, places-are, lost-member, lost-test, members-made}
 use borrow.Author.Needs.{needs}
 use Rattle.reader.proofs.read_members.Statement.{statement}
 use Rattle.reader.proofs.read_members.Tie as tie
@@ -35,10 +35,10 @@ enum-known-number c = search needs
 enum-known-number-2 : tie.Need-enum-known-number-2
 enum-known-number-2 c = search needs
 
-note-members-requires : tie.Need-note-members-requires
-note-members-requires c κs =
+read-entries-requires : tie.Need-read-entries-requires
+read-entries-requires c κs =
     let (l, h) = in-range (certificateBuffer (c .before .before .before .before .before .before .before .before .before .before .args .cert .now)) 1 513 _ _ _ (got (c .before .before .before .before .read-ranged2 .ensures) (c .before .before .number2 .given .1)) in
-    omega (arith, c .note-members-arg .given .0 .1)
+    omega (arith, c .read-entries-arg .given .0 .1)
 
 enum-known-r : tie.Need-enum-known-r
 enum-known-r c = search needs
@@ -50,7 +50,7 @@ test-members-requires : tie.Need-test-members-requires
 test-members-requires c κs =
     let a = c .before .before .before .before .before .before .before .before .before .before .before .before .before .args in
     let v = c .before .before .before .before .before .number2 .given in
-    let (ms, g) = remembered (many (v .0 .0) (readMember (certificateBuffer (a .cert .now)) (a .variables) (a .states)) (v .0 .1 .0)) _ (reached-got (c .before .before .note-members .ensures .0) (c .enum-told .given .1)) in
+    let (ms, g) = remembered (many (v .0 .0) (readMember (certificateBuffer (a .cert .now)) (a .variables) (a .states)) (v .0 .1 .0)) _ (reached-got (c .before .before .read-entries .ensures .0) (c .enum-told .given .1)) in
     (ms, _, g)
 
 enum-known-r-2 : tie.Need-enum-known-r-2
@@ -71,9 +71,9 @@ returns-3 c =
     let a = c .before .before .before .before .before .before .before .before .before .before .before .before .before .before .args in
     let e₁ = got (c .before .before .before .before .before .before .before .before .before .before .before .before .read-ranged .ensures) (c .before .before .before .before .before .before .before .before .before .before .version2 .given .1) in
     let e₂ = got (c .before .before .before .before .before .before .before .before .read-ranged2 .ensures) (c .before .before .before .before .before .before .number2 .given .1) in
-    let n = c .before .before .before .note-members .ensures in (
+    let n = c .before .before .before .read-entries .ensures in (
       lost-member (a .cert .now) (a .variables) (a .states) (a .start) e₁ e₂ (reached-lost (n .0) (c .before .r .given .1)),
-      n .1 ∙ ap (λ ps. noted ps (a .starts .now)) (sym (places-are (a .cert .now) (a .variables) (a .states) (a .start) e₁ e₂)),
+      n .1 ∙ ap (λ ps. withPlaces ps (a .starts .now)) (sym (places-are (a .cert .now) (a .variables) (a .states) (a .start) e₁ e₂)),
     )
 
 returns-4 : tie.Need-returns-4
@@ -81,9 +81,9 @@ returns-4 c =
     let a = c .before .before .before .before .before .before .before .before .before .before .before .before .before .before .before .before .before .args in
     let e₁ = got (c .before .before .before .before .before .before .before .before .before .before .before .before .before .before .before .read-ranged .ensures) (c .before .before .before .before .before .before .before .before .before .before .before .before .before .version2 .given .1) in
     let e₂ = got (c .before .before .before .before .before .before .before .before .before .before .before .read-ranged2 .ensures) (c .before .before .before .before .before .before .before .before .before .number2 .given .1) in
-    let n = c .before .before .before .before .before .before .note-members .ensures in (
+    let n = c .before .before .before .before .before .before .read-entries .ensures in (
       lost-test (a .cert .now) (a .variables) (a .states) (a .start) e₁ e₂ (reached-lost (c .before .before .before .test-members .ensures) (c .before .r2 .given .1)),
-      n .1 ∙ ap (λ ps. noted ps (a .starts .now)) (sym (places-are (a .cert .now) (a .variables) (a .states) (a .start) e₁ e₂)),
+      n .1 ∙ ap (λ ps. withPlaces ps (a .starts .now)) (sym (places-are (a .cert .now) (a .variables) (a .states) (a .start) e₁ e₂)),
     )
 
 returns-5 : tie.Need-returns-5
@@ -91,12 +91,12 @@ returns-5 c =
     let a = c .before .before .before .before .before .before .before .before .before .before .before .before .before .before .before .before .before .args in
     let e₁ = got (c .before .before .before .before .before .before .before .before .before .before .before .before .before .before .before .read-ranged .ensures) (c .before .before .before .before .before .before .before .before .before .before .before .before .before .version2 .given .1) in
     let e₂ = got (c .before .before .before .before .before .before .before .before .before .before .before .read-ranged2 .ensures) (c .before .before .before .before .before .before .before .before .before .number2 .given .1) in
-    let n = c .before .before .before .before .before .before .note-members .ensures in (
+    let n = c .before .before .before .before .before .before .read-entries .ensures in (
       members-made (a .cert .now) (a .variables) (a .states) (a .start) e₁ e₂ (a .starts .now) _ _ _
           (reached-got (n .0) (c .before .before .before .before .enum-told .given .1)) (n .1)
           (reached-got (c .before .before .before .test-members .ensures) (c .before .r3 .given .1))
-          (c .before .before .before .before .before .before .before .note-members-arg .given .0 .1),
-      n .1 ∙ ap (λ ps. noted ps (a .starts .now)) (sym (places-are (a .cert .now) (a .variables) (a .states) (a .start) e₁ e₂)),
+          (c .before .before .before .before .before .before .before .read-entries-arg .given .0 .1),
+      n .1 ∙ ap (λ ps. withPlaces ps (a .starts .now)) (sym (places-are (a .cert .now) (a .variables) (a .states) (a .start) e₁ e₂)),
     )
 
 pub read-members-spec : {M : Type 1} → statement M
@@ -110,7 +110,7 @@ read-members-spec =
     read-ranged-requires-2
     enum-known-number
     enum-known-number-2
-    note-members-requires
+    read-entries-requires
     enum-known-r
     enum-told
     test-members-requires

@@ -1,3 +1,4 @@
+-- The number read and held to its range is what the parser says.
 use borrow.Author.Needs.{needs}
 use Rattle.reader.proofs.read_ranged.Statement.{statement}
 use Rattle.reader.proofs.read_ranged.Tie as tie
@@ -5,11 +6,11 @@ use Rattle.reader.proofs.read_ranged.Tie as tie
 read-number-requires : tie.Need-read-number-requires
 read-number-requires c κs = search needs
 
-held-requires : tie.Need-held-requires
-held-requires c κs = search needs
+check-range-requires : tie.Need-check-range-requires
+check-range-requires c κs = search needs
 
 returns : tie.Need-returns
-returns c = c .held .ensures _ (c .before .read-number .ensures)
+returns c = c .check-range .ensures _ (c .before .read-number .ensures)
 
 pub read-ranged-spec : {M : Type 1} → statement M
-read-ranged-spec = tie.close (tie.spec read-number-requires held-requires returns)
+read-ranged-spec = tie.close (tie.spec read-number-requires check-range-requires returns)

@@ -1,3 +1,4 @@
+-- Number after number as the parser of a transition reads them, by the columns of the table of kinds; each refusal is the parser's.
 use mathlib.Core.Path.{ap, _∙_}
 use native.Mathlib.Omega.{arith}
 use Rattle.format.specs.Parser.{jobBuffer}

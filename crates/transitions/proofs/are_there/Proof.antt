@@ -1,3 +1,4 @@
+-- By the place and what is left after it.
 use native.Mathlib.Omega.{arith}
 use lib.ListN.{length}
 use borrow.Author.Needs.{needs}

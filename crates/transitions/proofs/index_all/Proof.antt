@@ -1,3 +1,4 @@
+-- The loop, last to first: the transitions from the i-th on are in the index.
 use Prim.Native.Nat.{_+_, _-_, _*_}
 use native.Mathlib.Omega.{arith}
 use lib.ListN.{length-set}

@@ -1,3 +1,4 @@
+-- By the choice: nothing changes where the operand has a place; else it stands at a cell, at #, at a fresh cell, or at one within a link.
 use Prim.Native.Nat.{_+_}
 use mathlib.Core.Path.{_≡_, sym}
 use native.Mathlib.Omega.{arith}

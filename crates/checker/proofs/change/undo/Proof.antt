@@ -1,3 +1,4 @@
+-- By kind: what the operation changed is put back, in the array as in the shape.
 use mathlib.Core.Path.{refl}
 use native.Mathlib.Omega.{arith}
 use borrow.Author.Tests.{lt-ltb, le-ltb, eq-eqb, ne-eqb}

@@ -1,3 +1,4 @@
+-- By whether both operands are nowhere: a is placed, or nothing changes.
 use mathlib.Core.Bool.{true, false}
 use mathlib.Core.Path.{_∙_, sym}
 use Rattle.shapes.proofs.Steps.{first-array}

@@ -1,3 +1,4 @@
+-- Placing the last operand and undoing the operation, one after the other, make the predecessor of the choice.
 use native.Mathlib.Omega.{arith}
 use Rattle.shapes.proofs.Steps.{last-most, last-slots, last-held}
 use Rattle.checker.proofs.choices.undo_choice.Statement.{statement}

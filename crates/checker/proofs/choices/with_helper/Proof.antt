@@ -1,3 +1,4 @@
+-- By kind and operands: the helper plays b, or b itself does.
 use Prim.Native.Nat.{ℕ}
 use mathlib.Core.Path.{ap}
 use native.Mathlib.Omega.{arith}

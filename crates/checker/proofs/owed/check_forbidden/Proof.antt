@@ -1,3 +1,4 @@
+-- The loop: the covers of the forbidden shapes before the i-th are checked.
 use Prim.Native.Nat.{_+_, _-_, _≤_}
 use mathlib.Core.Path.{_≡_}
 use native.Mathlib.Omega.{arith}
@@ -7,7 +8,7 @@ use Rattle.layout.specs.Entries.{EntryInRange, entryEnd, locatedAt, entriesAt, 
 use Rattle.covering.specs.Members.{membersFrom}
 use Rattle.checker.specs.Checking.{ChecksAll}
 use Rattle.checker.proofs.Lists.{entries-next, entry-next, entries-end}
-use Rattle.reader.proofs.Loaded.{Loaded, loaded}
+use Rattle.layout.proofs.Loaded.{Loaded, loaded}
 use Rattle.checker.proofs.Checking.{Progress, begin, advance, halt, finish}
 use borrow.Author.Needs.{needs}
 use Rattle.checker.proofs.owed.check_forbidden.Statement.{statement}

@@ -1,3 +1,4 @@
+-- The loop along the index: the covers for the transitions into the member's state so far are checked.
 use Prim.Native.Nat.{_-_}
 use native.Mathlib.Omega.{arith}
 use lib.ListN.{getD}
@@ -5,7 +6,7 @@ use Rattle.layout.specs.Entries.{locatedAt}
 use Rattle.covering.specs.Members.{membersFrom}
 use Rattle.transitions.proofs.Linked.{linked-head}
 use Rattle.checker.proofs.Into.{before}
-use Rattle.reader.proofs.Loaded.{Loaded, loaded}
+use Rattle.layout.proofs.Loaded.{Loaded, loaded}
 use Rattle.checker.specs.Checking.{ChecksAll}
 use Rattle.checker.specs.Jobs.{transitionIn, toState}
 use Rattle.checker.proofs.Chain.{leftFrom, Chain, chain-begin, chain-end, chain-below, chain-halt, chain-more, chain-less}

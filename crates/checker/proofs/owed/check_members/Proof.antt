@@ -1,3 +1,4 @@
+-- The loop: the covers of the members before the m-th are checked.
 use Prim.Native.Nat.{ℕ, _+_, _-_, _<_}
 use mathlib.Core.Path.{_≡_}
 use native.Mathlib.Omega.{arith}

@@ -1,3 +1,4 @@
+-- The covers of the forbidden shapes and then those of the members are all that is owed.
 use mathlib.Core.Path.{refl, _∙_}
 use native.Mathlib.Omega.{arith}
 use Rattle.lists.specs.List.{concatMap}

@@ -1,3 +1,4 @@
+-- By kind: the covers checked are those of the shape's predecessors by the transition.
 use mathlib.Core.Path.{_≡_, refl, ap, _∙_}
 use Prim.Native.Nat.{_+_, _≤_}
 use native.Mathlib.Omega.{arith}

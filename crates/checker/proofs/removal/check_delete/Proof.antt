@@ -1,3 +1,4 @@
+-- By the place of a: no predecessor, or the one in which a stands at a fresh cell.
 use native.Mathlib.Omega.{arith}
 use Rattle.heap.specs.Operation.{delete}
 use Rattle.backward.specs.Predecessors.{predecessors}

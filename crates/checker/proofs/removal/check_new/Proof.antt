@@ -1,3 +1,4 @@
+-- By the place of a: its cell taken out, or each cell in turn and then a fresh one; these are the predecessors.
 use Prim.Native.Nat.{_-_}
 use mathlib.Core.List.{[], _∷_}
 use mathlib.Core.Path.{_≡_, refl}

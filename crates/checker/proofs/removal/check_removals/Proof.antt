@@ -1,3 +1,4 @@
+-- The loop: the covers of the shapes without one of the cells so far are checked.
 use mathlib.Core.List.{map}
 use mathlib.Core.Path.{_≡_, refl}
 use Prim.Native.Nat.{_-_, _<_}

@@ -1,3 +1,4 @@
+-- Where the quick test gives a place the exact one does too; else the exact one decides.
 use mathlib.Core.Path.{sym}
 use Rattle.layout.specs.ShapeArray.{shapeIn}
 use Rattle.covering.specs.Members.{membersFrom}

@@ -1,3 +1,4 @@
+-- The test of a choice, by the links in the array.
 use Prim.Native.Nat.{_+_, _-_}
 use mathlib.Core.Path.{_≡_}
 use native.Mathlib.Omega.{arith}

@@ -1,3 +1,4 @@
+-- By the place of a in the array.
 use mathlib.Core.Path.{_∙_, sym, ap}
 use Rattle.place.specs.declared.Place.{Place}
 use Rattle.shapes.proofs.Steps.{last-a, last-b}

@@ -1,3 +1,4 @@
+-- What is wanted of the operand placed first, by the places in the array.
 use borrow.Author.Needs.{needs}
 use Rattle.checker.proofs.wanted.wanted_of_first.Statement.{statement}
 use Rattle.checker.proofs.wanted.wanted_of_first.Tie as tie

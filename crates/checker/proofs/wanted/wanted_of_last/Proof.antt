@@ -1,3 +1,4 @@
+-- What is wanted of the operand placed last, by the places and links in the array.
 use Prim.Native.Nat.{_+_, _-_}
 use mathlib.Core.Path.{_≡_}
 use native.Mathlib.Omega.{arith}

@@ -1,3 +1,4 @@
+-- By the place: one that the array has, or one that the member lacks.
 use mathlib.Core.Path.{sym}
 use native.Mathlib.Omega.{arith}
 use Rattle.covering.proofs.Images.{image-read, image-past}

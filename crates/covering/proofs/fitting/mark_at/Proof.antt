@@ -1,3 +1,4 @@
+-- By the place: a mark of the array, or used.
 use mathlib.Core.Path.{sym}
 use native.Mathlib.Omega.{arith}
 use Rattle.covering.proofs.Follow.{mark-read, mark-past}

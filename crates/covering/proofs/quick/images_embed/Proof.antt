@@ -5,15 +5,15 @@ use native.Mathlib.Omega.{arith}
 use borrow.Author.Needs.{needs}
 use borrow.Author.Tests.{not-false}
 use Rattle.covering.proofs.Images.{images-none}
-use Rattle.covering.proofs.TakeImages.{taken-linking, taken-embed}
+use Rattle.covering.proofs.ReadAndMark.{taken-linking, taken-embed}
 use Rattle.covering.proofs.quick.images_embed.Statement.{statement}
 use Rattle.covering.proofs.quick.images_embed.Tie as tie
 
 cells-held-requires : tie.Need-cells-held-requires
 cells-held-requires c κs = search needs
 
-take-images-requires : tie.Need-take-images-requires
-take-images-requires c κs =
+read-and-mark-requires : tie.Need-read-and-mark-requires
+read-and-mark-requires c κs =
     let (w, e, inside) = c .before .before .before .before .pre in
     (inside, omega (arith, w .cells), c .before .before .cells-held .ensures .1, images-none _, refl)
 
@@ -39,14 +39,14 @@ quick-links-requires : tie.Need-quick-links-requires
 quick-links-requires c κs =
     let (w, e, _) = c .before .before .before .before .before .before .before .before .before .before .before .pre in
     let h = c .before .before .before .before .before .before .before .before .before .cells-held .ensures in
-    let t = c .before .before .before .before .before .before .take-images .ensures (not-false _ (c .before .before .before .before .before .if1 .left)) in
+    let t = c .before .before .before .before .before .before .read-and-mark .ensures (not-false _ (c .before .before .before .before .before .if1 .left)) in
     (_, _, taken-linking _ _ _ (h .0) (sym (h .2)) _ _ w _ _ e _ _ t)
 
 returns-3 : tie.Need-returns-3
 returns-3 c = λ z.
     let (w, e, _) = c .before .before .before .before .before .before .before .before .before .before .before .before .pre in
     let h = c .before .before .before .before .before .before .before .before .before .before .cells-held .ensures in
-    let t = c .before .before .before .before .before .before .before .take-images .ensures (not-false _ (c .before .before .before .before .before .before .if1 .left)) in
+    let t = c .before .before .before .before .before .before .before .read-and-mark .ensures (not-false _ (c .before .before .before .before .before .before .if1 .left)) in
     let l = taken-linking _ _ _ (h .0) (sym (h .2)) _ _ w _ _ e _ _ t in
     taken-embed _ _ _ (h .0) (sym (h .2)) _ _ w _ _ e _ _ t (c .before .before .before .before .quick-vars .ensures (not-false _ (c .before .before .before .if2 .left))) (c .quick-links .ensures _ _ l z)
 
@@ -55,7 +55,7 @@ images-embed-spec =
     tie.close
     (tie.spec
     cells-held-requires
-    take-images-requires
+    read-and-mark-requires
     returns
     add-quick-vars
     quick-vars-requires

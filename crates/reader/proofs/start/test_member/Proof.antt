@@ -1,3 +1,4 @@
+-- Test after test: another state, a cell, a variable at #; else the member is refused.
 use Prim.Native.Nat.{_+_, _-_}
 use mathlib.Core.Path.{refl, sym, _∙_}
 use native.Mathlib.Omega.{arith}

@@ -1,3 +1,4 @@
+-- The loop: the members before the i-th pass the test.
 use Prim.Native.Nat.{_-_}
 use mathlib.Core.Path.{ap, _∙_}
 use native.Mathlib.Omega.{arith}

@@ -1,0 +1,71 @@
+-- One cover, case by case.
+use mathlib.Core.Bool.{true, false}
+use mathlib.Core.List.{List}
+use mathlib.Core.Logic.{_≢_}
+use mathlib.Core.Path.{_≡_, refl, sym}
+use Prim.Native.Nat.{ℕ, _+_, _<_}
+use borrow.Author.Tests.{eq-eqb, ne-eqb}
+use lib.ListN.{length, getD}
+use Rattle.number.specs.Number.{numberAt}
+use Rattle.number.specs.declared.Read.the-variants.{Number}
+use Rattle.shape.specs.Shape.{Shape, size}
+use Rattle.run.specs.Run.{Located}
+use Rattle.cover.specs.Test.{embeds?}
+use Rattle.format.specs.Certificate.{readCover}
+use Rattle.format.specs.Parser.{Parsed, parsed, fault, certificateBuffer}
+use Rattle.verdict.specs.Verdict.{reachedOf}
+use Rattle.verdict.specs.declared.Reached.{Reached}
+use Rattle.verdict.specs.declared.Reached.the-variants.{At}
+use Rattle.verdict.specs.declared.Refusal.{Refusal}
+use Rattle.layout.specs.Entries.{locatedAt, Whole}
+use Rattle.layout.specs.ShapeArray.{shapeIn}
+use Rattle.layout.proofs.Whole.{is-whole}
+use Rattle.covering.specs.Images.{imagesIn}
+use Rattle.covering.specs.Members.{membersFrom}
+use Rattle.covering.specs.Quick.{ImagesEmbed}
+use Rattle.covering.specs.Reading.{withoutMember, cellsAt, coverOf, CoverIs}
+use Rattle.covering.specs.declared.reading.CoverRead.{CoverRead}
+use Rattle.covering.specs.declared.reading.CoverRead.the-variants.{Taken, Refused}
+use Rattle.covering.proofs.Covers.{cover-taken}
+
+module _ (cert : List ℕ) (variables : ℕ) (starts : List ℕ) (at state : ℕ) (byte : state < 256) (shape : Shape) (n : ℕ) (cells : size shape ≡ n)
+    (codes : List ℕ) (r : CoverRead) (k : CoverIs cert variables starts at n r codes) where
+  abbrev covered : Located
+  covered = record { state = state; shape = shape }
+
+  abbrev verdict : Parsed (Unit {0})
+  verdict = readCover (certificateBuffer cert) (membersFrom cert variables starts) covered at
+
+  left : coverOf cert variables starts at covered r codes ≡ verdict
+  left = k .reads covered byte cells
+
+  pub take-refused : (q : Reached) (refusal : Refusal) (place : ℕ) → q ≡ withoutMember r → r ≡ Refused refusal place → reachedOf q ≡ verdict
+  take-refused q refusal place a e = rw (a, e) (rw e at left)
+
+  module _ (m next : ℕ) (e : r ≡ Taken m next) where
+    abbrev start : ℕ
+    start = getD starts m 0
+
+    pub other-state : getD cert start 0 ≢ state → fault 9 at ≡ verdict
+    other-state d = rw (e, ne-eqb (getD cert start 0) state d) at left
+
+    module _ (s : getD cert start 0 ≡ state) where
+      pub no-embedding : embeds? (locatedAt cert variables start .shape) shape (imagesIn (cellsAt cert variables starts m) codes) ≡ false → fault 9 at ≡ verdict
+      no-embedding z = rw (e, eq-eqb (getD cert start 0) state s, z) at left
+
+      pub take-embedding : embeds? (locatedAt cert variables start .shape) shape (imagesIn (cellsAt cert variables starts m) codes) ≡ true → parsed tt next ≡ verdict
+      take-embedding z = rw (e, eq-eqb (getD cert start 0) state s, z) at left
+
+-- the quick test accepts
+pub quick-embedding : (cert : List ℕ) (variables : ℕ) (starts : List ℕ) (at state : ℕ) → state < 256 → (s : List ℕ) (m first : ℕ)
+    → numberAt cert at ≡ Number m first → m < length starts → Whole cert variables (getD starts m 0) → getD cert (getD starts m 0) 0 ≡ state
+    → (count : ℕ) → count ≡ cellsAt cert variables starts m → ImagesEmbed cert (getD starts m 0) variables first count s
+    → readCover (certificateBuffer cert) (membersFrom cert variables starts) (record { state = state; shape = shapeIn variables s }) at
+    ≡ parsed tt (first + count)
+quick-embedding cert variables starts at state byte s m first e b w here count cells i =
+    let end = first + count in
+    let shape = shapeIn variables s in
+    let whole = is-whole cert variables (getD starts m 0) w in
+    let read = cover-taken cert variables starts at (size shape) (i .codes) m first e b whole count cells (At end) (i .read) end refl in
+    let embeds = rw cells at (i .embeds) in
+    sym (take-embedding cert variables starts at state byte shape (size shape) refl (i .codes) (Taken m end) read m end refl here embeds)

@@ -1,0 +1,80 @@
+-- Images of one byte, as they are read and marked in one pass.
+use mathlib.Core.Bool.{true}
+use mathlib.Core.List.{List, []}
+use mathlib.Core.Path.{_≡_, refl, sym}
+use Prim.Native.Nat.{ℕ, _+_, _≤_, _<_}
+use native.Mathlib.Omega.{arith}
+use lib.ListN.{length, getD, set}
+use Rattle.number.specs.declared.Read.the-variants.{Number}
+use Rattle.number.specs.Number.{numberAt}
+use Rattle.number.proofs.Reading.{one-byte}
+use Rattle.lists.specs.Test.{allFrom}
+use Rattle.heap.specs.Place.{cell}
+use Rattle.shape.specs.Shape.{Shape, size}
+use Rattle.layout.specs.Entries.{locatedAt, Whole}
+use Rattle.layout.specs.ShapeArray.{shapeIn}
+use Rattle.covering.specs.Images.{imagesIn, ImageCodes, varFitsIn, pathFits}
+use Rattle.covering.specs.Marks.{Marks, Linking}
+use Rattle.covering.specs.Quick.{ImagesMarked, ImagesEmbed}
+use Rattle.covering.proofs.Marking.{Marking, marking-none, marking-once, marking-more}
+use Rattle.covering.proofs.ReadImages.{images-snoc, Reading, reading-none, reading-all, reading-more}
+use Rattle.covering.proofs.Whole.{linking-read, by-links}
+
+module _ (cert : List ℕ) (first n count : ℕ) where
+  -- the first i images are read, one byte each, and marked
+  pub record ReadingMarked (codes marks : List ℕ) (i : ℕ) : Type 0 where
+    pub reading : Reading cert first n count codes (first + i) i
+    pub marking : Marking (imagesIn i codes) marks
+
+  pub taking-none : (codes marks : List ℕ) → ImageCodes 0 n codes → Marks [] [] marks → ReadingMarked codes marks 0
+  taking-none codes marks c m =
+      let here : first + 0 ≡ first = omega arith in
+      record { reading = rw here (reading-none cert first n count codes c); marking = marking-none marks m }
+
+  module _ (codes marks : List ℕ) (i : ℕ) (t : ReadingMarked codes marks i) where
+    pub taking-more : first + count ≤ length cert → count ≤ 12 → n ≤ 25 → i < count → (x p : ℕ) → x ≡ getD cert (first + i) 0 → x < n → p ≡ x + 3
+        → getD marks p 0 ≡ 0 → ReadingMarked (set codes (i + 3) (x + 3)) (set marks p 1) (i + 1)
+    taking-more inside few most b x p e below place free =
+        let next : first + (i + 1) ≡ first + i + 1 = omega arith in
+        let coded : p ≡ cell x = omega arith in
+        let number : numberAt cert (first + i) ≡ Number x (first + i + 1) = sym (one-byte cert (first + i) x e (omega arith) (omega arith)) in
+        record {
+          reading = rw next (reading-more cert first n count codes (first + i) i (t .reading) b x (first + i + 1) few number below);
+          marking =
+              rw (images-snoc n i codes (t .reading .images) x (omega arith), coded)
+              (marking-more (imagesIn i codes) marks (t .marking) x (omega arith) (rw coded at free));
+        }
+
+    pub taking-all : count ≤ i → ImagesMarked cert first n count codes marks
+    taking-all b =
+        let end : i ≡ count = omega (arith, t .reading .inside) in
+        let (reads, images) = reading-all cert first n count codes (first + i) i (t .reading) b in
+        let m : Marking (imagesIn count codes) marks = rw end at (t .marking) in
+        record {
+          read = record { reads = rw end at reads; images = λ _ _. images };
+          apart = marking-once (imagesIn count codes) marks m;
+          marked = m .marked;
+        }
+
+-- ---- what the images, once they are taken, say of the member that starts at a place and of the shape in an array
+
+module _ (variables n : ℕ) (s : List ℕ) (room : length s ≡ 28) (held : size (shapeIn variables s) ≡ n) (cert : List ℕ) (start : ℕ)
+    (e : Whole cert variables start) (first count : ℕ) (read : count ≡ getD cert (start + 1) 0) (codes marks : List ℕ)
+    (t : ImagesMarked cert first n count codes marks) where
+  abbrev member : Shape
+  member = locatedAt cert variables start .shape
+
+  codes-in : ImageCodes (getD cert (start + 1) 0) n codes
+  codes-in = rw read at (t .read .images (first + count) refl)
+
+  pub taken-linking : Linking member (shapeIn variables s) cert (start + 2 + variables) count codes marks n s
+  taken-linking = linking-read variables n s room held cert start e codes codes-in count read marks (t .marked)
+
+  pub taken-embed : allFrom variables 0 (varFitsIn cert (start + 2) codes s) ≡ true
+      → allFrom count 0 (pathFits member (shapeIn variables s) (imagesIn count codes)) ≡ true → ImagesEmbed cert start variables first count s
+  taken-embed vars links =
+      record {
+        codes = codes;
+        read = rw held (t .read);
+        embeds = rw read (sym (by-links variables n s room held cert start e codes codes-in count read (t .apart) vars true (sym links)));
+      }

@@ -1,0 +1,98 @@
+-- Each return is the case of `readCover` that the tests before it leave.
+use Prim.Native.Nat.{_<_}
+use mathlib.Core.Path.{_∙_, sym}
+use native.Mathlib.Omega.{arith}
+use borrow.Author.Needs.{needs}
+use borrow.Author.Tests.{not-true, not-false}
+use Rattle.layout.specs.ShapeArray.{shapeIn}
+use Rattle.covering.proofs.Images.{images-none}
+use Rattle.covering.proofs.CoverCases.{take-refused, other-state, no-embedding, take-embedding}
+use Rattle.covering.proofs.exact_cover.Statement.{statement}
+use Rattle.covering.proofs.exact_cover.Tie as tie
+
+cells-held-requires : tie.Need-cells-held-requires
+cells-held-requires c κs = search needs
+
+read-cover-requires : tie.Need-read-cover-requires
+read-cover-requires c κs = (images-none _, c .before .cells-held .ensures .1)
+
+enum-known-r : tie.Need-enum-known-r
+enum-known-r c = search needs
+
+enum-told : tie.Need-enum-told
+enum-told c = search needs
+
+refused-requires : tie.Need-refused-requires
+refused-requires c κs = search needs
+
+returns : tie.Need-returns
+returns c =
+    let a = c .before .before .before .before .before .before .before .before .args in
+    let h = c .before .before .before .before .before .cells-held .ensures in
+    let shape = shapeIn (a .variables) (a .s .now) in
+    let byte : a .state < 256 = omega (arith, c .before .before .before .before .before .before .before .before .fits .state) in
+    take-refused _ _ _ _ _ byte shape _ (sym (h .2)) _ _ (c .before .before .before .read-cover .ensures) _ _ _ (c .refused .ensures) (c .before .enum-told .given .1)
+
+mul-start : tie.Need-mul-start
+mul-start c = let b = c .before .before .before .read-cover .ensures .member _ _ (c .before .r .given .1) in search needs
+
+shared-slice-read-start : tie.Need-shared-slice-read-start
+shared-slice-read-start c = c .before .before .before .before .read-cover .ensures .member _ _ (c .before .before .r .given .1)
+
+cast-start : tie.Need-cast-start
+cast-start c = omega (arith, c .shared-slice-known3 .given (c .before .before .r .given .0 .0))
+
+shared-slice-read-if1 : tie.Need-shared-slice-read-if1
+shared-slice-read-if1 c = omega (arith, c .before .before .before .before .before .read-cover .ensures .whole _ _ (c .before .before .before .r .given .1) .inside)
+
+returns-2 : tie.Need-returns-2
+returns-2 c =
+    let a = c .before .before .before .before .before .before .before .before .before .before .before .args in
+    let h = c .before .before .before .before .before .before .before .before .cells-held .ensures in
+    let shape = shapeIn (a .variables) (a .s .now) in
+    let byte : a .state < 256 = omega (arith, c .before .before .before .before .before .before .before .before .before .before .before .fits .state) in
+    other-state _ _ _ _ _ byte shape _ (sym (h .2)) _ _ (c .before .before .before .before .before .before .read-cover .ensures) _ _ (c .before .before .before .before .r .given .1) (c .if1 .taken)
+
+embeds-requires : tie.Need-embeds-requires
+embeds-requires c κs =
+    let h = c .before .before .before .before .before .before .before .before .before .cells-held .ensures in
+    let k = c .before .before .before .before .before .before .before .read-cover .ensures in
+    let e = c .before .before .before .before .before .r .given .1 in
+    (k .whole _ _ e, h .0, sym (h .2), k .images _ _ e)
+
+returns-3 : tie.Need-returns-3
+returns-3 c =
+    let a = c .before .before .before .before .before .before .before .before .before .before .before .before .before .before .args in
+    let h = c .before .before .before .before .before .before .before .before .before .before .before .cells-held .ensures in
+    let shape = shapeIn (a .variables) (a .s .now) in
+    let byte : a .state < 256 = omega (arith, c .before .before .before .before .before .before .before .before .before .before .before .before .before .before .fits .state) in
+    no-embedding _ _ _ _ _ byte shape _ (sym (h .2)) _ _ (c .before .before .before .before .before .before .before .before .before .read-cover .ensures) _ _ (c .before .before .before .before .before .before .before .r .given .1) (c .before .before .before .if1 .left)
+    (sym (c .before .embeds .ensures) ∙ not-true _ (c .if2 .taken))
+
+returns-4 : tie.Need-returns-4
+returns-4 c =
+    let a = c .before .before .before .before .before .before .before .before .before .before .before .before .before .before .args in
+    let h = c .before .before .before .before .before .before .before .before .before .before .before .cells-held .ensures in
+    let shape = shapeIn (a .variables) (a .s .now) in
+    let byte : a .state < 256 = omega (arith, c .before .before .before .before .before .before .before .before .before .before .before .before .before .before .fits .state) in
+    take-embedding _ _ _ _ _ byte shape _ (sym (h .2)) _ _ (c .before .before .before .before .before .before .before .before .before .read-cover .ensures) _ _ (c .before .before .before .before .before .before .before .r .given .1) (c .before .before .before .if1 .left)
+    (sym (c .before .embeds .ensures) ∙ not-false _ (c .if2 .left))
+
+pub exact-cover-spec : {M : Type 1} → statement M
+exact-cover-spec =
+    tie.close
+    (tie.spec
+    cells-held-requires
+    read-cover-requires
+    enum-known-r
+    enum-told
+    refused-requires
+    returns
+    mul-start
+    shared-slice-read-start
+    cast-start
+    shared-slice-read-if1
+    returns-2
+    embeds-requires
+    returns-3
+    returns-4)

@@ -1,0 +1,29 @@
+-- Entries loaded into the array of a shape under work (layout/specs/ShapeArray.antt).
+use mathlib.Core.Bool.{Bool, _&&_, cond}
+use mathlib.Core.List.{List}
+use Prim.Native.Nat.{ℕ, _+_, _-_}
+use lib.Dec.{leb}
+use lib.ListN.{length, getD, drop, set}
+use lib.Seq.{paste}
+use Rattle.heap.specs.Place.{null}
+use Rattle.layout.specs.Entries.{isWhole}
+
+-- The most codes that an entry in range has, 8 of variables ahead of its first link and 12 of links from it on, are inside the buffer.
+unfoldable pub mostInside : List ℕ → ℕ → ℕ → Bool
+mostInside bytes variables links = leb variables 8 && (leb 8 links && leb (links + 12) (length bytes))
+
+-- v codes ahead of the first link go to the slots up to the last variable's, and then l codes from the link on to the slots of links
+abbrev pub copied : List ℕ → ℕ → ℕ → ℕ → ℕ → List ℕ → List ℕ
+copied bytes variables links v l s = paste (paste s (18 + variables - v) (drop (links - v) bytes) v) 3 (drop links bytes) l
+
+-- the most codes that an entry has, where they are inside; else those of this entry
+unfoldable pub loadedCodes : List ℕ → ℕ → ℕ → ℕ → List ℕ → List ℕ
+loadedCodes bytes variables links n s =
+    cond (mostInside bytes variables links) (copied bytes variables links 8 12 s) (copied bytes variables links variables n s)
+
+-- The array with the shape of the entry at a place: the places of its variables and of its links, # for null, and the number of its cells. The slots
+-- above the variables stay, and all of them where the entry is not whole.
+abbrev pub loadedShape : List ℕ → ℕ → ℕ → List ℕ → List ℕ
+loadedShape bytes variables at s =
+    let n = getD bytes (at + 1) 0 in
+    cond (isWhole bytes variables at) (set (set (loadedCodes bytes variables (at + 2 + variables) n s) 17 null) 0 n) s
