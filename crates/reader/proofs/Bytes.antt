@@ -24,6 +24,9 @@ module _ (s : List ℕ) (at n next : ℕ) (g : numberAt s at ≡ Number n next) 
   pub single : n < 128 → Single s at n next
   single h = let t = number-known in record { inside = omega (arith, t .some); value = t .value h; after = t .after h }
 
+  pub number-some : at < length s
+  number-some = let t = number-known in omega (arith, t .some)
+
   pub number-inside : next ≤ length s
   number-inside = let t = number-known in omega (arith, t .some, t .inside)
 

@@ -1,3 +1,4 @@
+-- The loop tests the members in turn: the first i pass (`Testing`).
 use Prim.Native.Nat.{_-_}
 use mathlib.Core.Path.{ap, _∙_}
 use native.Mathlib.Omega.{arith}
