@@ -1,3 +1,4 @@
+-- The two cases of what was read.
 use mathlib.Core.Path.{ap, sym}
 use Rattle.covering.specs.Reading.{withoutMember}
 use borrow.Author.Needs.{needs}

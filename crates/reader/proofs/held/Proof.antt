@@ -1,3 +1,4 @@
+-- What was read is `ranged` of it: unreadable, below the range, above it, or in it.
 use mathlib.Core.Path.{_∙_, sym}
 use native.Mathlib.Omega.{arith}
 use Rattle.reader.proofs.Answers.{unread, outside, value}

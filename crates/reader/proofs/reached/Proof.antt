@@ -1,3 +1,4 @@
+-- The two cases of what was read.
 use mathlib.Core.Path.{ap, sym}
 use Rattle.reader.specs.Number.{rangedOf, withoutValue}
 use borrow.Author.Needs.{needs}

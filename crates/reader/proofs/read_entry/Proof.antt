@@ -1,3 +1,4 @@
+-- A return for each part that is refused, and the links last: `readLocated` of the place.
 use mathlib.Core.Path.{ap, _∙_}
 use native.Mathlib.Omega.{arith}
 use Rattle.reader.specs.Number.{bufferOf}

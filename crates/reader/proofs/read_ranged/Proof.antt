@@ -1,3 +1,4 @@
+-- What `held` says, of the number read at the place.
 use borrow.Author.Needs.{needs}
 use Rattle.reader.proofs.read_ranged.Statement.{statement}
 use Rattle.reader.proofs.read_ranged.Tie as tie

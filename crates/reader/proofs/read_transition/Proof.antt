@@ -1,3 +1,4 @@
+-- A return for each of the five numbers that is refused, and for success: `readTransition` of the place.
 use mathlib.Core.Path.{ap, _∙_}
 use native.Mathlib.Omega.{arith}
 use Rattle.format.specs.Parser.{jobBuffer}

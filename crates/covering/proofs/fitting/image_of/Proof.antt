@@ -1,3 +1,4 @@
+-- A slot of the array, or past it cell 0: `imageIn`.
 use mathlib.Core.Path.{sym}
 use native.Mathlib.Omega.{arith}
 use Rattle.covering.proofs.Images.{image-read, image-past}

@@ -1,3 +1,4 @@
+-- A slot of the marks, or past the shape's cells used: `markIn`.
 use mathlib.Core.Path.{sym}
 use native.Mathlib.Omega.{arith}
 use Rattle.covering.proofs.Follow.{mark-read, mark-past}

@@ -1,3 +1,4 @@
+-- Each early return has one of the tests of `isWhole` fail; the bytes left decide the last.
 use Prim.Native.Nat.{_+_}
 use native.Mathlib.Omega.{arith}
 use Rattle.layout.proofs.Whole.{not-whole, whole-left}
