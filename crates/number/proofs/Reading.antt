@@ -128,5 +128,8 @@ module _ (s : List ℕ) (at n next : ℕ) (g : numberAt s at ≡ Number n next) 
   pub number-known : KnownNumber at (length s - at) (getD s at 0) n next
   number-known = known-number at (length s - at) (getD s at 0) (getD s (at + 1) 0) (getD s (at + 2) 0) n next g
 
+  pub number-some : at < length s
+  number-some = let t = number-known in omega (arith, t .some)
+
   pub number-inside : next ≤ length s
   number-inside = let t = number-known in omega (arith, t .some, t .inside)

@@ -20,7 +20,7 @@ use Rattle.reader.specs.Number.{withoutValue}
 use Rattle.number.proofs.Reading.{number-inside}
 use Rattle.reader.proofs.Many.{remembered, without-value-fault, without-value-made, many-length, Left, left-none, left-more}
 use Rattle.reader.proofs.Standing.{MembersAre, members-read}
-use Rattle.reader.proofs.Testing.{tested-place, tested-same}
+use Rattle.reader.proofs.Testing.{all-read}
 
 -- ---- the table while values are read: i of them are, up to the place `at`
 
@@ -171,33 +171,26 @@ module _ (cert : List ℕ) (variables states : ℕ) where
         unfolding readTested
         testing-is = ap (λ x. onward x (tested start)) reading-is
 
-        pub lost-member : {number place : ℕ} → withoutValue all ≡ fault number place → readTested s variables states start 0 ≡ fault number place
-        lost-member {number} {place} e = testing-is ∙ ap (λ x. onward x (tested start)) (without-value-fault all number place e)
-
         pub lost-test : {number place : ℕ} → withoutValue (onward all (tested start)) ≡ fault number place
             → readTested s variables states start 0 ≡ fault number place
         lost-test {number} {place} e = testing-is ∙ without-value-fault (onward all (tested start)) number place e
 
-        pub members-made : (before table : List ℕ) (end next : ℕ) → withoutValue all ≡ parsed tt end
-            → table ≡ withPlaces (placesRead count (readMember s variables states) first) before → withoutValue (onward all (tested start)) ≡ parsed tt next
-            → length before ≡ 512 → MembersRead cert variables states start table count next
-        members-made before table end next e n t full =
-            let (ms, g) = remembered all end e in
-            let end-is : end ≡ next = tested-place start ms end next (sym (ap (λ x. withoutValue (onward x (tested start))) g) ∙ t) in
-            let read : readTested s variables states start 0 ≡ parsed ms next =
-            testing-is ∙ ap (λ x. onward x (tested start)) g
-            ∙ tested-same start ms end next (sym (ap (λ x. withoutValue (onward x (tested start))) g) ∙ t) in
+        pub members-made : (before table : List ℕ) (next : ℕ) → table ≡ withPlaces (placesRead count (readMember s variables states) first) before
+            → withoutValue (onward all (tested start)) ≡ parsed tt next → length before ≡ 512 → MembersRead cert variables states start table count next
+        members-made before table next n t full =
+            let (ms, (g, passed)) = all-read start all next t in
+            let read : readTested s variables states start 0 ≡ parsed ms next = testing-is ∙ ap (λ x. onward x (tested start)) g ∙ passed in
             let (number-read, (low, high)) = ranged-exact s 1 513 .sound a count first e₂ in
             let first-inside : first ≤ length cert = number-inside cert a count first (reads-one number-read) in
-            let end-inside : end ≤ length cert = reads-inside (members-sound s variables states 0 ms end (reading-is ∙ g) .0) (omega arith) in
-            let number : length ms ≡ count = many-length (readMember s variables states) count first ms end g in
+            let next-inside : next ≤ length cert = reads-inside (members-sound s variables states 0 ms next (reading-is ∙ g) .0) (omega arith) in
+            let number : length ms ≡ count = many-length (readMember s variables states) count first ms next g in
             let places : List ℕ = placesRead count (readMember s variables states) first in
-            let firsts-are : places ≡ map (λ m. m .first) ms = firsts count first ms end g in
+            let firsts-are : places ≡ map (λ m. m .first) ms = firsts count first ms next g in
             let places-number : length (map slot places) ≡ count = length-map places slot ∙ ap length firsts-are ∙ length-map ms (λ m. m .first) ∙ number in
             let taken : take count table ≡ map slot places = ap (take count) n ∙ take-at (map slot places) (drop (length places) before) count places-number in
             let taken-number : length (take count table) ≡ count = ap length taken ∙ places-number in
-            let are : (b : Bounds cert variables states) → MembersAre s variables states (b .states-most) count first ms end = λ b.
-            members-read s variables states (b .states-most) count first ms end first-inside g in
+            let are : (b : Bounds cert variables states) → MembersAre s variables states (b .states-most) count first ms next = λ b.
+            members-read s variables states (b .states-most) count first ms next first-inside g in
             let slots : Bounds cert variables states → take count table ≡ placesAt cert variables first count = λ b.
             taken ∙ ap (map slot) (firsts-are ∙ are b .places) ∙ entries-fit cert variables count first (b .fits) (are b .entries) in
             record {

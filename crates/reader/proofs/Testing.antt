@@ -1,23 +1,24 @@
 -- Refusal 8: the test of the members, one after the other.
-use mathlib.Core.Bool.{Bool, true, false, not}
+use mathlib.Core.Bool.{Bool, true, false, not, _&&_}
 use mathlib.Core.List.{List, [], _∷_}
 use mathlib.Core.Path.{_≡_, refl, sym, ap, subst, _∙_}
 use Prim.Native.Nat.{ℕ, suc, _+_, _-_, _≤_, _<_}
 use native.Mathlib.Omega.{arith}
 use borrow.Author.Tests.{eq-eqb, ne-eqb}
-use lib.ListN.{length, getD, take, drop}
-use Rattle.lists.specs.List.{absent}
-use Rattle.heap.specs.Place.{null}
+use lib.Dec.{eqb}
+use lib.ListN.{length, getD}
+use Rattle.number.proofs.Reading.{one-byte}
 use Rattle.run.specs.Run.{Located}
 use Rattle.format.specs.Certificate.{Member, atStart, readMember, testStart}
 use Rattle.format.specs.Job.{readLocated}
-use Rattle.format.specs.Parser.{Parsed, parsed, fault, onward, require, many, each, Buffer, certificateBuffer, ranged}
+use Rattle.format.specs.Parser.{Parsed, parsed, fault, Parser, onward, require, many, each, Buffer, certificateBuffer, ranged}
 use Rattle.format.proofs.Parsing.{not-fault, then, require-sound, ranged-exact}
 use Rattle.format.proofs.Sequence.{reads-one}
-use Rattle.reader.specs.Members.{tested}
+use Rattle.reader.specs.Members.{emptyAt, tested}
 use Rattle.reader.specs.Number.{withoutValue}
+use Rattle.number.proofs.Reading.{number-some}
 use Rattle.reader.proofs.Entries.{lost-state}
-use Rattle.reader.proofs.Many.{remembered, many-suc}
+use Rattle.reader.proofs.Many.{remembered, without-value-fault, without-value-onward, bind-assoc, many-suc}
 use Rattle.reader.proofs.Standing.{EntryAfter, entry-after}
 
 -- ---- where a member that was read stands, and its test
@@ -33,42 +34,44 @@ module _ (cert : List ℕ) (variables states start at : ℕ) (l : Located) (next
     pub state-read : {number place : ℕ} → ranged s 0 states at ≡ fault number place → ⊥
     state-read {number} {place} e = not-fault tt next number place (lost-state s variables states at e ∙ ap withoutValue h)
 
+    module _ (a : ℕ) (w : EntryAfter s variables states at a l next) where
+      -- its test, by its bytes
+      by-bytes : atStart start l ≡ eqb (l .state) start && emptyAt cert variables a
+      by-bytes = rw (w .cells, w .vars) refl
+
+      pub other-state : (l .state ≡ start → ⊥) → parsed tt next ≡ testStart start member next
+      other-state z = rw (by-bytes, ne-eqb (l .state) start z) refl
+
+      module _ (is-start : l .state ≡ start) where
+        pub not-empty : emptyAt cert variables a ≡ false → parsed tt next ≡ testStart start member next
+        not-empty z = rw (by-bytes, eq-eqb (l .state) start is-start, z) refl
+
+        pub satisfied : emptyAt cert variables a ≡ true → fault 8 at ≡ testStart start member next
+        satisfied z = rw (by-bytes, eq-eqb (l .state) start is-start, z) refl
+
+    -- where its state is the number read
     module _ (state a : ℕ) (e : ranged s 0 states at ≡ parsed state a) where
-      pub stand : EntryAfter s variables states at a l next
+      pub stand : (l .state ≡ state) × EntryAfter s variables states at a l next
       stand =
           let (b, w) = entry-after s variables states at l next h in
           let number = w .number in
           let g = reads-one (ranged-exact s 0 states .sound at state a e .0) in
           let b-is : b ≡ a = cc in
-          subst (λ (k : ℕ). EntryAfter s variables states at k l next) b-is w
+          let state-is : l .state ≡ state = cc in
+          (state-is, subst (λ (k : ℕ). EntryAfter s variables states at k l next) b-is w)
 
-      state-is : l .state ≡ state
-      state-is = let number = stand .number in let g = reads-one (ranged-exact s 0 states .sound at state a e .0) in cc
+    -- where its state is one byte
+    pub first-inside : at < length cert
+    first-inside = let (b, w) = entry-after s variables states at l next h in number-some cert at (l .state) b (w .number)
 
-      pub cells-most : getD cert a 0 ≤ 12
-      cells-most = let most : length (l .shape .links) ≤ 12 = stand .shape .cells in omega (arith, stand .cells)
-
-      passes : (end : ℕ) → end ≡ a + 1 + variables + getD cert a 0 → atStart start l ≡ false → parsed tt end ≡ testStart start member next
-      passes end end-is q = rw q (ap (parsed tt) (end-is ∙ sym (stand .after)))
-
-      pub other-state : (end : ℕ) → end ≡ a + 1 + variables + getD cert a 0 → (state ≡ start → ⊥) → parsed tt end ≡ testStart start member next
-      other-state end end-is z = passes end end-is (rw (state-is, ne-eqb state start z) refl)
-
-      module _ (is-start : state ≡ start) where
-        pub some-cells : (end : ℕ) → end ≡ a + 1 + variables + getD cert a 0 → (getD cert a 0 ≡ 0 → ⊥) → parsed tt end ≡ testStart start member next
-        some-cells end end-is z =
-            passes end end-is (rw (state-is, eq-eqb state start is-start, stand .cells, ne-eqb (getD cert a 0) 0 z) refl)
-
-        module _ (none : getD cert a 0 ≡ 0) (k : ℕ) (k-is : k ≡ variables) where
-          by-vars : atStart start l ≡ absent null (take k (drop (a + 1) cert))
-          by-vars = rw (state-is, eq-eqb state start is-start, stand .cells, none, stand .vars, k-is) refl
-
-          pub some-null : (end : ℕ) → end ≡ a + 1 + variables + getD cert a 0 → absent null (take k (drop (a + 1) cert)) ≡ false
-              → parsed tt end ≡ testStart start member next
-          some-null end end-is z = passes end end-is (by-vars ∙ z)
-
-          pub satisfied : absent null (take k (drop (a + 1) cert)) ≡ true → fault 8 at ≡ testStart start member next
-          satisfied z = rw (by-vars, z) refl
+    pub stand-byte : getD cert at 0 < 128 → (l .state ≡ getD cert at 0) × EntryAfter s variables states at (at + 1) l next
+    stand-byte small =
+        let (b, w) = entry-after s variables states at l next h in
+        let number = w .number in
+        let g = one-byte cert at (getD cert at 0) refl first-inside small in
+        let b-is : b ≡ at + 1 = cc in
+        let state-is : l .state ≡ getD cert at 0 = cc in
+        (state-is, subst (λ (k : ℕ). EntryAfter s variables states at k l next) b-is w)
 
 -- ---- the tests keep the place
 
@@ -94,10 +97,10 @@ module _ (start : ℕ) (ms : List Member) (at next : ℕ) (e : withoutValue (tes
       let mid-is : mid ≡ next = cc in
       (here ∙ mid-is, g ∙ ap (λ l. parsed l next) (sym vs-are))) g
 
-  pub tested-place : at ≡ next
+  tested-place : at ≡ next
   tested-place = all-passed .0
 
-  pub tested-same : tested start ms at ≡ parsed ms next
+  tested-same : tested start ms at ≡ parsed ms next
   tested-same = all-passed .1
 
 -- ---- one member more
@@ -221,3 +224,51 @@ module _ (cert : List ℕ) (variables states start first count : ℕ) where
         let left-are : [] ≡ w .left = cc in
         let end-is : at ≡ w .end = cc in
         ap (parsed tt) end-is ∙ ap (λ ms. withoutValue (tested start ms (w .end))) left-are ∙ w .same
+
+-- ---- the loop that reads them: the test has passed the i members that were read, so that what is left decides
+
+module _ (cert : List ℕ) (variables states start first count : ℕ) where
+  abbrev q : ℕ → Parsed Member
+  q = readMember (certificateBuffer cert) variables states
+
+  abbrev pub Passing : ℕ → ℕ → Type 0
+  Passing at i = withoutValue (onward (many (count - i) q at) (tested start)) ≡ withoutValue (onward (many count q first) (tested start))
+
+  pub pass-none : Passing first 0
+  pass-none = let all : count - 0 ≡ count = omega arith in rw all refl
+
+  module _ (at i : ℕ) (w : Passing at i) where
+    pub pass-more : (l : Located) (mid : ℕ) → i < count → readLocated (certificateBuffer cert) variables states at ≡ parsed l mid
+        → parsed tt mid ≡ testStart start (record { first = at; located = l }) mid → Passing mid (i + 1)
+    unfolding readMember
+    pass-more l mid b h t =
+        let k = count - (i + 1) in
+        let m : Member = record { first = at; located = l } in
+        let less : count - i ≡ suc k = omega arith in
+        let here : q at ≡ parsed m mid = rw h refl in
+        let made : List Member → Parser (List Member) = λ ms end. parsed (m ∷ ms) end in
+        let one-more : onward (many (count - i) q at) (tested start) ≡ onward (onward (many k q mid) made) (tested start) =
+        rw (less, many-suc q k at, here) refl in
+        let rest : withoutValue (onward (many k q mid) (λ ms end. tested start (m ∷ ms) end)) ≡ withoutValue (onward (many k q mid) (tested start)) =
+        without-value-onward (many k q mid) (λ ms. tested start (m ∷ ms)) (tested start) (λ ms end. first-passed start m ms mid end mid (sym t) .1) in
+        sym (ap withoutValue (one-more ∙ bind-assoc (many k q mid) made (tested start)) ∙ rest) ∙ w
+
+    pub pass-all : count ≤ i → parsed tt at ≡ withoutValue (onward (many count q first) (tested start))
+    unfolding many each
+    pass-all b =
+        let none : count - i ≡ 0 = omega arith in
+        let done : withoutValue (onward (many (count - i) q at) (tested start)) ≡ parsed tt at = rw none refl in
+        sym done ∙ w
+
+  -- a member that is refused as it is read is refused before any test
+  pub read-lost : (number place : ℕ) → fault number place ≡ withoutValue (many count q first)
+      → fault number place ≡ withoutValue (onward (many count q first) (tested start))
+  read-lost number place e = rw (without-value-fault (many count q first) number place (sym e)) refl
+
+-- all members were read, where all pass
+pub all-read : (start : ℕ) (x : Parsed (List Member)) (next : ℕ) → withoutValue (onward x (tested start)) ≡ parsed tt next
+    → (ms : List Member) × ((x ≡ parsed ms next) × (tested start ms next ≡ parsed ms next))
+all-read start (parsed ms at) next e =
+    let same : at ≡ next = tested-place start ms at next e in
+    (ms, (ap (parsed ms) same, ap (tested start ms) (sym same) ∙ tested-same start ms at next e))
+all-read start (fault number place) next e = absurd (not-fault tt next number place e)

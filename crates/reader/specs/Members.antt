@@ -1,8 +1,12 @@
 -- What reading the members of a certificate answers.
+use mathlib.Core.Bool.{Bool, _&&_}
 use mathlib.Core.List.{List, [], _∷_, _++_, map}
 use mathlib.Core.Path.{_≡_}
-use Prim.Native.Nat.{ℕ, zero, suc, _%_, _≤_}
-use lib.ListN.{length, take, drop}
+use Prim.Native.Nat.{ℕ, zero, suc, _+_, _%_, _≤_}
+use lib.Dec.{eqb}
+use lib.ListN.{length, getD, take, drop}
+use Rattle.lists.specs.List.{absent}
+use Rattle.heap.specs.Place.{null}
 use Rattle.format.specs.Certificate.{Member, withoutPlaces, readMember, readMembers, testStart}
 use Rattle.format.specs.JobBytes.{Between}
 use Rattle.format.specs.Parser.{Parsed, parsed, fault, Parser, _>>=_, _>>_, return, here, each, Buffer, certificateBuffer, ranged}
@@ -49,6 +53,10 @@ abbrev pub withPlaces : List ℕ → List ℕ → List ℕ
 withPlaces places before = map (λ at. at % 65536) places ++ drop (length places) before
 
 -- ---- the members
+
+-- the shape whose number of cells is at a place "is satisfied by the empty heap: it has no cells and no variable at #"
+abbrev pub emptyAt : List ℕ → ℕ → ℕ → Bool
+emptyAt bytes variables at = eqb (getD bytes at 0) 0 && absent null (take variables (drop (at + 1) bytes))
 
 -- members that were read, once each has passed the test of refusal 8
 abbrev pub tested : ℕ → List Member → Parser (List Member)

@@ -1,4 +1,5 @@
 // Reads the numbers of a job and of the members of a certificate, each held to its range.
+use crate::start::may_refuse;
 use crate::start::test_members;
 use jobreader::Preamble;
 use jobreader::read_preamble;
@@ -17,11 +18,11 @@ ghost use lib.ListN.{length, getD};
 ghost use Rattle.lists.specs.Test.{allFrom};
 ghost use Rattle.format.specs.Certificate.{readMember};
 ghost use Rattle.format.specs.Job.{readLocated, readTransition};
-ghost use Rattle.format.specs.Parser.{parsed, jobBuffer, certificateBuffer, many, ranged};
+ghost use Rattle.format.specs.Parser.{parsed, onward, jobBuffer, certificateBuffer, many, ranged};
 ghost use Rattle.number.specs.Number.{numberAt};
 ghost use Rattle.verdict.specs.Verdict.{refusalNumber, reachedOf};
 ghost use Rattle.reader.specs.Job.{RestAnswered, JobAnswered};
-ghost use Rattle.reader.specs.Members.{placesRead, memberPlaces, withPlaces, MembersAnswered};
+ghost use Rattle.reader.specs.Members.{placesRead, memberPlaces, withPlaces, tested, MembersAnswered};
 ghost use Rattle.reader.specs.Number.{bufferOf, rangedOf, withoutValue};
 
 mod start;
@@ -100,7 +101,7 @@ fn check_range(input: Input, read: Read, at: usize, low: usize, limit: usize) ->
 }
 
 // The number at a place, from `low` on and below `limit`.
-pub fn read_ranged(input: Input, bytes: &[u8], at: usize, low: usize, limit: usize) -> Ranged
+pub(crate) fn read_ranged(input: Input, bytes: &[u8], at: usize, low: usize, limit: usize) -> Ranged
     ensures { λ r. ⌜ rangedOf r ≡ ranged (bufferOf input (now (bytes .entry))) low limit at ⌝ }
 {
     check_range(input, number::read_number(bytes, at), at, low, limit)
@@ -359,20 +360,23 @@ fn read_member(cert: &[u8], at: usize, variables: usize, states: usize) -> Reach
     Reached::At(next)
 }
 
-// The members of a certificate; the place where each starts goes to the table.
+// The members of a certificate, all of them read and then tested at the start state; the place where each starts goes to the table. The walk that
+// tests them is needed only where a member was seen that may be refused.
 fn read_entries(
     cert: &[u8],
     first: usize,
     count: usize,
     variables: usize,
     states: usize,
+    start: usize,
     starts: &mut [u16],
 ) -> Reached
     requires { ⌜ count ≤ length (now starts) ⌝ }
-    ensures answer { λ r. ⌜ reachedOf r ≡ withoutValue (many count (readMember (certificateBuffer (now (cert .entry))) variables states) first) ⌝ }
+    ensures answer { λ r. ⌜ reachedOf r ≡ withoutValue (onward (many count (readMember (certificateBuffer (now (cert .entry))) variables states) first) (tested start)) ⌝ }
     ensures starts { λ r. ⌜ now (starts .exit) ≡ withPlaces (placesRead count (readMember (certificateBuffer (now (cert .entry))) variables states) first) (now (starts .entry)) ⌝ }
 {
     let mut at = first;
+    let mut seen = false;
     let mut i = 0;
     while i < count {
         // every place of a certificate of up to 65,536 bytes fits
@@ -381,8 +385,14 @@ fn read_entries(
         let Reached::At(next) = r else {
             return r;
         };
+        if may_refuse(cert, at, variables, start) {
+            seen = true;
+        }
         at = next;
         i += 1;
+    }
+    if seen {
+        return test_members(cert, first, count, variables, states, start);
     }
     Reached::At(at)
 }
@@ -407,16 +417,10 @@ pub fn read_members(
     match number {
         Ranged::Refused(why, place) => MembersAnswer::Refused(why, place),
         Ranged::Value(count, first) => {
-            let r = read_entries(cert, first, count, variables, states, starts);
+            let r = read_entries(cert, first, count, variables, states, start, starts);
             match r {
                 Reached::Refused(why, place) => MembersAnswer::Refused(why, place),
-                Reached::At(_) => {
-                    let r = test_members(cert, first, count, variables, states, start);
-                    match r {
-                        Reached::Refused(why, place) => MembersAnswer::Refused(why, place),
-                        Reached::At(next) => MembersAnswer::Members(count, next),
-                    }
-                }
+                Reached::At(next) => MembersAnswer::Members(count, next),
             }
         }
     }

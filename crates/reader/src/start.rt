@@ -7,18 +7,49 @@ use place::Place;
 use place::none_at;
 use verdict::Reached;
 use verdict::Refusal;
+ghost use mathlib.Core.Bool.{false};
 ghost use mathlib.Core.List.{List};
 ghost use mathlib.Core.Path.{_≡_};
-ghost use Prim.Native.Nat.{ℕ};
+ghost use Prim.Native.Nat.{ℕ, _+_, _≤_};
+ghost use lib.ListN.{length};
 ghost use Rattle.run.specs.Run.{Located};
 ghost use Rattle.format.specs.Certificate.{Member, readMember, testStart};
 ghost use Rattle.format.specs.Job.{readLocated};
 ghost use Rattle.format.specs.Parser.{parsed, onward, certificateBuffer, many};
 ghost use Rattle.verdict.specs.Verdict.{reachedOf};
-ghost use Rattle.reader.specs.Members.{tested};
+ghost use Rattle.reader.specs.Members.{emptyAt, tested};
 ghost use Rattle.reader.specs.Number.{withoutValue};
 
-// Tests the member at a place, which was read: refused if it is at the start state and has no cells and no variable at #.
+// Whether the empty heap satisfies the shape whose number of cells is at a place: no cells, and no variable at #.
+fn empty_at(cert: &[u8], at: usize, variables: usize) -> bool
+    requires { ⌜ at + 1 + variables ≤ length (now cert) ⌝ }
+    ensures { λ r. ⌜ r ≡ emptyAt (now (cert .entry)) variables at ⌝ }
+{
+    if cert[at] != 0 {
+        return false;
+    }
+    let null = Place::NULL;
+    let first = at + 1;
+    let end = first + variables;
+    none_at(&cert[first..end], null.code)
+}
+
+// Whether the member at a place, which was read, may be refused. Where its state is one byte, it says so exactly.
+pub(crate) fn may_refuse(cert: &[u8], at: usize, variables: usize, start: usize) -> bool
+    requires { ⌜ ((states : ℕ) × (l : Located) × (next : ℕ) × (readLocated (certificateBuffer (now cert)) variables states at ≡ parsed l next)) ⌝ }
+    ensures { λ r. ⌜ ((states : ℕ) (l : Located) (next : ℕ) → readLocated (certificateBuffer (now (cert .entry))) variables states at ≡ parsed l next → r ≡ false → parsed tt next ≡ testStart start (record { first = at; located = l }) next) ⌝ }
+{
+    let state = cert[at];
+    if 127 < state {
+        return true;
+    }
+    if state as usize != start {
+        return false;
+    }
+    empty_at(cert, at + 1, variables)
+}
+
+// Tests the member at a place, which was read: refused if it is at the start state and the empty heap satisfies it.
 fn test_member(cert: &[u8], at: usize, variables: usize, states: usize, start: usize) -> Reached
     requires { ⌜ ((l : Located) × (next : ℕ) × (readLocated (certificateBuffer (now cert)) variables states at ≡ parsed l next)) ⌝ }
     ensures { λ r. ⌜ ((l : Located) (next : ℕ) → readLocated (certificateBuffer (now (cert .entry))) variables states at ≡ parsed l next → reachedOf r ≡ testStart start (record { first = at; located = l }) next) ⌝ }
@@ -27,17 +58,11 @@ fn test_member(cert: &[u8], at: usize, variables: usize, states: usize, start: u
     let Ranged::Value(state, n_at) = number else {
         return reached(number);
     };
-    let n = cert[n_at] as usize;
-    let vars_at = n_at + 1;
-    let next = vars_at + variables + n;
+    let next = n_at + 1 + variables + cert[n_at] as usize;
     if state != start {
         return Reached::At(next);
     }
-    if n != 0 {
-        return Reached::At(next);
-    }
-    let null = Place::NULL;
-    if none_at(&cert[vars_at..next], null.code) {
+    if empty_at(cert, n_at, variables) {
         return Reached::Refused(Refusal::StartSatisfied, at);
     }
     Reached::At(next)

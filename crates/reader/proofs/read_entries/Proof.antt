@@ -1,25 +1,38 @@
--- `reader::read_entries`: the loop reads the members one after the other, and has withPlaces the place of each before it reads it.
-use Prim.Native.Nat.{_-_}
-use mathlib.Core.Path.{ap, _∙_, sym}
+-- The loop reads the members one after the other, and has put down the place of each before it reads it. Where none was seen that may be refused,
+-- all that were read pass the test (`Passing`).
+use Prim.Native.Nat.{ℕ, _-_}
+use mathlib.Core.Bool.{false}
+use mathlib.Core.Logic.{⊎-elim}
+use mathlib.Core.Path.{_≡_, ap, _∙_, sym}
 use native.Mathlib.Omega.{arith}
+use Rattle.run.specs.Run.{Located}
 use Rattle.format.specs.Certificate.{readMember}
-use Rattle.format.specs.Parser.{certificateBuffer}
+use Rattle.format.specs.Job.{readLocated}
+use Rattle.format.specs.Parser.{parsed, many, certificateBuffer}
 use Rattle.verdict.specs.Verdict.{reachedOf}
+use Rattle.reader.specs.Number.{withoutValue}
 use Rattle.reader.proofs.Answers.{reached-got, reached-lost}
-use Rattle.reader.proofs.Many.{left-lost, left-all}
+use Rattle.reader.proofs.Many.{remembered, left-lost, left-all}
 use Rattle.reader.proofs.MemberPlaces.{as-entry, Noting, note-none, note-more, note-last, note-all}
+use Rattle.reader.proofs.Testing.{Passing, pass-none, pass-more, pass-all, read-lost}
 use borrow.Author.Needs.{needs}
 use Rattle.reader.proofs.read_entries.Statement.{statement}
 use Rattle.reader.proofs.read_entries.Tie as tie
 
 abbrev Inv-loop : tie.InvT-loop
-Inv-loop cert first count variables states starts₀ at₀ i₀ starts at i = Noting (readMember (certificateBuffer cert) variables states) count first starts₀ starts at i
+Inv-loop cert first count variables states start starts₀ at₀ seen₀ i₀ starts at seen i =
+    Noting (readMember (certificateBuffer cert) variables states) count first starts₀ starts at i
+    × (seen ≡ false → Passing cert variables states start first count at i)
 
 abbrev μ-loop : tie.MeasureT-loop
-μ-loop cert first count variables states starts₀ at₀ i₀ starts at i = count - i
+μ-loop cert first count variables states start starts₀ at₀ seen₀ i₀ starts at seen i = count - i
 
 loop-holds : tie.Need-loop-holds Inv-loop μ-loop
-loop-holds c = let a = c .before .before .args in note-none (readMember (certificateBuffer (a .cert .now)) (a .variables) (a .states)) (a .count) (a .first) (a .starts .now)
+loop-holds c =
+    let a = c .before .before .args in (
+      note-none (readMember (certificateBuffer (a .cert .now)) (a .variables) (a .states)) (a .count) (a .first) (a .starts .now),
+      λ _. pass-none (a .cert .now) (a .variables) (a .states) (a .start) (a .first) (a .count),
+    )
 
 cast-starts : tie.Need-cast-starts Inv-loop μ-loop
 cast-starts c = search needs
@@ -28,7 +41,7 @@ mul-starts : tie.Need-mul-starts Inv-loop μ-loop
 mul-starts c = search needs
 
 slice-write-starts : tie.Need-slice-write-starts Inv-loop μ-loop
-slice-write-starts c = omega (arith, c .before .loop .inv .size)
+slice-write-starts c = omega (arith, c .before .loop .inv .0 .size)
 
 read-member-requires : tie.Need-read-member-requires Inv-loop μ-loop
 read-member-requires c κs = search needs
@@ -49,9 +62,20 @@ returns c =
     let l = c .before .before .before .before .loop in
     let p = readMember (certificateBuffer (a .cert .now)) (a .variables) (a .states) in
     let refused = sym (as-entry (a .cert .now) (a .variables) (a .states) (l .at)) ∙ reached-lost (c .before .before .read-member .ensures) e in (
-      ap reachedOf e ∙ left-lost p (a .count) (a .first) (l .at) (l .i) (l .inv .left) _ _ (omega arith) refused,
-      note-last p (a .count) (a .first) (a .starts .now) (l .starts) (l .at) (l .i) (l .inv) (omega arith) (omega arith) _ _ refused,
+      ap reachedOf e
+          ∙ read-lost (a .cert .now) (a .variables) (a .states) (a .start) (a .first) (a .count) _ _
+          (left-lost p (a .count) (a .first) (l .at) (l .i) (l .inv .0 .left) _ _ (omega arith) refused),
+      note-last p (a .count) (a .first) (a .starts .now) (l .starts) (l .at) (l .i) (l .inv .0) (omega arith) (omega arith) _ _ refused,
     )
+
+-- the member that was read
+got-member : (c : tie.After-known-told Inv-loop μ-loop) → let a = c .before .before .before .before .before .before .before .before .args in
+    let l = c .before .before .before .before .before .loop in
+    (m : Located) × (readLocated (certificateBuffer (a .cert .now)) (a .variables) (a .states) (l .at) ≡ parsed m (c .before .r .given .0 .0))
+got-member c = remembered _ _ (reached-got (c .before .before .before .read-member .ensures) (c .before .r .given .1))
+
+may-refuse-requires : tie.Need-may-refuse-requires Inv-loop μ-loop
+may-refuse-requires c κs = let a = c .before .before .before .before .before .before .before .before .args in let (m, g) = got-member c in (a .states, m, _, g)
 
 add-i : tie.Need-add-i Inv-loop μ-loop
 add-i c = search needs
@@ -61,22 +85,47 @@ loop-less c = search needs
 
 loop-again : tie.Need-loop-again Inv-loop μ-loop
 loop-again c =
-    let a = c .before .before .before .before .before .before .before .before .args in
-    let l = c .before .before .before .before .before .loop in
-    note-more (readMember (certificateBuffer (a .cert .now)) (a .variables) (a .states)) (a .count) (a .first) (a .starts .now) (l .starts) (l .at) (l .i)
-    (l .inv) (omega arith) (omega arith) _
-    (sym (as-entry (a .cert .now) (a .variables) (a .states) (l .at)) ∙ reached-got (c .before .before .before .read-member .ensures) (c .before .r .given .1))
+    let k = c .before .before in
+    let a = k .before .before .before .before .before .before .before .before .args in
+    let l = k .before .before .before .before .before .loop in
+    let (m, g) = got-member k in (
+      note-more (readMember (certificateBuffer (a .cert .now)) (a .variables) (a .states)) (a .count) (a .first) (a .starts .now) (l .starts) (l .at) (l .i)
+          (l .inv .0) (omega arith) (omega arith) _
+          (sym (as-entry (a .cert .now) (a .variables) (a .states) (l .at)) ∙ ap withoutValue g),
+      λ z. ⊎-elim (λ (t, y). let v : _≡_ {A = ℕ} 0 1 = cc in absurd (omega arith))
+          (λ (t, y). pass-more (a .cert .now) (a .variables) (a .states) (a .start) (a .first) (a .count) (l .at) (l .i) (l .inv .1 (sym y ∙ z)) m _ (omega arith) g
+          (c .before .may-refuse .ensures (a .states) m _ g (t .left)))
+          (c .if1 .came),
+    )
+
+test-members-requires : tie.Need-test-members-requires Inv-loop μ-loop
+test-members-requires c κs =
+    let a = c .before .before .before .before .before .args in
+    let l = c .before .before .loop in
+    let p = readMember (certificateBuffer (a .cert .now)) (a .variables) (a .states) in
+    let (ms, g) = remembered (many (a .count) p (a .first)) _ (sym (left-all p (a .count) (a .first) (l .at) (l .i) (l .inv .0 .left) (omega arith))) in
+    (ms, _, g)
 
 same-length-2 : tie.Need-same-length-2 Inv-loop μ-loop
 same-length-2 c = search needs
 
 returns-2 : tie.Need-returns-2 Inv-loop μ-loop
 returns-2 c =
-    let a = c .before .before .before .before .args in
-    let l = c .before .loop in
+    let a = c .before .before .before .before .before .before .args in
+    let l = c .before .before .before .loop in
+    let p = readMember (certificateBuffer (a .cert .now)) (a .variables) (a .states) in
+    (c .test-members .ensures, note-all p (a .count) (a .first) (a .starts .now) (l .starts) (l .at) (l .i) (l .inv .0) (omega arith) (omega arith))
+
+same-length-3 : tie.Need-same-length-3 Inv-loop μ-loop
+same-length-3 c = search needs
+
+returns-3 : tie.Need-returns-3 Inv-loop μ-loop
+returns-3 c =
+    let a = c .before .before .before .before .before .args in
+    let l = c .before .before .loop in
     let p = readMember (certificateBuffer (a .cert .now)) (a .variables) (a .states) in (
-      left-all p (a .count) (a .first) (l .at) (l .i) (l .inv .left) (omega arith),
-      note-all p (a .count) (a .first) (a .starts .now) (l .starts) (l .at) (l .i) (l .inv) (omega arith) (omega arith),
+      pass-all (a .cert .now) (a .variables) (a .states) (a .start) (a .first) (a .count) (l .at) (l .i) (l .inv .1 (c .if2 .left)) (omega arith),
+      note-all p (a .count) (a .first) (a .starts .now) (l .starts) (l .at) (l .i) (l .inv .0) (omega arith) (omega arith),
     )
 
 pub read-entries-spec : {M : Type 1} → statement M
@@ -94,8 +143,12 @@ read-entries-spec =
     enum-told
     same-length
     returns
+    may-refuse-requires
     add-i
     loop-less
     loop-again
+    test-members-requires
     same-length-2
-    returns-2)
+    returns-2
+    same-length-3
+    returns-3)

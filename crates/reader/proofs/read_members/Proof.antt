@@ -1,12 +1,11 @@
--- `reader::read_members`: a return for each number that is refused, for a member that is refused, for the test at the start state, and for success; with each, what the table holds.
+-- A return for each number that is refused, for a member that is refused as it is read or by the test, and for success; with each, what the table
+-- holds.
 use mathlib.Core.Path.{refl, sym, ap, _∙_}
 use native.Mathlib.Omega.{arith}
-use Rattle.format.specs.Certificate.{readMember}
-use Rattle.format.specs.Parser.{certificateBuffer, many}
+use Rattle.format.specs.Parser.{certificateBuffer}
 use Rattle.reader.specs.Members.{withPlaces}
 use Rattle.reader.proofs.Answers.{got, lost, reached-got, reached-lost, in-range}
-use Rattle.reader.proofs.Many.{remembered}
-use Rattle.reader.proofs.MemberPlaces.{lost-version, lost-number, places-are, lost-member, lost-test, members-made}
+use Rattle.reader.proofs.MemberPlaces.{lost-version, lost-number, places-are, lost-test, members-made}
 use borrow.Author.Needs.{needs}
 use Rattle.reader.proofs.read_members.Statement.{statement}
 use Rattle.reader.proofs.read_members.Tie as tie
@@ -43,21 +42,8 @@ read-entries-requires c κs =
 enum-known-r : tie.Need-enum-known-r
 enum-known-r c = search needs
 
-enum-told : tie.Need-enum-told
-enum-told c = search needs
-
-test-members-requires : tie.Need-test-members-requires
-test-members-requires c κs =
-    let a = c .before .before .before .before .before .before .before .before .before .before .before .before .before .args in
-    let v = c .before .before .before .before .before .number2 .given in
-    let (ms, g) = remembered (many (v .0 .0) (readMember (certificateBuffer (a .cert .now)) (a .variables) (a .states)) (v .0 .1 .0)) _ (reached-got (c .before .before .read-entries .ensures .0) (c .enum-told .given .1)) in
-    (ms, _, g)
-
 enum-known-r-2 : tie.Need-enum-known-r-2
 enum-known-r-2 c = search needs
-
-enum-known-r-3 : tie.Need-enum-known-r-3
-enum-known-r-3 c = search needs
 
 returns-2 : tie.Need-returns-2
 returns-2 c =
@@ -72,30 +58,18 @@ returns-3 c =
     let e₁ = got (c .before .before .before .before .before .before .before .before .before .before .before .before .read-ranged .ensures) (c .before .before .before .before .before .before .before .before .before .before .version2 .given .1) in
     let e₂ = got (c .before .before .before .before .before .before .before .before .read-ranged2 .ensures) (c .before .before .before .before .before .before .number2 .given .1) in
     let n = c .before .before .before .read-entries .ensures in (
-      lost-member (a .cert .now) (a .variables) (a .states) (a .start) e₁ e₂ (reached-lost (n .0) (c .before .r .given .1)),
+      lost-test (a .cert .now) (a .variables) (a .states) (a .start) e₁ e₂ (reached-lost (n .0) (c .before .r .given .1)),
       n .1 ∙ ap (λ ps. withPlaces ps (a .starts .now)) (sym (places-are (a .cert .now) (a .variables) (a .states) (a .start) e₁ e₂)),
     )
 
 returns-4 : tie.Need-returns-4
 returns-4 c =
-    let a = c .before .before .before .before .before .before .before .before .before .before .before .before .before .before .before .before .before .args in
-    let e₁ = got (c .before .before .before .before .before .before .before .before .before .before .before .before .before .before .before .read-ranged .ensures) (c .before .before .before .before .before .before .before .before .before .before .before .before .before .version2 .given .1) in
-    let e₂ = got (c .before .before .before .before .before .before .before .before .before .before .before .read-ranged2 .ensures) (c .before .before .before .before .before .before .before .before .before .number2 .given .1) in
-    let n = c .before .before .before .before .before .before .read-entries .ensures in (
-      lost-test (a .cert .now) (a .variables) (a .states) (a .start) e₁ e₂ (reached-lost (c .before .before .before .test-members .ensures) (c .before .r2 .given .1)),
-      n .1 ∙ ap (λ ps. withPlaces ps (a .starts .now)) (sym (places-are (a .cert .now) (a .variables) (a .states) (a .start) e₁ e₂)),
-    )
-
-returns-5 : tie.Need-returns-5
-returns-5 c =
-    let a = c .before .before .before .before .before .before .before .before .before .before .before .before .before .before .before .before .before .args in
-    let e₁ = got (c .before .before .before .before .before .before .before .before .before .before .before .before .before .before .before .read-ranged .ensures) (c .before .before .before .before .before .before .before .before .before .before .before .before .before .version2 .given .1) in
-    let e₂ = got (c .before .before .before .before .before .before .before .before .before .before .before .read-ranged2 .ensures) (c .before .before .before .before .before .before .before .before .before .number2 .given .1) in
-    let n = c .before .before .before .before .before .before .read-entries .ensures in (
-      members-made (a .cert .now) (a .variables) (a .states) (a .start) e₁ e₂ (a .starts .now) _ _ _
-          (reached-got (n .0) (c .before .before .before .before .enum-told .given .1)) (n .1)
-          (reached-got (c .before .before .before .test-members .ensures) (c .before .r3 .given .1))
-          (c .before .before .before .before .before .before .before .read-entries-arg .given .0 .1),
+    let a = c .before .before .before .before .before .before .before .before .before .before .before .before .before .before .args in
+    let e₁ = got (c .before .before .before .before .before .before .before .before .before .before .before .before .read-ranged .ensures) (c .before .before .before .before .before .before .before .before .before .before .version2 .given .1) in
+    let e₂ = got (c .before .before .before .before .before .before .before .before .read-ranged2 .ensures) (c .before .before .before .before .before .before .number2 .given .1) in
+    let n = c .before .before .before .read-entries .ensures in (
+      members-made (a .cert .now) (a .variables) (a .states) (a .start) e₁ e₂ (a .starts .now) _ _ (n .1) (reached-got (n .0) (c .before .r2 .given .1))
+          (c .before .before .before .before .read-entries-arg .given .0 .1),
       n .1 ∙ ap (λ ps. withPlaces ps (a .starts .now)) (sym (places-are (a .cert .now) (a .variables) (a .states) (a .start) e₁ e₂)),
     )
 
@@ -112,11 +86,7 @@ read-members-spec =
     enum-known-number-2
     read-entries-requires
     enum-known-r
-    enum-told
-    test-members-requires
     enum-known-r-2
-    enum-known-r-3
     returns-2
     returns-3
-    returns-4
-    returns-5)
+    returns-4)

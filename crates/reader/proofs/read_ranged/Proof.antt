@@ -1,4 +1,4 @@
--- The number read and held to its range is what the parser says.
+-- The number read and check-range to its range is what the parser says.
 use borrow.Author.Needs.{needs}
 use Rattle.reader.proofs.read_ranged.Statement.{statement}
 use Rattle.reader.proofs.read_ranged.Tie as tie

@@ -2,9 +2,13 @@
 use Prim.Native.Nat.{_+_, _-_}
 use mathlib.Core.Path.{refl, sym, _∙_}
 use native.Mathlib.Omega.{arith}
-use lib.ListN.{getD}
+use lib.ListN.{length}
+use Rattle.run.specs.Run.{Located}
+use Rattle.format.specs.Job.{readLocated}
+use Rattle.format.specs.Parser.{parsed, certificateBuffer}
 use Rattle.reader.proofs.Answers.{got, lost}
-use Rattle.reader.proofs.Testing.{state-read, stand, cells-most, other-state, some-cells, some-null, satisfied}
+use Rattle.reader.proofs.Standing.{EntryAfter}
+use Rattle.reader.proofs.Testing.{state-read, stand, other-state, not-empty, satisfied}
 use borrow.Author.Needs.{needs}
 use Rattle.reader.proofs.start.test_member.Statement.{statement}
 use Rattle.reader.proofs.start.test_member.Tie as tie
@@ -22,46 +26,65 @@ reached-requires : tie.Need-reached-requires
 reached-requires c κs = search needs
 
 returns : tie.Need-returns
-returns c = let a = c .before .before .before .before .before .args in λ l next h. absurd (state-read (a .cert .now) (a .variables) (a .states) (a .start) (a .at) l next h (lost (c .before .before .before .read-ranged .ensures) (c .before .enum-told .given .1)))
+returns c = λ l next h.
+    let a = c .before .before .before .before .before .args in
+    let e = lost (c .before .before .before .read-ranged .ensures) (c .before .enum-told .given .1) in
+    absurd (state-read (a .cert .now) (a .variables) (a .states) (a .start) (a .at) l next h e)
 
-shared-slice-read-n : tie.Need-shared-slice-read-n
-shared-slice-read-n c = let a = c .before .before .before .before .before .before .args in let p = c .before .before .before .before .before .before .pre in let v = c .before .before .number .given in let t = stand (a .cert .now) (a .variables) (a .states) (a .start) (a .at) (p .0) (p .1) (p .2) (v .0 .0) (v .0 .1 .0) (got (c .before .before .before .before .read-ranged .ensures) (v .1)) in omega (arith, t .some)
+told : (c : tie.After-known-told) → let a = c .before .before .before .before .before .args in let v = c .before .number .given in
+    (l : Located) (next : ℕ) → readLocated (certificateBuffer (a .cert .now)) (a .variables) (a .states) (a .at) ≡ parsed l next
+    → (l .state ≡ v .0 .0) × EntryAfter (certificateBuffer (a .cert .now)) (a .variables) (a .states) (a .at) (v .0 .1 .0) l next
+told c l next h =
+    let a = c .before .before .before .before .before .args in
+    let v = c .before .number .given in
+    stand (a .cert .now) (a .variables) (a .states) (a .start) (a .at) l next h (v .0 .0) (v .0 .1 .0) (got (c .before .before .before .read-ranged .ensures) (v .1))
 
-cast-n : tie.Need-cast-n
-cast-n c = let a = c .before .before .before .before .before .before .args in let p = c .before .before .before .before .before .before .pre in let v = c .before .before .number .given in let m = cells-most (a .cert .now) (a .variables) (a .states) (a .start) (a .at) (p .0) (p .1) (p .2) (v .0 .0) (v .0 .1 .0) (got (c .before .before .before .before .read-ranged .ensures) (v .1)) in omega (arith, m)
-
-add-vars-at : tie.Need-add-vars-at
-add-vars-at c = let a = c .before .before .before .before .before .before .args in let p = c .before .before .before .before .before .before .pre in let v = c .before .before .number .given in let t = stand (a .cert .now) (a .variables) (a .states) (a .start) (a .at) (p .0) (p .1) (p .2) (v .0 .0) (v .0 .1 .0) (got (c .before .before .before .before .read-ranged .ensures) (v .1)) in omega (arith, t .some)
+here : (c : tie.After-known-told) → let a = c .before .before .before .before .before .args in let p = c .before .before .before .before .before .pre in
+    EntryAfter (certificateBuffer (a .cert .now)) (a .variables) (a .states) (a .at) (c .before .number .given .0 .1 .0) (p .0) (p .1)
+here c = let p = c .before .before .before .before .before .pre in told c (p .0) (p .1) (p .2) .1
 
 add-next : tie.Need-add-next
-add-next c = let a = c .before .before .before .before .before .before .args in let p = c .before .before .before .before .before .before .pre in let v = c .before .before .number .given in let t = stand (a .cert .now) (a .variables) (a .states) (a .start) (a .at) (p .0) (p .1) (p .2) (v .0 .0) (v .0 .1 .0) (got (c .before .before .before .before .read-ranged .ensures) (v .1)) in omega (arith, t .after, t .inside)
+add-next c = let w = here c in omega (arith, w .some, w .after, w .inside)
 
 add-next-2 : tie.Need-add-next-2
-add-next-2 c = let a = c .before .before .before .before .before .before .args in let p = c .before .before .before .before .before .before .pre in let v = c .before .before .number .given in let t = stand (a .cert .now) (a .variables) (a .states) (a .start) (a .at) (p .0) (p .1) (p .2) (v .0 .0) (v .0 .1 .0) (got (c .before .before .before .before .read-ranged .ensures) (v .1)) in omega (arith, t .after, t .inside)
+add-next-2 c = let w = here c in omega (arith, w .some, w .after, w .inside)
+
+shared-slice-read-next : tie.Need-shared-slice-read-next
+shared-slice-read-next c = let w = here (c .before) in omega (arith, w .some, w .after, w .inside)
+
+cast-next : tie.Need-cast-next
+cast-next c =
+    let l = c .before .before .before .before .before .before .pre .0 in
+    let w = here (c .before) in
+    let most : length (l .shape .links) ≤ 12 = w .shape .cells in
+    omega (arith, w .cells)
+
+add-next-3 : tie.Need-add-next-3
+add-next-3 c = let w = here (c .before) in omega (arith, w .some, w .after, w .inside)
 
 returns-2 : tie.Need-returns-2
-returns-2 c = let a = c .before .before .before .before .before .before .before .args in let v = c .before .before .before .number .given in λ l next h. other-state (a .cert .now) (a .variables) (a .states) (a .start) (a .at) l next h (v .0 .0) (v .0 .1 .0) (got (c .before .before .before .before .before .read-ranged .ensures) (v .1)) (v .0 .1 .0 + 1 + a .variables + getD (a .cert .now) (v .0 .1 .0) 0) refl (c .if1 .taken)
+returns-2 c = λ l next h.
+    let a = c .before .before .before .before .before .before .before .args in
+    let (state-is, w) = told (c .before .before) l next h in
+    ap (parsed tt) (sym (w .after)) ∙ other-state (a .cert .now) (a .variables) (a .states) (a .start) (a .at) l next h _ w (λ e. c .if1 .taken (sym state-is ∙ e))
+
+empty-at-requires : tie.Need-empty-at-requires
+empty-at-requires c κs = let w = here (c .before .before) in omega (arith, w .after, w .inside)
 
 returns-3 : tie.Need-returns-3
-returns-3 c = let a = c .before .before .before .before .before .before .before .before .args in let v = c .before .before .before .before .number .given in λ l next h. some-cells (a .cert .now) (a .variables) (a .states) (a .start) (a .at) l next h (v .0 .0) (v .0 .1 .0) (got (c .before .before .before .before .before .before .read-ranged .ensures) (v .1)) (omega arith) (v .0 .1 .0 + 1 + a .variables + getD (a .cert .now) (v .0 .1 .0) 0) refl (c .if2 .taken)
-
-sub-none-at : tie.Need-sub-none-at
-sub-none-at c = search needs
-
-part-none-at-start : tie.Need-part-none-at-start
-part-none-at-start c = search needs
-
-part-none-at-end : tie.Need-part-none-at-end
-part-none-at-end c = let a = c .before .before .before .before .before .before .before .before .args in let p = c .before .before .before .before .before .before .before .before .pre in let v = c .before .before .before .before .number .given in let t = stand (a .cert .now) (a .variables) (a .states) (a .start) (a .at) (p .0) (p .1) (p .2) (v .0 .0) (v .0 .1 .0) (got (c .before .before .before .before .before .before .read-ranged .ensures) (v .1)) in omega (arith, t .after, t .inside)
-
-none-at-requires : tie.Need-none-at-requires
-none-at-requires c κs = search needs
+returns-3 c = λ l next h.
+    let a = c .before .before .before .before .before .before .before .before .before .args in
+    let (state-is, w) = told (c .before .before .before .before) l next h in
+    satisfied (a .cert .now) (a .variables) (a .states) (a .start) (a .at) l next h _ w (state-is ∙ c .before .before .if1 .left)
+    (sym (c .before .empty-at .ensures) ∙ c .if2 .taken)
 
 returns-4 : tie.Need-returns-4
-returns-4 c = let a = c .before .before .before .before .before .before .before .before .before .before .before .args in let v = c .before .before .before .before .before .before .before .number .given in λ l next h. satisfied (a .cert .now) (a .variables) (a .states) (a .start) (a .at) l next h (v .0 .0) (v .0 .1 .0) (got (c .before .before .before .before .before .before .before .before .before .read-ranged .ensures) (v .1)) (omega arith) (omega arith) (v .0 .1 .0 + 1 + a .variables + getD (a .cert .now) (v .0 .1 .0) 0 - (v .0 .1 .0 + 1)) (omega arith) (sym (c .before .none-at .ensures) ∙ c .if3 .taken)
-
-returns-5 : tie.Need-returns-5
-returns-5 c = let a = c .before .before .before .before .before .before .before .before .before .before .before .args in let v = c .before .before .before .before .before .before .before .number .given in λ l next h. some-null (a .cert .now) (a .variables) (a .states) (a .start) (a .at) l next h (v .0 .0) (v .0 .1 .0) (got (c .before .before .before .before .before .before .before .before .before .read-ranged .ensures) (v .1)) (omega arith) (omega arith) (v .0 .1 .0 + 1 + a .variables + getD (a .cert .now) (v .0 .1 .0) 0 - (v .0 .1 .0 + 1)) (omega arith) (v .0 .1 .0 + 1 + a .variables + getD (a .cert .now) (v .0 .1 .0) 0) refl (sym (c .before .none-at .ensures) ∙ c .if3 .left)
+returns-4 c = λ l next h.
+    let a = c .before .before .before .before .before .before .before .before .before .args in
+    let (state-is, w) = told (c .before .before .before .before) l next h in
+    ap (parsed tt) (sym (w .after))
+    ∙ not-empty (a .cert .now) (a .variables) (a .states) (a .start) (a .at) l next h _ w (state-is ∙ c .before .before .if1 .left)
+    (sym (c .before .empty-at .ensures) ∙ c .if2 .left)
 
 pub test-member-spec : {M : Type 1} → statement M
 test-member-spec =
@@ -72,16 +95,12 @@ test-member-spec =
     enum-told
     reached-requires
     returns
-    shared-slice-read-n
-    cast-n
-    add-vars-at
     add-next
     add-next-2
+    shared-slice-read-next
+    cast-next
+    add-next-3
     returns-2
+    empty-at-requires
     returns-3
-    sub-none-at
-    part-none-at-start
-    part-none-at-end
-    none-at-requires
-    returns-4
-    returns-5)
+    returns-4)
