@@ -14,7 +14,7 @@ use Rattle.number.specs.Number.{largest}
 use Rattle.number.specs.Range.{AtMost}
 use Rattle.heap.specs.Operation.{Kind, kindOf, allowsA, allowsB}
 use Rattle.heap.specs.Place.{cell}
-use Rattle.heap.proofs.Rows.{tested, most-b}
+use Rattle.heap.proofs.Rows.{tested, most-b-is}
 use Rattle.format.specs.Parser.{fault, jobBuffer, certificateBuffer, within, such, readAs, ranged}
 use Rattle.format.specs.Job.{readShape, readLocated, readTransition, readJob}
 use Rattle.format.specs.JobNumbers.{JobFile, jobNumbers}
@@ -48,7 +48,7 @@ allows-some variables kind row h f = record { first = first; second = second; ro
 
     room : Dec (row .most-b 1 ≡ 0) → row .least-b ≤ row .most-b variables
     room (yes z) = let none : row .least-b ≤ 0 = rw z at room-one in omega arith
-    room (no z) = rw (most-b variables kind row f, ne-eqb (row .most-b 1) 0 z) (omega (arith, second))
+    room (no z) = rw (most-b-is variables kind row f, ne-eqb (row .most-b 1) 0 z) (omega (arith, second))
 
 module _ (u o l : ℕ) where
   -- a number that passes a test, where n does

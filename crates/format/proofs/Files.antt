@@ -12,7 +12,7 @@ use Rattle.lists.specs.List.{concatMap}
 use Rattle.lists.proofs.Reflect.{r-le}
 use Rattle.heap.specs.Operation.{Op, Kind, kindOf, allowsA, allowsB, operation}
 use Rattle.heap.specs.Place.{cell}
-use Rattle.heap.proofs.Rows.{column, most-b, Keeps, in-table, table-named}
+use Rattle.heap.proofs.Rows.{column, most-b-is, Keeps, in-table, table-named}
 use Rattle.shape.specs.Shape.{Shape, size, InRange}
 use Rattle.run.specs.Run.{Transition, Located}
 use Rattle.format.specs.Parser.{parsed, fault, many, Buffer, such, readAs, ranged, end}
@@ -30,7 +30,7 @@ op-numbers n kind a b o e =
     let t = in-table n kind a b o e in
     ap opNumbers (sym (t .named))
     ∙ column (λ kind row. opNumbers (row .op a b)) (λ kind row. kind ∷ a ∷ cond (eqb (row .most-b 1) 0) 0 b ∷ []) refl kind (t .row) (t .found)
-    ∙ ap (λ (x : ℕ). kind ∷ a ∷ x ∷ []) (second-is (t .row) (t .kept) (eqb (t .row .most-b 1) 0) (most-b n kind (t .row) (t .found)))
+    ∙ ap (λ (x : ℕ). kind ∷ a ∷ x ∷ []) (second-is (t .row) (t .kept) (eqb (t .row .most-b 1) 0) (most-b-is n kind (t .row) (t .found)))
   where
     -- the second number is b, or 0 where the table has no other
     second-is : (row : Kind) → Keeps n row a b → (none? : Bool) → row .most-b n ≡ cond none? 0 n → cond none? 0 b ≡ b

@@ -26,7 +26,7 @@ pub no-kind : (kind : ℕ) → (1 ≤ kind → kind ≤ lastKind → ⊥) → ki
 no-kind zero h = refl
 no-kind (suc k) h = element-none kinds k (omega (arith, past))
   where
-    past : ¬ (k < 7)
+    past : ¬ (k < lastKind)
     past l = h (omega arith) (omega arith)
 
 -- ---- what is so of each row
@@ -66,8 +66,8 @@ pub tested : (test : ℕ → Kind → Bool) → columnFrom test 1 kinds ≡ colu
 tested test all kind row f = passes (test kind row) (column test (λ kind row. true) all kind row f)
 
 -- b has no other number than 0, or every operand's
-pub most-b : (n kind : ℕ) (row : Kind) → kindOf kind ≡ some row → row .most-b n ≡ cond (eqb (row .most-b 1) 0) 0 n
-most-b n = column (λ kind row. row .most-b n) (λ kind row. cond (eqb (row .most-b 1) 0) 0 n) refl
+pub most-b-is : (n kind : ℕ) (row : Kind) → kindOf kind ≡ some row → row .most-b n ≡ cond (eqb (row .most-b 1) 0) 0 n
+most-b-is n = column (λ kind row. row .most-b n) (λ kind row. cond (eqb (row .most-b 1) 0) 0 n) refl
 
 -- ---- what a kind and two operands that name an operation are in the table
 
