@@ -3,7 +3,7 @@
 -- word `any`, `end`, or `mark k`, k from 0 to 63 in shortest decimal". Operands are 0 for null and 1 to 26 for the letters a to z.
 use mathlib.Core.Bool.{Bool, true, false, _&&_, cond}
 use mathlib.Core.List.{List, [], _∷_, _++_}
-use Prim.Native.Nat.{ℕ, zero, suc, _+_, _-_, _*_, _/_, _%_}
+use Prim.Native.Nat.{ℕ, zero, suc, _+_, _-_, _*_, _/_, _%_, min}
 use lib.Dec.{eqb, leb, ltb}
 use lib.ListN.{length, getD, drop}
 use Rattle.kinds.specs.Kinds.{allowed}
@@ -67,12 +67,14 @@ isLine Other = false
 
 -- ---- which line bytes are, `Other` where they are none
 
--- the operand that bytes begin with and how many bytes it has; where there is none, 27, which the table refuses
+-- a letter's number; 27, which the table refuses, for any other byte
+unfoldable pub letterOf : ℕ → ℕ
+letterOf x = cond (leb 97 x && leb x 122) (x - 96) 27
+
+-- the operand that bytes begin with and how many bytes it has
 unfoldable pub operandOf : List ℕ → Operand
 operandOf bytes =
-    let x = getD bytes 0 0 in
-    cond (starts bytes null) (record { value = 0; length = 4 })
-    (cond (leb 97 x && leb x 122) (record { value = x - 96; length = 1 }) (record { value = 27; length = 0 }))
+    cond (starts bytes null) (record { value = 0; length = 4 }) (record { value = letterOf (getD bytes 0 0); length = min 1 (length bytes) })
 
 unfoldable pub checked : ℕ → ℕ → ℕ → Line
 checked kind a b = cond (allowed 26 kind a b) (Perform (record { kind = kind; a = a; b = b })) Other
@@ -118,17 +120,19 @@ opensLine loops Other = Other
 unfoldable pub testOf : Bool → List ℕ → Line
 testOf loops bytes = cond (isWord bytes any) (opens loops (record { kind = 0; a = 0; b = 0 })) (opensLine loops (operationOf bytes))
 
--- after `mark `
-abbrev pub isDigit : ℕ → Bool
-isDigit x = leb 48 x && leb x 57
+-- a digit's number; 64, which is no mark, for any other byte
+unfoldable pub digitOf : ℕ → ℕ
+digitOf x = cond (leb 48 x && leb x 57) (x - 48) 64
 
+unfoldable pub markFor : ℕ → Line
+markFor k = cond (leb k 63) (Mark k) Other
+
+-- after `mark `: one digit, or two of which the first is not 0
 unfoldable pub markOf : List ℕ → Line
 markOf bytes =
-    let x = getD bytes 0 0 in
-    let y = getD bytes 1 0 in
-    let k = (x - 48) * 10 + (y - 48) in
-    cond (eqb (length bytes) 1 && isDigit x) (Mark (x - 48))
-    (cond (eqb (length bytes) 2 && (leb 49 x && isDigit x) && isDigit y && leb k 63) (Mark k) Other)
+    let x = digitOf (getD bytes 0 0) in
+    let y = digitOf (getD bytes 1 0) in
+    cond (eqb (length bytes) 1) (markFor x) (cond (eqb (length bytes) 2 && leb 1 x) (markFor (x * 10 + y)) Other)
 
 unfoldable pub lineOf : List ℕ → Line
 lineOf bytes =

@@ -51,10 +51,10 @@ abbrev pub close : List ℕ
 close = 41 ∷ []
 
 -- the bytes begin with a word; they are the word
-abbrev pub starts : List ℕ → List ℕ → Bool
+unfoldable pub starts : List ℕ → List ℕ → Bool
 starts bytes [] = true
 starts [] (c ∷ word) = false
 starts (b ∷ bytes) (c ∷ word) = eqb b c && starts bytes word
 
-abbrev pub isWord : List ℕ → List ℕ → Bool
+unfoldable pub isWord : List ℕ → List ℕ → Bool
 isWord bytes word = eqb (length bytes) (length word) && starts bytes word
