@@ -35,8 +35,8 @@ closedBy (o ∷ os) e =
       opens = os;
       count = suc (suc (e .count));
       transitions =
-        e .transitions
-        ++ (arrowNumbers (e .passed) skipNumbers (cond (o .loops) (o .state) (suc (e .passed))) ++ arrowNumbers (o .state) (oppositeNumbers (o .test)) (suc (e .passed)));
+          e .transitions
+          ++ (arrowNumbers (e .passed) skipNumbers (cond (o .loops) (o .state) (suc (e .passed))) ++ arrowNumbers (o .state) (oppositeNumbers (o .test)) (suc (e .passed)));
       marks = e .marks;
     }
 

@@ -102,8 +102,8 @@ closed o os s =
       opens = os;
       count = suc (suc (s .count));
       transitions =
-        s .transitions
-        ++ (arrowNumbers (s .passed) skipNumbers (cond (o .loops) (o .state) new) ++ arrowNumbers (o .state) (oppositeNumbers (o .test)) new);
+          s .transitions
+          ++ (arrowNumbers (s .passed) skipNumbers (cond (o .loops) (o .state) new) ++ arrowNumbers (o .state) (oppositeNumbers (o .test)) new);
       marks = s .marks;
     }
 
