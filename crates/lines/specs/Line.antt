@@ -23,13 +23,13 @@ operandText (suc n) = (97 + n) ∷ []
 abbrev pub texts : List ℕ → List ℕ → List (List ℕ)
 texts a b =
     any
-    ∷ (a ++ equals ++ b)
-    ∷ (a ++ differs ++ b)
-    ∷ (a ++ gets ++ b)
-    ∷ (a ++ gets ++ b ++ next)
-    ∷ (a ++ nextGets ++ b)
-    ∷ (new ++ a ++ close)
-    ∷ (delete ++ a ++ close)
+    ∷ (a ++ (equals ++ b))
+    ∷ (a ++ (differs ++ b))
+    ∷ (a ++ (gets ++ b))
+    ∷ (a ++ (gets ++ (b ++ next)))
+    ∷ (a ++ (nextGets ++ b))
+    ∷ (new ++ (a ++ close))
+    ∷ (delete ++ (a ++ close))
     ∷ []
 
 abbrev pub operationText : Operation → List ℕ
