@@ -127,8 +127,12 @@ null-delete t = refl
 first-reads : (a : ℕ) (t : List ℕ) → a ≤ 26 → Apart t → operationOf (operandText a ++ t) ≡ betweenOf a t
 unfolding operationOf
 first-reads a t h apart =
-    rw (no-word a t 110 (drop 1 new) (null-new t) (apart .new-not), no-word a t 100 (drop 1 delete) (null-delete t) (apart .delete-not), operand-reads a t h apart,
-    drop-append-seam (operandText a) t) refl
+    rw (
+      no-word a t 110 (drop 1 new) (null-new t) (apart .new-not),
+      no-word a t 100 (drop 1 delete) (null-delete t) (apart .delete-not),
+      operand-reads a t h apart,
+      drop-append-seam (operandText a) t,
+    ) refl
 
 -- what stands between decides the kind
 module _ (a : ℕ) (t : List ℕ) where
