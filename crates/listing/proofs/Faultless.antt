@@ -41,8 +41,8 @@ faultless [] s e = go (eqb (s .depth) 0) (r-eq (s .depth) 0 .holds) e
     go false h w = absurd (let z : _≡_ {A = ℕ} 0 1 = cc in omega arith)
 faultless (l ∷ ls) s e =
     let (c, w) =
-      go (isMisplaced l s) refl (isTooDeep (see l s)) (r-lt 16 (see l s .depth) .tests) (ltb 8 (length (see l s .names)))
-      (r-lt 8 (length (see l s .names)) .tests) (ltb 64 (suc (see l s .passed))) (r-lt 64 (suc (see l s .passed)) .tests) (firstFault ls (see l s)) e
+    go (isMisplaced l s) refl (isTooDeep (see l s)) (r-lt 16 (see l s .depth) .tests) (ltb 8 (length (see l s .names)))
+    (r-lt 8 (length (see l s .names)) .tests) (ltb 64 (suc (see l s .passed))) (r-lt 64 (suc (see l s .passed)) .tests) (firstFault ls (see l s)) e
     in
     (c, faultless ls (see l s) w)
   where
@@ -133,9 +133,9 @@ are-ahead l s ls depth (b ∷ bs) e a =
     record {
       number = a .number;
       written =
-        ap (λ x. l ∷ x) (a .written)
-        ∙ ap (λ x. x ++ (linesIn b ++ afterEnds bs)) (sym e)
-        ∙ sym (append-assoc (linesFor s) (linesIn b) (afterEnds bs));
+          ap (λ x. l ∷ x) (a .written)
+          ∙ ap (λ x. x ++ (linesIn b ++ afterEnds bs)) (sym e)
+          ∙ sym (append-assoc (linesFor s) (linesIn b) (afterEnds bs));
     }
 
 are-enclosed : (l : Line) (f : Block → Statement) (ls : List Line) (depth : ℕ) (bs : List Block)
@@ -147,9 +147,9 @@ are-enclosed l f ls depth (b ∷ c ∷ bs) e a =
     record {
       number = let z = a .number in omega arith;
       written =
-        ap (λ x. l ∷ x) (a .written ∙ sym (append-assoc (linesIn b) (End ∷ []) rest))
-        ∙ ap (λ x. x ++ rest) (sym (e b))
-        ∙ sym (append-assoc (linesFor (f b)) (linesIn c) (afterEnds bs));
+          ap (λ x. l ∷ x) (a .written ∙ sym (append-assoc (linesIn b) (End ∷ []) rest))
+          ∙ ap (λ x. x ++ rest) (sym (e b))
+          ∙ sym (append-assoc (linesFor (f b)) (linesIn c) (afterEnds bs));
     }
 
 are-end : (ls : List Line) (depth : ℕ) (bs : List Block) → Are ls depth bs → Are (End ∷ ls) (suc depth) (done ∷ bs)
@@ -188,6 +188,7 @@ are-statements ls p s z f = one (blocks ls) (are-blocks ls p s f)
 -- and the other way, the lines of a block are that block
 mutual
   unfolding blocks
+
   blocks-statement : (s : Statement) (rest : List Line) → (b : Block) (bs : List Block) → blocks rest ≡ b ∷ bs → blocks (linesFor s ++ rest) ≡ (s ⨾ b) ∷ bs
   blocks-statement (perform o) rest b bs e = ap₂ (λ x y. ahead (perform x) y) (op-of-for o) e
   blocks-statement (mark k) rest b bs e = ap (ahead (mark k)) e
