@@ -17,7 +17,7 @@ use Rattle.listing.specs.Listing.{Statement, perform, mark, while, if, B
 use Rattle.listing.specs.Names.{meetLine}
 use Rattle.listing.specs.Reading.{Seen, depthAfter, see, isMisplaced, isTooDeep, isTooMuch, Fault, fault, firstFault, opOf, testOf, ahead, enclosed, withLine, blocks, firstBlock, meetLines}
 use Rattle.listing.specs.Text.{operationFor, operationForTest, linesFor, linesIn}
-use Rattle.listing.proofs.OnePass.{Proper}
+use Rattle.listing.proofs.Lines.{Proper, Inside}
 use Rattle.listing.proofs.Operations.{op-of-for, test-of-for, good-op, good-test}
 use Rattle.listing.proofs.Rests.{followed-by-done}
 
@@ -72,6 +72,10 @@ no-fault (l ∷ ls) s (c, more) =
     (cond (d i) (some (fault 18 (suc (s .passed)))) (cond (x i || y i) (some (fault 19 (suc (s .passed)))) (no-fault ls (see l s) more i)))
 
 -- ---- limits
+
+pub all-inside : (ls : List Line) (s : Seen) → Faultless ls s → All Inside ls
+all-inside [] s f = tt
+all-inside (l ∷ ls) s (c, f) = (λ e. fails _ (subst (λ x. isMisplaced x s ≡ false) e (c .placed)) tt, all-inside ls (see l s) f)
 
 pub few-names : (ls : List Line) (s : Seen) → Faultless ls s → length (s .names) ≤ 8 → length (meetLines (s .names) ls) ≤ 8
 few-names [] s f h = h

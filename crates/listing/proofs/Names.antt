@@ -23,7 +23,8 @@ use Rattle.listing.specs.Reading.{meetLines}
 use Rattle.listing.specs.Text.{operationFor, operationForTest, linesFor, linesIn}
 use Rattle.listing.specs.Translation.{test}
 use Rattle.listing.proofs.Fits.{Fits, FitsOne}
-use Rattle.listing.proofs.OnePass.{Proper, numberedLine, numberedAll}
+use Rattle.listing.proofs.Lines.{Proper}
+use Rattle.listing.proofs.OnePass.{numberedLine, numberedAll}
 use Rattle.listing.proofs.Operations.{op-of-for, test-of-for, good-op, good-test}
 
 map-append : {A B : Type 0} (f : A → B) (xs ys : List A) → map f (xs ++ ys) ≡ map f xs ++ map f ys

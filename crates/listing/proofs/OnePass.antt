@@ -13,7 +13,6 @@ use lib.Seq.{getD-set-same, getD-set-other}
 use Rattle.lists.specs.List.{absent}
 use Rattle.lists.proofs.List.{All}
 use Rattle.lists.proofs.Reflect.{Reflect, r-eq, r-lt, r-le, is-true, is-false, same-test, passes}
-use Rattle.lines.specs.Line.{isOperation, isTest}
 use Rattle.lines.specs.declared.Line.{Line}
 use Rattle.lines.specs.declared.Line.the-variants.{Perform, While, If, End, Mark, Other}
 use Rattle.lines.specs.declared.Operation.{Operation}
@@ -21,15 +20,7 @@ use Rattle.listing.specs.LineByLine.{Open, Position, Outcome, reached, r
 use Rattle.listing.specs.Names.{meetLine, numberIn}
 use Rattle.listing.specs.Reading.{Seen, marksAfter, depthAfter, see, isTooDeep, isTooMuch, Fault, fault, firstFault, meetLines}
 use Rattle.listing.proofs.Emitted.{Emitted, emit, emitAll}
-
--- a line of the grammar, or one outside it
-abbrev pub Proper : Line → Type 0
-Proper (Perform o) = T (isOperation o)
-Proper (While t) = T (isTest t)
-Proper (If t) = T (isTest t)
-Proper End = Unit {0}
-Proper (Mark k) = k ≤ 63
-Proper Other = Unit {0}
+use Rattle.listing.proofs.Lines.{Proper}
 
 -- a line with its operands numbered by the names that are met by then
 abbrev pub numberedLine : List ℕ → Line → Line
