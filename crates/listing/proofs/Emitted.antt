@@ -136,7 +136,7 @@ closed-adds loops t q os e w =
     refl
 
 -- the state in which a block ends is the last new one
-end-next : (b : Block) (p : ℕ) → suc (end b p (suc p)) ≡ next b (suc p)
+pub end-next : (b : Block) (p : ℕ) → suc (end b p (suc p)) ≡ next b (suc p)
 end-next done p = refl
 end-next (s ⨾ b) p = end-next b (exit s (suc p))
 

@@ -6,8 +6,8 @@ use Prim.Native.Nat.{ℕ, zero, suc, _≤_}
 use native.Mathlib.Omega.{arith}
 use lib.Dec.{eqb, leb, T}
 use lib.ListN.{getD}
-use Rattle.lists.proofs.Reflect.{Reflect, r-eq, r-le, r-and, is-false}
-use Rattle.heap.specs.Operation.{Op, equal, different, assign, load, store, new, delete, Kind, kinds, allowsA, allowsB, fromRow}
+use Rattle.lists.proofs.Reflect.{Reflect, r-eq, r-le, r-and, is-true, is-false}
+use Rattle.heap.specs.Operation.{Op, equal, different, assign, load, store, new, delete, Kind, kinds, allowsA, allowsB, fromRow, Named}
 use Rattle.kinds.specs.Kinds.{isSome, allowed}
 use Rattle.run.proofs.Operands.{Allowed}
 use Rattle.lines.specs.Line.{isOperation, isTest}
@@ -48,6 +48,11 @@ r-row k a b =
     is-some : (c : Bool) → isSome (cond c (some (k .op a b)) none) ≡ c
     is-some true = refl
     is-some false = refl
+
+in-table : (k : Kind) (v a b : ℕ) → (k .least-a ≤ a) × (a ≤ v) → (k .least-b ≤ b) × (b ≤ k .most-b v) → fromRow v (some k) a b ≡ some (k .op a b)
+in-table k v a b x y =
+    ap (λ c. cond c (some (k .op a b)) none)
+    (is-true (allowsA v k a && allowsB v k b) (r-and (r-and (r-le (k .least-a) a) (r-le a v)) (r-and (r-le (k .least-b) b) (r-le b (k .most-b v))) .tests (x, y)))
 
 -- lines to statements and back
 pub record GoodOp (o : Operation) : Type 0 where
@@ -126,3 +131,13 @@ unfolding allowed
 is-test (same a b) (f, g) = r-row (row 0) a b .tests ((omega arith, f), (omega arith, g))
 is-test (other a b) (f, g) = r-row (row 1) a b .tests ((omega arith, f), (omega arith, g))
 is-test any l = tt
+
+-- an operation with its operands in range is one that the table of kinds names
+pub named : (v : ℕ) (o : Op) → Allowed v o → Named v o
+named v (equal a b) (f, g) = (1, a, b, in-table (row 0) v a b (omega arith, f) (omega arith, g))
+named v (different a b) (f, g) = (2, a, b, in-table (row 1) v a b (omega arith, f) (omega arith, g))
+named v (assign a b) (e, f, g) = (3, a, b, in-table (row 2) v a b (omega arith, f) (omega arith, g))
+named v (load a b) (e, d, f, g) = (4, a, b, in-table (row 3) v a b (omega arith, f) (omega arith, g))
+named v (store a b) (e, f, g) = (5, a, b, in-table (row 4) v a b (omega arith, f) (omega arith, g))
+named v (new a) (e, f) = (6, a, 0, in-table (row 5) v a 0 (omega arith, f) (omega arith, omega arith))
+named v (delete a) (e, f) = (7, a, 0, in-table (row 6) v a 0 (omega arith, f) (omega arith, omega arith))
