@@ -15,7 +15,6 @@ use Rattle.lists.specs.Range.{range}
 use Rattle.lists.proofs.List.{All, Distinct}
 use Rattle.lists.proofs.Range.{tabled}
 use Rattle.lists.proofs.Reflect.{r-eq, is-true}
-use Rattle.number.specs.CallResult.{CallResult}
 use Rattle.number.specs.NumberList.{encode}
 use Rattle.number.specs.Range.{AtMost}
 use Rattle.number.proofs.Encoding.{encode-bytes}
@@ -30,7 +29,7 @@ use Rattle.listing.specs.Names.{numberIn, variablesFor, blockBy}
 use Rattle.listing.specs.Reading.{nothingSeen, Fault, firstFault, meetLines, Listing, listingOf, Reading, listed, refused, unless, read}
 use Rattle.listing.specs.Text.{linesOf, linesIn}
 use Rattle.listing.specs.Translation.{end, next, lines, MarkState, marks, transitionsOf, statesOf, marksOf, stateOf}
-use Rattle.listing.specs.Written.{fileOf, numbersAhead, orNone, markStates, inRoom, translateRead, translate, translateResult, bytesAfter, marksAfter, Translates}
+use Rattle.listing.specs.Written.{fileOf, numbersAhead, orNone, markStates, inRoom, translateRead, translate}
 use Rattle.listing.proofs.Emitted.{Emitted, emitAll, setAll, adding, end-next, emit-block}
 use Rattle.listing.proofs.Faultless.{Faultless, faultless}
 use Rattle.listing.proofs.Fits.{fineIn}
@@ -189,12 +188,3 @@ one-pass text room =
         ≡ translateBy room (told f (position (meetLines [] (linesOf text)) (emitAll (numberedAll [] (linesOf text)) begun)))
     go none w = room-same (linesOf text) (proper-lines text) (faultless (linesOf text) nothingSeen w) room
     go (some f) w = refl
-
--- so a program that does what the one pass does keeps the promise of the call
-pub translates : (text before marks-before after marks-then : List ℕ) (told : CallResult)
-    → told ≡ translateResult (translateBy (length before) (goOn (linesOf text) begin))
-    → after ≡ bytesAfter (translateBy (length before) (goOn (linesOf text) begin)) before
-    → marks-then ≡ marksAfter (translateBy (length before) (goOn (linesOf text) begin)) marks-before → Translates text before marks-before told after marks-then
-translates text before marks-before after marks-then told r b m =
-    let e = sym (one-pass text (length before)) in
-    record { result = r ∙ ap translateResult e; bytes = b ∙ ap (λ t. bytesAfter t before) e; marks = m ∙ ap (λ t. marksAfter t marks-before) e }

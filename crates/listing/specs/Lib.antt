@@ -5,3 +5,4 @@ pub mod Text
 pub mod Reading
 pub mod Written
 pub mod LineByLine
+pub mod Promise

@@ -4,7 +4,6 @@
 use mathlib.Core.Bool.{cond}
 use mathlib.Core.List.{List, [], _∷_, _++_, map}
 use mathlib.Core.Option.{Option, none, some}
-use mathlib.Core.Path.{_≡_}
 use Prim.Native.Nat.{ℕ}
 use lib.Dec.{ltb}
 use lib.ListN.{length, drop}
@@ -69,9 +68,3 @@ bytesAfter (untranslated number value) out = out
 abbrev pub marksAfter : Translated → List ℕ → List ℕ
 marksAfter (translated bytes marks) out = lent marks out
 marksAfter (untranslated number value) out = out
-
--- what is promised of the result and of every lent byte
-pub record Translates (text bytes-before marks-before : List ℕ) (told : CallResult) (bytes-then marks-then : List ℕ) : Type 0 where
-  pub result : told ≡ translateResult (translate text (length bytes-before))
-  pub bytes : bytes-then ≡ bytesAfter (translate text (length bytes-before)) bytes-before
-  pub marks : marks-then ≡ marksAfter (translate text (length bytes-before)) marks-before
