@@ -92,7 +92,7 @@ set-length [] l = refl
 set-length (m ∷ ms) l = set-length ms (set l (m .number) (m .state)) ∙ length-set l (m .number) (m .state)
 
 -- a mark that isn't there has no state
-no-state : (ms : List MarkState) (k : ℕ) → ¬ (k ∈ numbers ms) → stateOf ms k ≡ none
+pub no-state : (ms : List MarkState) (k : ℕ) → ¬ (k ∈ numbers ms) → stateOf ms k ≡ none
 no-state [] k n = refl
 no-state (m ∷ ms) k n = go (ℕ-discrete (m .number) k) (no-state ms k (λ i. n (List·Memᴰ·tail i)))
   where
