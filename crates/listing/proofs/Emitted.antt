@@ -100,7 +100,7 @@ adding-twice os ps p q ts us ms ns e =
 
 -- ---- one line
 
-op-numbers : (o : Op) (p q : ℕ) → arrowNumbers p (operationFor o) q ≡ transitionNumbers (arrow p o q)
+pub op-numbers : (o : Op) (p q : ℕ) → arrowNumbers p (operationFor o) q ≡ transitionNumbers (arrow p o q)
 op-numbers (equal a b) p q = refl
 op-numbers (different a b) p q = refl
 op-numbers (assign a b) p q = refl

@@ -65,20 +65,31 @@ module _ (l : Listing) (ok : Known l) where
         forbidden = each;
       }
 
-  -- every number ahead of B is one byte
-  pub ahead-bytes : encode (numbersAhead (fileOf l [])) ≡ numbersAhead (fileOf l [])
-  ahead-bytes =
+  pub ahead-small : (most : ℕ) → 94 ≤ most → AtMost most (numbersAhead (fileOf l []))
+  ahead-small most enough =
       let (v, w) = variables-range (l .names) (ok .names) in
       let few = few-transitions (l .statements) (ok .states) in
-      let s = ok .states in
-      encode-bytes (numbersAhead (fileOf l []))
-      (omega arith,
-      (omega arith,
-      (omega arith,
-      (omega arith,
-      (omega arith,
-      at-most-all 127 transitionNumbers (transitionsOf (l .statements))
-      (λ t i. transition-at-most 127 (omega arith) (variablesFor (l .names)) (statesOf (l .statements)) t w s (transitions-in-range t i)))))))
+      let s = ok .states in (
+        omega arith,
+        (
+          omega arith,
+          (
+            omega arith,
+            (
+              omega arith,
+              (
+                omega arith,
+                at-most-all most transitionNumbers (transitionsOf (l .statements))
+                    (λ t i. transition-at-most most (omega arith) (variablesFor (l .names)) (statesOf (l .statements)) t w s (transitions-in-range t i)),
+              ),
+            ),
+          ),
+        ),
+      )
+
+  -- every number ahead of B is one byte
+  pub ahead-bytes : encode (numbersAhead (fileOf l [])) ≡ numbersAhead (fileOf l [])
+  ahead-bytes = encode-bytes (numbersAhead (fileOf l [])) (ahead-small 127 (omega arith))
 
 -- ---- the marks' states
 
