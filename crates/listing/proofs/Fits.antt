@@ -4,21 +4,10 @@ use native.Mathlib.Omega.{arith}
 use Rattle.heap.specs.Operation.{Op, equal, different, assign, load, store, new, delete}
 use Rattle.run.specs.Run.{Transition}
 use Rattle.run.proofs.Operands.{Allowed}
+use Rattle.listing.specs.Limits.{FitsOne, Fits}
 use Rattle.listing.specs.Listing.{Test, same, other, any, Statement, perform, mark, while, if, Block, done, _⨾_}
 use Rattle.listing.specs.Translation.{skip, test, opposite, exit, steps, lines}
 use Rattle.listing.proofs.Members.{All, all-none, all-one, all-append, all-around}
-
--- the table allows every operation and every test where there are v variables
-abbrev mutual
-  pub FitsOne : Statement → ℕ → Type 0
-  FitsOne (perform o) v = Allowed v o
-  FitsOne (mark k) v = Unit {0}
-  FitsOne (while t b) v = Allowed v (test t) × Fits b v
-  FitsOne (if t b) v = Allowed v (test t) × Fits b v
-
-  pub Fits : Block → ℕ → Type 0
-  Fits done v = Unit {0}
-  Fits (s ⨾ b) v = FitsOne s v × Fits b v
 
 -- names are numbered as they are met: what fits so far still fits when there are more
 allowed-more : (o : Op) (v w : ℕ) → v ≤ w → Allowed v o → Allowed w o

@@ -16,13 +16,13 @@ use Rattle.run.proofs.Operands.{Allowed}
 use Rattle.lines.specs.declared.Line.{Line}
 use Rattle.lines.specs.declared.Line.the-variants.{Perform, While, If, End, Mark, Other}
 use Rattle.lines.specs.declared.Operation.{Operation}
+use Rattle.listing.specs.Limits.{Fits, FitsOne}
 use Rattle.listing.specs.LineByLine.{numbered}
 use Rattle.listing.specs.Listing.{Test, same, other, any, Statement, perform, mark, while, if, Block, done, _⨾_}
 use Rattle.listing.specs.Names.{meet, meetLine, indexOf, numberIn, letterIn, variablesFor, opBy, testBy, statementBy, blockBy}
 use Rattle.listing.specs.Reading.{meetLines}
 use Rattle.listing.specs.Text.{operationFor, operationForTest, linesFor, linesIn}
 use Rattle.listing.specs.Translation.{test}
-use Rattle.listing.proofs.Fits.{Fits, FitsOne}
 use Rattle.listing.proofs.Lines.{Proper}
 use Rattle.listing.proofs.OnePass.{numberedLine, numberedAll}
 use Rattle.listing.proofs.Operations.{op-of-for, test-of-for, good-op, good-test}

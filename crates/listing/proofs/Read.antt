@@ -9,13 +9,14 @@ use Rattle.lists.specs.List.{_∈_}
 use Rattle.lists.proofs.List.{All, Distinct, every}
 use Rattle.lines.specs.declared.Line.{Line}
 use Rattle.lines.specs.declared.Line.the-variants.{Perform, While, If, End, Mark, Other}
+use Rattle.listing.specs.Limits.{Fits}
 use Rattle.listing.specs.Listing.{Statement, perform, mark, while, if, Block, done, _⨾_, markOf, marksIn}
 use Rattle.listing.specs.Names.{numberIn, variablesFor, statementBy, blockBy}
 use Rattle.listing.specs.Reading.{nothingSeen, Fault, firstFault, blocks, firstBlock, meetLines, Listing, listingOf, Reading, listed, refused, unless, read}
 use Rattle.listing.specs.Text.{linesOf, linesFor, linesIn}
 use Rattle.listing.specs.Translation.{exit, next, statesOf}
 use Rattle.listing.proofs.Faultless.{Faultless, faultless, few-names, few-lines, marksOn, marks-once, are-statements}
-use Rattle.listing.proofs.Fits.{Fits, fits-more}
+use Rattle.listing.proofs.Fits.{fits-more}
 use Rattle.listing.proofs.Lines.{Proper, proper-lines}
 use Rattle.listing.proofs.Names.{all-left, all-right, lines-met, MetLine, block-fits, variables-enough}
 

@@ -3,6 +3,7 @@ pub mod Translation
 pub mod Names
 pub mod Text
 pub mod Reading
+pub mod Limits
 pub mod Written
 pub mod LineByLine
 pub mod Promise
