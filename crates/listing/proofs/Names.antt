@@ -4,13 +4,12 @@ use mathlib.Core.List.{List, [], _∷_, _++_, map, append-assoc, append-nil, Lis
 use mathlib.Core.Logic.{_≢_}
 use mathlib.Core.Path.{_≡_, refl, sym, ap, ap₂, subst, _∙_}
 use Prim.Native.Nat.{ℕ, zero, suc, _≤_, _<_}
-use native.Mathlib.Decide.{ℕ-discrete}
 use native.Mathlib.Omega.{arith}
 use lib.Dec.{eqb, T}
-use lib.ListN.{length, getD}
+use lib.ListN.{length}
 use Rattle.lists.specs.List.{_∈_, absent}
-use Rattle.lists.proofs.List.{All, Distinct, distinct-snoc, mem?}
-use Rattle.lists.proofs.Reflect.{r-eq, r-absent, is-true, is-false}
+use Rattle.lists.proofs.List.{All, mem?}
+use Rattle.lists.proofs.Reflect.{r-eq, r-absent, is-true}
 use Rattle.heap.specs.Operation.{Op, equal, different, assign, load, store, new, delete}
 use Rattle.run.proofs.Operands.{Allowed}
 use Rattle.lines.specs.declared.Line.{Line}
@@ -19,13 +18,13 @@ use Rattle.lines.specs.declared.Operation.{Operation}
 use Rattle.listing.specs.Limits.{Fits, FitsOne}
 use Rattle.listing.specs.LineByLine.{numbered}
 use Rattle.listing.specs.Listing.{Test, same, other, any, Statement, perform, mark, while, if, Block, done, _⨾_}
-use Rattle.listing.specs.Names.{meet, meetLine, indexOf, numberIn, letterIn, variablesFor, opBy, testBy, statementBy, blockBy}
+use Rattle.listing.specs.Names.{meet, meetLine, indexOf, numberIn, variablesFor, opBy, testBy, statementBy, blockBy}
 use Rattle.listing.specs.Reading.{meetLines}
 use Rattle.listing.specs.Text.{operationFor, operationForTest, linesFor, linesIn}
 use Rattle.listing.specs.Translation.{test}
 use Rattle.listing.proofs.Lines.{Proper}
 use Rattle.listing.proofs.OnePass.{numberedLine, numberedAll}
-use Rattle.listing.proofs.Operations.{op-of-for, test-of-for, good-op, good-test}
+use Rattle.listing.proofs.Operations.{op-of-for, good-op}
 
 map-append : {A B : Type 0} (f : A → B) (xs ys : List A) → map f (xs ++ ys) ≡ map f xs ++ map f ys
 map-append f [] ys = refl
@@ -38,6 +37,10 @@ all-left P (x ∷ xs) ys a = (a .0, all-left P xs ys (a .1))
 pub all-right : {A : Type 0} (P : A → Type 0) (xs ys : List A) → All P (xs ++ ys) → All P ys
 all-right P [] ys a = a
 all-right P (x ∷ xs) ys a = all-right P xs ys (a .1)
+
+pub all-both : {A : Type 0} (P : A → Type 0) (xs ys : List A) → All P xs → All P ys → All P (xs ++ ys)
+all-both P [] ys a b = b
+all-both P (x ∷ xs) ys a b = (a .0, all-both P xs ys (a .1) b)
 
 -- null, or a letter that is met
 abbrev pub Met : List ℕ → ℕ → Type 0

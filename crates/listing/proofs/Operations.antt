@@ -12,6 +12,7 @@ use Rattle.kinds.specs.Kinds.{isSome, allowed}
 use Rattle.run.proofs.Operands.{Allowed}
 use Rattle.lines.specs.Line.{isOperation, isTest}
 use Rattle.lines.specs.declared.Operation.{Operation}
+use Rattle.lines.proofs.TextReads.{operands}
 use Rattle.listing.specs.Listing.{Test, same, other, any}
 use Rattle.listing.specs.Reading.{opOf, testOf}
 use Rattle.listing.specs.Text.{operationFor, operationForTest}
@@ -141,3 +142,15 @@ named v (load a b) (e, d, f, g) = (4, a, b, in-table (row 3) v a b (omega arith,
 named v (store a b) (e, f, g) = (5, a, b, in-table (row 4) v a b (omega arith, f) (omega arith, g))
 named v (new a) (e, f) = (6, a, 0, in-table (row 5) v a 0 (omega arith, f) (omega arith, omega arith))
 named v (delete a) (e, f) = (7, a, 0, in-table (row 6) v a 0 (omega arith, f) (omega arith, omega arith))
+
+-- the operands of a line are null or letters
+pub small-op : (o : Operation) → T (isOperation o) → (o .a ≤ 26) × (o .b ≤ 26)
+small-op o t = let r = operands (o .kind) (o .a) (o .b) (is-true (isOperation o) t) in (r .a-most, r .b-letter)
+
+pub small-test : (o : Operation) → T (isTest o) → (o .a ≤ 26) × (o .b ≤ 26)
+small-test o t = go (eqb (o .kind) 0) (leb (o .kind) 2) t
+  where
+    go : (c d : Bool) → T (cond c (eqb (o .a) 0 && eqb (o .b) 0) (d && isOperation o)) → (o .a ≤ 26) × (o .b ≤ 26)
+    go true d w = let (x, y) = r-and (r-eq (o .a) 0) (r-eq (o .b) 0) .holds w in (omega arith, omega arith)
+    go false true w = small-op o w
+    go false false w = absurd w
