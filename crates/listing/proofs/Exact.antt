@@ -1,21 +1,20 @@
 -- The theorem over what is read: a run over statements reaches mark k with a heap exactly if the transitions reach the state told for mark k with
 -- that heap. Where 64 is told, neither does.
-use mathlib.Core.List.{List, [], map}
+use mathlib.Core.List.{List, []}
 use mathlib.Core.Logic.{_↔_}
 use mathlib.Core.Option.{Option, none, some}
 use mathlib.Core.Path.{_≡_, refl, sym, ap, subst, _∙_}
-use Prim.Native.Nat.{ℕ, _+_, _≤_, _<_}
+use Prim.Native.Nat.{ℕ, _<_}
 use native.Mathlib.Decide.{decLt}
 use native.Mathlib.Nat.{zero-add}
 use native.Mathlib.Omega.{arith}
 use lib.ListN.{length, getD, List·getD-eq-default}
 use Rattle.lists.specs.List.{_∈_}
-use Rattle.lists.specs.Range.{range}
 use Rattle.lists.proofs.List.{Distinct}
 use Rattle.lists.proofs.Range.{length-from, getD-from}
 use Rattle.heap.specs.Heap.{Heap, empty}
-use Rattle.run.specs.Run.{Config}
 use Rattle.run.proofs.Runs.{all-kept}
+use Rattle.listing.specs.Limits.{WithinLimits}
 use Rattle.listing.specs.Listing.{Reaches, marksIn}
 use Rattle.listing.specs.Names.{variablesFor}
 use Rattle.listing.specs.Reading.{Listing, listed, read}
@@ -25,10 +24,10 @@ use Rattle.listing.proofs.Backward.{backward}
 use Rattle.listing.proofs.Forward.{forward}
 use Rattle.listing.proofs.Numbers.{states-below}
 use Rattle.listing.proofs.OneCall.{some-states, no-state}
-use Rattle.listing.proofs.Read.{Known, known}
-use Rattle.listing.proofs.Theorem.{numbers, numbers-in, number-mem, state-mem, mem-state}
+use Rattle.listing.proofs.Read.{fits-variables, read-within}
+use Rattle.listing.proofs.Theorem.{numbers, numbers-in, state-mem, mem-state}
 
-module _ (l : Listing) (ok : Known l) where
+module _ (l : Listing) (ok : WithinLimits l) where
   -- a run is at states of the listing only
   no-state-past : (q : ℕ) (h : Heap) → ReachesState (fileOf l [] .job) q h → q < statesOf (l .statements)
   no-state-past q h (es, i) =
@@ -55,7 +54,7 @@ module _ (l : Listing) (ok : Known l) where
     where
       to : Reaches (l .statements) k h → ReachesState (fileOf l [] .job) (getD (markStates l) k 64) h
       to m =
-          let (q, i, r) = forward (variablesFor (l .names)) (l .statements) (ok .fits) k h m in
+          let (q, i, r) = forward (variablesFor (l .names)) (l .statements) (fits-variables l ok) k h m in
           let e = mem-state (marksOf (l .statements)) (subst Distinct (sym which) (ok .once)) k q i in
           subst (λ p. ReachesState (fileOf l [] .job) p h) (sym (told-state k ∙ ap orNone e)) r
 
@@ -67,4 +66,4 @@ module _ (l : Listing) (ok : Known l) where
 -- THE THEOREM over a text that is a listing
 pub exact : (text : List ℕ) (l : Listing) → read text ≡ listed l → (k : ℕ) (h : Heap)
     → Reaches (l .statements) k h ↔ ReachesState (fileOf l [] .job) (getD (markStates l) k 64) h
-exact text l e = exact-mark l (known text l e)
+exact text l e = exact-mark l (read-within text l e)

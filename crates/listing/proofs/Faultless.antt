@@ -5,18 +5,16 @@ use mathlib.Core.Option.{Option, none, some}
 use mathlib.Core.Path.{_≡_, refl, sym, ap, ap₂, subst, _∙_}
 use Prim.Native.Nat.{ℕ, zero, suc, _+_, _≤_, _<_}
 use native.Mathlib.Omega.{arith}
-use lib.Dec.{eqb, leb, ltb, T}
-use lib.ListN.{length, length-append}
+use lib.Dec.{eqb, ltb, T}
+use lib.ListN.{length}
 use Rattle.lists.specs.List.{_∈_}
 use Rattle.lists.proofs.List.{All, Distinct}
-use Rattle.lists.proofs.Reflect.{Reflect, r-eq, r-lt, r-absent, r-not, is-true, is-false, fails}
+use Rattle.lists.proofs.Reflect.{r-eq, r-lt, r-absent, r-not, is-false, fails}
 use Rattle.lines.specs.declared.Line.{Line}
 use Rattle.lines.specs.declared.Line.the-variants.{Perform, While, If, End, Mark, Other}
-use Rattle.lines.specs.declared.Operation.{Operation}
 use Rattle.listing.specs.Listing.{Statement, perform, mark, while, if, Block, done, _⨾_, _followed-by_}
-use Rattle.listing.specs.Names.{meetLine}
-use Rattle.listing.specs.Reading.{Seen, depthAfter, see, isMisplaced, isTooDeep, isTooMuch, Fault, fault, firstFault, opOf, testOf, ahead, enclosed, withLine, blocks, firstBlock, meetLines}
-use Rattle.listing.specs.Text.{operationFor, operationForTest, linesFor, linesIn}
+use Rattle.listing.specs.Reading.{Seen, depthAfter, see, isMisplaced, isTooDeep, Fault, fault, firstFault, opOf, testOf, ahead, enclosed, blocks, firstBlock, meetLines}
+use Rattle.listing.specs.Text.{operationForTest, linesFor, linesIn}
 use Rattle.listing.proofs.Lines.{Proper, Inside}
 use Rattle.listing.proofs.Operations.{op-of-for, test-of-for, good-op, good-test}
 use Rattle.listing.proofs.Rests.{followed-by-done}

@@ -124,7 +124,7 @@ met-line-more names more End e m = tt
 met-line-more names more (Mark k) e m = tt
 met-line-more names more Other e m = tt
 
-lines-extend : (names : List ℕ) (ls : List Line) → Extends names (meetLines names ls)
+pub lines-extend : (names : List ℕ) (ls : List Line) → Extends names (meetLines names ls)
 lines-extend names [] = extends-none names
 lines-extend names (l ∷ ls) =
     extends-twice names (meetLine names l) (meetLines (meetLine names l) ls) (line-extends names l) (lines-extend (meetLine names l) ls)

@@ -1,20 +1,18 @@
 -- The call, by the one pass: the bytes ahead of B and the marks' states are those of the listing that is read.
-use mathlib.Core.Bool.{Bool, true, false}
-use mathlib.Core.List.{List, [], _∷_, _++_, map, append-nil, List·Memᴰ·head, List·Memᴰ·tail}
-use mathlib.Core.Logic.{_≢_, ite}
+use mathlib.Core.List.{List, [], _∷_, map, append-nil, List·Memᴰ·head, List·Memᴰ·tail}
+use mathlib.Core.Logic.{ite}
 use mathlib.Core.Option.{Option, none, some}
 use mathlib.Core.Path.{_≡_, refl, sym, ap, ap₂, subst, _∙_}
-use Prim.Native.Nat.{ℕ, zero, suc, _+_, _≤_, _<_}
+use Prim.Native.Nat.{ℕ, _+_, _≤_, _<_}
 use native.Mathlib.Decide.{ℕ-discrete}
 use native.Mathlib.Omega.{arith}
 use lib.Dec.{eqb}
 use lib.ListN.{length, length-set, length-replicate, getD, getD-replicate, set, replicate}
 use lib.Seq.{getD-set-same, getD-set-other}
-use Rattle.lists.specs.List.{_∈_, absent, concatMap}
+use Rattle.lists.specs.List.{_∈_, concatMap}
 use Rattle.lists.specs.Range.{range}
 use Rattle.lists.proofs.List.{All, Distinct}
 use Rattle.lists.proofs.Range.{tabled}
-use Rattle.lists.proofs.Reflect.{r-eq, is-true}
 use Rattle.number.specs.NumberList.{encode}
 use Rattle.number.specs.Range.{AtMost}
 use Rattle.number.proofs.Encoding.{encode-bytes}
@@ -23,34 +21,35 @@ use Rattle.format.specs.JobBytes.{Between, TransitionInRange, LocatedInRange, J
 use Rattle.format.specs.JobNumbers.{transitionNumbers}
 use Rattle.format.proofs.Written.{at-most-all, transition-at-most}
 use Rattle.lines.specs.declared.Line.{Line}
-use Rattle.listing.specs.LineByLine.{Position, reached, refused, begin, goOn, bytesAhead, translateBy}
-use Rattle.listing.specs.Listing.{Block, marksIn}
-use Rattle.listing.specs.Names.{numberIn, variablesFor, blockBy}
-use Rattle.listing.specs.Reading.{nothingSeen, Fault, firstFault, meetLines, Listing, listingOf, Reading, listed, refused, unless, read}
+use Rattle.listing.specs.LineByLine.{reached, begin, goOn, translateBy}
+use Rattle.listing.specs.Limits.{WithinLimits}
+use Rattle.listing.specs.Listing.{marksIn}
+use Rattle.listing.specs.Names.{variablesFor}
+use Rattle.listing.specs.Reading.{nothingSeen, Fault, firstFault, meetLines, Listing, listingOf, listed, unless}
 use Rattle.listing.specs.Text.{linesOf, linesIn}
-use Rattle.listing.specs.Translation.{end, next, lines, MarkState, marks, transitionsOf, statesOf, marksOf, stateOf}
+use Rattle.listing.specs.Translation.{end, lines, MarkState, marks, transitionsOf, statesOf, marksOf, stateOf}
 use Rattle.listing.specs.Written.{fileOf, numbersAhead, orNone, markStates, inRoom, translateRead, translate}
 use Rattle.listing.proofs.Emitted.{Emitted, emitAll, setAll, adding, end-next, emit-block}
 use Rattle.listing.proofs.Faultless.{Faultless, faultless}
 use Rattle.listing.proofs.Fits.{fineIn}
 use Rattle.listing.proofs.Lines.{Proper, proper-lines}
 use Rattle.listing.proofs.Names.{numbered-all, number-block, variables-range}
-use Rattle.listing.proofs.Numbers.{states-below, marks-below, few-transitions}
+use Rattle.listing.proofs.Numbers.{states-below, few-transitions}
 use Rattle.listing.proofs.OnePass.{numberedLine, numberedAll, position, told, agrees}
 use Rattle.listing.proofs.Operations.{named}
-use Rattle.listing.proofs.Read.{next-lines, Known, lettered, lines-are, known-listing}
+use Rattle.listing.proofs.Read.{next-lines, fits-variables, lettered, lines-are, within-limits}
 use Rattle.listing.proofs.Theorem.{numbers, numbers-in}
 
 -- ---- the job of a listing is in range, apart from what it forbids
 
-module _ (l : Listing) (ok : Known l) where
+module _ (l : Listing) (ok : WithinLimits l) where
   pub some-states : 1 ≤ statesOf (l .statements)
   some-states = omega (arith, next-lines (l .statements) 1)
 
   pub transitions-in-range : (t : Transition) → t ∈ transitionsOf (l .statements) → TransitionInRange (variablesFor (l .names)) (statesOf (l .statements)) t
   transitions-in-range t m =
       let (a, b) = states-below (l .statements) t m in
-      record { from = a; op = named (variablesFor (l .names)) (t .op) (fineIn (l .statements) (variablesFor (l .names)) 0 1 (ok .fits) t m); to = b }
+      record { from = a; op = named (variablesFor (l .names)) (t .op) (fineIn (l .statements) (variablesFor (l .names)) 0 1 (fits-variables l ok) t m); to = b }
 
   pub in-range : (bads : List Located) → Between 1 64 (length bads)
       → ((m : Located) → m ∈ bads → LocatedInRange (variablesFor (l .names)) (statesOf (l .statements)) m) → JobInRange (fileOf l bads)
@@ -125,7 +124,7 @@ set-at (m ∷ ms) l i d b =
         ∙ getD-set-same l (m .number) (m .state) 64 (b (m .number) (List·Memᴰ·head refl))
     go (no n) = ap (or-else (stateOf ms i)) (getD-set-other l (m .number) i (m .state) 64 (λ e. n (sym e)))
 
-pub marks-set : (l : Listing) → Known l → setAll (marksOf (l .statements)) (replicate 64 64) ≡ markStates l
+pub marks-set : (l : Listing) → WithinLimits l → setAll (marksOf (l .statements)) (replicate 64 64) ≡ markStates l
 marks-set l ok =
     let ms = marksOf (l .statements) in
     let which : numbers ms ≡ marksIn (l .statements) = numbers-in (l .statements) 0 1 in
@@ -163,7 +162,7 @@ module _ (ls : List Line) (p : All Proper ls) (f : Faultless ls nothingSeen) whe
 
   room-same : (room : ℕ) → translateRead room (listed l) ≡ translateBy room (reached (position (l .names) (emitAll (numberedAll [] ls) begun)))
   room-same room =
-      let ok = known-listing ls p f in
+      let ok = within-limits ls p f in
       ap₂ (inRoom room)
       (ahead-bytes l ok
       ∙ (λ i.

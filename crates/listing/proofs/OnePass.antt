@@ -1,10 +1,9 @@
 -- The one pass refuses where the text has its first fault, and else ends with what its lines add.
 use mathlib.Core.Bool.{Bool, true, false, _&&_, _||_, cond, not}
-use mathlib.Core.List.{List, [], _∷_, _++_}
-use mathlib.Core.Logic.{_≢_}
+use mathlib.Core.List.{List, [], _∷_}
 use mathlib.Core.Option.{Option, none, some}
-use mathlib.Core.Path.{_≡_, refl, sym, ap, ap₂, _∙_}
-use Prim.Native.Nat.{ℕ, zero, suc, _≤_, _<_}
+use mathlib.Core.Path.{_≡_, refl, sym, ap, _∙_}
+use Prim.Native.Nat.{ℕ, suc, _≤_, _<_}
 use native.Mathlib.Decide.{ℕ-discrete}
 use native.Mathlib.Omega.{arith}
 use lib.Dec.{eqb, leb, ltb, T}
@@ -12,13 +11,12 @@ use lib.ListN.{length, length-set, getD, set}
 use lib.Seq.{getD-set-same, getD-set-other}
 use Rattle.lists.specs.List.{absent}
 use Rattle.lists.proofs.List.{All}
-use Rattle.lists.proofs.Reflect.{Reflect, r-eq, r-lt, r-le, is-true, is-false, same-test, passes}
+use Rattle.lists.proofs.Reflect.{r-eq, r-lt, r-le, is-true, is-false}
 use Rattle.lines.specs.declared.Line.{Line}
 use Rattle.lines.specs.declared.Line.the-variants.{Perform, While, If, End, Mark, Other}
-use Rattle.lines.specs.declared.Operation.{Operation}
-use Rattle.listing.specs.LineByLine.{Open, Position, Outcome, reached, refused, numbered, limited, advance, onward, lastly, goOn}
-use Rattle.listing.specs.Names.{meetLine, numberIn}
-use Rattle.listing.specs.Reading.{Seen, marksAfter, depthAfter, see, isTooDeep, isTooMuch, Fault, fault, firstFault, meetLines}
+use Rattle.listing.specs.LineByLine.{Open, Position, Outcome, reached, refused, numbered, limited, onward, lastly, goOn}
+use Rattle.listing.specs.Names.{meetLine}
+use Rattle.listing.specs.Reading.{Seen, marksAfter, isTooDeep, isTooMuch, Fault, fault, firstFault, meetLines}
 use Rattle.listing.proofs.Emitted.{Emitted, emit, emitAll}
 use Rattle.listing.proofs.Lines.{Proper}
 

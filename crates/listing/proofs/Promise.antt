@@ -4,44 +4,41 @@ use mathlib.Core.Bool.{Bool, true, false, cond}
 use mathlib.Core.List.{List, [], _∷_, _++_, append-assoc}
 use mathlib.Core.Option.{Option, none, some}
 use mathlib.Core.Path.{_≡_, refl, sym, ap, ap₂, subst, _∙_}
-use Prim.Native.Nat.{ℕ, zero, suc, _+_, _≤_, _<_, _%_, _/_}
+use Prim.Native.Nat.{ℕ, suc, _+_, _≤_, _%_, _/_}
 use native.Mathlib.Omega.{arith}
-use lib.Dec.{eqb, ltb, T}
-use lib.ListN.{length, getD, drop}
-use Rattle.lists.specs.List.{_∈_, concatMap}
-use Rattle.lists.proofs.Reflect.{r-lt}
-use Rattle.number.specs.CallResult.{CallResult, lent}
+use lib.Dec.{eqb, ltb}
+use lib.ListN.{length, getD}
+use Rattle.lists.specs.List.{concatMap}
+use Rattle.number.specs.CallResult.{CallResult}
 use Rattle.number.specs.Number.{bytesOf}
 use Rattle.number.specs.NumberList.{encode}
 use Rattle.number.specs.Range.{AtMost}
 use Rattle.number.proofs.Encoding.{encode-append}
-use Rattle.heap.specs.Heap.{Heap, IsCell}
-use Rattle.heap.specs.Operation.{Op}
-use Rattle.run.specs.Run.{Transition, Located, Job, Safe}
+use Rattle.run.specs.Run.{Transition, Located, Safe}
 use Rattle.format.specs.Conditions.{Acceptable}
 use Rattle.format.specs.JobBytes.{IsJob}
 use Rattle.format.specs.JobNumbers.{JobFile, transitionNumbers, locatedNumbers, jobNumbers}
 use Rattle.format.proofs.Exact.{exact}
 use Rattle.format.proofs.Guarantee.{safe-bytes, one-job, job-bytes}
 use Rattle.format.proofs.Written.{at-most-append, written-job}
-use Rattle.forbidden.specs.Written.{ReadySet, not-list, lost-block, bad-steps, Guarantees, written, rewrite}
+use Rattle.forbidden.specs.Written.{ReadySet, not-list, lost-block, bad-steps, Guarantees, written}
 use Rattle.forbidden.proofs.Written as forbidden
 use Rattle.lines.specs.declared.Line.{Line}
 use Rattle.listing.specs.LineByLine.{arrowNumbers, begin, goOn, translateBy}
-use Rattle.listing.specs.Listing.{perform, Block, _⨾_, Remains, Reaches}
+use Rattle.listing.specs.Limits.{WithinLimits}
 use Rattle.listing.specs.Names.{variablesFor}
 use Rattle.listing.specs.Promise.{forbiddenBytes, InRangeFor, NeverAtMark, OnStatements, Promises, PromisedIn, Translates}
 use Rattle.listing.specs.Reading.{Seen, nothingSeen, see, isMisplaced, isTooDeep, isTooMuch, Fault, fault, firstFault, Listing, listingOf, Reading, listed, refused, unless, read, opOf}
 use Rattle.listing.specs.Text.{linesOf, operationFor}
 use Rattle.listing.specs.Translation.{arrow, transitionsOf, statesOf}
-use Rattle.listing.specs.Written.{fileOf, numbersAhead, markStates, Translated, translated, untranslated, inRoom, translateRead, translate, translateResult, bytesAfter, marksAfter}
+use Rattle.listing.specs.Written.{fileOf, numbersAhead, markStates, Translated, translated, untranslated, translateRead, translate, translateResult, bytesAfter, marksAfter}
 use Rattle.listing.proofs.Emitted.{op-numbers}
 use Rattle.listing.proofs.Exact.{exact-mark}
 use Rattle.listing.proofs.Forward.{forward-step}
 use Rattle.listing.proofs.OneCall.{in-range, ahead-small, ahead-bytes, one-pass}
 use Rattle.listing.proofs.Operations.{op-of-for}
-use Rattle.listing.proofs.Read.{Known, known}
-use Rattle.listing.proofs.WrittenText.{written-text}
+use Rattle.listing.proofs.Read.{fits-variables, read-within}
+use Rattle.listing.proofs.RoundTrip.{written-text}
 
 -- ---- numbers whose bytes begin with given bytes below 128 begin with these numbers
 
@@ -98,7 +95,7 @@ same-transitions (t ∷ ts) (u ∷ us) xs ys n e =
 
 -- ---- jobs that begin with the bytes of a translation
 
-module _ (l : Listing) (ok : Known l) where
+module _ (l : Listing) (ok : WithinLimits l) where
   abbrev bytes : List ℕ
   bytes = encode (numbersAhead (fileOf l []))
 
@@ -141,7 +138,7 @@ module _ (l : Listing) (ok : Known l) where
   on-statements (lost-block x q) bads g = λ k h e m. let (es, r) = exact-mark l ok k h .0 m in g es (record { state = getD states k 64; heap = h }) r e
   on-statements bad-steps bads g =
       λ o c h m v i.
-      let (p, n, t, (es, r)) = forward-step (variablesFor (l .names)) (l .statements) (ok .fits) o c h m in
+      let (p, n, t, (es, r)) = forward-step (variablesFor (l .names)) (l .statements) (fits-variables l ok) o c h m in
       g es (record { state = p; heap = h }) r (arrow p o n) t refl v i
 
 -- what was read, and what is written of it
@@ -173,7 +170,7 @@ promise text room bytes marks e =
   where
     by : (l : Listing) → read text ≡ listed l → Promises text (encode (numbersAhead (fileOf l []))) (markStates l)
     by l w =
-        let ok = known text l w in
+        let ok = read-within text l w in
         record {
           listing = l;
           reads = w;

@@ -1,5 +1,5 @@
--- What is known of a text that is a listing: its operations keep to the table of kinds, its marks stand once, its limits are kept.
-use mathlib.Core.List.{List, [], _∷_, _++_, append-nil}
+-- A text that is a listing is one within the limits.
+use mathlib.Core.List.{List, [], _∷_, _++_, append-nil, List·Memᴰ·not-nil}
 use mathlib.Core.Option.{Option, none, some}
 use mathlib.Core.Path.{_≡_, refl, sym, ap, ap₂, subst, _∙_}
 use Prim.Native.Nat.{ℕ, suc, _+_, _≤_}
@@ -9,16 +9,18 @@ use Rattle.lists.specs.List.{_∈_}
 use Rattle.lists.proofs.List.{All, Distinct, every}
 use Rattle.lines.specs.declared.Line.{Line}
 use Rattle.lines.specs.declared.Line.the-variants.{Perform, While, If, End, Mark, Other}
-use Rattle.listing.specs.Limits.{Fits}
+use Rattle.listing.specs.Limits.{Fits, WithinLimits}
 use Rattle.listing.specs.Listing.{Statement, perform, mark, while, if, Block, done, _⨾_, markOf, marksIn}
-use Rattle.listing.specs.Names.{numberIn, variablesFor, statementBy, blockBy}
-use Rattle.listing.specs.Reading.{nothingSeen, Fault, firstFault, blocks, firstBlock, meetLines, Listing, listingOf, Reading, listed, refused, unless, read}
+use Rattle.listing.specs.Names.{numberIn, letterIn, variablesFor, statementBy, blockBy}
+use Rattle.listing.specs.Reading.{nothingSeen, Fault, firstFault, blocks, firstBlock, meetLines, Listing, listingOf, listed, unless, read}
 use Rattle.listing.specs.Text.{linesOf, linesFor, linesIn}
-use Rattle.listing.specs.Translation.{exit, next, statesOf}
+use Rattle.listing.specs.Translation.{exit, next}
+use Rattle.listing.proofs.Depth.{Shallow, faultless-shallow, depth-lines, depth-by}
 use Rattle.listing.proofs.Faultless.{Faultless, faultless, few-names, few-lines, marksOn, marks-once, are-statements}
 use Rattle.listing.proofs.Fits.{fits-more}
+use Rattle.listing.proofs.Letters.{block-back, lines-letters}
 use Rattle.listing.proofs.Lines.{Proper, proper-lines}
-use Rattle.listing.proofs.Names.{all-left, all-right, lines-met, MetLine, block-fits, variables-enough}
+use Rattle.listing.proofs.Names.{lines-met, MetLine, block-fits, variables-enough}
 
 -- ---- the marks and the number of lines of a block
 
@@ -80,14 +82,6 @@ mutual
 
 -- ---- what is read
 
--- what is known of the listing
-pub record Known (l : Listing) : Type 0 where
-  pub fits : Fits (l .statements) (variablesFor (l .names))
-  pub names : length (l .names) ≤ 8
-  pub states : statesOf (l .statements) ≤ 64
-  pub once : Distinct (marksIn (l .statements))
-  pub marks : (k : ℕ) → k ∈ marksIn (l .statements) → k ≤ 63
-
 small-marks : (ls : List Line) → All Proper ls → (k : ℕ) → k ∈ marksOn ls → k ≤ 63
 small-marks ls p = every (λ k. k ≤ 63) (marksOn ls) (go ls p)
   where
@@ -108,20 +102,35 @@ module _ (ls : List Line) (p : All Proper ls) (f : Faultless ls nothingSeen) whe
   pub lines-are : ls ≡ linesIn lettered
   lines-are = are-statements ls p nothingSeen refl f
 
-  pub known-listing : Known (listingOf ls)
-  known-listing =
-      let names = meetLines [] ls in
+  abbrev pub names : List ℕ
+  names = meetLines [] ls
+
+  met : All (MetLine names) (linesIn lettered)
+  met = subst (All (MetLine names)) lines-are (lines-met [] ls)
+
+  -- the letters again
+  pub spelled : blockBy (letterIn names) (listingOf ls .statements) ≡ lettered
+  spelled = block-back names lettered met
+
+  pub within-limits : WithinLimits (listingOf ls)
+  within-limits =
       let number = numberIn names in
       let marks : marksIn (blockBy number lettered) ≡ marksOn ls = marks-by number lettered ∙ sym (marks-block lettered) ∙ ap marksOn (sym lines-are) in
-      let fitting = block-fits names lettered (subst (All Proper) lines-are p) (subst (All (MetLine names)) lines-are (lines-met [] ls)) in
       let same-lines : length (linesIn lettered) ≡ length ls = ap length (sym lines-are) in
+      let shallow = depth-lines lettered (subst (λ l. Shallow l 0) lines-are (faultless-shallow ls nothingSeen f)) in
       record {
-        fits = fits-more (blockBy number lettered) (length names) (variablesFor names) (variables-enough names) fitting;
+        letters = lines-letters [] ls p (λ x m. absurd (List·Memᴰ·not-nil m));
+        first-met = ap (meetLines []) (lines-are ∙ ap linesIn (sym spelled));
         names = few-names ls nothingSeen f (omega arith);
+        operands = block-fits names lettered (subst (All Proper) lines-are p) met;
         states = omega (arith, next-by number lettered 1, next-lines lettered 1, same-lines, few-lines ls nothingSeen f (omega arith));
+        depth = subst (λ (d : ℕ). d ≤ 16) (sym (depth-by number lettered)) shallow;
         once = subst Distinct (sym marks) (marks-once ls nothingSeen f .distinct);
         marks = λ k i. small-marks ls p k (subst (λ l. k ∈ l) marks i);
       }
+
+pub fits-variables : (l : Listing) → WithinLimits l → Fits (l .statements) (variablesFor (l .names))
+fits-variables l ok = fits-more (l .statements) (length (l .names)) (variablesFor (l .names)) (variables-enough (l .names)) (ok .operands)
 
 -- a text that is a listing has no fault
 pub record Listed (text : List ℕ) (l : Listing) : Type 0 where
@@ -135,7 +144,7 @@ listed-text text l e = go (firstFault (linesOf text) nothingSeen) refl e
     go none w v = record { no-fault = faultless (linesOf text) nothingSeen w; listing-is = let q : l ≡ listingOf (linesOf text) = cc in q }
     go (some f) w v = absurd (let q : _≡_ {A = ℕ} 0 1 = cc in omega arith)
 
-pub known : (text : List ℕ) (l : Listing) → read text ≡ listed l → Known l
-known text l e =
+pub read-within : (text : List ℕ) (l : Listing) → read text ≡ listed l → WithinLimits l
+read-within text l e =
     let h = listed-text text l e in
-    subst Known (sym (h .listing-is)) (known-listing (linesOf text) (proper-lines text) (h .no-fault))
+    subst WithinLimits (sym (h .listing-is)) (within-limits (linesOf text) (proper-lines text) (h .no-fault))

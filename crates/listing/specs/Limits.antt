@@ -1,6 +1,6 @@
 -- Listings within the limits: "at most 16 `while` and `if` open at once", 8 names, 64 states; names as first met, each mark once. Their texts are
 -- those that are read as listings.
-use mathlib.Core.List.{List, []}
+use mathlib.Core.List.{[]}
 use mathlib.Core.Path.{_≡_}
 use Prim.Native.Nat.{ℕ, suc, _≤_, max}
 use lib.ListN.{length}

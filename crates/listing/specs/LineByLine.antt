@@ -1,8 +1,8 @@
 -- Reading and translating in one pass, line by line, as document 01 tells it; the form that a program meets. That it is the translation of what
 -- is read is `one-pass` in proofs/LineByLine.
-use mathlib.Core.Bool.{Bool, true, false, _||_, cond, not}
+use mathlib.Core.Bool.{Bool, true, false, _||_, cond}
 use mathlib.Core.List.{List, [], _∷_, _++_}
-use Prim.Native.Nat.{ℕ, zero, suc}
+use Prim.Native.Nat.{ℕ, suc}
 use lib.Dec.{eqb, leb, ltb}
 use lib.ListN.{length, getD, set, replicate}
 use Rattle.lines.specs.declared.Line.{Line}

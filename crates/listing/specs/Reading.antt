@@ -2,10 +2,10 @@
 -- missing (at the line after the last) gets 17, deeper nesting 18, more than 8 names or 64 states 19, at the first line, from 1, where any of
 -- these falls, lowest number first".
 use mathlib.Core.Bool.{Bool, true, false, _||_, cond, not}
-use mathlib.Core.List.{List, [], _∷_, _++_}
+use mathlib.Core.List.{List, [], _∷_}
 use mathlib.Core.Option.{Option, none, some}
 use Prim.Native.Nat.{ℕ, zero, suc}
-use lib.Dec.{eqb, leb, ltb}
+use lib.Dec.{eqb, ltb}
 use lib.ListN.{length}
 use Rattle.lists.specs.List.{absent}
 use Rattle.heap.specs.Operation.{Op, kindOf}

@@ -1,7 +1,7 @@
 -- The text of a listing, and its lines. Document 01, "Listings": "Each line ends with byte 10".
 use mathlib.Core.Bool.{cond}
 use mathlib.Core.List.{List, [], _∷_, _++_}
-use Prim.Native.Nat.{ℕ, zero, suc}
+use Prim.Native.Nat.{ℕ}
 use lib.Dec.{eqb}
 use Rattle.lists.specs.List.{concatMap}
 use Rattle.heap.specs.Operation.{Op, equal, different, assign, load, store, new, delete}
