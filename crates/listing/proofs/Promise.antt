@@ -1,97 +1,48 @@
 -- What a translation promises. Jobs that begin with its bytes have the listing's transitions, so that what they forbid at a mark's state, if they
 -- are accepted, no run over statements meets at the mark.
 use mathlib.Core.Bool.{Bool, true, false, cond}
-use mathlib.Core.List.{List, [], _∷_, _++_, append-assoc}
+use mathlib.Core.List.{List, [], _∷_, _++_}
 use mathlib.Core.Option.{Option, none, some}
-use mathlib.Core.Path.{_≡_, refl, sym, ap, ap₂, subst, _∙_}
-use Prim.Native.Nat.{ℕ, suc, _+_, _≤_, _%_, _/_}
+use mathlib.Core.Path.{_≡_, refl, sym, ap, subst, _∙_}
+use Prim.Native.Nat.{ℕ, suc, _+_, _≤_}
 use native.Mathlib.Omega.{arith}
 use lib.Dec.{eqb, ltb}
 use lib.ListN.{length, getD}
-use Rattle.lists.specs.List.{concatMap}
+use Rattle.lists.specs.List.{_∈_, concatMap}
+use Rattle.lists.proofs.Reflect.{passes}
 use Rattle.number.specs.CallResult.{CallResult}
-use Rattle.number.specs.Number.{bytesOf}
-use Rattle.number.specs.NumberList.{encode}
-use Rattle.number.specs.Range.{AtMost}
+use Rattle.number.specs.NumberList.{encode, refused, before}
 use Rattle.number.proofs.Encoding.{encode-append}
+use Rattle.number.proofs.RoundTrip.{reads}
+use Rattle.number.proofs.Writing.{one}
 use Rattle.run.specs.Run.{Transition, Located, Safe}
+use Rattle.run.proofs.Operands.{Allowed}
 use Rattle.format.specs.Conditions.{Acceptable}
 use Rattle.format.specs.JobBytes.{IsJob}
 use Rattle.format.specs.JobNumbers.{JobFile, transitionNumbers, locatedNumbers, jobNumbers}
 use Rattle.format.proofs.Exact.{exact}
-use Rattle.format.proofs.Guarantee.{safe-bytes, one-job, job-bytes}
-use Rattle.format.proofs.Written.{at-most-append, written-job}
-use Rattle.forbidden.specs.Written.{ReadySet, not-list, lost-block, bad-steps, Guarantees, written}
-use Rattle.forbidden.proofs.Written as forbidden
+use Rattle.format.proofs.Guarantee.{safe-bytes, one-job}
+use Rattle.format.proofs.Written.{written-job}
+use Rattle.forbidden.specs.Written.{ReadySet, not-list, lost-block, bad-steps, Guarantees, withSet, written, refused, rewrite}
+use Rattle.forbidden.proofs.Runs.{list-at, none-lost-at, steps-at-cells, also-forbids}
+use Rattle.forbidden.proofs.Written.{r-inside, ready}
 use Rattle.lines.specs.declared.Line.{Line}
-use Rattle.listing.specs.LineByLine.{arrowNumbers, begin, goOn, translateBy}
+use Rattle.listing.specs.LineByLine.{begin, goOn, translateBy}
 use Rattle.listing.specs.Limits.{WithinLimits}
 use Rattle.listing.specs.Names.{variablesFor}
-use Rattle.listing.specs.Promise.{forbiddenBytes, InRangeFor, NeverAtMark, OnStatements, Promises, PromisedIn, Translates}
-use Rattle.listing.specs.Reading.{Seen, nothingSeen, see, isMisplaced, isTooDeep, isTooMuch, Fault, fault, firstFault, Listing, listingOf, Reading, listed, refused, unless, read, opOf}
-use Rattle.listing.specs.Text.{linesOf, operationFor}
+use Rattle.listing.specs.Promise.{forbiddenBytes, InRangeFor, setFor, NeverAtMark, OnStatements, ForbidsSet, Promises, PromisedIn, Translates}
+use Rattle.listing.specs.Reading.{Seen, nothingSeen, see, isMisplaced, isTooDeep, isTooMuch, Fault, fault, firstFault, Listing, listingOf, Reading, listed, refused, unless, read}
+use Rattle.listing.specs.Text.{linesOf}
 use Rattle.listing.specs.Translation.{arrow, transitionsOf, statesOf}
 use Rattle.listing.specs.Written.{fileOf, numbersAhead, markStates, Translated, translated, untranslated, translateRead, translate, translateResult, bytesAfter, marksAfter}
-use Rattle.listing.proofs.Emitted.{op-numbers}
 use Rattle.listing.proofs.Exact.{exact-mark}
+use Rattle.listing.proofs.Fits.{fineIn}
 use Rattle.listing.proofs.Forward.{forward-step}
 use Rattle.listing.proofs.OneCall.{in-range, ahead-small, ahead-bytes, one-pass}
-use Rattle.listing.proofs.Operations.{op-of-for}
 use Rattle.listing.proofs.Read.{fits-variables, read-within}
 use Rattle.listing.proofs.RoundTrip.{written-text}
-
--- ---- numbers whose bytes begin with given bytes below 128 begin with these numbers
-
-one-byte : (m n : ℕ) (xs ys : List ℕ) → n ≤ 127 → bytesOf m ++ xs ≡ n ∷ ys → (m ≡ n) × (xs ≡ ys)
-unfolding bytesOf
-one-byte m n xs ys h e = go (ltb m 128) (ltb m 16384) e
-  where
-    go : (a b : Bool)
-        → cond a (m ∷ []) (cond b ((m % 128 + 128) ∷ (m / 128) ∷ []) ((m % 128 + 128) ∷ (m / 128 % 128 + 128) ∷ (m / 16384) ∷ [])) ++ xs ≡ n ∷ ys
-        → (m ≡ n) × (xs ≡ ys)
-    go true b w = (let q : m ≡ n = cc in q, let q : xs ≡ ys = cc in q)
-    go false true w = absurd (let q : m % 128 + 128 ≡ n = cc in omega arith)
-    go false false w = absurd (let q : m % 128 + 128 ≡ n = cc in omega arith)
-
-begins : (ns ms rest : List ℕ) → AtMost 127 ns → encode ms ≡ ns ++ rest → (more : List ℕ) × (ms ≡ ns ++ more)
-unfolding encode
-begins [] ms rest h e = (ms, refl)
-begins (n ∷ ns) [] rest h e = absurd (let q : _≡_ {A = ℕ} 0 1 = cc in omega arith)
-begins (n ∷ ns) (m ∷ ms) rest h e =
-    let (a, b) = one-byte m n (encode ms) (ns ++ rest) (h .0) e in
-    let (more, c) = begins ns ms rest (h .1) b in
-    (more, ap₂ (λ x y. x ∷ y) a c)
-
--- ---- transitions are told by their numbers
-
-one-transition : (t u : Transition) (xs ys : List ℕ) → transitionNumbers t ++ xs ≡ transitionNumbers u ++ ys → (t ≡ u) × (xs ≡ ys)
-one-transition t u xs ys e =
-    let f = operationFor (t .op) in
-    let g = operationFor (u .op) in
-    let w : arrowNumbers (t .from) f (t .to) ++ xs ≡ arrowNumbers (u .from) g (u .to) ++ ys =
-    ap (λ l. l ++ xs) (op-numbers (t .op) (t .from) (t .to)) ∙ e ∙ ap (λ l. l ++ ys) (sym (op-numbers (u .op) (u .from) (u .to))) in
-    let p : t .from ≡ u .from = cc in
-    let k : f .kind ≡ g .kind = cc in
-    let a : f .a ≡ g .a = cc in
-    let b : f .b ≡ g .b = cc in
-    let q : t .to ≡ u .to = cc in
-    let o : t .op ≡ u .op = sym (op-of-for (t .op)) ∙ (λ i. opOf (record { kind = k i; a = a i; b = b i })) ∙ op-of-for (u .op) in
-    let r : xs ≡ ys = cc in
-    (λ i. record { from = p i; op = o i; to = q i }, r)
-
-same-transitions : (ts us : List Transition) (xs ys : List ℕ) → length ts ≡ length us
-    → concatMap transitionNumbers ts ++ xs ≡ concatMap transitionNumbers us ++ ys → ts ≡ us
-same-transitions [] [] xs ys n e = refl
-same-transitions [] (u ∷ us) xs ys n e = absurd (omega arith)
-same-transitions (t ∷ ts) [] xs ys n e = absurd (omega arith)
-same-transitions (t ∷ ts) (u ∷ us) xs ys n e =
-    let (a, b) =
-      one-transition t u (concatMap transitionNumbers ts ++ xs) (concatMap transitionNumbers us ++ ys)
-      (sym (append-assoc (transitionNumbers t) (concatMap transitionNumbers ts) xs)
-      ∙ e
-      ∙ append-assoc (transitionNumbers u) (concatMap transitionNumbers us) ys)
-    in
-    ap₂ (λ x y. x ∷ y) a (same-transitions ts us xs ys (omega arith) b)
+use Rattle.listing.proofs.Beginning.{begins-at, same-transitions}
+use Rattle.listing.proofs.Asked.{asked-inside}
 
 -- ---- jobs that begin with the bytes of a translation
 
@@ -107,12 +58,10 @@ module _ (l : Listing) (ok : WithinLimits l) where
       subst (λ (s : List ℕ). IsJob s (fileOf l bads)) (encode-append (numbersAhead (fileOf l [])) (length bads ∷ concatMap locatedNumbers bads))
       (written-job (fileOf l bads) (in-range l ok bads n each))
 
-  no-other-job : (rest : List ℕ) → AtMost 255 rest → (f : JobFile) → IsJob (bytes ++ rest) f → f ≡ fileOf l (f .job .forbidden)
-  no-other-job rest small f i =
+  no-other-job : (rest : List ℕ) (f : JobFile) → IsJob (bytes ++ rest) f → f ≡ fileOf l (f .job .forbidden)
+  no-other-job rest f i =
       let ns = numbersAhead (fileOf l []) in
-      let limit : AtMost 255 (bytes ++ rest) = subst (λ s. AtMost 255 (s ++ rest)) (sym (ahead-bytes l ok)) (at-most-append 255 ns rest (ahead-small l ok 255 (omega arith)) small) in
-      let e : encode (jobNumbers f) ≡ ns ++ rest = sym (job-bytes (bytes ++ rest) f limit i) ∙ ap (λ s. s ++ rest) (ahead-bytes l ok) in
-      let (more, w) = begins ns (jobNumbers f) rest (ahead-small l ok 127 (omega arith)) e in
+      let (more, w) = begins-at ns (length (bytes ++ rest)) 0 (bytes ++ rest) rest (jobNumbers f) (ahead-small l ok 127 (omega arith)) (ap (λ s. s ++ rest) (ahead-bytes l ok)) (i .reads) in
       let v : f .job .variables ≡ variablesFor (l .names) = cc in
       let s : f .states ≡ statesOf (l .statements) = cc in
       let z : f .job .start ≡ 0 = cc in
@@ -140,6 +89,29 @@ module _ (l : Listing) (ok : WithinLimits l) where
       λ o c h m v i.
       let (p, n, t, (es, r)) = forward-step (variablesFor (l .names)) (l .statements) (fits-variables l ok) o c h m in
       g es (record { state = p; heap = h }) r (arrow p o n) t refl v i
+
+  allowed : (t : Transition) → t ∈ transitionsOf (l .statements) → Allowed (variablesFor (l .names)) (t .op)
+  allowed = fineIn (l .statements) (variablesFor (l .names)) 0 1 (fits-variables l ok)
+
+  -- a safe job that forbids a ready set guarantees what the set is for
+  guaranteed : (set : ReadySet) (bads : List Located) → Safe (fileOf l bads .job) → ForbidsSet l bads set → Guarantees set (fileOf l bads .job)
+  guaranteed (not-list x q) bads safe f =
+      let ((a, b), c) = r-inside (not-list x q) (variablesFor (l .names)) (statesOf (l .statements)) .holds (passes _ (f .inside)) in
+      list-at (fileOf l bads .job) allowed safe x q (omega arith) (omega arith) (f .all)
+  guaranteed (lost-block x q) bads safe f =
+      let ((a, b), c) = r-inside (lost-block x q) (variablesFor (l .names)) (statesOf (l .statements)) .holds (passes _ (f .inside)) in
+      none-lost-at (fileOf l bads .job) allowed safe x q (omega arith) (omega arith) (f .all)
+  guaranteed bad-steps bads safe f = steps-at-cells (fileOf l bads .job) allowed safe (f .all)
+
+  -- a ready set written into the listing's job
+  with-ready : (job : List ℕ) (bads : List Located) → IsJob job (fileOf l bads) → (set : ReadySet) (room : ℕ) (with-set : List ℕ)
+      → rewrite job set room ≡ written with-set → IsJob with-set (fileOf l (bads ++ setFor l set)) × ForbidsSet l (bads ++ setFor l set) set
+  with-ready job bads i set room with-set e =
+      let r = ready job set room with-set e in
+      let same = one-job job (r .file) (fileOf l bads) (r .job-is) i in (
+        subst (λ (g : JobFile). IsJob with-set (withSet set g)) same (r .written-is),
+        record { inside = asked-inside job (fileOf l bads) set room with-set i e; all = also-forbids (setFor l set) (fileOf l bads .job) },
+      )
 
 -- what was read, and what is written of it
 record From (text bytes marks : List ℕ) : Type 0 where
@@ -178,14 +150,25 @@ promise text room bytes marks e =
           exact = exact-mark l ok;
           job-is = listing-job l ok;
           no-other = no-other-job l ok;
-          never = λ rest small certificate a f i.
-          never-at-mark l ok (f .job .forbidden)
-          (subst (λ (g : JobFile). Safe (g .job)) (no-other-job l ok rest small f i) (safe-accepted l ok _ certificate f i a));
-          ready = λ rest small set room with-set v certificate a.
-          let r = forbidden.ready _ set room with-set v in
-          let same = no-other-job l ok rest small (r .file) (r .job-is) in
-          on-statements l ok set (r .file .job .forbidden) (subst (λ (g : JobFile). Guarantees set (g .job)) same (r .guarantees certificate a));
+          rewritten = with-ready l ok;
+          never = λ job bads i certificate a. never-at-mark l ok bads (safe-accepted l ok job certificate (fileOf l bads) i a);
+          ready = λ job bads i certificate a set f.
+          on-statements l ok set bads (guaranteed l ok set bads (safe-accepted l ok job certificate (fileOf l bads) i a) f);
         }
+
+-- THE COROLLARY to cite: where a ready set was asked for at the state of a mark and the job written so is accepted with some certificate, runs over
+-- statements keep what the set is for, at every heap with which they reach the mark
+pub ready-at-marks : (text : List ℕ) (room : ℕ) (bytes marks : List ℕ) → translate text room ≡ translated bytes marks
+    → (rest : List ℕ) (set : ReadySet) (room-then : ℕ) (with-set : List ℕ) → rewrite (bytes ++ rest) set room-then ≡ written with-set
+    → (certificate : List ℕ) → Acceptable with-set certificate → (l : Listing) → read text ≡ listed l → OnStatements set l marks
+ready-at-marks text room bytes marks e rest set room-then with-set w certificate a l r =
+    let p = promise text room bytes marks e in
+    let g = ready (bytes ++ rest) set room-then with-set w in
+    let bads = g .file .job .forbidden in
+    let i : IsJob (bytes ++ rest) (fileOf (p .listing) bads) = subst (IsJob (bytes ++ rest)) (p .no-other rest (g .file) (g .job-is)) (g .job-is) in
+    let (j, f) = p .rewritten (bytes ++ rest) bads i set room-then with-set w in
+    let same : p .listing ≡ l = let q : listed (p .listing) ≡ listed l = sym (p .reads) ∙ r in cc in
+    subst (λ k. OnStatements set k marks) same (p .ready with-set (bads ++ setFor (p .listing) set) j certificate a set f)
 
 -- a refusal has a number other than 0
 fault-number : (ls : List Line) (s : Seen) (f : Fault) → firstFault ls s ≡ some f → 17 ≤ f .number
