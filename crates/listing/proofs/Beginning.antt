@@ -77,9 +77,9 @@ same-transitions [] (u ∷ us) xs ys n e = absurd (omega arith)
 same-transitions (t ∷ ts) [] xs ys n e = absurd (omega arith)
 same-transitions (t ∷ ts) (u ∷ us) xs ys n e =
     let (a, b) =
-      one-transition t u (concatMap transitionNumbers ts ++ xs) (concatMap transitionNumbers us ++ ys)
-      (sym (append-assoc (transitionNumbers t) (concatMap transitionNumbers ts) xs)
-      ∙ e
-      ∙ append-assoc (transitionNumbers u) (concatMap transitionNumbers us) ys)
+    one-transition t u (concatMap transitionNumbers ts ++ xs) (concatMap transitionNumbers us ++ ys)
+    (sym (append-assoc (transitionNumbers t) (concatMap transitionNumbers ts) xs)
+    ∙ e
+    ∙ append-assoc (transitionNumbers u) (concatMap transitionNumbers us) ys)
     in
     ap₂ (λ x y. x ∷ y) a (same-transitions ts us xs ys (omega arith) b)

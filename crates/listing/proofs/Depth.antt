@@ -144,13 +144,14 @@ from-limits (l ∷ ls) s h =
       shallow = h .shallow .1;
       names = omega arith;
       states = let w = h .few in omega arith;
-    } in
-    (c,
-    from-limits ls (see l s)
-    (record {
-      inside = h .inside .1;
-      shallow = h .shallow .2;
-      few = let w = h .few in omega arith;
-      names = h .names;
-      once = later-once l s ls (h .once);
-    }))
+    } in (
+      c,
+      from-limits ls (see l s)
+          (record {
+            inside = h .inside .1;
+            shallow = h .shallow .2;
+            few = let w = h .few in omega arith;
+            names = h .names;
+            once = later-once l s ls (h .once);
+          }),
+    )

@@ -153,7 +153,7 @@ promise text room bytes marks e =
           rewritten = with-ready l ok;
           never = λ job bads i certificate a. never-at-mark l ok bads (safe-accepted l ok job certificate (fileOf l bads) i a);
           ready = λ job bads i certificate a set f.
-          on-statements l ok set bads (guaranteed l ok set bads (safe-accepted l ok job certificate (fileOf l bads) i a) f);
+              on-statements l ok set bads (guaranteed l ok set bads (safe-accepted l ok job certificate (fileOf l bads) i a) f);
         }
 
 -- THE COROLLARY to cite: where a ready set was asked for at the state of a mark and the job written so is accepted with some certificate, runs over

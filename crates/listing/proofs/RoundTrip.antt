@@ -60,10 +60,10 @@ module _ (l : Listing) (ok : WithinLimits l) where
         few = omega arith;
         names = subst (λ x. length x ≤ 8) (ok .first-met) (ok .names);
         once =
-          record {
-            distinct = subst Distinct (sym (marks-block block ∙ marks-by (letterIn (l .names)) (l .statements))) (ok .once);
-            fresh = λ k m. List·Memᴰ·not-nil;
-          };
+            record {
+              distinct = subst Distinct (sym (marks-block block ∙ marks-by (letterIn (l .names)) (l .statements))) (ok .once);
+              fresh = λ k m. List·Memᴰ·not-nil;
+            };
       })
 
   same-listing : listingOf ls ≡ l
