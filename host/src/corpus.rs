@@ -4,7 +4,7 @@ use std::fs;
 use std::path::{Path, PathBuf};
 
 use crate::pairs::Pair;
-use crate::routine::{parse, Routine};
+use crate::routine::{parse, parse_listing, Routine};
 use crate::search::{search, Outcome};
 use crate::text::nearest;
 
@@ -44,7 +44,7 @@ fn files(folder: &Path) -> Result<Vec<PathBuf>, String> {
     let listed = fs::read_dir(folder).map_err(|error| format!("{}: {error}", folder.display()))?;
     let mut files: Vec<PathBuf> = listed
         .filter_map(|file| Some(file.ok()?.path()))
-        .filter(|path| path.extension().is_some_and(|end| end == "routine"))
+        .filter(|path| ends_with(path, "routine") || is_listing(path))
         .collect();
     files.sort();
     Ok(files)
@@ -80,6 +80,15 @@ fn unknown(name: &str) -> Result<String, String> {
     })
 }
 
+fn ends_with(path: &Path, ending: &str) -> bool {
+    path.extension().is_some_and(|end| end == ending)
+}
+
+/// Whether a file begins with its listing.
+fn is_listing(path: &Path) -> bool {
+    ends_with(path, "listing")
+}
+
 fn name_of(path: &Path) -> String {
     let name = path.file_stem().unwrap_or_default();
     name.to_string_lossy().into_owned()
@@ -88,7 +97,12 @@ fn name_of(path: &Path) -> String {
 fn entry(path: &Path) -> Result<Entry, String> {
     let mistake = |what: String| format!("{}: {what}", path.display());
     let text = fs::read_to_string(path).map_err(|error| mistake(error.to_string()))?;
-    let routine = parse(&text).map_err(|wrong| mistake(wrong.to_string()))?;
+    let read = if is_listing(path) {
+        parse_listing
+    } else {
+        parse
+    };
+    let routine = read(&text).map_err(|wrong| mistake(wrong.to_string()))?;
     let name = name_of(path);
     Ok(Entry {
         expected: match &name {

@@ -111,7 +111,7 @@ pub fn run(run: &Run, routine: &Routine) -> String {
     let transitions = run.transitions.iter().map(|&number| {
         let transition = &routine.job.transitions[number];
         let state = routine.states[transition.from as usize].as_str();
-        (state, routine.operation(transition.operation))
+        (state, routine.operation(number))
     });
     let steps: Vec<(&str, String)> = transitions.collect();
     let of_states = steps.iter().map(|(state, _)| state.chars().count());
@@ -156,16 +156,18 @@ impl Table {
 /// Draws a chain from the forbidden shape back to the start.
 pub fn chain(chain: &Chain, routine: &Routine) -> String {
     let mut text = String::new();
+    let lengths = routine.states.iter().map(|state| state.chars().count());
+    let states = lengths.max().unwrap_or(0).max("state".len());
     for link in &chain.links {
         let state = &routine.states[usize::from(link.located.state)];
         let reference = link.located.shape.to_reference(routine.variables.len());
         for (index, line) in shape(&reference, &routine.variables).iter().enumerate() {
             let at = if index == 0 { state } else { "" };
-            writeln!(text, "  {at:<12} {line}").expect("a string takes all");
+            writeln!(text, "  {at:<states$}  {line}").expect("a string takes all");
         }
         if let Some(number) = link.transition {
-            let operation = routine.operation(routine.job.transitions[number].operation);
-            writeln!(text, "  {:<12}   after {operation}", "").expect("a string takes all");
+            let operation = routine.operation(number);
+            writeln!(text, "  {:<states$}    after {operation}", "").expect("a string takes all");
         }
     }
     text

@@ -11,6 +11,7 @@ pub mod draw;
 pub mod extremes;
 pub mod judge;
 pub mod library;
+pub mod listings;
 pub mod pairs;
 pub mod random;
 pub mod reference;

@@ -58,6 +58,16 @@ extern "C" {
         out: *mut u64,
         out_len: usize,
     ) -> u32;
+    fn vorruda_translate(
+        text: *const u8,
+        text_len: usize,
+        bytes: *mut u8,
+        len: usize,
+        marks: *mut u8,
+        marks_len: usize,
+        out: *mut u64,
+        out_len: usize,
+    ) -> u32;
 }
 
 fn lent<T>(slice: &[T]) -> *const T {
@@ -177,6 +187,22 @@ pub fn forbid_bad_steps(job: &[u8], bytes: &mut [u8], out: &mut [u64]) -> u32 {
             job.len(),
             lent_mut(bytes),
             bytes.len(),
+            lent_mut(out),
+            out.len(),
+        )
+    }
+}
+
+pub fn translate(text: &[u8], bytes: &mut [u8], marks: &mut [u8], out: &mut [u64]) -> u32 {
+    // SAFETY: each pointer goes with the length of the slice that it came from.
+    unsafe {
+        vorruda_translate(
+            lent(text),
+            text.len(),
+            lent_mut(bytes),
+            bytes.len(),
+            lent_mut(marks),
+            marks.len(),
             lent_mut(out),
             out.len(),
         )

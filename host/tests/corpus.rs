@@ -30,6 +30,9 @@ fn the_corpus_is_large_enough() {
     assert!(of(Expected::Certified) >= 40);
     assert!(of(Expected::Wrong) >= 12);
     assert!(of(Expected::Beyond) >= 1);
+    let is_listing = |entry: &&Entry| !entry.routine.statements.is_empty();
+    let listings = entries.iter().filter(is_listing).count();
+    assert!(2 * listings >= entries.len(), "{listings} listings");
 }
 
 /// The command also fails where the proved checker refuses.

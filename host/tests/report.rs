@@ -82,13 +82,15 @@ fn the_page_of_a_wrong_routine() {
     );
     for text in [
         "<h2>Wrong: A link dangles</h2>",
-        "A run of 11 steps.",
-        "<code>delete(q)</code>",
-        "aria-label=\"[2 x t] -&gt; *; q at *\"",
-        "where line 21 of the routine forbids <code>no list: x</code>",
+        "A run of 19 steps.",
+        "<span class=\"where\">line 20</span> <code>delete(q)</code>",
+        "<pre>\nline 3   new(x)\nline 4   x.next := null\nline 5   while any\n",
+        "aria-label=\"[2 x] -&gt; *; t at #, q at *\"",
+        "That is at <b>line 22</b>, <code>mark 0</code>, where line 25 of the routine forbids \
+         <code>no list: x</code>.",
     ] {
         assert!(page.contains(text), "{text}");
     }
-    assert_eq!(page.matches("<li").count(), 11);
+    assert_eq!(page.matches("<li").count(), 19);
     assert_eq!(page.matches("<path class=\"line bad\"").count(), 1);
 }

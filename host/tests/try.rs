@@ -31,7 +31,7 @@ fn a_certified_routine() {
     let (status, text) = tried(&["reverse"]);
     assert_eq!(status, 0, "{text}");
     assert!(
-        text.contains("\naccepted bads 17 members 101 covers 367\n"),
+        text.contains("\naccepted bads 17 members 116 covers 380\n"),
         "{text}"
     );
 }
@@ -42,10 +42,13 @@ fn a_wrong_routine_shows_a_run() {
     let (status, text) = tried(&["wrong_delete_linked"]);
     assert_eq!(status, 1, "{text}");
     for line in [
-        "Wrong: a run of 11 steps meets what is forbidden (# is null, * dangling).",
-        "    8  walk     q := x.next     [2 x t] -> [1 q] -> #",
-        "   11  delete   delete(q)       [2 x t] -> *",
-        "That is at end, where line 21 forbids `no list: x`. What is met (-> is a link or a path):",
+        "Wrong: a run of 19 steps meets what is forbidden (# is null, * dangling).",
+        "    9  line 10  q := x.next     [2 x t] -> [1 q] -> #",
+        "   16  line 12  t = null        [2 x] -> [1 q] -> #",
+        "   18  line 20  delete(q)       [2 x] -> *",
+        "   19  line 21  end             [2 x] -> *",
+        "That is at line 22, `mark 0`, where line 25 forbids `no list: x`. What is met (-> is a \
+         link or a path):",
         "       [1 x] -> *",
     ] {
         assert!(text.lines().any(|other| other == line), "{line}\n{text}");
@@ -56,9 +59,14 @@ fn a_wrong_routine_shows_a_run() {
 fn a_right_routine_beyond_the_rules_says_how_far_was_looked() {
     let (status, text) = tried(&["beyond_delete_first"]);
     assert_eq!(status, 1, "{text}");
-    let bound = "among all 80 heaps of up to 10 cells that runs reach";
+    let bound = "among all 99 heaps of up to 10 cells that runs reach";
     assert!(text.contains(bound), "{text}");
-    assert!(text.contains("after delete(t)"), "{text}");
+    for line in [
+        "  line 14        x at *",
+        "                   after while any",
+    ] {
+        assert!(text.lines().any(|other| other == line), "{line}\n{text}");
+    }
 }
 
 #[test]
@@ -77,6 +85,48 @@ fn a_name_that_is_unknown() {
     assert_eq!(status, 2, "{text}");
     assert!(text.contains("\n  reverse\n  reverse_tail\n"), "{text}");
     assert_eq!(text.lines().filter(|line| *line == "  reverse").count(), 1);
+}
+
+#[test]
+fn a_routine_of_transitions_names_its_states() {
+    let (status, text) = tried(&["wrong_queue_empty"]);
+    assert_eq!(status, 1, "{text}");
+    assert!(text.contains("  put.2    l.next := t     "), "{text}");
+    assert!(text.contains("\nThat is at end, where line "), "{text}");
+}
+
+/// A file that is a listing has its lines numbered from 1; steps are forbidden where it forbids
+/// nothing itself.
+#[test]
+fn a_plain_listing() {
+    let example = concat!(env!("CARGO_MANIFEST_DIR"), "/../examples/reverse.listing");
+    let (status, text) = tried(&[example]);
+    assert_eq!(status, 0, "{text}");
+    let verdict = ": Reverses the list x into y.\naccepted bads 16 members 115 covers 379\n";
+    assert!(text.ends_with(verdict), "{text}");
+
+    let path = file(
+        "plain.listing",
+        "new(x)\nx.next := null\nwhile x != null\nx := x.next\nend\n",
+    );
+    let (status, text) = tried(&[path.to_str().unwrap()]);
+    assert_eq!(status, 0, "{text}");
+    assert!(
+        text.contains(": A listing of 5 lines.\naccepted bads 4 "),
+        "{text}"
+    );
+
+    let path = file("null.listing", "x := null\nx := x.next\nmark 0\n");
+    let (status, text) = tried(&[path.to_str().unwrap()]);
+    assert_eq!(status, 1, "{text}");
+    let line = "That is at line 2, `x := x.next`, where `steps` is forbidden. What is met";
+    assert!(text.contains(line), "{text}");
+
+    let path = file("mistake.listing", "x := null\nx :=  x.next\n");
+    let (status, text) = tried(&[path.to_str().unwrap()]);
+    assert_eq!(status, 2, "{text}");
+    let mistake = ": line 2, column 6: expected `x := x.next`, with these blanks and no others\n";
+    assert!(text.ends_with(mistake), "{text}");
 }
 
 const DEAD_END: &str = "\

@@ -3,6 +3,7 @@
 
 pub mod checker;
 pub mod embedding;
+pub mod listing;
 pub mod number;
 pub mod operations;
 pub mod predecessor;

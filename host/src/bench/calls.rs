@@ -4,14 +4,18 @@ use std::cell::RefCell;
 use std::hint::black_box;
 
 use super::Work;
+use crate::compare::listings::Translate;
+use crate::listings::right;
 use crate::random::Random;
 use crate::reference::heap::Heap;
+use crate::reference::listing::MARKS;
 use crate::reference::number::bytes_of;
 use crate::reference::stepper;
 use crate::{baseline, library};
 
 const NUMBERS: usize = 10_000;
 const STEPS: usize = 5_000;
+const LISTINGS: usize = 200;
 
 /// The work with its names.
 pub fn works() -> Vec<(&'static str, Work<'static>)> {
@@ -19,6 +23,7 @@ pub fn works() -> Vec<(&'static str, Work<'static>)> {
         ("10,000 numbers read", reading()),
         ("10,000 numbers written", writing()),
         ("5,000 steps", stepping()),
+        ("200 listings translated", translating()),
     ]
 }
 
@@ -95,6 +100,25 @@ fn walk(step: fn(&mut [u8], u32, u32, u32) -> u32) -> impl Fn() {
         let mut heap = empty;
         for &(kind, a, b) in &operations {
             black_box(step(&mut heap, kind, a, b));
+        }
+    }
+}
+
+/// Random listings of all sizes.
+fn translating() -> Work<'static> {
+    Work {
+        proved: Box::new(translated(library::translate)),
+        baseline: Box::new(translated(baseline::listing::translate)),
+    }
+}
+
+fn translated(translate: Translate) -> impl Fn() {
+    let mut random = Random::new(0x14_5eed);
+    let texts: Vec<Vec<u8>> = (0..LISTINGS).map(|_| right(&mut random)).collect();
+    move || {
+        let (mut bytes, mut marks, mut out) = ([0; 1_024], [0; MARKS], [0]);
+        for text in &texts {
+            black_box(translate(text, &mut bytes, &mut marks, &mut out));
         }
     }
 }

@@ -6,14 +6,21 @@
 use std::env;
 use std::process::ExitCode;
 
-use vorruda_host::compare::{lists, numbers, ready, steps, verdicts, Tally};
+use vorruda_host::compare::listings::Translate;
+use vorruda_host::compare::{listings, lists, numbers, ready, steps, verdicts, Tally};
 use vorruda_host::verdict::Check;
-use vorruda_host::{baseline, check};
+use vorruda_host::{baseline, check, library};
 
 /// The checkers that are compared with the reference.
 const CHECKERS: [(&str, Check); 2] = [
     ("the proved checker's verdicts", check::check),
     ("the baseline's verdicts", baseline::checker::check),
+];
+
+/// The translators of listings that are compared with it.
+const TRANSLATORS: [(&str, Translate); 2] = [
+    ("listings", library::translate),
+    ("the baseline's listings", baseline::listing::translate),
 ];
 
 const PAIRS: u64 = 100_000;
@@ -40,7 +47,9 @@ fn tallies() -> Result<Vec<Tally>, String> {
         ready::compare(seed)?,
     ];
     let verdicts = verdicts::compare(&CHECKERS, verdicts::pairs(seed, pairs)?);
-    Ok(calls.into_iter().chain(verdicts).collect())
+    let listings = listings::compare(&TRANSLATORS, seed);
+    let all = calls.into_iter().chain(listings);
+    Ok(all.chain(verdicts).collect())
 }
 
 fn argument(index: usize, usual: u64) -> Result<u64, String> {

@@ -8,9 +8,11 @@ use std::process::ExitCode;
 
 use vorruda_host::compare::ready::forbid_in_library;
 use vorruda_host::library;
+use vorruda_host::listings::{edges, Listings};
 use vorruda_host::pairs::{Pair, Pairs};
 use vorruda_host::random::Random;
 use vorruda_host::reference::heap::Heap;
+use vorruda_host::reference::listing::{translate, MARKS};
 use vorruda_host::reference::ready::{forbid, Set};
 use vorruda_host::reference::{checker, number, stepper};
 use vorruda_host::sweep;
@@ -19,6 +21,10 @@ const PAIRS: usize = 300;
 const SEED: u64 = 0x0012_5eed;
 const LISTS: usize = 300;
 const STEPS: usize = 1_000;
+const LISTINGS: usize = 1_000;
+
+/// One in so many of the listings at the limits is tried.
+const EVERY: usize = 20;
 
 fn main() -> ExitCode {
     let argument = |index, usual| match env::args().nth(index) {
@@ -35,7 +41,12 @@ fn main() -> ExitCode {
     let mut random = Random::new(seed);
     (0..LISTS).for_each(|_| numbers(&mut random));
     steps(&mut random);
-    println!("{checked} pairs, {LISTS} lists, {STEPS} steps: as the reference");
+    let at_limits = edges().into_iter().step_by(EVERY);
+    let listings = at_limits.chain(Listings::new(seed).take(LISTINGS));
+    let listings = listings.enumerate().map(listing).count();
+    println!(
+        "{checked} pairs, {LISTS} lists, {STEPS} steps, {listings} listings: as the reference"
+    );
     ExitCode::SUCCESS
 }
 
@@ -67,6 +78,27 @@ fn ready(job: &[u8], set: Set, turn: usize) {
     let number = forbid_in_library(job, set, &mut bytes, &mut out);
     match forbid(job, set, room) {
         Ok(expected) => assert_eq!((number, expected[..] == bytes[..expected.len()]), (0, true)),
+        Err(refused) => assert_eq!(number, refused.number),
+    }
+}
+
+/// A listing, in room that is too little, just enough or more, with and without room for the marks.
+fn listing((turn, text): (usize, Vec<u8>)) {
+    let text = exact(&text);
+    let room = translate(&text, usize::MAX).map_or(1, |translated| translated.bytes.len());
+    let room = room + turn % 3 - 1;
+    let mut bytes = exact(&vec![0; room]);
+    let mut marks = exact(&vec![0; MARKS * (turn % 2)]);
+    let mut out = exact(&[0; 2][..turn % 3]);
+    let number = library::translate(&text, &mut bytes, &mut marks, &mut out);
+    match translate(&text, room) {
+        Ok(expected) => {
+            assert_eq!(
+                (number, &bytes[..expected.bytes.len()]),
+                (0, &expected.bytes[..])
+            );
+            assert!(marks.is_empty() || marks[..] == expected.marks);
+        }
         Err(refused) => assert_eq!(number, refused.number),
     }
 }

@@ -1,5 +1,6 @@
-//! Measures the stack that a call of the checker takes, over the corpus, the costliest pairs, every
-//! kind of operation and random pairs, and fails where the header promises less.
+//! Measures the stack that a call takes: of the checker over the corpus, the costliest pairs, every
+//! kind of operation and random pairs; of the translation over listings at all limits and random
+//! ones. Fails where the header promises less.
 
 use std::fs;
 use std::path::Path;
@@ -7,14 +8,25 @@ use std::process::ExitCode;
 
 use vorruda_host::bench::suite::Suite;
 use vorruda_host::library;
+use vorruda_host::listings::{edges, Listings};
 use vorruda_host::pairs::Pair;
+use vorruda_host::reference::listing::MARKS;
 use vorruda_host::stack::depth;
 
+/// How many random listings are measured.
+const LISTINGS: usize = 500;
+const SEED: u64 = 0x0013_5eed;
+
 fn main() -> ExitCode {
-    match measure() {
-        Ok((most, promised)) => {
-            println!("at most {most} bytes of stack; the header promises less than {promised}");
-            ExitCode::from(u8::from(most >= promised))
+    match measured() {
+        Ok(rows) => {
+            for (call, most, promised) in &rows {
+                println!(
+                    "{call}: at most {most} bytes of stack; the header promises less than {promised}"
+                );
+            }
+            let is_kept = rows.iter().all(|(_, most, promised)| most < promised);
+            ExitCode::from(u8::from(!is_kept))
         }
         Err(what) => {
             eprintln!("{what}");
@@ -23,12 +35,33 @@ fn main() -> ExitCode {
     }
 }
 
-/// The most that a call took, and what the header promises.
-fn measure() -> Result<(usize, usize), String> {
+/// The most that the calls took, each with what the header promises.
+fn measured() -> Result<[(&'static str, usize, usize); 2], String> {
     let mut suite = Suite::new()?;
-    let depths = suite.cases().map(|case| of_pair(&case.pair));
-    let most = depths.max().ok_or("there is no pair")?;
-    Ok((most, promised()?))
+    let of_checker = suite.cases().map(|case| of_pair(&case.pair)).max();
+    let listings = edges()
+        .into_iter()
+        .chain(Listings::new(SEED).take(LISTINGS));
+    let of_translation = listings.map(|text| of_listing(&text)).max();
+    Ok([
+        (
+            "the checker",
+            of_checker.ok_or("there is no pair")?,
+            promised("vorruda_verdict(")?,
+        ),
+        (
+            "the translation",
+            of_translation.ok_or("there is no listing")?,
+            promised("vorruda_translate(")?,
+        ),
+    ])
+}
+
+fn of_listing(text: &[u8]) -> usize {
+    let mut room = [0; 1_024];
+    depth(|| {
+        library::translate(text, &mut room, &mut [0; MARKS], &mut [0]);
+    })
 }
 
 /// What the deeper of the two calls takes.
@@ -42,15 +75,16 @@ fn of_pair(Pair { job, certificate }: &Pair) -> usize {
     checked.max(judged)
 }
 
-/// The bytes of "less than N KiB of stack" in the header.
-fn promised() -> Result<usize, String> {
+/// The bytes of the last "less than N KiB of stack" ahead of a declaration in the header.
+fn promised(declaration: &str) -> Result<usize, String> {
     let header = Path::new(env!("CARGO_MANIFEST_DIR")).join("../include/vorruda.h");
     let text = fs::read_to_string(&header).map_err(|error| format!("the header: {error}"))?;
     let figure = text
-        .split_once("less than ")
-        .and_then(|(_, behind)| behind.split_once(" KiB of stack"))
-        .and_then(|(figure, _)| figure.parse::<usize>().ok());
+        .split_once(declaration)
+        .and_then(|(before, _)| before.rsplit_once(" KiB of stack"))
+        .and_then(|(before, _)| before.rsplit_once("less than "))
+        .and_then(|(_, figure)| figure.parse::<usize>().ok());
     figure
         .map(|kib| kib * 1024)
-        .ok_or_else(|| "the header names no stack".to_string())
+        .ok_or_else(|| format!("the header names no stack ahead of {declaration}"))
 }

@@ -114,10 +114,11 @@ fn tell_run(text: &mut String, routine: &Routine, run: &Run) -> std::fmt::Result
     let bad = &routine.job.forbidden[run.forbidden];
     let origin = &routine.origins[run.forbidden];
     let state = &routine.states[bad.state as usize];
+    let statement = routine.statement(bad.state);
+    let statement = statement.map_or(String::new(), |line| format!(", `{line}`"));
     writeln!(
         text,
-        "\nThat is at {state}, where line {} forbids `{}`. What is met (-> is a link or a path):\n",
-        origin.line, origin.text
+        "\nThat is at {state}{statement}, where {origin}. What is met (-> is a link or a path):\n"
     )?;
     for line in draw::shape(&bad.shape, &routine.variables) {
         writeln!(text, "       {line}")?;

@@ -1,5 +1,6 @@
 //! The proved library against the reference, on many inputs.
 
+pub mod listings;
 pub mod lists;
 pub mod numbers;
 pub mod ready;
@@ -57,8 +58,9 @@ impl Tally {
     pub fn report(&self) -> bool {
         let cases: u64 = self.outcomes.values().sum();
         println!("{}: {cases} cases", self.title);
-        for (outcome, count) in &self.outcomes {
-            println!("  {count:>9}  {outcome}");
+        for (outcome, &count) in &self.outcomes {
+            let share = 100.0 * count as f64 / cases.max(1) as f64;
+            println!("  {count:>9}  {share:>5.1} %  {outcome}");
         }
         let missing = self.outcomes.values().filter(|&&count| count == 0).count();
         if missing > 0 {

@@ -8,7 +8,8 @@ use crate::pairs::{accepted_pairs, Pair, Pairs};
 use crate::random::Random;
 use crate::reference::job::{Job, Located, Transition, MOST_FORBIDDEN};
 use crate::reference::operation::{Operation, ASSIGN, LOAD, STORE};
-use crate::reference::ready::{forbid, Refused, Set};
+use crate::reference::ready::{forbid, Set};
+use crate::reference::refused::Refused;
 use crate::reference::shape::Shape;
 
 const NOT_LIST: &str = "written, not a proper list";

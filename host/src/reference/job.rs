@@ -65,13 +65,21 @@ impl Job {
 
     /// The bytes of the job.
     pub fn bytes(&self) -> Vec<u8> {
-        let mut numbers = vec![VERSION, self.variables, self.states, self.start];
-        numbers.push(self.transitions.len() as u64);
-        numbers.extend(self.transitions.iter().flat_map(Transition::numbers));
-        numbers.push(self.forbidden.len() as u64);
+        let mut numbers = vec![self.forbidden.len() as u64];
         numbers.extend(self.forbidden.iter().flat_map(Located::numbers));
-        numbers.into_iter().flat_map(number::bytes_of).collect()
+        let forbidden = numbers.into_iter().flat_map(number::bytes_of);
+        let mut bytes = bytes_ahead(self.variables, self.states, self.start, &self.transitions);
+        bytes.extend(forbidden);
+        bytes
     }
+}
+
+/// The bytes of a job ahead of the number of its forbidden shapes.
+pub fn bytes_ahead(variables: u64, states: u64, start: u64, transitions: &[Transition]) -> Vec<u8> {
+    let mut numbers = vec![VERSION, variables, states, start];
+    numbers.push(transitions.len() as u64);
+    numbers.extend(transitions.iter().flat_map(Transition::numbers));
+    numbers.into_iter().flat_map(number::bytes_of).collect()
 }
 
 impl Transition {

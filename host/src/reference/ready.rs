@@ -3,6 +3,7 @@
 use super::checker::check_length;
 use super::job::{Job, Located, MOST_FORBIDDEN};
 use super::operation::{LOAD, STORE};
+use super::refused::{in_room, Refused};
 use super::shape::Shape;
 
 /// Codes of places.
@@ -34,13 +35,6 @@ pub enum Set {
     BadSteps,
 }
 
-/// A refusal's number, and its place or the length needed.
-#[derive(Clone, Copy, Debug, PartialEq, Eq)]
-pub struct Refused {
-    pub number: u32,
-    pub value: usize,
-}
-
 /// The bytes of the job with the set after its own, where so many bytes have room.
 pub fn forbid(job: &[u8], set: Set, room: usize) -> Result<Vec<u8>, Refused> {
     let mut job = check_length(job, 1)
@@ -60,14 +54,7 @@ pub fn forbid(job: &[u8], set: Set, room: usize) -> Result<Vec<u8>, Refused> {
     if job.forbidden.len() as u64 > MOST_FORBIDDEN {
         return Err(at_place_0(31));
     }
-    let bytes = job.bytes();
-    match bytes.len() {
-        needed if needed > room => Err(Refused {
-            number: 12,
-            value: needed,
-        }),
-        _ => Ok(bytes),
-    }
+    in_room(job.bytes(), room)
 }
 
 fn at_place_0(number: u32) -> Refused {

@@ -217,12 +217,12 @@ impl Met<'_> {
             STORE => placed.contains(&(operation.a - 1)),
             _ => false,
         };
-        let transitions = &self.routine.job.transitions;
+        let transitions = self.routine.job.transitions.iter();
         let next = transitions
-            .iter()
-            .filter(|transition| transition.from == state)
-            .find(|transition| steps(&transition.operation))
-            .map(|transition| self.routine.operation(transition.operation))
+            .enumerate()
+            .filter(|(_, transition)| transition.from == state)
+            .find(|(_, transition)| steps(&transition.operation))
+            .map(|(number, _)| self.routine.operation(number))
             .unwrap_or_default();
         let names: Vec<&str> = placed.iter().map(|&variable| self.name(variable)).collect();
         let names = names.join(", ");
@@ -315,7 +315,7 @@ mod tests {
 
         let (step, _) = of("wrong_append_null");
         assert_eq!(step.heading, "t := l.next is next, but l has no block");
-        assert_eq!(step.marks.variables, BTreeSet::from([1]));
+        assert_eq!(step.marks.variables, BTreeSet::from([3]));
 
         let (shared, _) = of("wrong_copy_shares");
         assert_eq!(shared.heading, "Two lists share a block");

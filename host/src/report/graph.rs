@@ -32,10 +32,8 @@ impl Graph<'_> {
     fn of(routine: &Routine) -> Graph<'_> {
         let transitions = &routine.job.transitions;
         let count = routine.states.len();
-        let labels: Vec<String> = transitions
-            .iter()
-            .map(|transition| routine.operation(transition.operation))
-            .collect();
+        let numbers = 0..transitions.len();
+        let labels: Vec<String> = numbers.map(|number| routine.operation(number)).collect();
         let mut down = vec![None; count];
         let mut aside = vec![Vec::new(); count];
         for (number, transition) in transitions.iter().enumerate() {

@@ -8,7 +8,7 @@ use super::{explain, graph};
 use crate::draw;
 use crate::judge::{Ending, Judged};
 use crate::reference::heap::Heap;
-use crate::routine::Routine;
+use crate::routine::{Origin, Routine};
 use crate::search::chain::Chain;
 use crate::search::run::Run;
 use crate::text::{counted, thousands};
@@ -75,6 +75,7 @@ pub fn routine_page(name: &str, routine: &Routine, judged: &Judged) -> String {
     };
     body += &counts(routine, judged);
     body += &forbidden(routine);
+    body += &listing(routine);
     body += &states(routine, run);
     page(&format!("{name} - Vorruda"), &body)
 }
@@ -136,20 +137,31 @@ fn wrong(routine: &Routine, run: &Run) -> String {
              class=\"what\">{}</span></p>\n{figure}</li>\n",
             if is_last { " class=\"last\"" } else { "" },
             escape(&routine.states[transition.from as usize]),
-            escape(&routine.operation(transition.operation)),
+            escape(&routine.operation(number)),
             escape(&explain::operation(routine, transition.operation)),
         );
     }
     let bad = &routine.job.forbidden[run.forbidden];
-    text += &format!(
-        "</ol>\n<section class=\"met\">\n<p>That is at <b>{}</b>, where line {} of the routine \
-         forbids <code>{}</code>. The shape that is met:</p>\n{}</section>\n",
+    let statement = routine.statement(bad.state);
+    text +=
+        &format!(
+        "</ol>\n<section class=\"met\">\n<p>That is at <b>{}</b>{}, where {}. The shape that is \
+         met:</p>\n{}</section>\n",
         escape(&routine.states[bad.state as usize]),
-        origin.line,
-        escape(&origin.text),
+        statement.map_or(String::new(), |line| format!(", <code>{}</code>", escape(line))),
+        forbids(origin),
         shape_figure(routine, run.forbidden),
     );
     text
+}
+
+/// Which line forbids a shape.
+fn forbids(origin: &Origin) -> String {
+    let set = format!("<code>{}</code>", escape(&origin.text));
+    match origin.line {
+        Some(line) => format!("line {line} of the routine forbids {set}"),
+        None => format!("{set} is forbidden"),
+    }
 }
 
 /// What a step has changed.
@@ -176,8 +188,7 @@ fn of_chain(routine: &Routine, chain: &Chain) -> String {
         let shape = link.located.shape.to_reference(routine.variables.len());
         let words = draw::shape(&shape, &routine.variables).join("; ");
         let after = link.transition.map_or("the start".to_string(), |number| {
-            let operation = routine.operation(routine.job.transitions[number].operation);
-            format!("after <code>{}</code>", escape(&operation))
+            format!("after <code>{}</code>", escape(&routine.operation(number)))
         });
         text += &format!(
             "<li>\n<p><span class=\"where\">{}</span> {after}</p>\n{}</li>\n",
@@ -213,6 +224,18 @@ fn counts(routine: &Routine, judged: &Judged) -> String {
         "<h2>Counts</h2>\n<dl>\n{cells}<div><dt>time to search and check</dt><dd>{time} \
          ms</dd></div>\n</dl>\n"
     )
+}
+
+/// The listing with the numbers of its lines; nothing for a routine of transitions.
+fn listing(routine: &Routine) -> String {
+    let lines = routine.states.iter().zip(&routine.statements);
+    let lines: String = lines
+        .map(|(line, statement)| format!("{line:<9}{}\n", escape(statement)))
+        .collect();
+    match lines.is_empty() {
+        true => lines,
+        false => format!("<h2>The listing</h2>\n<pre>\n{lines}</pre>\n"),
+    }
 }
 
 fn states(routine: &Routine, run: &[usize]) -> String {

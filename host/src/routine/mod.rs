@@ -1,5 +1,25 @@
-//! Routines as text: transitions with names for states and variables, and the forbidden shapes
-//! below.
+//! Routines as text: a listing, or transitions with names for states and variables; and the
+//! forbidden shapes below.
+//!
+//! ```text
+//! -- Empties the list at x.
+//! listing
+//! x := null
+//! while any
+//! new(y)
+//! y.next := x
+//! x := y
+//! end
+//! mark 0
+//!
+//! forbidden
+//! mark 0    no list: x
+//! mark 0    x at c, c -> d, d -> d
+//! steps
+//! ```
+//!
+//! The lines below `listing`, to a blank one or to `forbidden`, go to the proved library as they
+//! stand. The same routine as transitions:
 //!
 //! ```text
 //! -- Empties the list at x.
@@ -23,6 +43,9 @@
 //! c`, where x is a variable, c a cell and p a cell, `#` or `*`; or one of the ready sets of
 //! [`sets`].
 
+mod forbidden_text;
+mod listing;
+mod listing_mistake;
 mod mistake;
 mod names;
 mod operation_text;
@@ -33,7 +56,9 @@ mod shape_text;
 mod words;
 
 pub use mistake::Mistake;
-pub use parse::parse;
+pub use parse::{parse, parse_listing};
+
+use std::fmt;
 
 use crate::reference::job::Job;
 use crate::reference::operation::{Operation, ASSIGN, DELETE, DIFFERENT, EQUAL, LOAD, NEW, STORE};
@@ -45,6 +70,9 @@ pub struct Routine {
     pub title: String,
     pub variables: Vec<String>,
     pub states: Vec<String>,
+    /// The line of the listing that begins at each state but the last; none where the routine is
+    /// of transitions.
+    pub statements: Vec<String>,
     pub job: Job,
     /// Where each of the job's forbidden shapes comes from.
     pub origins: Vec<Origin>,
@@ -55,10 +83,19 @@ pub struct Routine {
 /// The line that forbids a shape.
 #[derive(Clone, Debug, PartialEq, Eq)]
 pub struct Origin {
-    /// From 1.
-    pub line: usize,
+    /// From 1; none where the shape is forbidden because the text forbids nothing.
+    pub line: Option<usize>,
     /// What stands there behind the state.
     pub text: String,
+}
+
+impl fmt::Display for Origin {
+    fn fmt(&self, f: &mut fmt::Formatter) -> fmt::Result {
+        match self.line {
+            Some(line) => write!(f, "line {line} forbids `{}`", self.text),
+            None => write!(f, "`{}` is forbidden", self.text),
+        }
+    }
 }
 
 impl Routine {
@@ -70,17 +107,35 @@ impl Routine {
         }
     }
 
-    /// An operation as it stands in the text.
-    pub fn operation(&self, operation: Operation) -> String {
-        words(operation, |operand| self.operand(operand))
+    /// A transition's operation as it stands in the text.
+    pub fn operation(&self, transition: usize) -> String {
+        let transition = &self.job.transitions[transition];
+        let statement = self.statement(transition.from);
+        match (transition.operation, statement) {
+            (NULL_IS_NULL, None) => SKIP.to_string(),
+            (NULL_IS_NULL, Some(statement)) => statement.to_string(),
+            (operation, _) => words(operation, |operand| self.operand(operand)),
+        }
+    }
+
+    /// The line of the listing that begins at a state.
+    pub fn statement(&self, state: u64) -> Option<&str> {
+        self.statements.get(state as usize).map(String::as_str)
     }
 }
 
-/// An operation as it stands in the text, with names for its operands.
+/// What always goes on, and its name in a routine of transitions.
+const NULL_IS_NULL: Operation = Operation {
+    kind: EQUAL,
+    a: 0,
+    b: 0,
+};
+const SKIP: &str = "skip";
+
+/// An operation in the table's form, with names for its operands.
 pub fn words<'a>(operation: Operation, name: impl Fn(usize) -> &'a str) -> String {
     let (a, b) = (name(operation.a), name(operation.b));
     match operation.kind {
-        EQUAL if operation.a == 0 && operation.b == 0 => "skip".to_string(),
         EQUAL => format!("{a} = {b}"),
         DIFFERENT => format!("{a} != {b}"),
         ASSIGN => format!("{a} := {b}"),

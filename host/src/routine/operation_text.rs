@@ -4,6 +4,7 @@
 use super::mistake::Mistake;
 use super::names::Names;
 use super::words::{Word, Words};
+use super::{NULL_IS_NULL, SKIP};
 use crate::reference::operation::{Operation, ASSIGN, DELETE, DIFFERENT, EQUAL, LOAD, NEW, STORE};
 use crate::text::nearest;
 
@@ -13,16 +14,12 @@ const FORMS: &str = "expected one of `a = b`, `a != b`, `a := b`, `a := b.next`,
 /// The operation that the words are.
 pub fn operation(mut words: Words, variables: &Names) -> Result<Operation, Mistake> {
     let first = words.take();
-    if first.text == "skip" {
+    if first.text == SKIP {
         words.finish()?;
-        return Ok(Operation {
-            kind: EQUAL,
-            a: 0,
-            b: 0,
-        });
+        return Ok(NULL_IS_NULL);
     }
     if words.is_empty() {
-        return Err(Mistake::at(first, meant(first, ["skip"])));
+        return Err(Mistake::at(first, meant(first, [SKIP])));
     }
     if words.peek().text == "(" {
         return call(first, words, variables);

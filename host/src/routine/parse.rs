@@ -1,61 +1,57 @@
 //! From the text of a routine to its job.
 
+use super::listing::{Lines, Listing};
 use super::mistake::Mistake;
 use super::names::Names;
 use super::words::{is_of_name, Word, Words};
-use super::{operation_text, ready, sets, shape_text, Origin, Routine};
+use super::{forbidden_text, operation_text, sets, Origin, Routine};
 use crate::reference::job::{
     Job, Located, Transition, MOST_FORBIDDEN, MOST_STATES, MOST_TRANSITIONS, MOST_VARIABLES,
 };
-use crate::reference::shape::Shape;
-use crate::text::nearest;
+use crate::text::{counted, nearest};
 
 /// Words that name no variable.
 const RESERVED: [&str; 4] = ["null", "skip", "new", "delete"];
 
 /// The words that begin a line which is no transition.
-const HEADS: [&str; 3] = ["variables", "start", "forbidden"];
-
-/// The ready sets of [`sets`] that are of variables at a state.
-const SETS: [&str; 5] = ["no list", "lost block", "ring", "no ring", "shared"];
+const HEADS: [&str; 4] = ["variables", "start", "listing", "forbidden"];
 
 /// The state that nothing has to leave.
 const LAST: &str = "end";
 
 /// Reads a routine, or gives the first mistake.
 pub fn parse(text: &str) -> Result<Routine, Mistake> {
-    let mut parser = Parser::new();
-    for (index, line) in text.lines().enumerate() {
-        let (content, comment) = line.split_once("--").unwrap_or((line, ""));
-        if parser.title.is_empty() {
-            parser.title = comment.trim().to_string();
-        }
-        parser.lines = index + 1;
-        let words = Words::of(parser.lines, content);
-        if !words.is_empty() {
-            parser.read(words, content.trim())?;
-        }
-    }
-    parser.finish()
+    Parser::new().routine(text)
 }
 
-struct Parser {
+/// Reads a routine whose listing begins at the first line.
+pub fn parse_listing(text: &str) -> Result<Routine, Mistake> {
+    let mut parser = Parser::new();
+    parser.reading = Some(Lines::new());
+    parser.routine(text)
+}
+
+struct Parser<'a> {
     /// How many lines are read.
     lines: usize,
     title: String,
     variables: Names,
     states: Names,
-    /// Where each state is named first.
+    /// Where each state is named first; a listing names none.
     named: Vec<(usize, usize)>,
     start: Option<usize>,
     transitions: Vec<Transition>,
+    /// The listing's lines, as long as it goes on.
+    reading: Option<Lines<'a>>,
+    /// Nothing for a routine of transitions.
+    listing: Option<Listing>,
     /// Nothing until the line `forbidden`.
     forbidden: Option<Vec<Located>>,
     origins: Vec<Origin>,
 }
 
-impl Parser {
-    fn new() -> Parser {
+impl<'a> Parser<'a> {
+    fn new() -> Parser<'a> {
         Parser {
             lines: 0,
             title: String::new(),
@@ -64,31 +60,78 @@ impl Parser {
             named: Vec::new(),
             start: None,
             transitions: Vec::new(),
+            reading: None,
+            listing: None,
             forbidden: None,
             origins: Vec::new(),
         }
     }
 
-    fn read(&mut self, mut words: Words, content: &str) -> Result<(), Mistake> {
-        let first = words.take();
-        match (first.text, self.forbidden.is_some()) {
-            ("variables", false) => self.name_variables(first, words),
-            ("start", false) => self.name_start(first, words),
-            ("forbidden", false) if words.is_empty() => {
+    fn routine(mut self, text: &'a str) -> Result<Routine, Mistake> {
+        for (index, line) in text.split_inclusive('\n').enumerate() {
+            self.lines = index + 1;
+            let (content, comment) = line.split_once("--").unwrap_or((line, ""));
+            if self.title.is_empty() {
+                self.title = comment.trim().to_string();
+            }
+            match (content.trim(), &mut self.reading) {
+                ("", Some(reading)) if reading.lines.is_empty() => {}
+                ("" | "forbidden", _) | (_, None) => {
+                    self.translate()?;
+                    self.read(Words::of(self.lines, content), content)?;
+                }
+                (_, Some(reading)) => reading.push(self.lines, line),
+            }
+        }
+        self.translate()?;
+        self.finish()
+    }
+
+    fn read(&mut self, words: Words, content: &str) -> Result<(), Mistake> {
+        let mut behind = words.clone();
+        let first = behind.take();
+        match first.text {
+            "" => Ok(()),
+            "steps" if self.forbidden.is_some() && behind.is_empty() => {
+                self.forbid_steps(Some(first))
+            }
+            _ if self.forbidden.is_some() => self.forbid_at_state(words, content),
+            "forbidden" if behind.is_empty() => {
                 self.forbidden = Some(Vec::new());
                 Ok(())
             }
-            (_, false) => self.transition(first, words),
-            ("steps", true) if words.is_empty() => {
-                let shapes = sets::steps(self.variables.all.len(), &self.transitions);
-                self.forbid(first, shapes, "steps")
+            _ if self.listing.is_some() => {
+                let what = "expected `forbidden`, since a blank line ends the listing";
+                Err(Mistake::at(first, what))
             }
-            (_, true) => {
-                let shapes = self.forbidden_at(first, words)?;
-                let text = content[first.text.len()..].trim();
-                self.forbid(first, shapes, text)
-            }
+            "listing" if behind.is_empty() => self.begin_listing(first),
+            "variables" => self.name_variables(first, behind),
+            "start" => self.name_start(first, behind),
+            _ => self.transition(first, behind),
         }
+    }
+
+    fn begin_listing(&mut self, head: Word) -> Result<(), Mistake> {
+        if !self.variables.all.is_empty() || !self.states.all.is_empty() {
+            let what = "a listing has no `variables`, `start` or transitions beside it";
+            return Err(Mistake::at(head, what));
+        }
+        self.reading = Some(Lines::new());
+        Ok(())
+    }
+
+    /// Has the listing translated once its last line is read.
+    fn translate(&mut self) -> Result<(), Mistake> {
+        let Some(lines) = self.reading.take() else {
+            return Ok(());
+        };
+        let listing = Listing::translate(&lines)?;
+        self.variables.all = listing.variables.clone();
+        self.states.all = listing.states.clone();
+        self.start = Some(listing.job.start as usize);
+        self.transitions = listing.job.transitions.clone();
+        self.listing = Some(listing);
+        Ok(())
     }
 
     fn name_variables(&mut self, head: Word, mut words: Words) -> Result<(), Mistake> {
@@ -163,68 +206,41 @@ impl Parser {
         Ok(self.states.all.len() - 1)
     }
 
-    fn forbidden_at(&self, state: Word, words: Words) -> Result<Vec<Located>, Mistake> {
-        let number = self.states.find(state, state.text, "")?;
-        let shapes = match words.split_at_first(":") {
-            Some((set, names)) => self.ready_set(set, names)?,
-            None if words.is_empty() => {
-                let what = "expected a shape, as `x at #`, or a ready set, as `no list: x`";
-                return Err(Mistake::at(words.peek(), what));
+    /// A line that forbids shapes at a state, which a listing's mark names.
+    fn forbid_at_state(&mut self, mut words: Words, content: &str) -> Result<(), Mistake> {
+        let first = words.peek();
+        let state = match &self.listing {
+            Some(listing) => listing.state(&mut words)?,
+            None => {
+                words.take();
+                self.states.find(first, first.text, "")?
             }
-            None => vec![shape_text::shape(words, &self.variables)?],
         };
+        let behind = words.peek();
+        let shapes = forbidden_text::shapes(words, &self.variables)?;
         let located = shapes.into_iter().map(|shape| Located {
-            state: number as u64,
+            state: state as u64,
             shape,
         });
-        Ok(located.collect())
+        let text: String = content.chars().skip(behind.column - 1).collect();
+        self.forbid(Some(first), located.collect(), text.trim())
     }
 
-    /// The shapes of a ready set of the variables that are named.
-    fn ready_set(&self, mut set: Words, mut names: Words) -> Result<Vec<Shape>, Mistake> {
-        let first = set.peek();
-        let mut words = Vec::new();
-        while !set.is_empty() {
-            words.push(set.take().text);
-        }
-        let mut from = Vec::new();
-        while !names.is_empty() {
-            let word = names.take();
-            from.push(1 + self.variables.find(word, word.text, "")?);
-        }
-        let set = words.join(" ");
-        let variables = self.variables.all.len();
-        match (&set[..], &from[..]) {
-            ("no list", &[x]) => Ok(ready::not_list(variables, x)),
-            ("ring", &[x]) => Ok(sets::ring(variables, x)),
-            ("no ring", &[x]) => Ok(sets::no_ring(variables, x)),
-            ("shared", &[x, y]) => Ok(sets::shared(variables, x, y)),
-            ("lost block", [_, ..]) => Ok(sets::lost_block(variables, &from)),
-            (known, _) if SETS.contains(&known) => {
-                let what = match known {
-                    "shared" => "expected two variables",
-                    "lost block" => "expected one or more variables",
-                    _ => "expected one variable",
-                };
-                Err(Mistake::at(names.peek(), what))
-            }
-            (other, _) => {
-                let what = match nearest(other, SETS)[..] {
-                    [near, ..] => format!("did you mean `{near}`?"),
-                    [] => format!("expected a ready set, one of {}", SETS.join(", ")),
-                };
-                Err(Mistake {
-                    word: set,
-                    ..Mistake::at(first, what)
-                })
-            }
-        }
+    /// Steps through null and dangling; without a line where nothing else is forbidden.
+    fn forbid_steps(&mut self, at: Option<Word>) -> Result<(), Mistake> {
+        let shapes = sets::steps(self.variables.all.len(), &self.transitions);
+        self.forbid(at, shapes, "steps")
     }
 
-    fn forbid(&mut self, at: Word, shapes: Vec<Located>, text: &str) -> Result<(), Mistake> {
+    fn forbid(
+        &mut self,
+        at: Option<Word>,
+        shapes: Vec<Located>,
+        text: &str,
+    ) -> Result<(), Mistake> {
         let forbidden = self.forbidden.get_or_insert_with(Vec::new);
         let origin = Origin {
-            line: at.line,
+            line: at.map(|word| word.line),
             text: text.to_string(),
         };
         self.origins.extend(shapes.iter().map(|_| origin.clone()));
@@ -233,33 +249,46 @@ impl Parser {
             0..=MOST_FORBIDDEN => Ok(()),
             _ => {
                 let what = format!("more than {MOST_FORBIDDEN} forbidden shapes up to here");
-                Err(Mistake::at(at, what))
+                Err(at.map_or_else(|| self.at_the_end(&what), |word| Mistake::at(word, &*what)))
             }
         }
     }
 
-    fn finish(self) -> Result<Routine, Mistake> {
-        let at_the_end = |what: &str| Mistake {
+    fn at_the_end(&self, what: &str) -> Mistake {
+        Mistake {
             line: self.lines.max(1),
             column: 1,
             word: String::new(),
             what: what.to_string(),
-        };
+        }
+    }
+
+    fn finish(mut self) -> Result<Routine, Mistake> {
         let Some(start) = self.start else {
             let what = "no line names the start; expected `start` and a state above";
-            return Err(at_the_end(what));
+            return Err(self.at_the_end(what));
         };
+        if self.listing.is_some() && self.forbidden.is_none() {
+            self.forbid_steps(None)?;
+        }
         let Some(forbidden) = self.forbidden.clone().filter(|all| !all.is_empty()) else {
             let what = "nothing is forbidden; expected a line `forbidden` and shapes below it";
-            return Err(at_the_end(what));
+            return Err(self.at_the_end(what));
         };
         if self.variables.all.is_empty() {
             let what = "no line names the variables; expected `variables` and names above";
-            return Err(at_the_end(what));
+            return Err(self.at_the_end(what));
+        }
+        let warnings = self.warnings(&forbidden);
+        let listing = self.listing.map(|listing| listing.statements);
+        let statements = listing.unwrap_or_default();
+        if self.title.is_empty() && !statements.is_empty() {
+            self.title = format!("A listing of {}.", counted(statements.len(), "line"));
         }
         Ok(Routine {
-            warnings: self.warnings(&forbidden),
+            warnings,
             title: self.title,
+            statements,
             job: Job {
                 variables: self.variables.all.len() as u64,
                 states: self.states.all.len() as u64,
@@ -346,8 +375,8 @@ mod tests {
         assert_eq!(job.bytes(), bytes);
         assert_eq!(Job::read(&bytes), Ok(job.clone()));
         let texts = ["new(x)", "x.next := null", "y := x.next", "skip"];
-        for (transition, text) in job.transitions.iter().zip(texts) {
-            assert_eq!(routine.operation(transition.operation), text);
+        for (number, text) in texts.into_iter().enumerate() {
+            assert_eq!(routine.operation(number), text);
         }
     }
 
@@ -357,7 +386,7 @@ mod tests {
         let origins: Vec<(usize, &str)> = routine
             .origins
             .iter()
-            .map(|origin| (origin.line, &origin.text[..]))
+            .map(|origin| (origin.line.unwrap(), &origin.text[..]))
             .collect();
         let shape = "x at c, c -> d, d -> *, cell e";
         let steps = (12, "steps");

@@ -1,0 +1,106 @@
+use mathlib.Core.Path.{sym, ap, _∙_}
+use native.Mathlib.Omega.{arith}
+use Rattle.lines.proofs.Starting.{rest}
+use lib.ListN.{drop}
+use Rattle.lines.specs.Line.{enclosedOf, betweenOf, operationOf}
+use Rattle.lines.specs.declared.Operand.{Operand}
+use borrow.Author.Needs.{needs}
+use Rattle.lines.proofs.read_operation.Statement.{statement}
+use Rattle.lines.proofs.read_operation.Tie as tie
+
+slice-aggregate-has-front : tie.Need-slice-aggregate-has-front
+slice-aggregate-has-front c = search needs
+
+has-front-requires : tie.Need-has-front-requires
+has-front-requires c κs = search needs
+
+sub-read-enclosed : tie.Need-sub-read-enclosed
+sub-read-enclosed c = omega (arith, c .before .has-front .ensures .1 (c .if1 .taken))
+
+part-read-enclosed-start : tie.Need-part-read-enclosed-start
+part-read-enclosed-start c = omega (arith, c .before .has-front .ensures .1 (c .if1 .taken))
+
+part-read-enclosed-end : tie.Need-part-read-enclosed-end
+part-read-enclosed-end c = search needs
+
+read-enclosed-requires : tie.Need-read-enclosed-requires
+read-enclosed-requires c κs = search needs
+
+returns : tie.Need-returns
+unfolding operationOf
+returns c =
+    let bytes = c .before .before .before .before .before .before .args .bytes .now in
+    c .read-enclosed .ensures ∙ ap (enclosedOf 6) (rest bytes 4) ∙ simp (sym (c .before .before .before .has-front .ensures .0) ∙ c .before .before .if1 .taken)
+
+slice-aggregate-has-front-2 : tie.Need-slice-aggregate-has-front-2
+slice-aggregate-has-front-2 c = search needs
+
+has-front-requires-2 : tie.Need-has-front-requires-2
+has-front-requires-2 c κs = search needs
+
+sub-read-enclosed-2 : tie.Need-sub-read-enclosed-2
+sub-read-enclosed-2 c = omega (arith, c .before .has-front2 .ensures .1 (c .if2 .taken))
+
+part-read-enclosed-start-2 : tie.Need-part-read-enclosed-start-2
+part-read-enclosed-start-2 c = omega (arith, c .before .has-front2 .ensures .1 (c .if2 .taken))
+
+part-read-enclosed-end-2 : tie.Need-part-read-enclosed-end-2
+part-read-enclosed-end-2 c = search needs
+
+read-enclosed-requires-2 : tie.Need-read-enclosed-requires-2
+read-enclosed-requires-2 c κs = search needs
+
+returns-2 : tie.Need-returns-2
+unfolding operationOf
+returns-2 c =
+    let bytes = c .before .before .before .before .before .before .before .before .before .args .bytes .now in
+    c .read-enclosed2 .ensures ∙ ap (enclosedOf 7) (rest bytes 7) ∙ simp (sym (c .before .before .before .has-front2 .ensures .0) ∙ c .before .before .if2 .taken, sym (c .before .before .before .before .before .before .has-front .ensures .0) ∙ c .before .before .before .before .before .if1 .left)
+
+read-operand-requires : tie.Need-read-operand-requires
+read-operand-requires c κs = search needs
+
+sub-read-between : tie.Need-sub-read-between
+sub-read-between c = search needs
+
+part-read-between-start : tie.Need-part-read-between-start
+part-read-between-start c = search needs
+
+part-read-between-end : tie.Need-part-read-between-end
+part-read-between-end c = search needs
+
+read-between-requires : tie.Need-read-between-requires
+read-between-requires c κs = search needs
+
+returns-3 : tie.Need-returns-3
+unfolding operationOf
+returns-3 c =
+    let bytes = c .before .before .before .before .before .before .before .before .before .before .args .bytes .now in
+    let found = c .before .before .read-operand in
+    c .read-between .ensures ∙ ap (betweenOf (found .result .value)) (rest bytes (found .result .length))
+    ∙ ap (λ (o : Operand). betweenOf (o .value) (drop (o .length) bytes)) (found .ensures .0)
+    ∙ simp (sym (c .before .before .before .before .has-front2 .ensures .0) ∙ c .before .before .before .if2 .left, sym (c .before .before .before .before .before .before .before .has-front .ensures .0) ∙ c .before .before .before .before .before .before .if1 .left)
+
+pub read-operation-spec : {M : Type 1} → statement M
+read-operation-spec =
+    tie.close
+    (tie.spec
+    slice-aggregate-has-front
+    has-front-requires
+    sub-read-enclosed
+    part-read-enclosed-start
+    part-read-enclosed-end
+    read-enclosed-requires
+    returns
+    slice-aggregate-has-front-2
+    has-front-requires-2
+    sub-read-enclosed-2
+    part-read-enclosed-start-2
+    part-read-enclosed-end-2
+    read-enclosed-requires-2
+    returns-2
+    read-operand-requires
+    sub-read-between
+    part-read-between-start
+    part-read-between-end
+    read-between-requires
+    returns-3)

@@ -1,0 +1,56 @@
+-- Listings whose operations keep to the table of kinds.
+use Prim.Native.Nat.{ℕ, suc, _≤_}
+use native.Mathlib.Omega.{arith}
+use Rattle.heap.specs.Operation.{Op, equal, different, assign, load, store, new, delete}
+use Rattle.run.specs.Run.{Transition}
+use Rattle.run.proofs.Operands.{Allowed}
+use Rattle.listing.specs.Limits.{FitsOne, Fits}
+use Rattle.listing.specs.Listing.{Test, same, other, any, Statement, perform, mark, while, if, Block, done, _⨾_}
+use Rattle.listing.specs.Translation.{skip, test, opposite, exit, steps, lines}
+use Rattle.listing.proofs.Members.{All, all-none, all-one, all-append, all-around}
+
+-- names are numbered as they are met: what fits so far still fits when there are more
+allowed-more : (o : Op) (v w : ℕ) → v ≤ w → Allowed v o → Allowed w o
+allowed-more (equal a b) v w i (f, g) = (omega arith, omega arith)
+allowed-more (different a b) v w i (f, g) = (omega arith, omega arith)
+allowed-more (assign a b) v w i (e, f, g) = (e, omega arith, omega arith)
+allowed-more (load a b) v w i (e, d, f, g) = (e, d, omega arith, omega arith)
+allowed-more (store a b) v w i (e, f, g) = (e, omega arith, omega arith)
+allowed-more (new a) v w i (e, f) = (e, omega arith)
+allowed-more (delete a) v w i (e, f) = (e, omega arith)
+
+mutual
+  pub fits-more-one : (s : Statement) (v w : ℕ) → v ≤ w → FitsOne s v → FitsOne s w
+  fits-more-one (perform o) v w i f = allowed-more o v w i f
+  fits-more-one (mark k) v w i f = tt
+  fits-more-one (while t b) v w i f = (allowed-more (test t) v w i (f .0), fits-more b v w i (f .1))
+  fits-more-one (if t b) v w i f = (allowed-more (test t) v w i (f .0), fits-more b v w i (f .1))
+
+  pub fits-more : (b : Block) (v w : ℕ) → v ≤ w → Fits b v → Fits b w
+  fits-more done v w i f = tt
+  fits-more (s ⨾ b) v w i f = (fits-more-one s v w i (f .0), fits-more b v w i (f .1))
+
+opposite-allowed : (t : Test) (v : ℕ) → Allowed v (test t) → Allowed v (opposite t)
+opposite-allowed (same a b) v f = f
+opposite-allowed (other a b) v f = f
+opposite-allowed any v f = f
+
+skip-allowed : (v : ℕ) → Allowed v skip
+skip-allowed v = (omega arith, omega arith)
+
+-- then it allows every transition's operation
+abbrev pub Fine : ℕ → Transition → Type 0
+Fine v t = Allowed v (t .op)
+
+mutual
+  fine : (s : Statement) (v p n : ℕ) → FitsOne s v → All (Fine v) (steps s p n)
+  fine (perform o) v p n f = all-one (Fine v) f
+  fine (mark k) v p n f = all-one (Fine v) (skip-allowed v)
+  fine (while t b) v p n f =
+      all-around (Fine v) (lines b n (suc n)) (f .0) (fineIn b v n (suc n) (f .1)) (skip-allowed v) (opposite-allowed t v (f .0))
+  fine (if t b) v p n f =
+      all-around (Fine v) (lines b n (suc n)) (f .0) (fineIn b v n (suc n) (f .1)) (skip-allowed v) (opposite-allowed t v (f .0))
+
+  pub fineIn : (b : Block) (v p n : ℕ) → Fits b v → All (Fine v) (lines b p n)
+  fineIn done v p n f = all-none (Fine v)
+  fineIn (s ⨾ b) v p n f = all-append (Fine v) (steps s p n) (fine s v p n (f .0)) (fineIn b v (exit s n) (suc (exit s n)) (f .1))

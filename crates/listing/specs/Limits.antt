@@ -1,0 +1,49 @@
+-- Listings within the limits: "at most 16 `while` and `if` open at once", 8 names, 64 states; names as first met, each mark once. Their texts are
+-- those that are read as listings.
+use mathlib.Core.List.{[]}
+use mathlib.Core.Path.{_≡_}
+use Prim.Native.Nat.{ℕ, suc, _≤_, max}
+use lib.ListN.{length}
+use Rattle.lists.specs.List.{_∈_}
+use Rattle.lists.proofs.List.{Distinct}
+use Rattle.run.proofs.Operands.{Allowed}
+use Rattle.format.specs.JobBytes.{Between}
+use Rattle.listing.specs.Listing.{Statement, perform, mark, while, if, Block, done, _⨾_, marksIn}
+use Rattle.listing.specs.Names.{letterIn, blockBy}
+use Rattle.listing.specs.Reading.{meetLines, Listing}
+use Rattle.listing.specs.Text.{linesIn}
+use Rattle.listing.specs.Translation.{test, statesOf}
+
+-- the table of kinds allows every operation and every test where there are v variables
+abbrev mutual
+  pub FitsOne : Statement → ℕ → Type 0
+  FitsOne (perform o) v = Allowed v o
+  FitsOne (mark k) v = Unit {0}
+  FitsOne (while t b) v = Allowed v (test t) × Fits b v
+  FitsOne (if t b) v = Allowed v (test t) × Fits b v
+
+  pub Fits : Block → ℕ → Type 0
+  Fits done v = Unit {0}
+  Fits (s ⨾ b) v = FitsOne s v × Fits b v
+
+-- how many `while` and `if` are open at once
+abbrev mutual
+  pub depthOf : Statement → ℕ
+  depthOf (perform o) = 0
+  depthOf (mark k) = 0
+  depthOf (while t b) = suc (depthIn b)
+  depthOf (if t b) = suc (depthIn b)
+
+  pub depthIn : Block → ℕ
+  depthIn done = 0
+  depthIn (s ⨾ b) = max (depthOf s) (depthIn b)
+
+pub record WithinLimits (l : Listing) : Type 0 where
+  pub letters : (x : ℕ) → x ∈ l .names → Between 1 26 x
+  pub first-met : l .names ≡ meetLines [] (linesIn (blockBy (letterIn (l .names)) (l .statements)))
+  pub names : length (l .names) ≤ 8
+  pub operands : Fits (l .statements) (length (l .names))
+  pub states : statesOf (l .statements) ≤ 64
+  pub depth : depthIn (l .statements) ≤ 16
+  pub once : Distinct (marksIn (l .statements))
+  pub marks : (k : ℕ) → k ∈ marksIn (l .statements) → k ≤ 63

@@ -1,0 +1,5 @@
+pub mod Copying
+pub mod Naming
+pub mod Cutting
+pub mod Emitting
+pub mod Stepping

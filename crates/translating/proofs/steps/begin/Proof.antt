@@ -1,0 +1,82 @@
+use mathlib.Core.Path.{refl, subst}
+use native.Mathlib.Numerals.{add-one}
+use native.Mathlib.Omega.{arith}
+use Rattle.translating.specs.Reading.{MarkIn}
+use borrow.Author.Needs.{needs}
+use Rattle.translating.proofs.steps.begin.Statement.{statement}
+use Rattle.translating.proofs.steps.begin.Tie as tie
+
+enum-known-line : tie.Need-enum-known-line
+enum-known-line c = search needs
+
+perform-requires : tie.Need-perform-requires
+perform-requires c κs = search needs
+
+enum-known-line-2 : tie.Need-enum-known-line-2
+enum-known-line-2 c = search needs
+
+open-block-requires : tie.Need-open-block-requires
+open-block-requires c κs = search needs
+
+enum-known-line-3 : tie.Need-enum-known-line-3
+enum-known-line-3 c = search needs
+
+open-block-requires-2 : tie.Need-open-block-requires-2
+open-block-requires-2 c κs = search needs
+
+enum-told : tie.Need-enum-told
+enum-told c = search needs
+
+enum-known-line-4 : tie.Need-enum-known-line-4
+enum-known-line-4 c = search needs
+
+mark-requires : tie.Need-mark-requires
+mark-requires c κs = 
+    let pre = c .before .before .before .before .before .pre in
+    (subst MarkIn (c .before .before .before .line4 .given .1) (pre .0), pre .1 .job, pre .1 .states, pre .1 .passed, pre .1 .count, pre .1 .met)
+
+enum-told-2 : tie.Need-enum-told-2
+enum-told-2 c = search needs
+
+add-t21 : tie.Need-add-t21
+add-t21 c = search needs
+
+returns : tie.Need-returns
+returns c = let a = c .before .before .before .before .before .before .args in rw (c .before .before .before .before .line .given .1) (c .perform .ensures (a .depth) (a .states .now) (c .before .before .before .before .before .before .pre .1 .states))
+
+returns-2 : tie.Need-returns-2
+returns-2 c = let a = c .before .before .before .before .before .before .args in rw (c .before .before .before .before .line2 .given .1) (c .open-block .ensures (a .states .now) (c .before .before .before .before .before .before .pre .1 .states))
+
+returns-3 : tie.Need-returns-3
+returns-3 c = let a = c .before .before .before .before .before .before .args in rw (c .before .before .before .before .line3 .given .1) (c .open-block2 .ensures (a .states .now) (c .before .before .before .before .before .before .pre .1 .states))
+
+returns-4 : tie.Need-returns-4
+returns-4 c = (c .enum-told .given .1, refl)
+
+returns-5 : tie.Need-returns-5
+returns-5 c = let a = c .before .before .before .before .before .before .args in rw (c .before .before .before .before .line4 .given .1) (c .mark .ensures (a .depth) (a .letters .now) (c .before .before .before .before .before .before .pre .1 .letters))
+
+returns-6 : tie.Need-returns-6
+returns-6 c = λ os e. rw (c .before .enum-told2 .given .1, add-one (c .before .before .before .args .p .passed)) refl
+
+pub begin-spec : {M : Type 1} → statement M
+begin-spec =
+    tie.close
+    (tie.spec
+    enum-known-line
+    perform-requires
+    enum-known-line-2
+    open-block-requires
+    enum-known-line-3
+    open-block-requires-2
+    enum-told
+    enum-known-line-4
+    mark-requires
+    enum-told-2
+    add-t21
+    returns
+    returns-2
+    returns-3
+    returns-4
+    returns-5
+    returns-6)

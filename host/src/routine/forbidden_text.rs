@@ -1,0 +1,64 @@
+//! What a line forbids: one shape, or a ready set of them.
+
+use super::mistake::Mistake;
+use super::names::Names;
+use super::words::Words;
+use super::{ready, sets, shape_text};
+use crate::reference::shape::Shape;
+use crate::text::nearest;
+
+/// The ready sets of [`sets`] that are of variables at a state.
+const SETS: [&str; 5] = ["no list", "lost block", "ring", "no ring", "shared"];
+
+/// The shapes that the words forbid.
+pub fn shapes(words: Words, variables: &Names) -> Result<Vec<Shape>, Mistake> {
+    match words.split_at_first(":") {
+        Some((set, names)) => ready_set(set, names, variables),
+        None if words.is_empty() => {
+            let what = "expected a shape, as `x at #`, or a ready set, as `no list: x`";
+            Err(Mistake::at(words.peek(), what))
+        }
+        None => Ok(vec![shape_text::shape(words, variables)?]),
+    }
+}
+
+/// The shapes of a ready set of the variables that are named.
+fn ready_set(mut set: Words, mut names: Words, variables: &Names) -> Result<Vec<Shape>, Mistake> {
+    let first = set.peek();
+    let mut words = Vec::new();
+    while !set.is_empty() {
+        words.push(set.take().text);
+    }
+    let mut from = Vec::new();
+    while !names.is_empty() {
+        let word = names.take();
+        from.push(1 + variables.find(word, word.text, "")?);
+    }
+    let set = words.join(" ");
+    let variables = variables.all.len();
+    match (&set[..], &from[..]) {
+        ("no list", &[x]) => Ok(ready::not_list(variables, x)),
+        ("ring", &[x]) => Ok(sets::ring(variables, x)),
+        ("no ring", &[x]) => Ok(sets::no_ring(variables, x)),
+        ("shared", &[x, y]) => Ok(sets::shared(variables, x, y)),
+        ("lost block", [_, ..]) => Ok(sets::lost_block(variables, &from)),
+        (known, _) if SETS.contains(&known) => {
+            let what = match known {
+                "shared" => "expected two variables",
+                "lost block" => "expected one or more variables",
+                _ => "expected one variable",
+            };
+            Err(Mistake::at(names.peek(), what))
+        }
+        (other, _) => {
+            let what = match nearest(other, SETS)[..] {
+                [near, ..] => format!("did you mean `{near}`?"),
+                [] => format!("expected a ready set, one of {}", SETS.join(", ")),
+            };
+            Err(Mistake {
+                word: set,
+                ..Mistake::at(first, what)
+            })
+        }
+    }
+}
