@@ -12,7 +12,7 @@ use lib.ListN.{length, getD, drop, drop-of-length-le}
 use Rattle.lists.specs.List.{absent}
 use Rattle.lists.proofs.Test.{and-left, and-right}
 use Rattle.kinds.specs.Kinds.{mostB, allowed}
-use Rattle.lists.proofs.List.{end, _&_}
+use Rattle.lists.proofs.List.{end as no-row, _&_}
 use Rattle.heap.proofs.Rows.{by-kind}
 use Rattle.lines.specs.Words.{null, any, end, while, if, mark, equals, differs, gets, next, nextGets, new, delete, close, starts, isWord}
 use Rattle.lines.specs.Line.{operandText, operationText, decimal, lineText, isOperation, isTest, isLine, letterOf, operandOf, checked, enclosedOf, secondOf, betweenOf, operationOf, opens, opensLine, testOf, digitOf, markFor, markOf, lineOf}
@@ -247,7 +247,7 @@ operation-clear o h = by-zero (o .kind) h
         & operand-clear (o .a) (nextGets ++ operandText (o .b)) (operand-only (o .b))
         & operand-clear (o .a) close refl
         & operand-clear (o .a) close refl
-        & end)
+        & no-row)
         (suc k) (omega arith) h
 
 test-kind : (t : Operation) → isTest t ≡ true → t .kind ≤ 7

@@ -12,7 +12,7 @@ use lib.ListN.{length, getD, drop}
 use lib.Seq.{drop-append-seam}
 use Rattle.lists.proofs.Test.{and-left, and-right}
 use Rattle.kinds.specs.Kinds.{leastA, leastB, mostB, allowed}
-use Rattle.lists.proofs.List.{end, _&_}
+use Rattle.lists.proofs.List.{end as no-row, _&_}
 use Rattle.heap.proofs.Rows.{by-kind}
 use Rattle.kinds.proofs.Rows.{known, allowed-row, most-bound}
 use Rattle.lines.specs.Words.{null, any, end, while, if, mark, equals, differs, gets, next, nextGets, new, delete, close, starts, isWord}
@@ -184,7 +184,7 @@ operation-reads o ok =
     & (λ h ok. first-reads a (nextGets ++ operandText b) (h .a-most) (point-apart _) ∙ between-next a (operandText b) ∙ second-last 5 a b (h .b-letter) ∙ checked-reads 5 a b ok)
     & (λ h ok. let z = no-b 6 a b refl h in operation-new (operandText a ++ close) ∙ enclosed-reads 6 a (h .a-most) ∙ ap (checked 6 a) (sym z) ∙ checked-reads 6 a b ok)
     & (λ h ok. let z = no-b 7 a b refl h in operation-delete (operandText a ++ close) ∙ enclosed-reads 7 a (h .a-most) ∙ ap (checked 7 a) (sym z) ∙ checked-reads 7 a b ok)
-    & end)
+    & no-row)
     (o .kind) (all .kind-some) (all .kind-most) all ok
 
 -- ---- lines
@@ -225,7 +225,7 @@ operation-line o ok =
     & plain-line a (nextGets ++ operandText b) (point-apart _)
     & new-line (operandText a ++ close)
     & delete-line (operandText a ++ close)
-    & end)
+    & no-row)
     (o .kind) (all .kind-some) (all .kind-most)
     ∙ operation-reads o ok
 
