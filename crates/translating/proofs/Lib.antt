@@ -3,3 +3,4 @@ pub mod Naming
 pub mod Cutting
 pub mod Emitting
 pub mod Stepping
+pub mod Nesting
