@@ -1,5 +1,5 @@
 -- Numbers that are read from bytes begin with those of a job ahead of B, if the bytes do, and these tell the transitions.
-use mathlib.Core.Bool.{cond}
+use mathlib.Core.Bool.{true, cond}
 use mathlib.Core.List.{List, [], _∷_, _++_, append-assoc}
 use mathlib.Core.Path.{_≡_, refl, sym, ap, ap₂, _∙_}
 use Prim.Native.Nat.{ℕ, zero, suc, _+_, _≤_, _<_}
@@ -37,7 +37,8 @@ unfolding decodeFrom
 begins-at [] turns at s rest ms h e d = (ms, refl)
 begins-at (n ∷ ns) zero at s rest ms h e d =
     let inside : at < length s = omega (arith, sym (length-drop at s) ∙ ap length e) in
-    let w : _≡_ {A = Listed} (refused at) (numbers ms) = ap (λ b. cond b (refused at) (numbers [])) (sym (is-true (ltb at (length s)) (r-lt at (length s) .tests inside))) ∙ d in
+    let more : ltb at (length s) ≡ true = is-true (ltb at (length s)) (r-lt at (length s) .tests inside) in
+    let w : _≡_ {A = Listed} (refused at) (numbers ms) = ap (λ b. cond b (refused at) (numbers [])) (sym more) ∙ d in
     absurd (let q : _≡_ {A = ℕ} 0 1 = cc in omega arith)
 begins-at (n ∷ ns) (suc turns) at s rest ms h e d =
     let inside : at < length s = omega (arith, sym (length-drop at s) ∙ ap length e) in

@@ -195,7 +195,8 @@ module _ (names : List ℕ) (d : Distinct names) (a : Letters names) where
   mutual
     spelled-statement : (s : Statement) → FitsOne s (length names) → All (λ k. k ≤ 63) (markOf s)
         → All Inside (linesFor (statementBy (letterIn names) s)) × All Proper (linesFor (statementBy (letterIn names) s))
-    spelled-statement (perform o) f m = ((λ e. let q : _≡_ {A = ℕ} 0 1 = cc in omega arith, tt), (is-operation (opBy (letterIn names) o) (spelled-op o f), tt))
+    spelled-statement (perform o) f m =
+        ((λ e. let q : _≡_ {A = ℕ} 0 1 = cc in omega arith, tt), (is-operation (opBy (letterIn names) o) (spelled-op o f), tt))
     spelled-statement (mark k) f m = ((λ e. let q : _≡_ {A = ℕ} 0 1 = cc in omega arith, tt), (m .0, tt))
     spelled-statement (while t b) f m =
         let (x, y) = spelled-block b (f .1) m in

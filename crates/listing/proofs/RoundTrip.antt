@@ -66,7 +66,8 @@ module _ (l : Listing) (ok : WithinLimits l) where
   same-listing =
       let named : (names : List ℕ) → names ≡ l .names → blockBy (numberIn names) (firstBlock (blocks ls)) ≡ l .statements =
       λ names e.
-      ap₂ (λ x y. blockBy (numberIn x) (firstBlock y)) e (blocks-lines block) ∙ block-number-letter (l .names) distinct (ok .letters) (l .statements) (ok .operands) in
+      ap₂ (λ x y. blockBy (numberIn x) (firstBlock y)) e (blocks-lines block)
+      ∙ block-number-letter (l .names) distinct (ok .letters) (l .statements) (ok .operands) in
       λ i. record { names = sym (ok .first-met) i; statements = named (meetLines [] ls) (sym (ok .first-met)) i }
 
   pub reads-written : read (write l) ≡ listed l
