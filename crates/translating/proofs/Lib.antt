@@ -4,3 +4,4 @@ pub mod Cutting
 pub mod Emitting
 pub mod Stepping
 pub mod Nesting
+pub mod Answering
