@@ -121,18 +121,18 @@ marks-once (Mark k ∷ ls) s (c, f) =
 -- ---- statements
 
 -- the lines of several blocks, an `end` ahead of each but the first
-abbrev pub afterEnds : List Block → List Line
+abbrev afterEnds : List Block → List Line
 afterEnds [] = []
 afterEnds (b ∷ bs) = End ∷ (linesIn b ++ afterEnds bs)
 
-abbrev pub linesOfAll : List Block → List Line
+abbrev linesOfAll : List Block → List Line
 linesOfAll [] = []
 linesOfAll (b ∷ bs) = linesIn b ++ afterEnds bs
 
 -- the lines are those of one block more than are open
-pub record Are (ls : List Line) (depth : ℕ) (bs : List Block) : Type 0 where
-  pub number : length bs ≡ suc depth
-  pub written : ls ≡ linesOfAll bs
+record Are (ls : List Line) (depth : ℕ) (bs : List Block) : Type 0 where
+  number : length bs ≡ suc depth
+  written : ls ≡ linesOfAll bs
 
 are-ahead : (l : Line) (s : Statement) (ls : List Line) (depth : ℕ) (bs : List Block) → linesFor s ≡ l ∷ [] → Are ls depth bs
     → Are (l ∷ ls) depth (ahead s bs)
@@ -164,7 +164,7 @@ are-end : (ls : List Line) (depth : ℕ) (bs : List Block) → Are ls depth bs �
 are-end ls depth [] a = absurd (let z = a .number in omega arith)
 are-end ls depth (b ∷ bs) a = record { number = ap suc (a .number); written = ap (λ x. End ∷ x) (a .written) }
 
-pub are-blocks : (ls : List Line) → All Proper ls → (s : Seen) → Faultless ls s → Are ls (s .depth) (blocks ls)
+are-blocks : (ls : List Line) → All Proper ls → (s : Seen) → Faultless ls s → Are ls (s .depth) (blocks ls)
 unfolding blocks
 are-blocks [] p s f = record { number = omega arith; written = refl }
 are-blocks (Perform o ∷ ls) p s (c, f) =

@@ -136,7 +136,7 @@ index-at (y ∷ names) (suc j) d h =
     ap (λ b. cond b 0 (suc (indexOf x names))) n ∙ ap suc (index-at names j (d .1) (omega arith))
 
 module _ (names : List ℕ) (d : Distinct names) (a : Letters names) where
-  pub number-letter : (i : ℕ) → i ≤ length names → numberIn names (letterIn names i) ≡ i
+  number-letter : (i : ℕ) → i ≤ length names → numberIn names (letterIn names i) ≡ i
   number-letter zero h = refl
   number-letter (suc j) h = go (getD names j 0) (a (getD names j 0) (getD-mem names j (omega arith)) .0) (index-at names j d (omega arith))
     where

@@ -49,7 +49,7 @@ module _ (l : Listing) (ok : WithinLimits l) where
   abbrev variables : ℕ
   variables = variablesFor (l .names)
 
-  pub transitions-in-range : (t : Transition) → t ∈ transitionsOf (l .statements) → TransitionInRange variables (statesOf (l .statements)) t
+  transitions-in-range : (t : Transition) → t ∈ transitionsOf (l .statements) → TransitionInRange variables (statesOf (l .statements)) t
   transitions-in-range t m =
       let (a, b) = states-below (l .statements) t m in
       record { from = a; op = named variables (t .op) (fineIn (l .statements) variables 0 1 (fits-variables l ok) t m); to = b }
@@ -129,7 +129,7 @@ set-at (m ∷ ms) l i d b =
         ∙ getD-set-same l (m .number) (m .state) 64 (b (m .number) (List·Memᴰ·head refl))
     go (no n) = ap (or-else (stateOf ms i)) (getD-set-other l (m .number) i (m .state) 64 (λ e. n (sym e)))
 
-pub marks-set : (l : Listing) → WithinLimits l → setAll (marksOf (l .statements)) (replicate 64 64) ≡ markStates l
+marks-set : (l : Listing) → WithinLimits l → setAll (marksOf (l .statements)) (replicate 64 64) ≡ markStates l
 marks-set l ok =
     let ms = marksOf (l .statements) in
     let which : numbers ms ≡ marksIn (l .statements) = numbers-in (l .statements) 0 1 in

@@ -16,7 +16,7 @@ use Rattle.lines.specs.declared.Line.{Line}
 use Rattle.lines.specs.declared.Line.the-variants.{Perform, While, If, End, Mark, Other}
 use Rattle.listing.specs.LineByLine.{Open, Position, Outcome, reached, refused, numbered, limited, onward, lastly, goOn}
 use Rattle.listing.specs.Names.{meetLine}
-use Rattle.listing.specs.Reading.{Seen, marksAfter, isTooDeep, isTooMuch, Fault, fault, firstFault, meetLines}
+use Rattle.listing.specs.Reading.{Seen, marksMet, isTooDeep, isTooMuch, Fault, fault, firstFault, meetLines}
 use Rattle.listing.proofs.Emitted.{Emitted, emit, emitAll}
 use Rattle.listing.proofs.Lines.{Proper}
 
@@ -85,7 +85,7 @@ module _ (ls : List Line) (e : Emitted) (names ks : List ℕ) (l : Line) (d : Em
   then = position (meetLine names l) d
 
   abbrev seen-then : Seen
-  seen-then = seenAt d (meetLine names l) (marksAfter l ks)
+  seen-then = seenAt d (meetLine names l) (marksMet l ks)
 
   abbrev final : Position
   final = position (meetLines (meetLine names l) ls) (emitAll (numberedAll (meetLine names l) ls) d)
@@ -97,7 +97,7 @@ module _ (ls : List Line) (e : Emitted) (names ks : List ℕ) (l : Line) (d : Em
   abbrev from-18 : Option Fault
   from-18 = cond (isTooDeep seen-then) (some (fault 18 here)) from-19
 
-  limits : (d .passed ≤ 63 → Agrees ls d (meetLine names l) (marksAfter l ks)) → onward (limited then) (goOn ls) ≡ told from-19 final
+  limits : (d .passed ≤ 63 → Agrees ls d (meetLine names l) (marksMet l ks)) → onward (limited then) (goOn ls) ≡ told from-19 final
   limits left =
       ap (λ (n : ℕ). onward (cond (isTooMuch seen-then) (refused 19 n) (reached then)) (goOn ls)) one
       ∙ go (ltb 8 (length (meetLine names l))) (ltb 64 (suc (d .passed))) (r-lt 64 (suc (d .passed)) .tests)
@@ -110,7 +110,7 @@ module _ (ls : List Line) (e : Emitted) (names ks : List ℕ) (l : Line) (d : Em
       go false false t = let n : ¬ (64 < suc (d .passed)) = t in left (omega arith)
 
   -- where no more than 16 are open then
-  within : length (d .opens) ≤ 16 → (d .passed ≤ 63 → Agrees ls d (meetLine names l) (marksAfter l ks))
+  within : length (d .opens) ≤ 16 → (d .passed ≤ 63 → Agrees ls d (meetLine names l) (marksMet l ks))
       → onward (limited then) (goOn ls) ≡ told from-18 final
   within shallow left =
       limits left
@@ -119,7 +119,7 @@ module _ (ls : List Line) (e : Emitted) (names ks : List ℕ) (l : Line) (d : Em
 
   -- where the line opens one more
   opening : length (d .opens) ≡ suc (length (e .opens))
-      → (length (d .opens) ≤ 16 → d .passed ≤ 63 → Agrees ls d (meetLine names l) (marksAfter l ks))
+      → (length (d .opens) ≤ 16 → d .passed ≤ 63 → Agrees ls d (meetLine names l) (marksMet l ks))
       → onward (cond (leb 16 (length (e .opens))) (refused 18 here) (limited then)) (goOn ls) ≡ told from-18 final
   opening more left = go (leb 16 (length (e .opens))) (r-le 16 (length (e .opens)) .holds) (r-le 16 (length (e .opens)) .tests)
     where
