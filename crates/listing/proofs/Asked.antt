@@ -31,7 +31,8 @@ asked-inside job f set room with-set i e = by-fits (fits job) e
     by-read (parsed g next) d w =
         let same = one-job job g f (read-is job g next d) i in
         let bytes = encode (jobNumbers (withSet set g)) in
-        let t = by-tests (isInside set (g .job .variables) (g .states)) (ltb 64 (length (withSet set g .job .forbidden))) (ltb room (length bytes)) (length bytes) bytes w in
+        let many = ltb 64 (length (withSet set g .job .forbidden)) in
+        let t = by-tests (isInside set (g .job .variables) (g .states)) many (ltb room (length bytes)) (length bytes) bytes w in
         subst (λ (k : JobFile). isInside set (k .job .variables) (k .states) ≡ true) same t
     by-read (fault number place) d w = absurd (let q : _≡_ {A = ℕ} 0 1 = cc in omega arith)
 

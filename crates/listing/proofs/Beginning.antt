@@ -1,14 +1,14 @@
 -- Numbers that are read from bytes begin with those of a job ahead of B, if the bytes do, and these tell the transitions.
-use mathlib.Core.Bool.{cond}
+use mathlib.Core.Bool.{Bool, true, false, cond}
 use mathlib.Core.List.{List, [], _∷_, _++_, append-assoc}
 use mathlib.Core.Path.{_≡_, refl, sym, ap, ap₂, _∙_}
 use Prim.Native.Nat.{ℕ, zero, suc, _+_, _≤_, _<_}
 use native.Mathlib.Omega.{arith}
-use lib.Dec.{ltb}
+use lib.Dec.{ltb, T}
 use lib.ListN.{length, length-drop, drop}
 use lib.Seq.{drop-drop}
 use Rattle.lists.specs.List.{concatMap}
-use Rattle.lists.proofs.Reflect.{r-lt, is-true}
+use Rattle.lists.proofs.Reflect.{r-lt}
 use Rattle.number.specs.Number.{bytesOf, numberAt}
 use Rattle.number.specs.NumberList.{Listed, numbers, refused, before, followed, decodeFrom}
 use Rattle.number.specs.Range.{AtMost}
@@ -31,14 +31,18 @@ one-byte s at n xs h e =
     let b : bytesOf n ≡ n ∷ [] = one n (omega arith) in
     reads s at n xs (omega arith) (e ∙ ap (λ l. l ++ xs) (sym b)) ∙ ap (λ (l : List ℕ). Number n (at + length l)) b
 
+-- without a turn nothing is read of bytes that are left
+no-turn : (at : ℕ) (ms : List ℕ) (b : Bool) → T b → cond b (refused at) (numbers []) ≡ numbers ms → ⊥
+no-turn at ms true t e = let q : _≡_ {A = ℕ} 0 1 = cc in omega arith
+no-turn at ms false t e = absurd t
+
 pub begins-at : (ns : List ℕ) (turns at : ℕ) (s rest ms : List ℕ) → AtMost 127 ns → drop at s ≡ ns ++ rest → decodeFrom turns s at ≡ numbers ms
     → (more : List ℕ) × (ms ≡ ns ++ more)
 unfolding decodeFrom
 begins-at [] turns at s rest ms h e d = (ms, refl)
 begins-at (n ∷ ns) zero at s rest ms h e d =
     let inside : at < length s = omega (arith, sym (length-drop at s) ∙ ap length e) in
-    let w : _≡_ {A = Listed} (refused at) (numbers ms) = ap (λ b. cond b (refused at) (numbers [])) (sym (is-true (ltb at (length s)) (r-lt at (length s) .tests inside))) ∙ d in
-    absurd (let q : _≡_ {A = ℕ} 0 1 = cc in omega arith)
+    absurd (no-turn at ms (ltb at (length s)) (r-lt at (length s) .tests inside) d)
 begins-at (n ∷ ns) (suc turns) at s rest ms h e d =
     let inside : at < length s = omega (arith, sym (length-drop at s) ∙ ap length e) in
     go (decodeFrom turns s (at + 1)) refl

@@ -57,9 +57,11 @@ mutual
   shallow-statement (perform o) rest d h r = (tt, omega arith, r)
   shallow-statement (mark k) rest d h r = (tt, omega arith, r)
   shallow-statement (while t b) rest d h r =
-      (tt, omega arith, subst (λ x. Shallow x (suc d)) (sym (append-assoc (linesIn b) (End ∷ []) rest)) (shallow-block b (End ∷ rest) (suc d) (omega arith) (omega arith, omega arith, r)))
+      let inside = shallow-block b (End ∷ rest) (suc d) (omega arith) (omega arith, omega arith, r) in
+      (tt, omega arith, subst (λ x. Shallow x (suc d)) (sym (append-assoc (linesIn b) (End ∷ []) rest)) inside)
   shallow-statement (if t b) rest d h r =
-      (tt, omega arith, subst (λ x. Shallow x (suc d)) (sym (append-assoc (linesIn b) (End ∷ []) rest)) (shallow-block b (End ∷ rest) (suc d) (omega arith) (omega arith, omega arith, r)))
+      let inside = shallow-block b (End ∷ rest) (suc d) (omega arith) (omega arith, omega arith, r) in
+      (tt, omega arith, subst (λ x. Shallow x (suc d)) (sym (append-assoc (linesIn b) (End ∷ []) rest)) inside)
 
   pub shallow-block : (b : Block) (rest : List Line) (d : ℕ) → d + depthIn b ≤ 16 → Shallow rest d → Shallow (linesIn b ++ rest) d
   shallow-block done rest d h r = r
@@ -135,8 +137,9 @@ later-once Other s ls x = x
 pub from-limits : (ls : List Line) (s : Seen) → Limits ls s → Faultless ls s
 from-limits [] s h = h .shallow
 from-limits (l ∷ ls) s h =
-    let (more, e) = lines-extend (meetLine (s .names) l) ls in
-    let longer : length (meetLines (meetLine (s .names) l) ls) ≡ length (meetLine (s .names) l) + length more = ap length e ∙ length-append (meetLine (s .names) l) more in
+    let met = meetLine (s .names) l in
+    let (more, e) = lines-extend met ls in
+    let longer : length (meetLines met ls) ≡ length met + length more = ap length e ∙ length-append met more in
     let n = h .names in
     let c : Clear l s =
     record {

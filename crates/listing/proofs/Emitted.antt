@@ -36,7 +36,8 @@ closedBy (o ∷ os) e =
       count = suc (suc (e .count));
       transitions =
           e .transitions
-          ++ (arrowNumbers (e .passed) skipNumbers (cond (o .loops) (o .state) (suc (e .passed))) ++ arrowNumbers (o .state) (oppositeNumbers (o .test)) (suc (e .passed)));
+          ++ (arrowNumbers (e .passed) skipNumbers (cond (o .loops) (o .state) (suc (e .passed)))
+          ++ arrowNumbers (o .state) (oppositeNumbers (o .test)) (suc (e .passed)));
       marks = e .marks;
     }
 
@@ -84,7 +85,8 @@ adding os p ts ms e =
 
 -- the parts of two equal ones
 emitted-path : {p : ℕ} {os : List Open} {c d : ℕ} {ts us ms ns : List ℕ} → c ≡ d → ts ≡ us → ms ≡ ns
-    → _≡_ {A = Emitted} (record { passed = p; opens = os; count = c; transitions = ts; marks = ms }) (record { passed = p; opens = os; count = d; transitions = us; marks = ns })
+    → _≡_ {A = Emitted} (record { passed = p; opens = os; count = c; transitions = ts; marks = ms })
+    (record { passed = p; opens = os; count = d; transitions = us; marks = ns })
 emitted-path {p} {os} x y z i = record { passed = p; opens = os; count = x i; transitions = y i; marks = z i }
 
 adding-none : (e : Emitted) → adding (e .opens) (e .passed) [] [] e ≡ e
@@ -159,8 +161,12 @@ module _ (loops : Bool) (t : Test) (b : Block) (rest : List Line) (e : Emitted) 
   abbrev first : List Transition
   first = arrow p (test t) n ∷ []
 
-  abbrev last : List Transition
-  last = arrow q skip (cond loops p (suc q)) ∷ arrow p (opposite t) (suc q) ∷ []
+  -- where the `end` leads to state m
+  abbrev last : ℕ → List Transition
+  last m = arrow q skip (cond loops p m) ∷ arrow p (opposite t) m ∷ []
+
+  abbrev whole : ℕ → Emitted
+  whole m = adding (e .opens) m (first ++ (lines b n (suc n) ++ last m)) (marks b n (suc n)) e
 
   abbrev inner : Emitted
   inner = adding (frame ∷ e .opens) n first [] e
@@ -170,16 +176,16 @@ module _ (loops : Bool) (t : Test) (b : Block) (rest : List Line) (e : Emitted) 
   closing = adding (frame ∷ e .opens) q (lines b n (suc n)) (marks b n (suc n)) inner
 
   enclosing : (l : Line) → emit l e ≡ inner → emitAll (linesIn b ++ (End ∷ rest)) inner ≡ emitAll (End ∷ rest) closing
-      → emitAll (l ∷ ((linesIn b ++ (End ∷ [])) ++ rest)) e
-      ≡ emitAll rest (adding (e .opens) (suc q) (first ++ (lines b n (suc n) ++ last)) (marks b n (suc n)) e)
+      → emitAll (l ∷ ((linesIn b ++ (End ∷ [])) ++ rest)) e ≡ emitAll rest (whole (next b (suc n)))
   enclosing l w inside =
       ap₂ emitAll (append-assoc (linesIn b) (End ∷ []) rest) w
       ∙ inside
       ∙ ap (emitAll rest)
       (closed-adds loops t p (e .opens) closing refl
-      ∙ adding-twice (frame ∷ e .opens) (e .opens) q (suc q) (lines b n (suc n)) last (marks b n (suc n)) [] inner
-      ∙ adding-twice (frame ∷ e .opens) (e .opens) n (suc q) first (lines b n (suc n) ++ last) [] (marks b n (suc n) ++ []) e
-      ∙ ap (λ ms. adding (e .opens) (suc q) (first ++ (lines b n (suc n) ++ last)) ms e) (append-nil (marks b n (suc n))))
+      ∙ adding-twice (frame ∷ e .opens) (e .opens) q (suc q) (lines b n (suc n)) (last (suc q)) (marks b n (suc n)) [] inner
+      ∙ adding-twice (frame ∷ e .opens) (e .opens) n (suc q) first (lines b n (suc n) ++ last (suc q)) [] (marks b n (suc n) ++ []) e
+      ∙ ap (λ ms. adding (e .opens) (suc q) (first ++ (lines b n (suc n) ++ last (suc q))) ms e) (append-nil (marks b n (suc n)))
+      ∙ ap whole (end-next b n))
 
 mutual
   emit-statement : (s : Statement) (rest : List Line) (e : Emitted)
@@ -190,21 +196,18 @@ mutual
   emit-statement (mark k) rest e =
       ap (emitAll rest) (led-adds (e .opens) skipNumbers skip (record { number = k; state = e .passed } ∷ []) e refl)
   emit-statement (while t b) rest e =
-      let q = end b (suc (e .passed)) (suc (suc (e .passed))) in
       enclosing true t b rest e (While (operationForTest t))
       (led-adds (frame true t b rest e ∷ e .opens) (testNumbers (operationForTest t)) (test t) [] e (test-numbers t (e .passed) (suc (e .passed))))
       (emit-block b (End ∷ rest) (inner true t b rest e))
-      ∙ ap (λ m. emitAll rest (adding (e .opens) m (arrow (e .passed) (test t) (suc (e .passed)) ∷ (lines b (suc (e .passed)) (suc (suc (e .passed))) ++ (arrow q skip (e .passed) ∷ arrow (e .passed) (opposite t) m ∷ []))) (marks b (suc (e .passed)) (suc (suc (e .passed)))) e)) (end-next b (suc (e .passed)))
   emit-statement (if t b) rest e =
-      let q = end b (suc (e .passed)) (suc (suc (e .passed))) in
       enclosing false t b rest e (If (operationForTest t))
       (led-adds (frame false t b rest e ∷ e .opens) (testNumbers (operationForTest t)) (test t) [] e (test-numbers t (e .passed) (suc (e .passed))))
       (emit-block b (End ∷ rest) (inner false t b rest e))
-      ∙ ap (λ m. emitAll rest (adding (e .opens) m (arrow (e .passed) (test t) (suc (e .passed)) ∷ (lines b (suc (e .passed)) (suc (suc (e .passed))) ++ (arrow q skip m ∷ arrow (e .passed) (opposite t) m ∷ []))) (marks b (suc (e .passed)) (suc (suc (e .passed)))) e)) (end-next b (suc (e .passed)))
 
   pub emit-block : (b : Block) (rest : List Line) (e : Emitted)
       → emitAll (linesIn b ++ rest) e
-      ≡ emitAll rest (adding (e .opens) (end b (e .passed) (suc (e .passed))) (lines b (e .passed) (suc (e .passed))) (marks b (e .passed) (suc (e .passed))) e)
+      ≡ emitAll rest
+      (adding (e .opens) (end b (e .passed) (suc (e .passed))) (lines b (e .passed) (suc (e .passed))) (marks b (e .passed) (suc (e .passed))) e)
   emit-block done rest e = ap (emitAll rest) (sym (adding-none e))
   emit-block (s ⨾ b) rest e =
       let p = e .passed in

@@ -43,7 +43,8 @@ module _ (l : Listing) (ok : WithinLimits l) where
     where
       go : Dec (k < 64) → getD (markStates l) k 64 ≡ orNone (stateOf (marksOf (l .statements)) k)
       go (yes b) =
-          getD-from (λ j. orNone (stateOf (marksOf (l .statements)) j)) 64 0 64 k b ∙ ap (λ j. orNone (stateOf (marksOf (l .statements)) j)) (zero-add k)
+          getD-from (λ j. orNone (stateOf (marksOf (l .statements)) j)) 64 0 64 k b
+          ∙ ap (λ j. orNone (stateOf (marksOf (l .statements)) j)) (zero-add k)
       go (no n) =
           let sized : length (markStates l) ≡ 64 = length-from (λ j. orNone (stateOf (marksOf (l .statements)) j)) 0 64 in
           List·getD-eq-default (markStates l) 64 {n = k} (omega arith)

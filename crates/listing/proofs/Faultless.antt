@@ -46,7 +46,9 @@ faultless (l ∷ ls) s e =
   where
     go : (m : Bool) → isMisplaced l s ≡ m → (d : Bool) → (16 < see l s .depth → T d) → (x : Bool) → (8 < length (see l s .names) → T x) → (y : Bool)
         → (64 < suc (see l s .passed) → T y) → (later : Option Fault)
-        → cond m (some (fault 17 (suc (s .passed)))) (cond d (some (fault 18 (suc (s .passed)))) (cond (x || y) (some (fault 19 (suc (s .passed)))) later)) ≡ none
+        → cond m (some (fault 17 (suc (s .passed))))
+        (cond d (some (fault 18 (suc (s .passed)))) (cond (x || y) (some (fault 19 (suc (s .passed)))) later))
+        ≡ none
         → Clear l s × (later ≡ none)
     go true i d j x k y n later w = absurd (let z : _≡_ {A = ℕ} 0 1 = cc in omega arith)
     go false i true j x k y n later w = absurd (let z : _≡_ {A = ℕ} 0 1 = cc in omega arith)
@@ -63,8 +65,10 @@ unfolding firstFault
 no-fault [] s e = ap (λ (d : ℕ). cond (eqb d 0) none (some (fault 17 (suc (s .passed))))) e
 no-fault (l ∷ ls) s (c, more) =
     let d : isTooDeep (see l s) ≡ false = is-false _ (λ t. let w = r-lt 16 (see l s .depth) .holds t in let v = c .shallow in omega arith) in
-    let x : ltb 8 (length (see l s .names)) ≡ false = is-false _ (λ t. let w = r-lt 8 (length (see l s .names)) .holds t in let v = c .names in omega arith) in
-    let y : ltb 64 (suc (see l s .passed)) ≡ false = is-false _ (λ t. let w = r-lt 64 (suc (see l s .passed)) .holds t in let v = c .states in omega arith) in
+    let few = c .names in
+    let x : ltb 8 (length (see l s .names)) ≡ false = is-false _ (λ t. let w = r-lt 8 (length (see l s .names)) .holds t in omega arith) in
+    let small = c .states in
+    let y : ltb 64 (suc (see l s .passed)) ≡ false = is-false _ (λ t. let w = r-lt 64 (suc (see l s .passed)) .holds t in omega arith) in
     λ i.
     cond (c .placed i) (some (fault 17 (suc (s .passed))))
     (cond (d i) (some (fault 18 (suc (s .passed)))) (cond (x i || y i) (some (fault 19 (suc (s .passed)))) (no-fault ls (see l s) more i)))
@@ -109,27 +113,29 @@ marks-once (Mark k ∷ ls) s (c, f) =
     let o = marks-once ls (see (Mark k) s) f in
     record { distinct = (λ m. o .fresh k m (List·Memᴰ·head refl), o .distinct); fresh = either o (r-not (r-absent k (s .marks)) .tests) }
   where
-    either : Once (marksOn ls) (k ∷ s .marks) → ((¬ (¬ (k ∈ s .marks))) → T (isMisplaced (Mark k) s)) → (j : ℕ) → j ∈ (k ∷ marksOn ls) → ¬ (j ∈ s .marks)
+    either : Once (marksOn ls) (k ∷ s .marks) → ((¬ (¬ (k ∈ s .marks))) → T (isMisplaced (Mark k) s)) → (j : ℕ) → j ∈ (k ∷ marksOn ls)
+        → ¬ (j ∈ s .marks)
     either o t j (List·Memᴰ·head e) m = fails _ (c .placed) (t (λ n. n (subst (λ i. i ∈ s .marks) e m)))
     either o t j (List·Memᴰ·tail i) m = o .fresh j i (List·Memᴰ·tail m)
 
 -- ---- statements
 
 -- the lines of several blocks, an `end` ahead of each but the first
-abbrev pub afterEnds : List Block → List Line
+abbrev afterEnds : List Block → List Line
 afterEnds [] = []
 afterEnds (b ∷ bs) = End ∷ (linesIn b ++ afterEnds bs)
 
-abbrev pub linesOfAll : List Block → List Line
+abbrev linesOfAll : List Block → List Line
 linesOfAll [] = []
 linesOfAll (b ∷ bs) = linesIn b ++ afterEnds bs
 
 -- the lines are those of one block more than are open
-pub record Are (ls : List Line) (depth : ℕ) (bs : List Block) : Type 0 where
-  pub number : length bs ≡ suc depth
-  pub written : ls ≡ linesOfAll bs
+record Are (ls : List Line) (depth : ℕ) (bs : List Block) : Type 0 where
+  number : length bs ≡ suc depth
+  written : ls ≡ linesOfAll bs
 
-are-ahead : (l : Line) (s : Statement) (ls : List Line) (depth : ℕ) (bs : List Block) → linesFor s ≡ l ∷ [] → Are ls depth bs → Are (l ∷ ls) depth (ahead s bs)
+are-ahead : (l : Line) (s : Statement) (ls : List Line) (depth : ℕ) (bs : List Block) → linesFor s ≡ l ∷ [] → Are ls depth bs
+    → Are (l ∷ ls) depth (ahead s bs)
 are-ahead l s ls depth [] e a = absurd (let z = a .number in omega arith)
 are-ahead l s ls depth (b ∷ bs) e a =
     record {
@@ -158,7 +164,7 @@ are-end : (ls : List Line) (depth : ℕ) (bs : List Block) → Are ls depth bs �
 are-end ls depth [] a = absurd (let z = a .number in omega arith)
 are-end ls depth (b ∷ bs) a = record { number = ap suc (a .number); written = ap (λ x. End ∷ x) (a .written) }
 
-pub are-blocks : (ls : List Line) → All Proper ls → (s : Seen) → Faultless ls s → Are ls (s .depth) (blocks ls)
+are-blocks : (ls : List Line) → All Proper ls → (s : Seen) → Faultless ls s → Are ls (s .depth) (blocks ls)
 unfolding blocks
 are-blocks [] p s f = record { number = omega arith; written = refl }
 are-blocks (Perform o ∷ ls) p s (c, f) =
@@ -191,7 +197,8 @@ are-statements ls p s z f = one (blocks ls) (are-blocks ls p s f)
 mutual
   unfolding blocks
 
-  blocks-statement : (s : Statement) (rest : List Line) → (b : Block) (bs : List Block) → blocks rest ≡ b ∷ bs → blocks (linesFor s ++ rest) ≡ (s ⨾ b) ∷ bs
+  blocks-statement : (s : Statement) (rest : List Line) (b : Block) (bs : List Block) → blocks rest ≡ b ∷ bs
+      → blocks (linesFor s ++ rest) ≡ (s ⨾ b) ∷ bs
   blocks-statement (perform o) rest b bs e = ap₂ (λ x y. ahead (perform x) y) (op-of-for o) e
   blocks-statement (mark k) rest b bs e = ap (ahead (mark k)) e
   blocks-statement (while t c) rest b bs e =
@@ -203,7 +210,8 @@ mutual
       ∙ ap₂ (λ x y. enclosed (if x) y) (test-of-for t) (blocks-block c (End ∷ rest) done (b ∷ bs) (ap (λ x. done ∷ x) e))
       ∙ ap (λ x. (if t x ⨾ b) ∷ bs) (followed-by-done c)
 
-  blocks-block : (c : Block) (rest : List Line) → (b : Block) (bs : List Block) → blocks rest ≡ b ∷ bs → blocks (linesIn c ++ rest) ≡ (c followed-by b) ∷ bs
+  blocks-block : (c : Block) (rest : List Line) (b : Block) (bs : List Block) → blocks rest ≡ b ∷ bs
+      → blocks (linesIn c ++ rest) ≡ (c followed-by b) ∷ bs
   blocks-block done rest b bs e = e
   blocks-block (s ⨾ c) rest b bs e =
       ap blocks (append-assoc (linesFor s) (linesIn c) rest)

@@ -23,7 +23,8 @@ use Rattle.listing.specs.Text.{operationFor, operationForTest, linesFor,
 use Rattle.listing.specs.Translation.{test}
 use Rattle.listing.proofs.Lines.{Proper, Inside}
 use Rattle.listing.proofs.Operations.{small-op, small-test, is-operation, is-test}
-use Rattle.listing.proofs.Names.{all-left, all-right, all-both, Met, MetIn, MetLine}
+use Rattle.listing.proofs.Lists.{all-left, all-right, all-both}
+use Rattle.listing.proofs.Names.{Met, MetIn, MetLine}
 
 at-index : (x : ℕ) (names : List ℕ) → x ∈ names → getD names (indexOf x names) 0 ≡ x
 at-index x [] m = absurd (List·Memᴰ·not-nil m)
@@ -68,7 +69,8 @@ module _ (names : List ℕ) where
     pub block-back : (b : Block) → All (MetLine names) (linesIn b) → blockBy (letterIn names) (blockBy (numberIn names) b) ≡ b
     block-back done m = refl
     block-back (s ⨾ b) m =
-        ap₂ _⨾_ (statement-back s (all-left (MetLine names) (linesFor s) (linesIn b) m)) (block-back b (all-right (MetLine names) (linesFor s) (linesIn b) m))
+        ap₂ _⨾_ (statement-back s (all-left (MetLine names) (linesFor s) (linesIn b) m))
+        (block-back b (all-right (MetLine names) (linesFor s) (linesIn b) m))
 
 -- ---- the letters of a listing: each once, 1 to 26
 
@@ -129,11 +131,12 @@ index-at [] j d h = absurd (omega arith)
 index-at (y ∷ names) zero d h = ap (λ b. cond b 0 (suc (indexOf y names))) (is-true (eqb y y) (r-eq y y .tests refl))
 index-at (y ∷ names) (suc j) d h =
     let x = getD names j 0 in
-    let n : eqb y x ≡ false = is-false (eqb y x) (λ t. d .0 (subst (λ z. z ∈ names) (sym (r-eq y x .holds t)) (getD-mem names j (omega arith)))) in
+    let there : x ∈ names = getD-mem names j (omega arith) in
+    let n : eqb y x ≡ false = is-false (eqb y x) (λ t. d .0 (subst (λ z. z ∈ names) (sym (r-eq y x .holds t)) there)) in
     ap (λ b. cond b 0 (suc (indexOf x names))) n ∙ ap suc (index-at names j (d .1) (omega arith))
 
 module _ (names : List ℕ) (d : Distinct names) (a : Letters names) where
-  pub number-letter : (i : ℕ) → i ≤ length names → numberIn names (letterIn names i) ≡ i
+  number-letter : (i : ℕ) → i ≤ length names → numberIn names (letterIn names i) ≡ i
   number-letter zero h = refl
   number-letter (suc j) h = go (getD names j 0) (a (getD names j 0) (getD-mem names j (omega arith)) .0) (index-at names j d (omega arith))
     where
@@ -192,7 +195,8 @@ module _ (names : List ℕ) (d : Distinct names) (a : Letters names) where
   mutual
     spelled-statement : (s : Statement) → FitsOne s (length names) → All (λ k. k ≤ 63) (markOf s)
         → All Inside (linesFor (statementBy (letterIn names) s)) × All Proper (linesFor (statementBy (letterIn names) s))
-    spelled-statement (perform o) f m = ((λ e. let q : _≡_ {A = ℕ} 0 1 = cc in omega arith, tt), (is-operation (opBy (letterIn names) o) (spelled-op o f), tt))
+    spelled-statement (perform o) f m =
+        ((λ e. let q : _≡_ {A = ℕ} 0 1 = cc in omega arith, tt), (is-operation (opBy (letterIn names) o) (spelled-op o f), tt))
     spelled-statement (mark k) f m = ((λ e. let q : _≡_ {A = ℕ} 0 1 = cc in omega arith, tt), (m .0, tt))
     spelled-statement (while t b) f m =
         let (x, y) = spelled-block b (f .1) m in

@@ -22,25 +22,10 @@ use Rattle.listing.specs.Names.{meet, meetLine, indexOf, numberIn, varia
 use Rattle.listing.specs.Reading.{meetLines}
 use Rattle.listing.specs.Text.{operationFor, operationForTest, linesFor, linesIn}
 use Rattle.listing.specs.Translation.{test}
+use Rattle.listing.proofs.Lists.{map-append, all-left, all-right}
 use Rattle.listing.proofs.Lines.{Proper}
 use Rattle.listing.proofs.OnePass.{numberedLine, numberedAll}
 use Rattle.listing.proofs.Operations.{op-of-for, good-op}
-
-map-append : {A B : Type 0} (f : A → B) (xs ys : List A) → map f (xs ++ ys) ≡ map f xs ++ map f ys
-map-append f [] ys = refl
-map-append f (x ∷ xs) ys = ap (λ l. f x ∷ l) (map-append f xs ys)
-
-pub all-left : {A : Type 0} (P : A → Type 0) (xs ys : List A) → All P (xs ++ ys) → All P xs
-all-left P [] ys a = tt
-all-left P (x ∷ xs) ys a = (a .0, all-left P xs ys (a .1))
-
-pub all-right : {A : Type 0} (P : A → Type 0) (xs ys : List A) → All P (xs ++ ys) → All P ys
-all-right P [] ys a = a
-all-right P (x ∷ xs) ys a = all-right P xs ys (a .1)
-
-pub all-both : {A : Type 0} (P : A → Type 0) (xs ys : List A) → All P xs → All P ys → All P (xs ++ ys)
-all-both P [] ys a b = b
-all-both P (x ∷ xs) ys a b = (a .0, all-both P xs ys (a .1) b)
 
 -- null, or a letter that is met
 abbrev pub Met : List ℕ → ℕ → Type 0
@@ -201,7 +186,8 @@ module _ (names : List ℕ) where
 index-below : (x : ℕ) (names : List ℕ) → x ∈ names → indexOf x names < length names
 index-below x [] m = absurd (List·Memᴰ·not-nil m)
 index-below x (y ∷ names) (List·Memᴰ·head e) =
-    subst (λ (n : ℕ). n < suc (length names)) (sym (ap (λ b. cond b 0 (suc (indexOf x names))) (is-true (eqb y x) (r-eq y x .tests (sym e))))) (omega arith)
+    let t : eqb y x ≡ true = is-true (eqb y x) (r-eq y x .tests (sym e)) in
+    subst (λ (n : ℕ). n < suc (length names)) (sym (ap (λ b. cond b 0 (suc (indexOf x names))) t)) (omega arith)
 index-below x (y ∷ names) (List·Memᴰ·tail m) = go (eqb y x) (index-below x names m)
   where
     go : (b : Bool) → indexOf x names < length names → cond b 0 (suc (indexOf x names)) < suc (length names)
@@ -232,12 +218,15 @@ module _ (names : List ℕ) where
   test-fits any m = (omega arith, omega arith)
 
   mutual
-    statement-fits : (s : Statement) → All Proper (linesFor s) → All (MetLine names) (linesFor s) → FitsOne (statementBy (numberIn names) s) (length names)
+    statement-fits : (s : Statement) → All Proper (linesFor s) → All (MetLine names) (linesFor s)
+        → FitsOne (statementBy (numberIn names) s) (length names)
     statement-fits (perform o) p m =
         op-fits o (subst (Allowed 26) (op-of-for o) (good-op (operationFor o) (p .0) .letters)) (m .0)
     statement-fits (mark k) p m = tt
-    statement-fits (while t b) p m = (test-fits t (m .0), block-fits b (all-left Proper (linesIn b) (End ∷ []) (p .1)) (all-left (MetLine names) (linesIn b) (End ∷ []) (m .1)))
-    statement-fits (if t b) p m = (test-fits t (m .0), block-fits b (all-left Proper (linesIn b) (End ∷ []) (p .1)) (all-left (MetLine names) (linesIn b) (End ∷ []) (m .1)))
+    statement-fits (while t b) p m =
+        (test-fits t (m .0), block-fits b (all-left Proper (linesIn b) (End ∷ []) (p .1)) (all-left (MetLine names) (linesIn b) (End ∷ []) (m .1)))
+    statement-fits (if t b) p m =
+        (test-fits t (m .0), block-fits b (all-left Proper (linesIn b) (End ∷ []) (p .1)) (all-left (MetLine names) (linesIn b) (End ∷ []) (m .1)))
 
     pub block-fits : (b : Block) → All Proper (linesIn b) → All (MetLine names) (linesIn b) → Fits (blockBy (numberIn names) b) (length names)
     block-fits done p m = tt

@@ -46,13 +46,16 @@ module _ (l : Listing) (ok : WithinLimits l) where
   pub some-states : 1 ≤ statesOf (l .statements)
   some-states = omega (arith, next-lines (l .statements) 1)
 
-  pub transitions-in-range : (t : Transition) → t ∈ transitionsOf (l .statements) → TransitionInRange (variablesFor (l .names)) (statesOf (l .statements)) t
+  abbrev variables : ℕ
+  variables = variablesFor (l .names)
+
+  transitions-in-range : (t : Transition) → t ∈ transitionsOf (l .statements) → TransitionInRange variables (statesOf (l .statements)) t
   transitions-in-range t m =
       let (a, b) = states-below (l .statements) t m in
-      record { from = a; op = named (variablesFor (l .names)) (t .op) (fineIn (l .statements) (variablesFor (l .names)) 0 1 (fits-variables l ok) t m); to = b }
+      record { from = a; op = named variables (t .op) (fineIn (l .statements) variables 0 1 (fits-variables l ok) t m); to = b }
 
   pub in-range : (bads : List Located) → Between 1 64 (length bads)
-      → ((m : Located) → m ∈ bads → LocatedInRange (variablesFor (l .names)) (statesOf (l .statements)) m) → JobInRange (fileOf l bads)
+      → ((m : Located) → m ∈ bads → LocatedInRange variables (statesOf (l .statements)) m) → JobInRange (fileOf l bads)
   in-range bads n each =
       record {
         variables = variables-range (l .names) (ok .names);
@@ -79,7 +82,7 @@ module _ (l : Listing) (ok : WithinLimits l) where
               (
                 omega arith,
                 at-most-all most transitionNumbers (transitionsOf (l .statements))
-                    (λ t i. transition-at-most most (omega arith) (variablesFor (l .names)) (statesOf (l .statements)) t w s (transitions-in-range t i)),
+                    (λ t i. transition-at-most most (omega arith) variables (statesOf (l .statements)) t w s (transitions-in-range t i)),
               ),
             ),
           ),
@@ -114,17 +117,19 @@ set-at : (ms : List MarkState) (l : List ℕ) (i : ℕ) → Distinct (numbers ms
     → getD (setAll ms l) i 64 ≡ or-else (stateOf ms i) (getD l i 64)
 set-at [] l i d b = refl
 set-at (m ∷ ms) l i d b =
-    set-at ms (set l (m .number) (m .state)) i (d .1) (λ k j. subst (λ (n : ℕ). k < n) (sym (length-set l (m .number) (m .state))) (b k (List·Memᴰ·tail j)))
+    set-at ms (set l (m .number) (m .state)) i (d .1)
+    (λ k j. subst (λ (n : ℕ). k < n) (sym (length-set l (m .number) (m .state))) (b k (List·Memᴰ·tail j)))
     ∙ go (ℕ-discrete (m .number) i)
   where
-    go : (e : Dec (m .number ≡ i)) → or-else (stateOf ms i) (getD (set l (m .number) (m .state)) i 64) ≡ or-else (ite e (some (m .state)) (stateOf ms i)) (getD l i 64)
+    go : (e : Dec (m .number ≡ i))
+        → or-else (stateOf ms i) (getD (set l (m .number) (m .state)) i 64) ≡ or-else (ite e (some (m .state)) (stateOf ms i)) (getD l i 64)
     go (yes e) =
         ap (λ s. or-else s (getD (set l (m .number) (m .state)) i 64)) (no-state ms i (subst (λ (k : ℕ). ¬ (k ∈ numbers ms)) e (d .0)))
         ∙ ap (λ (k : ℕ). getD (set l (m .number) (m .state)) k 64) (sym e)
         ∙ getD-set-same l (m .number) (m .state) 64 (b (m .number) (List·Memᴰ·head refl))
     go (no n) = ap (or-else (stateOf ms i)) (getD-set-other l (m .number) i (m .state) 64 (λ e. n (sym e)))
 
-pub marks-set : (l : Listing) → WithinLimits l → setAll (marksOf (l .statements)) (replicate 64 64) ≡ markStates l
+marks-set : (l : Listing) → WithinLimits l → setAll (marksOf (l .statements)) (replicate 64 64) ≡ markStates l
 marks-set l ok =
     let ms = marksOf (l .statements) in
     let which : numbers ms ≡ marksIn (l .statements) = numbers-in (l .statements) 0 1 in

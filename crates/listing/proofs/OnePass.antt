@@ -16,7 +16,7 @@ use Rattle.lines.specs.declared.Line.{Line}
 use Rattle.lines.specs.declared.Line.the-variants.{Perform, While, If, End, Mark, Other}
 use Rattle.listing.specs.LineByLine.{Open, Position, Outcome, reached, refused, numbered, limited, onward, lastly, goOn}
 use Rattle.listing.specs.Names.{meetLine}
-use Rattle.listing.specs.Reading.{Seen, marksAfter, isTooDeep, isTooMuch, Fault, fault, firstFault, meetLines}
+use Rattle.listing.specs.Reading.{Seen, marksMet, isTooDeep, isTooMuch, Fault, fault, firstFault, meetLines}
 use Rattle.listing.proofs.Emitted.{Emitted, emit, emitAll}
 use Rattle.listing.proofs.Lines.{Proper}
 
@@ -72,6 +72,10 @@ abbrev pub Agrees : List Line → Emitted → List ℕ → List ℕ → Type 0
 Agrees ls e names ks =
     goOn ls (position names e) ≡ told (firstFault ls (seenAt e names ks)) (position (meetLines names ls) (emitAll (numberedAll names ls) e))
 
+-- what is to be shown of the lines ls, wherever they stand
+abbrev Left : List Line → Type 0
+Left ls = (d : Emitted) (names ks : List ℕ) → Known d ks → Agrees ls d names ks
+
 -- One line l, from what is left after it: d is what it emits, and `left` what is to be shown of the lines after it.
 module _ (ls : List Line) (e : Emitted) (names ks : List ℕ) (l : Line) (d : Emitted) (one : d .passed ≡ suc (e .passed)) where
   abbrev here : ℕ
@@ -81,7 +85,7 @@ module _ (ls : List Line) (e : Emitted) (names ks : List ℕ) (l : Line) (d : Em
   then = position (meetLine names l) d
 
   abbrev seen-then : Seen
-  seen-then = seenAt d (meetLine names l) (marksAfter l ks)
+  seen-then = seenAt d (meetLine names l) (marksMet l ks)
 
   abbrev final : Position
   final = position (meetLines (meetLine names l) ls) (emitAll (numberedAll (meetLine names l) ls) d)
@@ -93,19 +97,21 @@ module _ (ls : List Line) (e : Emitted) (names ks : List ℕ) (l : Line) (d : Em
   abbrev from-18 : Option Fault
   from-18 = cond (isTooDeep seen-then) (some (fault 18 here)) from-19
 
-  limits : (d .passed ≤ 63 → Agrees ls d (meetLine names l) (marksAfter l ks)) → onward (limited then) (goOn ls) ≡ told from-19 final
+  limits : (d .passed ≤ 63 → Agrees ls d (meetLine names l) (marksMet l ks)) → onward (limited then) (goOn ls) ≡ told from-19 final
   limits left =
       ap (λ (n : ℕ). onward (cond (isTooMuch seen-then) (refused 19 n) (reached then)) (goOn ls)) one
       ∙ go (ltb 8 (length (meetLine names l))) (ltb 64 (suc (d .passed))) (r-lt 64 (suc (d .passed)) .tests)
     where
       go : (x y : Bool) → (64 < suc (d .passed) → T y)
-          → onward (cond (x || y) (refused 19 here) (reached then)) (goOn ls) ≡ told (cond (x || y) (some (fault 19 here)) (firstFault ls seen-then)) final
+          → onward (cond (x || y) (refused 19 here) (reached then)) (goOn ls)
+          ≡ told (cond (x || y) (some (fault 19 here)) (firstFault ls seen-then)) final
       go true y t = refl
       go false true t = refl
       go false false t = let n : ¬ (64 < suc (d .passed)) = t in left (omega arith)
 
   -- where no more than 16 are open then
-  within : length (d .opens) ≤ 16 → (d .passed ≤ 63 → Agrees ls d (meetLine names l) (marksAfter l ks)) → onward (limited then) (goOn ls) ≡ told from-18 final
+  within : length (d .opens) ≤ 16 → (d .passed ≤ 63 → Agrees ls d (meetLine names l) (marksMet l ks))
+      → onward (limited then) (goOn ls) ≡ told from-18 final
   within shallow left =
       limits left
       ∙ ap (λ b. told (cond b (some (fault 18 here)) from-19) final)
@@ -113,7 +119,7 @@ module _ (ls : List Line) (e : Emitted) (names ks : List ℕ) (l : Line) (d : Em
 
   -- where the line opens one more
   opening : length (d .opens) ≡ suc (length (e .opens))
-      → (length (d .opens) ≤ 16 → d .passed ≤ 63 → Agrees ls d (meetLine names l) (marksAfter l ks))
+      → (length (d .opens) ≤ 16 → d .passed ≤ 63 → Agrees ls d (meetLine names l) (marksMet l ks))
       → onward (cond (leb 16 (length (e .opens))) (refused 18 here) (limited then)) (goOn ls) ≡ told from-18 final
   opening more left = go (leb 16 (length (e .opens))) (r-le 16 (length (e .opens)) .holds) (r-le 16 (length (e .opens)) .tests)
     where
@@ -157,21 +163,25 @@ agrees (If t ∷ ls) proper e names ks known =
     (λ shallow few. agrees ls (proper .1) d (meetLine names l) ks (record { sized = known .sized; few = few; shallow = shallow; seen = known .seen }))
 agrees (End ∷ ls) proper e names ks known = go (agrees ls (proper .1)) (e .opens) (known .shallow)
   where
-    go : ((d : Emitted) (ns js : List ℕ) → Known d js → Agrees ls d ns js) → (os : List Open) → length os ≤ 16 → Agrees (End ∷ ls) (with-opens os e) names ks
+    go : Left ls → (os : List Open) → length os ≤ 16 → Agrees (End ∷ ls) (with-opens os e) names ks
     go left [] h = refl
     go left (o ∷ os) h =
-        let d = emit End (with-opens (o ∷ os) e) in
+        let at = with-opens (o ∷ os) e in
+        let d = emit End at in
         let shallow : length os ≤ 16 = omega arith in
-        within ls (with-opens (o ∷ os) e) names ks End d refl shallow
+        within ls at names ks End d refl shallow
         (λ few. left d names ks (record { sized = known .sized; few = few; shallow = shallow; seen = known .seen }))
-        ∙ ap (λ b. told (cond b (some (fault 17 (suc (e .passed)))) (from-18 ls (with-opens (o ∷ os) e) names ks End d refl)) (final ls (with-opens (o ∷ os) e) names ks End d refl))
+        ∙ ap (λ b. told (cond b (some (fault 17 (suc (e .passed)))) (from-18 ls at names ks End d refl)) (final ls at names ks End d refl))
         (sym (is-false (eqb (suc (length os)) 0) (λ t. let w = r-eq (suc (length os)) 0 .holds t in omega arith)))
 agrees (Mark k ∷ ls) proper e names ks known =
-    ap (λ b. onward (cond b (limited (then ls e names ks (Mark k) (emit (Mark k) e) refl)) (refused 17 (suc (e .passed)))) (goOn ls)) (sym (known .seen k (proper .0)))
+    ap (λ b. onward (cond b (limited (then ls e names ks (Mark k) (emit (Mark k) e) refl)) (refused 17 (suc (e .passed)))) (goOn ls))
+    (sym (known .seen k (proper .0)))
     ∙ go (agrees ls (proper .1)) (absent k ks)
   where
-    go : ((d : Emitted) (ns js : List ℕ) → Known d js → Agrees ls d ns js) → (b : Bool) → onward (cond b (limited (then ls e names ks (Mark k) (emit (Mark k) e) refl)) (refused 17 (suc (e .passed)))) (goOn ls)
-        ≡ told (cond (not b) (some (fault 17 (suc (e .passed)))) (from-18 ls e names ks (Mark k) (emit (Mark k) e) refl)) (final ls e names ks (Mark k) (emit (Mark k) e) refl)
+    go : Left ls → (b : Bool)
+        → onward (cond b (limited (then ls e names ks (Mark k) (emit (Mark k) e) refl)) (refused 17 (suc (e .passed)))) (goOn ls)
+        ≡ told (cond (not b) (some (fault 17 (suc (e .passed)))) (from-18 ls e names ks (Mark k) (emit (Mark k) e) refl))
+        (final ls e names ks (Mark k) (emit (Mark k) e) refl)
     go left true =
         within ls e names ks (Mark k) (emit (Mark k) e) refl (known .shallow)
         (λ few.

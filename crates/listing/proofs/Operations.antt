@@ -53,7 +53,8 @@ r-row k a b =
 in-table : (k : Kind) (v a b : ℕ) → (k .least-a ≤ a) × (a ≤ v) → (k .least-b ≤ b) × (b ≤ k .most-b v) → fromRow v (some k) a b ≡ some (k .op a b)
 in-table k v a b x y =
     ap (λ c. cond c (some (k .op a b)) none)
-    (is-true (allowsA v k a && allowsB v k b) (r-and (r-and (r-le (k .least-a) a) (r-le a v)) (r-and (r-le (k .least-b) b) (r-le b (k .most-b v))) .tests (x, y)))
+    (is-true (allowsA v k a && allowsB v k b)
+    (r-and (r-and (r-le (k .least-a) a) (r-le a v)) (r-and (r-le (k .least-b) b) (r-le b (k .most-b v))) .tests (x, y)))
 
 -- lines to statements and back
 pub record GoodOp (o : Operation) : Type 0 where
@@ -114,7 +115,8 @@ good-test o t = by-kind (o .kind) (o .a) (o .b) t
         let m = suc (suc (suc k)) in
         let not-zero : eqb m 0 ≡ false = is-false (eqb m 0) (λ z. let w = r-eq m 0 .holds z in omega arith) in
         let above : leb m 2 ≡ false = is-false (leb m 2) (λ z. let w = r-le m 2 .holds z in omega arith) in
-        absurd (subst (λ c. T (c && isOperation (record { kind = m; a = a; b = b }))) above (subst (λ c. T (cond c (eqb a 0 && eqb b 0) (leb m 2 && isOperation (record { kind = m; a = a; b = b })))) not-zero t))
+        let fine = isOperation (record { kind = m; a = a; b = b }) in
+        absurd (subst (λ c. T (c && fine)) above (subst (λ c. T (cond c (eqb a 0 && eqb b 0) (leb m 2 && fine))) not-zero t))
 
 -- what the table allows is a line
 pub is-operation : (o : Op) → Allowed 26 o → T (isOperation (operationFor o))

@@ -61,7 +61,8 @@ module _ (l : Listing) (ok : WithinLimits l) where
   no-other-job : (rest : List ℕ) (f : JobFile) → IsJob (bytes ++ rest) f → f ≡ fileOf l (f .job .forbidden)
   no-other-job rest f i =
       let ns = numbersAhead (fileOf l []) in
-      let (more, w) = begins-at ns (length (bytes ++ rest)) 0 (bytes ++ rest) rest (jobNumbers f) (ahead-small l ok 127 (omega arith)) (ap (λ s. s ++ rest) (ahead-bytes l ok)) (i .reads) in
+      let job = bytes ++ rest in
+      let (more, w) = begins-at ns (length job) 0 job rest (jobNumbers f) (ahead-small l ok 127 (omega arith)) (ap (λ s. s ++ rest) (ahead-bytes l ok)) (i .reads) in
       let v : f .job .variables ≡ variablesFor (l .names) = cc in
       let s : f .states ≡ statesOf (l .statements) = cc in
       let z : f .job .start ≡ 0 = cc in
@@ -124,7 +125,8 @@ from-translation : (text : List ℕ) (room : ℕ) (bytes marks : List ℕ) → t
 unfolding translate
 from-translation text room bytes marks e = go (read text) refl e
   where
-    in-room : (b : Bool) (n : ℕ) (xs ys : List ℕ) → cond b (untranslated 12 n) (translated xs ys) ≡ translated bytes marks → (bytes ≡ xs) × (marks ≡ ys)
+    in-room : (b : Bool) (n : ℕ) (xs ys : List ℕ) → cond b (untranslated 12 n) (translated xs ys) ≡ translated bytes marks
+        → (bytes ≡ xs) × (marks ≡ ys)
     in-room true n xs ys w = absurd (let q : _≡_ {A = ℕ} 0 1 = cc in omega arith)
     in-room false n xs ys w = (let q : bytes ≡ xs = cc in q, let q : marks ≡ ys = cc in q)
 
@@ -181,7 +183,8 @@ fault-number [] s f e = go (eqb (s .depth) 0) e
 fault-number (l ∷ ls) s f e = go (isMisplaced l s) (isTooDeep (see l s)) (isTooMuch (see l s)) (fault-number ls (see l s) f) e
   where
     go : (a b c : Bool) → (firstFault ls (see l s) ≡ some f → 17 ≤ f .number)
-        → cond a (some (fault 17 (suc (s .passed)))) (cond b (some (fault 18 (suc (s .passed)))) (cond c (some (fault 19 (suc (s .passed)))) (firstFault ls (see l s))))
+        → cond a (some (fault 17 (suc (s .passed))))
+        (cond b (some (fault 18 (suc (s .passed)))) (cond c (some (fault 19 (suc (s .passed)))) (firstFault ls (see l s))))
         ≡ some f
         → 17 ≤ f .number
     go true b c h w = let q : f .number ≡ 17 = cc in omega arith
@@ -197,7 +200,8 @@ refusal-number text room number value e = go (firstFault (linesOf text) nothingS
     in-room true n xs ys w = let q : number ≡ 12 = cc in omega arith
     in-room false n xs ys w = absurd (let q : _≡_ {A = ℕ} 0 1 = cc in omega arith)
 
-    go : (f : Option Fault) → firstFault (linesOf text) nothingSeen ≡ f → translateRead room (unless f (listingOf (linesOf text))) ≡ untranslated number value
+    go : (f : Option Fault) → firstFault (linesOf text) nothingSeen ≡ f
+        → translateRead room (unless f (listingOf (linesOf text))) ≡ untranslated number value
         → 12 ≤ number
     go none w v =
         let bytes = encode (numbersAhead (fileOf (listingOf (linesOf text)) [])) in
@@ -209,12 +213,14 @@ module _ (text before marks-before after marks-then : List ℕ) (told : CallResu
   abbrev passed : Translated
   passed = translateBy (length before) (goOn (linesOf text) begin)
 
-  promised-in : (t : Translated) → translate text (length before) ≡ t → told ≡ translateResult t → after ≡ bytesAfter t before → marks-then ≡ marksAfter t marks-before
+  promised-in : (t : Translated) → translate text (length before) ≡ t → told ≡ translateResult t → after ≡ bytesAfter t before
+      → marks-then ≡ marksAfter t marks-before
       → told .code ≡ 0 → PromisedIn text before marks-before after marks-then
   promised-in (translated bytes marks) e r b m z =
       record { bytes = bytes; marks = marks; bytes-are = b; marks-are = m; promises = promise text (length before) bytes marks e }
   promised-in (untranslated number value) e r b m z =
-      absurd (let w = refusal-number text (length before) number value e in let v : number ≡ 0 = ap (λ (c : CallResult). c .code) (sym r) ∙ z in omega arith)
+      let v : number ≡ 0 = ap (λ (c : CallResult). c .code) (sym r) ∙ z in
+      absurd (let w = refusal-number text (length before) number value e in omega arith)
 
   pub translates : told ≡ translateResult passed → after ≡ bytesAfter passed before → marks-then ≡ marksAfter passed marks-before
       → Translates text before marks-before told after marks-then

@@ -115,7 +115,8 @@ module _ (ls : List Line) (p : All Proper ls) (f : Faultless ls nothingSeen) whe
   pub within-limits : WithinLimits (listingOf ls)
   within-limits =
       let number = numberIn names in
-      let marks : marksIn (blockBy number lettered) ≡ marksOn ls = marks-by number lettered ∙ sym (marks-block lettered) ∙ ap marksOn (sym lines-are) in
+      let marks : marksIn (blockBy number lettered) ≡ marksOn ls =
+      marks-by number lettered ∙ sym (marks-block lettered) ∙ ap marksOn (sym lines-are) in
       let same-lines : length (linesIn lettered) ≡ length ls = ap length (sym lines-are) in
       let shallow = depth-lines lettered (subst (λ l. Shallow l 0) lines-are (faultless-shallow ls nothingSeen f)) in
       record {

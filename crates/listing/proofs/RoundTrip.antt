@@ -1,11 +1,10 @@
 -- The round trip: the text of a listing within the limits reads as that listing, and what reads as a listing is the text written of it. So a text is
 -- one listing at most.
-use mathlib.Core.List.{List, [], _∷_, append-nil, List·Memᴰ·head, List·Memᴰ·tail, List·Memᴰ·not-nil}
+use mathlib.Core.List.{List, [], append-nil, List·Memᴰ·not-nil}
 use mathlib.Core.Logic.{_↔_}
 use mathlib.Core.Path.{_≡_, refl, sym, ap, ap₂, subst, _∙_}
 use Prim.Native.Nat.{ℕ, _≤_}
 use native.Mathlib.Omega.{arith}
-use Rattle.lists.specs.List.{_∈_}
 use lib.ListN.{length}
 use Rattle.lists.proofs.List.{All, Distinct}
 use Rattle.lines.specs.declared.Line.{Line}
@@ -18,6 +17,7 @@ use Rattle.listing.proofs.Depth.{Shallow, shallow-block, depth-by, from
 use Rattle.listing.proofs.Faultless.{Faultless, all-inside, no-fault, blocks-lines}
 use Rattle.listing.proofs.Letters.{lines-distinct, block-number-letter, spelled-block}
 use Rattle.listing.proofs.Lines.{Proper, Inside, proper-lines, text-of-lines, lines-of-text}
+use Rattle.listing.proofs.Lists.{all-of}
 use Rattle.listing.proofs.Read.{marks-block, marks-by, next-by, next-lines, lines-are, spelled, listed-text, read-within}
 
 pub written-text : (text : List ℕ) (l : Listing) → read text ≡ listed l → write l ≡ text
@@ -29,10 +29,6 @@ written-text text l e =
     ∙ ap (λ c. textOf (linesIn c)) (spelled ls p (h .no-fault))
     ∙ ap textOf (sym (lines-are ls p (h .no-fault)))
     ∙ text-of-lines text (all-inside ls nothingSeen (h .no-fault))
-
-all-of : {A : Type 0} {P : A → Type 0} (xs : List A) → ((x : A) → x ∈ xs → P x) → All P xs
-all-of [] h = tt
-all-of (x ∷ xs) h = (h x (List·Memᴰ·head refl), all-of xs (λ y i. h y (List·Memᴰ·tail i)))
 
 module _ (l : Listing) (ok : WithinLimits l) where
   -- the statements with letters for numbers, and their lines
@@ -70,7 +66,8 @@ module _ (l : Listing) (ok : WithinLimits l) where
   same-listing =
       let named : (names : List ℕ) → names ≡ l .names → blockBy (numberIn names) (firstBlock (blocks ls)) ≡ l .statements =
       λ names e.
-      ap₂ (λ x y. blockBy (numberIn x) (firstBlock y)) e (blocks-lines block) ∙ block-number-letter (l .names) distinct (ok .letters) (l .statements) (ok .operands) in
+      ap₂ (λ x y. blockBy (numberIn x) (firstBlock y)) e (blocks-lines block)
+      ∙ block-number-letter (l .names) distinct (ok .letters) (l .statements) (ok .operands) in
       λ i. record { names = sym (ok .first-met) i; statements = named (meetLines [] ls) (sym (ok .first-met)) i }
 
   pub reads-written : read (write l) ≡ listed l

@@ -80,6 +80,9 @@ walk-bytes =
     ++ (1 ∷ 1 ∷ 1 ∷ 0 ∷ 4 ∷ [])
     ++ (4 ∷ 1 ∷ 0 ∷ 0 ∷ 5 ∷ [])
 
+abbrev copy-bytes : List ℕ
+copy-bytes = (1 ∷ 2 ∷ 3 ∷ 0 ∷ 2 ∷ []) ++ (0 ∷ 3 ∷ 1 ∷ 0 ∷ 1 ∷ []) ++ (1 ∷ 3 ∷ 2 ∷ 1 ∷ 2 ∷ [])
+
 -- a text, room for so many bytes, and what is given
 record Row : Type 0 where
   text : List ℕ
@@ -98,7 +101,7 @@ rows =
     -- a walk to the end of a list, and a mark there
     ∷ record { text = new-x ++ while-x ++ step-x ++ close ++ mark-0; room = 35; given = translated walk-bytes (4 ∷ replicate 63 64) }
     -- names are numbered as they are met
-    ∷ record { text = clear-z ++ copy-z; room = 15; given = translated (1 ∷ 2 ∷ 3 ∷ 0 ∷ 2 ∷ 0 ∷ 3 ∷ 1 ∷ 0 ∷ 1 ∷ 1 ∷ 3 ∷ 2 ∷ 1 ∷ 2 ∷ []) (replicate 64 64) }
+    ∷ record { text = clear-z ++ copy-z; room = 15; given = translated copy-bytes (replicate 64 64) }
     -- an `end` is missing, at the line after the last
     ∷ record { text = while-any; room = 1000; given = untranslated 17 2 }
     -- an `end` with nothing open

@@ -1,5 +1,5 @@
 -- Reading and translating in one pass, line by line, as document 01 tells it; the form that a program meets. That it is the translation of what
--- is read is `one-pass` in proofs/LineByLine.
+-- is read is `one-pass` in proofs/OneCall.
 use mathlib.Core.Bool.{Bool, true, false, _||_, cond}
 use mathlib.Core.List.{List, [], _∷_, _++_}
 use Prim.Native.Nat.{ℕ, suc}

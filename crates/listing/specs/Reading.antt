@@ -31,13 +31,13 @@ pub record Seen : Type 0 where
 abbrev pub nothingSeen : Seen
 nothingSeen = record { passed = 0; names = []; marks = []; depth = 0 }
 
-abbrev pub marksAfter : Line → List ℕ → List ℕ
-marksAfter (Perform o) marks = marks
-marksAfter (While t) marks = marks
-marksAfter (If t) marks = marks
-marksAfter End marks = marks
-marksAfter (Mark k) marks = k ∷ marks
-marksAfter Other marks = marks
+abbrev pub marksMet : Line → List ℕ → List ℕ
+marksMet (Perform o) marks = marks
+marksMet (While t) marks = marks
+marksMet (If t) marks = marks
+marksMet End marks = marks
+marksMet (Mark k) marks = k ∷ marks
+marksMet Other marks = marks
 
 abbrev pub depthAfter : Line → ℕ → ℕ
 depthAfter (Perform o) n = n
@@ -54,7 +54,7 @@ see l s =
     record {
       passed = suc (s .passed);
       names = meetLine (s .names) l;
-      marks = marksAfter l (s .marks);
+      marks = marksMet l (s .marks);
       depth = depthAfter l (s .depth);
     }
 

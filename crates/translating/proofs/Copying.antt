@@ -5,7 +5,7 @@ use Prim.Native.Nat.{ℕ, zero, suc, _+_, _≤_, _<_}
 use native.Mathlib.Nat.{not-suc-le-zero, le-of-suc-le-suc}
 use native.Mathlib.Numerals.{add-one}
 use native.Mathlib.Omega.{arith}
-use lib.ListN.{length, getD, take, drop, set, length-set}
+use lib.ListN.{length, getD, take, drop, set, length-set, length-append, length-drop}
 use lib.Seq.{take-all}
 
 -- so many of `from` are copied
@@ -37,3 +37,6 @@ module _ (from to₀ : List ℕ) where
     copy-all h =
         let e : i ≡ length from = omega (arith, c .upto) in
         c .bytes ∙ ap₂ _++_ (take-all i from h) (ap (λ (k : ℕ). drop k to₀) e)
+
+pub filled-length : (from to to′ : List ℕ) → length from ≤ length to → to′ ≡ from ++ drop (length from) to → length to′ ≡ length to
+filled-length from to to′ h e = ap length e ∙ length-append from (drop (length from) to) ∙ omega (arith, length-drop (length from) to)

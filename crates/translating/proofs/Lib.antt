@@ -3,3 +3,5 @@ pub mod Naming
 pub mod Cutting
 pub mod Emitting
 pub mod Stepping
+pub mod Nesting
+pub mod Answering

@@ -1,3 +1,11 @@
+use Rattle.translating.proofs.Nesting.{mark-in, moved, block-over, block-last, block-line, block-ended, block-refused, statement-further, block-more, statement-on, statement-ended, statement-refused, inner, open-over, over-within, open-refused, ended-within, close-statement, close-refused}
+use Prim.Native.Nat.{_≤_}
+use Rattle.translating.specs.Work.{Work}
+use borrow.Author.Needs.{needs}
+use mathlib.Core.Path.{_≡_, refl, sym, ap, subst, _∙_}
+use native.Mathlib.Omega.{arith}
+use Prim.Native.Nat.{_+_, _-_, _*_}
+use lib.ListN.{length}
 use Prim.Native.Nat.{ℕ, _<_}
 use borrow.Fn.Kinds.{In}
 use borrow.Fn.PlainCycle.{Measures, is, falls, and}
@@ -15,10 +23,10 @@ use Rattle.translating.proofs.blocks.+read_block+read_statement.{statem
 use Rattle.translating.proofs.blocks.+read_block+read_statement.Tie.{close}
 
 abbrev μ-read-block : Measures 4 read-block-kinds.ps ℕ
-μ-read-block κs a = ?
+μ-read-block κs a = 2 * (length (a .0 .now) - a .1 .0 .at)
 
 abbrev μ-read-statement : Measures 4 read-statement-kinds.ps ℕ
-μ-read-statement κs a = ?
+μ-read-statement κs a = 2 * (length (a .0 .now) - a .1 .1 .0 .at) + 1
 
 abbrev read-block-at : ℕ → In 4 read-block-kinds.ps
 read-block-at t =
@@ -54,7 +62,7 @@ read-block-returns : (t : ℕ) → read-block-lts.Need-returns (
   read-block-below t,
   read-block.Post,
 ) (read-block-at t) read-block.Post
-read-block-returns t c = ?
+read-block-returns t c = let a = c .before .before .args in block-over (a .text .now) (a .depth) (a .p) (record { job = a .job .now; letters = a .letters .now; states = a .states .now }) (c .before .before .pre .1 .0) (c .if1 .taken)
 
 read-block-line-end-requires : (t : ℕ) → read-block-lts.Need-line-end-requires (
   line-end-reads.Asked,
@@ -66,7 +74,7 @@ read-block-line-end-requires : (t : ℕ) → read-block-lts.Need-line-end-requir
   read-block-below t,
   read-block.Post,
 ) (read-block-at t) read-block.Post
-read-block-line-end-requires t c κs = ?
+read-block-line-end-requires t c κs = search needs
 
 read-block-add-t19 : (t : ℕ) → read-block-lts.Need-add-t19 (
   line-end-reads.Asked,
@@ -78,7 +86,7 @@ read-block-add-t19 : (t : ℕ) → read-block-lts.Need-add-t19 (
   read-block-below t,
   read-block.Post,
 ) (read-block-at t) read-block.Post
-read-block-add-t19 t c = ?
+read-block-add-t19 t c = search needs
 
 read-block-returns-2 : (t : ℕ) → read-block-lts.Need-returns-2 (
   line-end-reads.Asked,
@@ -90,7 +98,10 @@ read-block-returns-2 : (t : ℕ) → read-block-lts.Need-returns-2 (
   read-block-below t,
   read-block.Post,
 ) (read-block-at t) read-block.Post
-read-block-returns-2 t c = ?
+read-block-returns-2 t c = 
+    let a = c .before .before .before .before .before .args in
+    let end = c .before .before .line-end in
+    block-last (a .text .now) (a .depth) (a .p) (record { job = a .job .now; letters = a .letters .now; states = a .states .now }) (end .result) (c .before .before .before .if1 .left) (c .before .if2 .taken) (end .ensures .2)
 
 read-block-sub-read-line : (t : ℕ) → read-block-lts.Need-sub-read-line (
   line-end-reads.Asked,
@@ -102,7 +113,7 @@ read-block-sub-read-line : (t : ℕ) → read-block-lts.Need-sub-read-line (
   read-block-below t,
   read-block.Post,
 ) (read-block-at t) read-block.Post
-read-block-sub-read-line t c = ?
+read-block-sub-read-line t c = search needs
 
 read-block-part-read-line-start : (t : ℕ) → read-block-lts.Need-part-read-line-start (
   line-end-reads.Asked,
@@ -114,7 +125,7 @@ read-block-part-read-line-start : (t : ℕ) → read-block-lts.Need-part-read-li
   read-block-below t,
   read-block.Post,
 ) (read-block-at t) read-block.Post
-read-block-part-read-line-start t c = ?
+read-block-part-read-line-start t c = search needs
 
 read-block-part-read-line-end : (t : ℕ) → read-block-lts.Need-part-read-line-end (
   line-end-reads.Asked,
@@ -126,7 +137,7 @@ read-block-part-read-line-end : (t : ℕ) → read-block-lts.Need-part-read-line
   read-block-below t,
   read-block.Post,
 ) (read-block-at t) read-block.Post
-read-block-part-read-line-end t c = ?
+read-block-part-read-line-end t c = search needs
 
 read-block-read-line-requires : (t : ℕ) → read-block-lts.Need-read-line-requires (
   line-end-reads.Asked,
@@ -138,7 +149,7 @@ read-block-read-line-requires : (t : ℕ) → read-block-lts.Need-read-line-requ
   read-block-below t,
   read-block.Post,
 ) (read-block-at t) read-block.Post
-read-block-read-line-requires t c κs = ?
+read-block-read-line-requires t c κs = search needs
 
 read-block-add-t16 : (t : ℕ) → read-block-lts.Need-add-t16 (
   line-end-reads.Asked,
@@ -150,7 +161,7 @@ read-block-add-t16 : (t : ℕ) → read-block-lts.Need-add-t16 (
   read-block-below t,
   read-block.Post,
 ) (read-block-at t) read-block.Post
-read-block-add-t16 t c = ?
+read-block-add-t16 t c = search needs
 
 read-block-read-statement-requires : (t : ℕ) → read-block-lts.Need-read-statement-requires (
   line-end-reads.Asked,
@@ -162,7 +173,14 @@ read-block-read-statement-requires : (t : ℕ) → read-block-lts.Need-read-stat
   read-block-below t,
   read-block.Post,
 ) (read-block-at t) read-block.Post
-read-block-read-statement-requires t c κs = ?
+read-block-read-statement-requires t c κs = 
+    let a = c .before .before .before .before .before .before .before .before .before .args in
+    let pre = c .before .before .before .before .before .before .before .before .before .pre in
+    let end = c .before .before .before .before .before .before .line-end .ensures in
+    (
+      omega (arith, pre .0, end .0, c .before .before .before .before .before .if2 .left),
+      (mark-in _ _ (c .before .before .before .read-line .ensures), moved (a .p) (record { job = a .job .now; letters = a .letters .now; states = a .states .now }) _ (pre .1 .0), omega (arith, c .before .before .before .before .before .if2 .left), pre .1 .2),
+    )
 
 read-block-enum-known-first : (t : ℕ) → read-block-lts.Need-enum-known-first (
   line-end-reads.Asked,
@@ -174,7 +192,7 @@ read-block-enum-known-first : (t : ℕ) → read-block-lts.Need-enum-known-first
   read-block-below t,
   read-block.Post,
 ) (read-block-at t) read-block.Post
-read-block-enum-known-first t c = ?
+read-block-enum-known-first t c = search needs
 
 read-block-read-block-requires : (t : ℕ) → read-block-lts.Need-read-block-requires (
   line-end-reads.Asked,
@@ -186,7 +204,18 @@ read-block-read-block-requires : (t : ℕ) → read-block-lts.Need-read-block-re
   read-block-below t,
   read-block.Post,
 ) (read-block-at t) read-block.Post
-read-block-read-block-requires t c κs = ?
+read-block-read-block-requires t c κs = 
+    let a = c .before .before .before .before .before .before .before .before .before .before .before .before .before .before .before .before .args in
+    let text = a .text .now in
+    let w : Work = (record { job = a .job .now; letters = a .letters .now; states = a .states .now }) in
+    let end = c .before .before .before .before .before .before .before .before .before .before .before .before .before .line-end in
+    let cut = end .ensures in
+    let read = c .before .before .before .before .before .before .before .before .before .before .read-line in
+    let lines = block-line text (a .depth) (a .p) w (read .result) (end .result) (read .ensures) (cut .0) (c .before .before .before .before .before .before .before .before .before .before .before .before .if2 .left) (cut .2) (cut .3 (c .before .before .before .before .before .before .before .before .before .before .before .before .if2 .left)) in
+    let on : a .p .at ≤ end .result + 1 = omega (arith, cut .0) in
+    let st = c .before .before .before .before .before .before .read-statement in
+    let further = statement-further text (a .depth) (a .p) w (read .result) (end .result + 1) on lines (st .result) (record { job = st .last .1 .1 .1 .1 .0; letters = st .last .1 .1 .1 .1 .1 .0; states = st .last .1 .1 .1 .1 .1 .1 .0 }) (c .before .before .before .before .first .given .0 .0) (st .ensures) (c .before .before .before .before .first .given .1) in
+    (omega (arith, c .before .before .before .before .before .before .before .before .before .before .before .before .before .before .before .before .pre .0, cut .0, further .on, further .inside, c .before .before .before .before .before .before .before .before .before .before .before .before .if2 .left), (further .within, further .inside, c .before .before .before .before .before .before .before .before .before .before .before .before .before .before .before .before .pre .1 .2))
 
 read-block-enum-known-first-2 : (t : ℕ) → read-block-lts.Need-enum-known-first-2 (
   line-end-reads.Asked,
@@ -198,7 +227,7 @@ read-block-enum-known-first-2 : (t : ℕ) → read-block-lts.Need-enum-known-fir
   read-block-below t,
   read-block.Post,
 ) (read-block-at t) read-block.Post
-read-block-enum-known-first-2 t c = ?
+read-block-enum-known-first-2 t c = search needs
 
 read-block-enum-known-first-3 : (t : ℕ) → read-block-lts.Need-enum-known-first-3 (
   line-end-reads.Asked,
@@ -210,7 +239,7 @@ read-block-enum-known-first-3 : (t : ℕ) → read-block-lts.Need-enum-known-fir
   read-block-below t,
   read-block.Post,
 ) (read-block-at t) read-block.Post
-read-block-enum-known-first-3 t c = ?
+read-block-enum-known-first-3 t c = search needs
 
 read-block-returns-3 : (t : ℕ) → read-block-lts.Need-returns-3 (
   line-end-reads.Asked,
@@ -222,7 +251,18 @@ read-block-returns-3 : (t : ℕ) → read-block-lts.Need-returns-3 (
   read-block-below t,
   read-block.Post,
 ) (read-block-at t) read-block.Post
-read-block-returns-3 t c = ?
+read-block-returns-3 t c = 
+    let a = c .before .before .before .before .before .before .before .before .before .before .before .before .before .before .before .before .before .args in
+    let text = a .text .now in
+    let w : Work = (record { job = a .job .now; letters = a .letters .now; states = a .states .now }) in
+    let end = c .before .before .before .before .before .before .before .before .before .before .before .before .before .before .line-end in
+    let cut = end .ensures in
+    let read = c .before .before .before .before .before .before .before .before .before .before .before .read-line in
+    let lines = block-line text (a .depth) (a .p) w (read .result) (end .result) (read .ensures) (cut .0) (c .before .before .before .before .before .before .before .before .before .before .before .before .before .if2 .left) (cut .2) (cut .3 (c .before .before .before .before .before .before .before .before .before .before .before .before .before .if2 .left)) in
+    let on : a .p .at ≤ end .result + 1 = omega (arith, cut .0) in
+    let st = c .before .before .before .before .before .before .before .read-statement in
+    block-more text (a .depth) (a .p) w (read .result) (end .result + 1) on lines (st .result) (record { job = st .last .1 .1 .1 .1 .0; letters = st .last .1 .1 .1 .1 .1 .0; states = st .last .1 .1 .1 .1 .1 .1 .0 }) (c .before .before .before .before .before .first .given .0 .0) (st .ensures) (c .before .before .before .before .before .first .given .1)
+    (c .read-block .result) (record { job = c .read-block .last .1 .1 .1 .0; letters = c .read-block .last .1 .1 .1 .1 .0; states = c .read-block .last .1 .1 .1 .1 .1 .0 }) (c .read-block .ensures)
 
 read-block-returns-4 : (t : ℕ) → read-block-lts.Need-returns-4 (
   line-end-reads.Asked,
@@ -234,7 +274,17 @@ read-block-returns-4 : (t : ℕ) → read-block-lts.Need-returns-4 (
   read-block-below t,
   read-block.Post,
 ) (read-block-at t) read-block.Post
-read-block-returns-4 t c = ?
+read-block-returns-4 t c = 
+    let a = c .before .before .before .before .before .before .before .before .before .before .before .before .before .args in
+    let text = a .text .now in
+    let w : Work = (record { job = a .job .now; letters = a .letters .now; states = a .states .now }) in
+    let end = c .before .before .before .before .before .before .before .before .before .before .line-end in
+    let cut = end .ensures in
+    let read = c .before .before .before .before .before .before .before .read-line in
+    let lines = block-line text (a .depth) (a .p) w (read .result) (end .result) (read .ensures) (cut .0) (c .before .before .before .before .before .before .before .before .before .if2 .left) (cut .2) (cut .3 (c .before .before .before .before .before .before .before .before .before .if2 .left)) in
+    let on : a .p .at ≤ end .result + 1 = omega (arith, cut .0) in
+    let st = c .before .before .before .read-statement in
+    block-ended text (a .depth) (a .p) w (read .result) (end .result + 1) on lines (st .result) (record { job = st .last .1 .1 .1 .1 .0; letters = st .last .1 .1 .1 .1 .1 .0; states = st .last .1 .1 .1 .1 .1 .1 .0 }) (c .before .first2 .given .0 .0) (st .ensures) (c .before .first2 .given .1)
 
 read-block-returns-5 : (t : ℕ) → read-block-lts.Need-returns-5 (
   line-end-reads.Asked,
@@ -246,7 +296,17 @@ read-block-returns-5 : (t : ℕ) → read-block-lts.Need-returns-5 (
   read-block-below t,
   read-block.Post,
 ) (read-block-at t) read-block.Post
-read-block-returns-5 t c = ?
+read-block-returns-5 t c = 
+    let a = c .before .before .before .before .before .before .before .before .before .before .before .before .before .args in
+    let text = a .text .now in
+    let w : Work = (record { job = a .job .now; letters = a .letters .now; states = a .states .now }) in
+    let end = c .before .before .before .before .before .before .before .before .before .before .line-end in
+    let cut = end .ensures in
+    let read = c .before .before .before .before .before .before .before .read-line in
+    let lines = block-line text (a .depth) (a .p) w (read .result) (end .result) (read .ensures) (cut .0) (c .before .before .before .before .before .before .before .before .before .if2 .left) (cut .2) (cut .3 (c .before .before .before .before .before .before .before .before .before .if2 .left)) in
+    let on : a .p .at ≤ end .result + 1 = omega (arith, cut .0) in
+    let st = c .before .before .before .read-statement in
+    block-refused text (a .depth) (a .p) w (read .result) (end .result + 1) on lines (st .result) (record { job = st .last .1 .1 .1 .1 .0; letters = st .last .1 .1 .1 .1 .1 .0; states = st .last .1 .1 .1 .1 .1 .1 .0 }) (c .before .first3 .given .0 .0) (c .before .first3 .given .0 .1 .0) (st .ensures) (c .before .first3 .given .1)
 
 read-statement-begin-requires : (t : ℕ) → read-statement-lts.Need-begin-requires (
   begin-reads.Asked,
@@ -256,7 +316,7 @@ read-statement-begin-requires : (t : ℕ) → read-statement-lts.Need-begin-requ
   close-reads.Asked,
   close-reads.Learnt,
 ) (read-statement-at t) read-statement.Post
-read-statement-begin-requires t c κs = ?
+read-statement-begin-requires t c κs = search needs
 
 read-statement-enum-known-begun : (t : ℕ) → read-statement-lts.Need-enum-known-begun (
   begin-reads.Asked,
@@ -266,7 +326,7 @@ read-statement-enum-known-begun : (t : ℕ) → read-statement-lts.Need-enum-kno
   close-reads.Asked,
   close-reads.Learnt,
 ) (read-statement-at t) read-statement.Post
-read-statement-enum-known-begun t c = ?
+read-statement-enum-known-begun t c = search needs
 
 read-statement-enum-told : (t : ℕ) → read-statement-lts.Need-enum-told (
   begin-reads.Asked,
@@ -276,7 +336,7 @@ read-statement-enum-told : (t : ℕ) → read-statement-lts.Need-enum-told (
   close-reads.Asked,
   close-reads.Learnt,
 ) (read-statement-at t) read-statement.Post
-read-statement-enum-told t c = ?
+read-statement-enum-told t c = search needs
 
 read-statement-enum-known-begun-2 : (t : ℕ) → read-statement-lts.Need-enum-known-begun-2 (
   begin-reads.Asked,
@@ -286,7 +346,7 @@ read-statement-enum-known-begun-2 : (t : ℕ) → read-statement-lts.Need-enum-k
   close-reads.Asked,
   close-reads.Learnt,
 ) (read-statement-at t) read-statement.Post
-read-statement-enum-known-begun-2 t c = ?
+read-statement-enum-known-begun-2 t c = search needs
 
 read-statement-enum-known-begun-3 : (t : ℕ) → read-statement-lts.Need-enum-known-begun-3 (
   begin-reads.Asked,
@@ -296,7 +356,7 @@ read-statement-enum-known-begun-3 : (t : ℕ) → read-statement-lts.Need-enum-k
   close-reads.Asked,
   close-reads.Learnt,
 ) (read-statement-at t) read-statement.Post
-read-statement-enum-known-begun-3 t c = ?
+read-statement-enum-known-begun-3 t c = search needs
 
 read-statement-add-read-block : (t : ℕ) → read-statement-lts.Need-add-read-block (
   begin-reads.Asked,
@@ -306,7 +366,7 @@ read-statement-add-read-block : (t : ℕ) → read-statement-lts.Need-add-read-b
   close-reads.Asked,
   close-reads.Learnt,
 ) (read-statement-at t) read-statement.Post
-read-statement-add-read-block t c = ?
+read-statement-add-read-block t c = search needs
 
 read-statement-read-block-requires : (t : ℕ) → read-statement-lts.Need-read-block-requires (
   begin-reads.Asked,
@@ -316,7 +376,18 @@ read-statement-read-block-requires : (t : ℕ) → read-statement-lts.Need-read-
   close-reads.Asked,
   close-reads.Learnt,
 ) (read-statement-at t) read-statement.Post
-read-statement-read-block-requires t c κs = ?
+read-statement-read-block-requires t c κs = 
+    let a = c .before .before .before .before .before .before .before .before .before .before .before .args in
+    let text = a .text .now in
+    let pre = c .before .before .before .before .before .before .before .before .before .before .before .pre .1 in
+    let w : Work = (record { job = a .job .now; letters = a .letters .now; states = a .states .now }) in
+    let r = c .before .before .before .before .before .before .begin in
+    let w′ : Work = (record { job = r .last .1 .1 .1 .0; letters = r .last .1 .1 .1 .1 .0; states = r .last .1 .1 .1 .1 .1 .0 }) in
+    let opened = c .before .before .before .before .begun3 .given in
+    let q = opened .0 .0 in
+    let o = opened .0 .1 .0 in
+    let i = inner text (a .line) (a .depth) (a .p) w (pre .1) (pre .2) (r .result) w′ (r .ensures) q o (opened .1) in
+    (omega (arith, c .before .before .before .before .before .before .before .before .before .before .before .pre .0, i .at), (i .within, omega (arith, i .at, pre .2), omega (arith, i .deep)))
 
 read-statement-enum-known-inner : (t : ℕ) → read-statement-lts.Need-enum-known-inner (
   begin-reads.Asked,
@@ -326,7 +397,7 @@ read-statement-enum-known-inner : (t : ℕ) → read-statement-lts.Need-enum-kno
   close-reads.Asked,
   close-reads.Learnt,
 ) (read-statement-at t) read-statement.Post
-read-statement-enum-known-inner t c = ?
+read-statement-enum-known-inner t c = search needs
 
 read-statement-add-t31 : (t : ℕ) → read-statement-lts.Need-add-t31 (
   begin-reads.Asked,
@@ -336,7 +407,20 @@ read-statement-add-t31 : (t : ℕ) → read-statement-lts.Need-add-t31 (
   close-reads.Asked,
   close-reads.Learnt,
 ) (read-statement-at t) read-statement.Post
-read-statement-add-t31 t c = ?
+read-statement-add-t31 t c = 
+    let a = c .before .before .before .before .before .before .before .before .before .before .before .before .before .before .before .before .args in
+    let text = a .text .now in
+    let pre = c .before .before .before .before .before .before .before .before .before .before .before .before .before .before .before .before .pre .1 in
+    let w : Work = (record { job = a .job .now; letters = a .letters .now; states = a .states .now }) in
+    let r = c .before .before .before .before .before .before .before .before .before .before .before .begin in
+    let w′ : Work = (record { job = r .last .1 .1 .1 .0; letters = r .last .1 .1 .1 .1 .0; states = r .last .1 .1 .1 .1 .1 .0 }) in
+    let opened = c .before .before .before .before .before .before .before .before .before .begun3 .given in
+    let q = opened .0 .0 in
+    let o = opened .0 .1 .0 in
+    let b = c .before .before .before .before .read-block in
+    let w″ : Work = (record { job = b .last .1 .1 .1 .0; letters = b .last .1 .1 .1 .1 .0; states = b .last .1 .1 .1 .1 .1 .0 }) in
+    let ended = c .before .before .inner .given in
+    omega (arith, over-within text (a .line) (a .depth) (a .p) w (pre .1) (pre .2) (r .result) w′ (r .ensures) q o (opened .1) (b .result) w″ (b .ensures) (ended .0 .0) (ended .1) .passed)
 
 read-statement-enum-known-inner-2 : (t : ℕ) → read-statement-lts.Need-enum-known-inner-2 (
   begin-reads.Asked,
@@ -346,7 +430,7 @@ read-statement-enum-known-inner-2 : (t : ℕ) → read-statement-lts.Need-enum-k
   close-reads.Asked,
   close-reads.Learnt,
 ) (read-statement-at t) read-statement.Post
-read-statement-enum-known-inner-2 t c = ?
+read-statement-enum-known-inner-2 t c = search needs
 
 read-statement-enum-known-inner-3 : (t : ℕ) → read-statement-lts.Need-enum-known-inner-3 (
   begin-reads.Asked,
@@ -356,7 +440,7 @@ read-statement-enum-known-inner-3 : (t : ℕ) → read-statement-lts.Need-enum-k
   close-reads.Asked,
   close-reads.Learnt,
 ) (read-statement-at t) read-statement.Post
-read-statement-enum-known-inner-3 t c = ?
+read-statement-enum-known-inner-3 t c = search needs
 
 read-statement-close-requires : (t : ℕ) → read-statement-lts.Need-close-requires (
   begin-reads.Asked,
@@ -366,7 +450,22 @@ read-statement-close-requires : (t : ℕ) → read-statement-lts.Need-close-requ
   close-reads.Asked,
   close-reads.Learnt,
 ) (read-statement-at t) read-statement.Post
-read-statement-close-requires t c κs = ?
+read-statement-close-requires t c κs = 
+    let a = c .before .before .before .before .before .before .before .before .before .before .before .before .before .before .before .before .args in
+    let text = a .text .now in
+    let pre = c .before .before .before .before .before .before .before .before .before .before .before .before .before .before .before .before .pre .1 in
+    let w : Work = (record { job = a .job .now; letters = a .letters .now; states = a .states .now }) in
+    let r = c .before .before .before .before .before .before .before .before .before .before .before .begin in
+    let w′ : Work = (record { job = r .last .1 .1 .1 .0; letters = r .last .1 .1 .1 .1 .0; states = r .last .1 .1 .1 .1 .1 .0 }) in
+    let opened = c .before .before .before .before .before .before .before .before .before .begun3 .given in
+    let q = opened .0 .0 in
+    let o = opened .0 .1 .0 in
+    let b = c .before .before .before .before .read-block in
+    let w″ : Work = (record { job = b .last .1 .1 .1 .0; letters = b .last .1 .1 .1 .1 .0; states = b .last .1 .1 .1 .1 .1 .0 }) in
+    let ended = c .before .before .inner3 .given in
+    let i = inner text (a .line) (a .depth) (a .p) w (pre .1) (pre .2) (r .result) w′ (r .ensures) q o (opened .1) in
+    let bounds = ended-within text (a .line) (a .depth) (a .p) w (pre .1) (pre .2) (r .result) w′ (r .ensures) q o (opened .1) (b .result) w″ (b .ensures) (ended .0 .0) (ended .1) in
+    (bounds .job, bounds .passed, bounds .count, i .state)
 
 read-statement-enum-known-led : (t : ℕ) → read-statement-lts.Need-enum-known-led (
   begin-reads.Asked,
@@ -376,7 +475,7 @@ read-statement-enum-known-led : (t : ℕ) → read-statement-lts.Need-enum-known
   close-reads.Asked,
   close-reads.Learnt,
 ) (read-statement-at t) read-statement.Post
-read-statement-enum-known-led t c = ?
+read-statement-enum-known-led t c = search needs
 
 read-statement-enum-told-2 : (t : ℕ) → read-statement-lts.Need-enum-told-2 (
   begin-reads.Asked,
@@ -386,7 +485,7 @@ read-statement-enum-told-2 : (t : ℕ) → read-statement-lts.Need-enum-told-2 (
   close-reads.Asked,
   close-reads.Learnt,
 ) (read-statement-at t) read-statement.Post
-read-statement-enum-told-2 t c = ?
+read-statement-enum-told-2 t c = search needs
 
 read-statement-add-t35 : (t : ℕ) → read-statement-lts.Need-add-t35 (
   begin-reads.Asked,
@@ -396,7 +495,20 @@ read-statement-add-t35 : (t : ℕ) → read-statement-lts.Need-add-t35 (
   close-reads.Asked,
   close-reads.Learnt,
 ) (read-statement-at t) read-statement.Post
-read-statement-add-t35 t c = ?
+read-statement-add-t35 t c = 
+    let a = c .before .before .before .before .before .before .before .before .before .before .before .before .before .before .before .before .before .before .before .before .args in
+    let text = a .text .now in
+    let pre = c .before .before .before .before .before .before .before .before .before .before .before .before .before .before .before .before .before .before .before .before .pre .1 in
+    let w : Work = (record { job = a .job .now; letters = a .letters .now; states = a .states .now }) in
+    let r = c .before .before .before .before .before .before .before .before .before .before .before .before .before .before .before .begin in
+    let w′ : Work = (record { job = r .last .1 .1 .1 .0; letters = r .last .1 .1 .1 .1 .0; states = r .last .1 .1 .1 .1 .1 .0 }) in
+    let opened = c .before .before .before .before .before .before .before .before .before .before .before .before .before .begun3 .given in
+    let q = opened .0 .0 in
+    let o = opened .0 .1 .0 in
+    let b = c .before .before .before .before .before .before .before .before .read-block in
+    let w″ : Work = (record { job = b .last .1 .1 .1 .0; letters = b .last .1 .1 .1 .1 .0; states = b .last .1 .1 .1 .1 .1 .0 }) in
+    let ended = c .before .before .before .before .before .before .inner3 .given in
+    omega (arith, ended-within text (a .line) (a .depth) (a .p) w (pre .1) (pre .2) (r .result) w′ (r .ensures) q o (opened .1) (b .result) w″ (b .ensures) (ended .0 .0) (ended .1) .passed)
 
 read-statement-returns : (t : ℕ) → read-statement-lts.Need-returns (
   begin-reads.Asked,
@@ -406,7 +518,14 @@ read-statement-returns : (t : ℕ) → read-statement-lts.Need-returns (
   close-reads.Asked,
   close-reads.Learnt,
 ) (read-statement-at t) read-statement.Post
-read-statement-returns t c = ?
+read-statement-returns t c = 
+    let a = c .before .before .before .before .before .before .before .before .args in
+    let text = a .text .now in
+    let pre = c .before .before .before .before .before .before .before .before .pre .1 in
+    let w : Work = (record { job = a .job .now; letters = a .letters .now; states = a .states .now }) in
+    let r = c .before .before .before .begin in
+    let w′ : Work = (record { job = r .last .1 .1 .1 .0; letters = r .last .1 .1 .1 .1 .0; states = r .last .1 .1 .1 .1 .1 .0 }) in
+    statement-on text (a .line) (a .depth) (a .p) w (pre .1) (pre .2) (r .result) w′ (r .ensures) (c .before .begun .given .0 .0) (c .before .begun .given .1)
 
 read-statement-returns-2 : (t : ℕ) → read-statement-lts.Need-returns-2 (
   begin-reads.Asked,
@@ -416,7 +535,14 @@ read-statement-returns-2 : (t : ℕ) → read-statement-lts.Need-returns-2 (
   close-reads.Asked,
   close-reads.Learnt,
 ) (read-statement-at t) read-statement.Post
-read-statement-returns-2 t c = ?
+read-statement-returns-2 t c = 
+    let a = c .before .before .before .before .before .before .before .args in
+    let text = a .text .now in
+    let pre = c .before .before .before .before .before .before .before .pre .1 in
+    let w : Work = (record { job = a .job .now; letters = a .letters .now; states = a .states .now }) in
+    let r = c .before .before .begin in
+    let w′ : Work = (record { job = r .last .1 .1 .1 .0; letters = r .last .1 .1 .1 .1 .0; states = r .last .1 .1 .1 .1 .1 .0 }) in
+    statement-ended text (a .line) (a .depth) (a .p) w (pre .1) (pre .2) (r .result) w′ (r .ensures) (c .enum-told .given .1)
 
 read-statement-returns-3 : (t : ℕ) → read-statement-lts.Need-returns-3 (
   begin-reads.Asked,
@@ -426,7 +552,14 @@ read-statement-returns-3 : (t : ℕ) → read-statement-lts.Need-returns-3 (
   close-reads.Asked,
   close-reads.Learnt,
 ) (read-statement-at t) read-statement.Post
-read-statement-returns-3 t c = ?
+read-statement-returns-3 t c = 
+    let a = c .before .before .before .before .before .before .before .before .args in
+    let text = a .text .now in
+    let pre = c .before .before .before .before .before .before .before .before .pre .1 in
+    let w : Work = (record { job = a .job .now; letters = a .letters .now; states = a .states .now }) in
+    let r = c .before .before .before .begin in
+    let w′ : Work = (record { job = r .last .1 .1 .1 .0; letters = r .last .1 .1 .1 .1 .0; states = r .last .1 .1 .1 .1 .1 .0 }) in
+    statement-refused text (a .line) (a .depth) (a .p) w (pre .1) (pre .2) (r .result) w′ (r .ensures) (c .before .begun2 .given .0 .0) (c .before .begun2 .given .0 .1 .0) (c .before .begun2 .given .1)
 
 read-statement-returns-4 : (t : ℕ) → read-statement-lts.Need-returns-4 (
   begin-reads.Asked,
@@ -436,7 +569,20 @@ read-statement-returns-4 : (t : ℕ) → read-statement-lts.Need-returns-4 (
   close-reads.Asked,
   close-reads.Learnt,
 ) (read-statement-at t) read-statement.Post
-read-statement-returns-4 t c = ?
+read-statement-returns-4 t c = 
+    let a = c .before .before .before .before .before .before .before .before .before .before .before .before .before .before .before .before .args in
+    let text = a .text .now in
+    let pre = c .before .before .before .before .before .before .before .before .before .before .before .before .before .before .before .before .pre .1 in
+    let w : Work = (record { job = a .job .now; letters = a .letters .now; states = a .states .now }) in
+    let r = c .before .before .before .before .before .before .before .before .before .before .before .begin in
+    let w′ : Work = (record { job = r .last .1 .1 .1 .0; letters = r .last .1 .1 .1 .1 .0; states = r .last .1 .1 .1 .1 .1 .0 }) in
+    let opened = c .before .before .before .before .before .before .before .before .before .begun3 .given in
+    let q = opened .0 .0 in
+    let o = opened .0 .1 .0 in
+    let b = c .before .before .before .before .read-block in
+    let w″ : Work = (record { job = b .last .1 .1 .1 .0; letters = b .last .1 .1 .1 .1 .0; states = b .last .1 .1 .1 .1 .1 .0 }) in
+    let ended = c .before .before .inner .given in
+    open-over text (a .line) (a .depth) (a .p) w (pre .1) (pre .2) (r .result) w′ (r .ensures) q o (opened .1) (b .result) w″ (b .ensures) (ended .0 .0) (ended .1)
 
 read-statement-returns-5 : (t : ℕ) → read-statement-lts.Need-returns-5 (
   begin-reads.Asked,
@@ -446,7 +592,20 @@ read-statement-returns-5 : (t : ℕ) → read-statement-lts.Need-returns-5 (
   close-reads.Asked,
   close-reads.Learnt,
 ) (read-statement-at t) read-statement.Post
-read-statement-returns-5 t c = ?
+read-statement-returns-5 t c = 
+    let a = c .before .before .before .before .before .before .before .before .before .before .before .before .before .before .before .args in
+    let text = a .text .now in
+    let pre = c .before .before .before .before .before .before .before .before .before .before .before .before .before .before .before .pre .1 in
+    let w : Work = (record { job = a .job .now; letters = a .letters .now; states = a .states .now }) in
+    let r = c .before .before .before .before .before .before .before .before .before .before .begin in
+    let w′ : Work = (record { job = r .last .1 .1 .1 .0; letters = r .last .1 .1 .1 .1 .0; states = r .last .1 .1 .1 .1 .1 .0 }) in
+    let opened = c .before .before .before .before .before .before .before .before .begun3 .given in
+    let q = opened .0 .0 in
+    let o = opened .0 .1 .0 in
+    let b = c .before .before .before .read-block in
+    let w″ : Work = (record { job = b .last .1 .1 .1 .0; letters = b .last .1 .1 .1 .1 .0; states = b .last .1 .1 .1 .1 .1 .0 }) in
+    let ended = c .before .inner2 .given in
+    open-refused text (a .line) (a .depth) (a .p) w (pre .1) (pre .2) (r .result) w′ (r .ensures) q o (opened .1) (b .result) w″ (b .ensures) (ended .0 .0) (ended .0 .1 .0) (ended .1)
 
 read-statement-returns-6 : (t : ℕ) → read-statement-lts.Need-returns-6 (
   begin-reads.Asked,
@@ -456,7 +615,23 @@ read-statement-returns-6 : (t : ℕ) → read-statement-lts.Need-returns-6 (
   close-reads.Asked,
   close-reads.Learnt,
 ) (read-statement-at t) read-statement.Post
-read-statement-returns-6 t c = ?
+read-statement-returns-6 t c = 
+    let a = c .before .before .before .before .before .before .before .before .before .before .before .before .before .before .before .before .before .before .before .before .args in
+    let text = a .text .now in
+    let pre = c .before .before .before .before .before .before .before .before .before .before .before .before .before .before .before .before .before .before .before .before .pre .1 in
+    let w : Work = (record { job = a .job .now; letters = a .letters .now; states = a .states .now }) in
+    let r = c .before .before .before .before .before .before .before .before .before .before .before .before .before .before .before .begin in
+    let w′ : Work = (record { job = r .last .1 .1 .1 .0; letters = r .last .1 .1 .1 .1 .0; states = r .last .1 .1 .1 .1 .1 .0 }) in
+    let opened = c .before .before .before .before .before .before .before .before .before .before .before .before .before .begun3 .given in
+    let q = opened .0 .0 in
+    let o = opened .0 .1 .0 in
+    let b = c .before .before .before .before .before .before .before .before .read-block in
+    let w″ : Work = (record { job = b .last .1 .1 .1 .0; letters = b .last .1 .1 .1 .1 .0; states = b .last .1 .1 .1 .1 .1 .0 }) in
+    let ended = c .before .before .before .before .before .before .inner3 .given in
+    let bounds = ended-within text (a .line) (a .depth) (a .p) w (pre .1) (pre .2) (r .result) w′ (r .ensures) q o (opened .1) (b .result) w″ (b .ensures) (ended .0 .0) (ended .1) in
+    let l = c .before .before .before .close in
+    let closes = l .ensures (w″ .letters) (w″ .states) bounds in
+    close-statement text (a .line) (a .depth) (a .p) w (pre .1) (pre .2) (r .result) w′ (r .ensures) q o (opened .1) (b .result) w″ (b .ensures) (ended .0 .0) (ended .1) (l .result) (record { job = l .last .1 .1 .0; letters = w″ .letters; states = w″ .states }) closes (c .before .led .given .0 .0) (c .before .led .given .1)
 
 read-statement-returns-7 : (t : ℕ) → read-statement-lts.Need-returns-7 (
   begin-reads.Asked,
@@ -466,7 +641,23 @@ read-statement-returns-7 : (t : ℕ) → read-statement-lts.Need-returns-7 (
   close-reads.Asked,
   close-reads.Learnt,
 ) (read-statement-at t) read-statement.Post
-read-statement-returns-7 t c = ?
+read-statement-returns-7 t c = 
+    let a = c .before .before .before .before .before .before .before .before .before .before .before .before .before .before .before .before .before .before .before .before .args in
+    let text = a .text .now in
+    let pre = c .before .before .before .before .before .before .before .before .before .before .before .before .before .before .before .before .before .before .before .before .pre .1 in
+    let w : Work = (record { job = a .job .now; letters = a .letters .now; states = a .states .now }) in
+    let r = c .before .before .before .before .before .before .before .before .before .before .before .before .before .before .before .begin in
+    let w′ : Work = (record { job = r .last .1 .1 .1 .0; letters = r .last .1 .1 .1 .1 .0; states = r .last .1 .1 .1 .1 .1 .0 }) in
+    let opened = c .before .before .before .before .before .before .before .before .before .before .before .before .before .begun3 .given in
+    let q = opened .0 .0 in
+    let o = opened .0 .1 .0 in
+    let b = c .before .before .before .before .before .before .before .before .read-block in
+    let w″ : Work = (record { job = b .last .1 .1 .1 .0; letters = b .last .1 .1 .1 .1 .0; states = b .last .1 .1 .1 .1 .1 .0 }) in
+    let ended = c .before .before .before .before .before .before .inner3 .given in
+    let bounds = ended-within text (a .line) (a .depth) (a .p) w (pre .1) (pre .2) (r .result) w′ (r .ensures) q o (opened .1) (b .result) w″ (b .ensures) (ended .0 .0) (ended .1) in
+    let l = c .before .before .before .close in
+    let closes = l .ensures (w″ .letters) (w″ .states) bounds in
+    close-refused text (a .line) (a .depth) (a .p) w (pre .1) (pre .2) (r .result) w′ (r .ensures) q o (opened .1) (b .result) w″ (b .ensures) (ended .0 .0) (ended .1) (l .result) (record { job = l .last .1 .1 .0; letters = w″ .letters; states = w″ .states }) closes (c .before .enum-told2 .given .1)
 
 pub +read-block+read-statement-spec : {M : Type 1} → statement M
 +read-block+read-statement-spec = close μ-read-block μ-read-statement (λ t. read-block-lts.spec (
