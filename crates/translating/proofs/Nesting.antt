@@ -128,18 +128,16 @@ module _ (text : List ℕ) (line : Line) (depth : ℕ) (p : Progress) (w : Work)
 
   pub statement-on : (q : Progress) → r ≡ begun.On q → StatementRead text line depth p w (statement.On q) w′
   statement-on q e =
-      let ((within, at), steps) = subst (λ x. Begins depth line p w x w′) e begins in
-      (
+      let ((within, at), steps) = subst (λ x. Begins depth line p w x w′) e begins in (
         record { within = within; on = omega arith; inside = omega arith },
         λ os d.
-        go-on line (restFrom text p) (positionOf p w os) (positionOf q w′ os) (steps os d)
-        ∙ ap (λ ls. goOn ls (positionOf q w′ os)) (same-rest q at),
+            go-on line (restFrom text p) (positionOf p w os) (positionOf q w′ os) (steps os d)
+            ∙ ap (λ ls. goOn ls (positionOf q w′ os)) (same-rest q at),
       )
 
   pub statement-ended : r ≡ begun.Ended → StatementRead text line depth p w (statement.Ended p) w′
   statement-ended e =
-      let (is-end, same) = subst (λ x. Begins depth line p w x w′) e begins in
-      (
+      let (is-end, same) = subst (λ x. Begins depth line p w x w′) e begins in (
         record { within = subst (Within p) (sym same) bounds; on = omega arith; inside = inside },
         λ os d. ap (λ l. goOn (l ∷ restFrom text p) (positionOf p w os)) is-end ∙ ap (λ x. goOn (End ∷ restFrom text p) (positionOf p x os)) (sym same),
       )
@@ -193,13 +191,12 @@ module _ (text : List ℕ) (line : Line) (depth : ℕ) (p : Progress) (w : Work)
           pub close-statement : (t : Progress) → l ≡ led.On t → StatementRead text line depth p w (statement.On t) w‴
           close-statement t g =
               let ((within, at), steps) = subst (λ x. Closes s w″ o x w‴) g closes in
-              let further = ended-here .0 in
-              (
+              let further = ended-here .0 in (
                 record { within = within; on = omega (arith, further .on, inner .at); inside = omega (arith, further .inside) },
                 λ os d.
-                enter _ (ended-here .1) os d
-                ∙ go-on End (restFrom text s) (positionOf s w″ (openOf o ∷ os)) (positionOf t w‴ os) (steps (openOf o ∷ os) os)
-                ∙ ap (λ n. goOn (linesOf (drop n text)) (positionOf t w‴ os)) (sym at),
+                    enter _ (ended-here .1) os d
+                    ∙ go-on End (restFrom text s) (positionOf s w″ (openOf o ∷ os)) (positionOf t w‴ os) (steps (openOf o ∷ os) os)
+                    ∙ ap (λ n. goOn (linesOf (drop n text)) (positionOf t w‴ os)) (sym at),
               )
 
           pub close-refused : l ≡ led.Full → Comes depth (line ∷ restFrom text p) p w (λ os. refused 19 (s .passed + 1))

@@ -46,11 +46,10 @@ element-write-job-5 : tie.Need-element-write-job-5
 element-write-job-5 c = search needs
 
 returns : tie.Need-returns
-returns c = 
+returns c =
     let a = c .before .before .before .args in
     let v = c .before .before .variables-for in
-    let vs : List ℕ = 1 ∷ v .result ∷ (a .p .passed + 1) ∷ 0 ∷ a .p .count ∷ [] in
-    (
+    let vs : List ℕ = 1 ∷ v .result ∷ (a .p .passed + 1) ∷ 0 ∷ a .p .count ∷ [] in (
       length-sets (a .job .now) 0 vs ∙ c .before .before .before .pre .0,
       put-ahead (a .job .now) vs (a .p .count) (c .before .before .before .pre .0) refl ∙ rw (v .ensures, add-one (a .p .passed)) refl,
     )

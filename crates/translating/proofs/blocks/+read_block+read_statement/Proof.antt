@@ -98,7 +98,7 @@ read-block-returns-2 : (t : ℕ) → read-block-lts.Need-returns-2 (
   read-block-below t,
   read-block.Post,
 ) (read-block-at t) read-block.Post
-read-block-returns-2 t c = 
+read-block-returns-2 t c =
     let a = c .before .before .before .before .before .args in
     let end = c .before .before .line-end in
     block-last (a .text .now) (a .depth) (a .p) (record { job = a .job .now; letters = a .letters .now; states = a .states .now }) (end .result) (c .before .before .before .if1 .left) (c .before .if2 .taken) (end .ensures .2)
@@ -173,11 +173,10 @@ read-block-read-statement-requires : (t : ℕ) → read-block-lts.Need-read-stat
   read-block-below t,
   read-block.Post,
 ) (read-block-at t) read-block.Post
-read-block-read-statement-requires t c κs = 
+read-block-read-statement-requires t c κs =
     let a = c .before .before .before .before .before .before .before .before .before .args in
     let pre = c .before .before .before .before .before .before .before .before .before .pre in
-    let end = c .before .before .before .before .before .before .line-end .ensures in
-    (
+    let end = c .before .before .before .before .before .before .line-end .ensures in (
       omega (arith, pre .0, end .0, c .before .before .before .before .before .if2 .left),
       (mark-in _ _ (c .before .before .before .read-line .ensures), moved (a .p) (record { job = a .job .now; letters = a .letters .now; states = a .states .now }) _ (pre .1 .0), omega (arith, c .before .before .before .before .before .if2 .left), pre .1 .2),
     )
@@ -204,7 +203,7 @@ read-block-read-block-requires : (t : ℕ) → read-block-lts.Need-read-block-re
   read-block-below t,
   read-block.Post,
 ) (read-block-at t) read-block.Post
-read-block-read-block-requires t c κs = 
+read-block-read-block-requires t c κs =
     let a = c .before .before .before .before .before .before .before .before .before .before .before .before .before .before .before .before .args in
     let text = a .text .now in
     let w : Work = (record { job = a .job .now; letters = a .letters .now; states = a .states .now }) in
@@ -251,7 +250,7 @@ read-block-returns-3 : (t : ℕ) → read-block-lts.Need-returns-3 (
   read-block-below t,
   read-block.Post,
 ) (read-block-at t) read-block.Post
-read-block-returns-3 t c = 
+read-block-returns-3 t c =
     let a = c .before .before .before .before .before .before .before .before .before .before .before .before .before .before .before .before .before .args in
     let text = a .text .now in
     let w : Work = (record { job = a .job .now; letters = a .letters .now; states = a .states .now }) in
@@ -274,7 +273,7 @@ read-block-returns-4 : (t : ℕ) → read-block-lts.Need-returns-4 (
   read-block-below t,
   read-block.Post,
 ) (read-block-at t) read-block.Post
-read-block-returns-4 t c = 
+read-block-returns-4 t c =
     let a = c .before .before .before .before .before .before .before .before .before .before .before .before .before .args in
     let text = a .text .now in
     let w : Work = (record { job = a .job .now; letters = a .letters .now; states = a .states .now }) in
@@ -296,7 +295,7 @@ read-block-returns-5 : (t : ℕ) → read-block-lts.Need-returns-5 (
   read-block-below t,
   read-block.Post,
 ) (read-block-at t) read-block.Post
-read-block-returns-5 t c = 
+read-block-returns-5 t c =
     let a = c .before .before .before .before .before .before .before .before .before .before .before .before .before .args in
     let text = a .text .now in
     let w : Work = (record { job = a .job .now; letters = a .letters .now; states = a .states .now }) in
@@ -376,7 +375,7 @@ read-statement-read-block-requires : (t : ℕ) → read-statement-lts.Need-read-
   close-reads.Asked,
   close-reads.Learnt,
 ) (read-statement-at t) read-statement.Post
-read-statement-read-block-requires t c κs = 
+read-statement-read-block-requires t c κs =
     let a = c .before .before .before .before .before .before .before .before .before .before .before .args in
     let text = a .text .now in
     let pre = c .before .before .before .before .before .before .before .before .before .before .before .pre .1 in
@@ -407,7 +406,7 @@ read-statement-add-t31 : (t : ℕ) → read-statement-lts.Need-add-t31 (
   close-reads.Asked,
   close-reads.Learnt,
 ) (read-statement-at t) read-statement.Post
-read-statement-add-t31 t c = 
+read-statement-add-t31 t c =
     let a = c .before .before .before .before .before .before .before .before .before .before .before .before .before .before .before .before .args in
     let text = a .text .now in
     let pre = c .before .before .before .before .before .before .before .before .before .before .before .before .before .before .before .before .pre .1 in
@@ -450,7 +449,7 @@ read-statement-close-requires : (t : ℕ) → read-statement-lts.Need-close-requ
   close-reads.Asked,
   close-reads.Learnt,
 ) (read-statement-at t) read-statement.Post
-read-statement-close-requires t c κs = 
+read-statement-close-requires t c κs =
     let a = c .before .before .before .before .before .before .before .before .before .before .before .before .before .before .before .before .args in
     let text = a .text .now in
     let pre = c .before .before .before .before .before .before .before .before .before .before .before .before .before .before .before .before .pre .1 in
@@ -495,7 +494,7 @@ read-statement-add-t35 : (t : ℕ) → read-statement-lts.Need-add-t35 (
   close-reads.Asked,
   close-reads.Learnt,
 ) (read-statement-at t) read-statement.Post
-read-statement-add-t35 t c = 
+read-statement-add-t35 t c =
     let a = c .before .before .before .before .before .before .before .before .before .before .before .before .before .before .before .before .before .before .before .before .args in
     let text = a .text .now in
     let pre = c .before .before .before .before .before .before .before .before .before .before .before .before .before .before .before .before .before .before .before .before .pre .1 in
@@ -518,7 +517,7 @@ read-statement-returns : (t : ℕ) → read-statement-lts.Need-returns (
   close-reads.Asked,
   close-reads.Learnt,
 ) (read-statement-at t) read-statement.Post
-read-statement-returns t c = 
+read-statement-returns t c =
     let a = c .before .before .before .before .before .before .before .before .args in
     let text = a .text .now in
     let pre = c .before .before .before .before .before .before .before .before .pre .1 in
@@ -535,7 +534,7 @@ read-statement-returns-2 : (t : ℕ) → read-statement-lts.Need-returns-2 (
   close-reads.Asked,
   close-reads.Learnt,
 ) (read-statement-at t) read-statement.Post
-read-statement-returns-2 t c = 
+read-statement-returns-2 t c =
     let a = c .before .before .before .before .before .before .before .args in
     let text = a .text .now in
     let pre = c .before .before .before .before .before .before .before .pre .1 in
@@ -552,7 +551,7 @@ read-statement-returns-3 : (t : ℕ) → read-statement-lts.Need-returns-3 (
   close-reads.Asked,
   close-reads.Learnt,
 ) (read-statement-at t) read-statement.Post
-read-statement-returns-3 t c = 
+read-statement-returns-3 t c =
     let a = c .before .before .before .before .before .before .before .before .args in
     let text = a .text .now in
     let pre = c .before .before .before .before .before .before .before .before .pre .1 in
@@ -569,7 +568,7 @@ read-statement-returns-4 : (t : ℕ) → read-statement-lts.Need-returns-4 (
   close-reads.Asked,
   close-reads.Learnt,
 ) (read-statement-at t) read-statement.Post
-read-statement-returns-4 t c = 
+read-statement-returns-4 t c =
     let a = c .before .before .before .before .before .before .before .before .before .before .before .before .before .before .before .before .args in
     let text = a .text .now in
     let pre = c .before .before .before .before .before .before .before .before .before .before .before .before .before .before .before .before .pre .1 in
@@ -592,7 +591,7 @@ read-statement-returns-5 : (t : ℕ) → read-statement-lts.Need-returns-5 (
   close-reads.Asked,
   close-reads.Learnt,
 ) (read-statement-at t) read-statement.Post
-read-statement-returns-5 t c = 
+read-statement-returns-5 t c =
     let a = c .before .before .before .before .before .before .before .before .before .before .before .before .before .before .before .args in
     let text = a .text .now in
     let pre = c .before .before .before .before .before .before .before .before .before .before .before .before .before .before .before .pre .1 in
@@ -615,7 +614,7 @@ read-statement-returns-6 : (t : ℕ) → read-statement-lts.Need-returns-6 (
   close-reads.Asked,
   close-reads.Learnt,
 ) (read-statement-at t) read-statement.Post
-read-statement-returns-6 t c = 
+read-statement-returns-6 t c =
     let a = c .before .before .before .before .before .before .before .before .before .before .before .before .before .before .before .before .before .before .before .before .args in
     let text = a .text .now in
     let pre = c .before .before .before .before .before .before .before .before .before .before .before .before .before .before .before .before .before .before .before .before .pre .1 in
@@ -641,7 +640,7 @@ read-statement-returns-7 : (t : ℕ) → read-statement-lts.Need-returns-7 (
   close-reads.Asked,
   close-reads.Learnt,
 ) (read-statement-at t) read-statement.Post
-read-statement-returns-7 t c = 
+read-statement-returns-7 t c =
     let a = c .before .before .before .before .before .before .before .before .before .before .before .before .before .before .before .before .before .before .before .before .args in
     let text = a .text .now in
     let pre = c .before .before .before .before .before .before .before .before .before .before .before .before .before .before .before .before .before .before .before .before .pre .1 in

@@ -23,11 +23,10 @@ add-t9 : tie.Need-add-t9
 add-t9 c = search needs
 
 returns-3 : tie.Need-returns-3
-returns-3 c = 
+returns-3 c =
     let a = c .before .before .before .before .before .before .before .args in
     let one = add-one (a .p .passed) in
-    let two = add-one (a .p .count) in
-    (
+    let two = add-one (a .p .count) in (
       omega arith,
       omega arith,
       λ i. record { at = a .p .at; passed = one i; count = two i; met = a .met },

@@ -46,7 +46,7 @@ element-write-job-5 : tie.Need-element-write-job-5
 element-write-job-5 c = search needs
 
 returns : tie.Need-returns
-returns c = 
+returns c =
     let a = c .args in
     let at = 5 + 5 * a .count in
     let one : at + 1 ≡ suc at = omega arith in
