@@ -153,7 +153,7 @@ fn is_said(line: &str) -> bool {
 /// What a part of a file between two blank lines defines.
 fn block(part: &str) -> Option<Block> {
     let lines: Vec<&str> = part.lines().filter(|line| is_said(line)).collect();
-    let heads = ["module", "infix"];
+    let heads = ["module", "infix", "mutual", "abbrev mutual"];
     let plain = |line: &&&str| !heads.iter().any(|head| line.trim().starts_with(head));
     let head = lines.iter().find(plain)?;
     let is_word = |word: &&str| !["abbrev", "unfoldable", "pub", "record", "data"].contains(word);

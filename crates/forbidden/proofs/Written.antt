@@ -14,7 +14,8 @@ use Rattle.number.specs.NumberList.{encode}
 use Rattle.heap.specs.Place.{null, dangling}
 use Rattle.shape.specs.Shape.{Shape, InRange}
 use Rattle.run.specs.Run.{Transition, Located, Safe}
-use Rattle.heap.proofs.Operands.{Allowed, named-allowed}
+use Rattle.heap.specs.Operation.{Allowed}
+use Rattle.heap.proofs.Operands.{named-allowed}
 use Rattle.format.specs.Conditions.{Acceptable}
 use Rattle.format.specs.Job.{readWholeJob}
 use Rattle.format.specs.JobBytes.{LocatedInRange, JobInRange, IsJob}

@@ -14,11 +14,11 @@ use Rattle.number.specs.NumberList.{encode}
 use Rattle.number.specs.Range.{AtMost}
 use Rattle.number.proofs.RoundTrip.{decode-encode}
 use Rattle.heap.specs.Heap.{empty}
-use Rattle.heap.specs.Operation.{Op, equal, different, assign, load, store, new, delete}
+use Rattle.heap.specs.Operation.{Op, equal, different, assign, load, store, new, delete, Allowed}
 use Rattle.heap.specs.Place.{cell}
 use Rattle.shape.specs.Shape.{size, Satisfies, AllBelow, InRange}
 use Rattle.run.specs.Run.{Transition, Located}
-use Rattle.heap.proofs.Operands.{Allowed, named-allowed}
+use Rattle.heap.proofs.Operands.{named-allowed}
 use Rattle.backward.specs.Predecessors.{predecessors}
 use Rattle.cover.specs.Cover.{predecessorsBy, owed, Cover, AllHold}
 use Rattle.cover.proofs.InRange.{predecessors-range}

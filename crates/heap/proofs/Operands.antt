@@ -5,17 +5,8 @@ use mathlib.Core.Path.{_≡_, subst}
 use Prim.Native.Nat.{ℕ, _≤_}
 use native.Mathlib.Omega.{arith}
 use Rattle.lists.proofs.List.{end, _&_}
-use Rattle.heap.specs.Operation.{Op, equal, different, assign, load, store, new, delete, Kind, operation}
+use Rattle.heap.specs.Operation.{Op, equal, different, assign, load, store, new, delete, Kind, operation, Allowed}
 use Rattle.heap.proofs.Rows.{by-row, Keeps, in-table}
-
-abbrev pub Allowed : ℕ → Op → Type 0
-Allowed n (equal a b) = (a ≤ n) × (b ≤ n)
-Allowed n (different a b) = (a ≤ n) × (b ≤ n)
-Allowed n (assign a b) = (a ≢ 0) × (a ≤ n) × (b ≤ n)
-Allowed n (load a b) = (a ≢ 0) × (b ≢ 0) × (a ≤ n) × (b ≤ n)
-Allowed n (store a b) = (a ≢ 0) × (a ≤ n) × (b ≤ n)
-Allowed n (new a) = (a ≢ 0) × (a ≤ n)
-Allowed n (delete a) = (a ≢ 0) × (a ≤ n)
 
 pub named-allowed : (n kind a b : ℕ) (o : Op) → operation n kind a b ≡ some o → Allowed n o
 named-allowed n kind a b o e =

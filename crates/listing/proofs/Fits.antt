@@ -1,9 +1,8 @@
 -- Listings whose operations keep to the table of kinds.
 use Prim.Native.Nat.{ℕ, suc, _≤_}
 use native.Mathlib.Omega.{arith}
-use Rattle.heap.specs.Operation.{Op, equal, different, assign, load, store, new, delete}
+use Rattle.heap.specs.Operation.{Op, equal, different, assign, load, store, new, delete, Allowed}
 use Rattle.run.specs.Run.{Transition}
-use Rattle.heap.proofs.Operands.{Allowed}
 use Rattle.listing.specs.Limits.{FitsOne, Fits}
 use Rattle.listing.specs.Listing.{Test, same, other, any, Statement, perform, mark, while, if, Block, done, _⨾_}
 use Rattle.listing.specs.Translation.{skip, test, opposite, exit, steps, lines}

@@ -7,9 +7,8 @@ use native.Mathlib.Omega.{arith}
 use lib.Dec.{eqb, leb, T}
 use lib.ListN.{getD}
 use Rattle.lists.proofs.Reflect.{Reflect, r-eq, r-le, r-and, is-true, is-false}
-use Rattle.heap.specs.Operation.{Op, equal, different, assign, load, store, new, delete, Kind, kinds, allowsA, allowsB, fromRow, Named}
+use Rattle.heap.specs.Operation.{Op, equal, different, assign, load, store, new, delete, Kind, kinds, allowsA, allowsB, fromRow, Named, Allowed}
 use Rattle.kinds.specs.Kinds.{isSome, allowed}
-use Rattle.heap.proofs.Operands.{Allowed}
 use Rattle.lines.specs.Line.{isOperation, isTest}
 use Rattle.lines.specs.declared.Operation.{Operation}
 use Rattle.lines.proofs.TextReads.{operands}

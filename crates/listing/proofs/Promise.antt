@@ -16,7 +16,7 @@ use Rattle.number.proofs.Encoding.{encode-append}
 use Rattle.number.proofs.RoundTrip.{reads}
 use Rattle.number.proofs.Writing.{one}
 use Rattle.run.specs.Run.{Transition, Located, Safe}
-use Rattle.heap.proofs.Operands.{Allowed}
+use Rattle.heap.specs.Operation.{Allowed}
 use Rattle.format.specs.Conditions.{Acceptable}
 use Rattle.format.specs.JobBytes.{IsJob}
 use Rattle.format.specs.JobNumbers.{JobFile, transitionNumbers, locatedNumbers, jobNumbers}

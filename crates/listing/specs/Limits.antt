@@ -6,7 +6,7 @@ use Prim.Native.Nat.{ℕ, suc, _≤_, max}
 use lib.ListN.{length}
 use Rattle.lists.specs.List.{_∈_}
 use Rattle.lists.proofs.List.{Distinct}
-use Rattle.heap.proofs.Operands.{Allowed}
+use Rattle.heap.specs.Operation.{Allowed}
 use Rattle.format.specs.JobBytes.{Between}
 use Rattle.listing.specs.Listing.{Statement, perform, mark, while, if, Block, done, _⨾_, marksIn}
 use Rattle.listing.specs.Names.{letterIn, blockBy}

@@ -8,8 +8,8 @@ use native.Mathlib.Omega.{arith}
 use borrow.Author.Tests.{leb-false}
 use lib.Dec.{leb}
 use Rattle.heap.specs.Codes.{varIn, linkIn}
-use Rattle.heap.specs.Operation.{Op, equal, different, assign, load, store, new, delete, Enabled, enabled?, operation}
-use Rattle.heap.proofs.Operands.{Allowed, named-allowed}
+use Rattle.heap.specs.Operation.{Op, equal, different, assign, load, store, new, delete, Enabled, enabled?, operation, Allowed}
+use Rattle.heap.proofs.Operands.{named-allowed}
 use Rattle.kinds.specs.Kinds.{isSome, allowed}
 use Rattle.place.specs.Place.{placeOf, cellPlace, codes}
 use Rattle.stepper.specs.Step.{stays, lowestUnused, allocates, tableAfter, perform, performNamed, stepOf, Steps}
