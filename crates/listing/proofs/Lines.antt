@@ -15,7 +15,7 @@ use Rattle.lines.specs.declared.Line.{Line}
 use Rattle.lines.specs.declared.Line.the-variants.{Perform, While, If, End, Mark, Other}
 use Rattle.listing.specs.Text.{lastLine, linesFrom, linesOf, textOf}
 
-abbrev pub NoFeed : List ℕ → Type 0
+abbrev NoFeed : List ℕ → Type 0
 NoFeed s = ¬ (10 ∈ s)
 
 not-feed : (c : ℕ) (s : List ℕ) → NoFeed (c ∷ s) → eqb c 10 ≡ false
@@ -41,16 +41,12 @@ stops : (begun : List ℕ) → linesFrom begun [] ≡ lastLine begun
 unfolding linesFrom
 stops begun = refl
 
-pub lines-none : linesOf [] ≡ []
+lines-none : linesOf [] ≡ []
 lines-none = stops []
 
 -- a line, and the lines behind it
-pub lines-one : (s r : List ℕ) → NoFeed s → linesOf (s ++ (10 ∷ r)) ≡ lineOf s ∷ linesOf r
+lines-one : (s r : List ℕ) → NoFeed s → linesOf (s ++ (10 ∷ r)) ≡ lineOf s ∷ linesOf r
 lines-one s r n = goes-past [] s (10 ∷ r) n ∙ ends s r
-
--- a last line without byte 10
-pub lines-last : (c : ℕ) (s : List ℕ) → NoFeed (c ∷ s) → linesOf (c ∷ s) ≡ Other ∷ []
-lines-last c s n = ap linesOf (sym (append-nil (c ∷ s))) ∙ goes-past [] (c ∷ s) [] n ∙ stops (c ∷ s)
 
 -- ---- every line of a text is one of the grammar, or outside it
 

@@ -30,6 +30,7 @@ use Rattle.listing.specs.Written.{fileOf, translate, translateResult, by
 abbrev pub forbiddenBytes : List Located → List ℕ
 forbiddenBytes bads = encode (length bads ∷ concatMap locatedNumbers bads)
 
+-- shapes that a job with the listing's variables and states may forbid
 abbrev pub InRangeFor : Listing → List Located → Type 0
 InRangeFor l bads =
     Between 1 64 (length bads) × ((m : Located) → m ∈ bads → LocatedInRange (variablesFor (l .names)) (statesOf (l .statements)) m)
@@ -57,6 +58,7 @@ pub record ForbidsSet (l : Listing) (bads : List Located) (set : ReadySet) : Typ
   pub inside : isInside set (variablesFor (l .names)) (statesOf (l .statements)) ≡ true
   pub all : Forbids (fileOf l bads .job) (setFor l set)
 
+-- of a text, the bytes written and the marks' states
 pub record Promises (text bytes marks : List ℕ) : Type 0 where
   pub listing : Listing
   pub reads : read text ≡ listed listing

@@ -31,6 +31,7 @@ pub record Seen : Type 0 where
 abbrev pub nothingSeen : Seen
 nothingSeen = record { passed = 0; names = []; marks = []; depth = 0 }
 
+-- the k of the marks, and how many are open, after one line more
 abbrev pub marksMet : Line → List ℕ → List ℕ
 marksMet (Perform o) marks = marks
 marksMet (While t) marks = marks
@@ -116,6 +117,7 @@ abbrev pub enclosed : (Block → Statement) → List Block → List Block
 enclosed f [] = []
 enclosed f (b ∷ bs) = ahead (f b) bs
 
+-- one line ahead of the blocks that the lines after it are
 abbrev pub withLine : Line → List Block → List Block
 withLine (Perform o) bs = ahead (perform (opOf o)) bs
 withLine (While t) bs = enclosed (while (testOf t)) bs
@@ -147,6 +149,7 @@ pub record Listing : Type 0 where
 abbrev pub listingOf : List Line → Listing
 listingOf ls = let names = meetLines [] ls in record { names = names; statements = blockBy (numberIn names) (firstBlock (blocks ls)) }
 
+-- a listing, or the refusal
 pub data Reading : Type 0 where
   listed : Listing → Reading
   refused : Fault → Reading

@@ -61,6 +61,30 @@ moved p w at h = record { passed = h .passed; count = h .count; met = h .met; jo
 
 -- ---- blocks
 
+-- statements are passed, from p to q
+pub record Passed (text : List ℕ) (depth : ℕ) (p : Progress) (w : Work) (q : Progress) (w′ : Work) : Type 0 where
+  pub further : Further text p q w′
+  pub comes : Comes depth (restFrom text p) p w (λ os. goOn (restFrom text q) (positionOf q w′ os))
+
+pub passed-none : (text : List ℕ) (depth : ℕ) (p : Progress) (w : Work) → Within p w → p .at ≤ length text → Passed text depth p w p w
+passed-none text depth p w bounds inside = record { further = record { within = bounds; on = omega arith; inside = inside }; comes = λ os e. refl }
+
+module _ (text : List ℕ) (depth : ℕ) (p : Progress) (w : Work) (q : Progress) (w′ : Work) (passed : Passed text depth p w q w′) where
+  pub passed-more : (r : Progress) (w″ : Work) → Passed text depth q w′ r w″ → Passed text depth p w r w″
+  passed-more r w″ more =
+      let on = more .further in
+      record {
+        further = record { within = on .within; on = omega (arith, on .on, passed .further .on); inside = on .inside };
+        comes = λ os e. passed .comes os e ∙ more .comes os e;
+      }
+
+  -- how the block ends after them is how it ends
+  pub block-after : (b : Block) (w″ : Work) → BlockRead text depth q w′ b w″ → BlockRead text depth p w b w″
+  block-after (block.Over r) w″ (bounds, comes) = (bounds, λ os e. passed .comes os e ∙ comes os e)
+  block-after (block.Ended r) w″ (beyond, comes) =
+      (record { within = beyond .within; on = omega (arith, beyond .on, passed .further .on); inside = beyond .inside }, λ os e. passed .comes os e ∙ comes os e)
+  block-after (block.Refused why n) w″ comes = λ os e. passed .comes os e ∙ comes os e
+
 module _ (text : List ℕ) (depth : ℕ) (p : Progress) (w : Work) where
   pub block-over : Within p w → length text ≤ p .at → BlockRead text depth p w (block.Over p) w
   block-over bounds h = (bounds, λ os e. ap (λ ls. goOn ls (positionOf p w os)) (cut-over text (p .at) h))
@@ -95,28 +119,14 @@ module _ (text : List ℕ) (depth : ℕ) (p : Progress) (w : Work) where
         → Comes depth (restFrom text p) p w (λ os. refused (faultNumber why) n)
     block-refused r w′ why n read e = first _ (subst (λ x. StatementRead text line depth q₀ w x w′) e read)
 
-    -- and the statements after it
+    -- and the reading after it
     pub statement-further : (r : Statement) (w′ : Work) (q : Progress) → StatementRead text line depth q₀ w r w′ → r ≡ statement.On q → Further text q₀ q w′
     statement-further r w′ q read e = subst (λ x. StatementRead text line depth q₀ w x w′) e read .0
 
-    pub block-more : (r : Statement) (w′ : Work) (q : Progress) → StatementRead text line depth q₀ w r w′ → r ≡ statement.On q
-        → (b : Block) (w″ : Work) → BlockRead text depth q w′ b w″ → BlockRead text depth p w b w″
-    block-more r w′ q read e b w″ rest = go b rest
-      where
-        both : StatementRead text line depth q₀ w (statement.On q) w′
-        both = subst (λ x. StatementRead text line depth q₀ w x w′) e read
-
-        further : Further text q₀ q w′
-        further = both .0
-
-        then : (to : List Open → Outcome) → Comes depth (restFrom text q) q w′ to → Comes depth (restFrom text p) p w to
-        then to comes os d = first _ (both .1) os d ∙ comes os d
-
-        go : (b : Block) → BlockRead text depth q w′ b w″ → BlockRead text depth p w b w″
-        go (block.Over q₂) (bounds, comes) = (bounds, then _ comes)
-        go (block.Ended q₂) (beyond, comes) =
-            (record { within = beyond .within; on = omega (arith, further .on, beyond .on); inside = beyond .inside }, then _ comes)
-        go (block.Refused why n) comes = then _ comes
+    pub statement-passed : (r : Statement) (w′ : Work) (q : Progress) → StatementRead text line depth q₀ w r w′ → r ≡ statement.On q → Passed text depth p w q w′
+    statement-passed r w′ q read e =
+        let (further, comes) = subst (λ x. StatementRead text line depth q₀ w x w′) e read in
+        record { further = record { within = further .within; on = omega (arith, further .on); inside = further .inside }; comes = first _ comes }
 
 -- ---- statements
 

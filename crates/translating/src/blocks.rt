@@ -55,26 +55,35 @@ pub(crate) fn read_block(
     requires { ⌜ (Within p (record { job = now job; letters = now letters; states = now states })) × (p .at ≤ length (now text)) × (depth ≤ 16) ⌝ }
     ensures { λ r. ⌜ BlockRead (now (text .entry)) depth p (record { job = now (job .entry); letters = now (letters .entry); states = now (states .entry) }) r (record { job = now (job .exit); letters = now (letters .exit); states = now (states .exit) }) ⌝ }
 {
-    let at = p.at;
-    if text.len() <= at {
-        return Block::Over(p);
-    }
-    let end = line_end(text, at);
-    if text.len() <= end {
-        return Block::Refused(Fault::Grammar, p.passed + 1);
-    }
-    let line = read_line(&text[at..end]);
-    let next = Progress {
-        at: end + 1,
-        passed: p.passed,
-        count: p.count,
-        met: p.met,
-    };
-    let first = read_statement(text, line, next, depth, job, letters, states);
-    match first {
-        Statement::On(q) => read_block(text, q, depth, job, letters, states),
-        Statement::Ended(q) => Block::Ended(q),
-        Statement::Refused(why, number) => Block::Refused(why, number),
+    let mut reached = p;
+    loop {
+        let at = reached.at;
+        if text.len() <= at {
+            return Block::Over(reached);
+        }
+        let end = line_end(text, at);
+        if text.len() <= end {
+            return Block::Refused(Fault::Grammar, reached.passed + 1);
+        }
+        let line = read_line(&text[at..end]);
+        let next = Progress {
+            at: end + 1,
+            passed: reached.passed,
+            count: reached.count,
+            met: reached.met,
+        };
+        let first = read_statement(text, line, next, depth, job, letters, states);
+        match first {
+            Statement::On(q) => {
+                reached = q;
+            }
+            Statement::Ended(q) => {
+                return Block::Ended(q);
+            }
+            Statement::Refused(why, number) => {
+                return Block::Refused(why, number);
+            }
+        }
     }
 }
 

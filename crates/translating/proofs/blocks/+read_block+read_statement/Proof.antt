@@ -1,11 +1,16 @@
-use Rattle.translating.proofs.Nesting.{mark-in, moved, block-over, block-last, block-line, block-ended, block-refused, statement-further, block-more, statement-on, statement-ended, statement-refused, inner, open-over, over-within, open-refused, ended-within, close-statement, close-refused}
-use Prim.Native.Nat.{_≤_}
-use Rattle.translating.specs.Work.{Work}
 use borrow.Author.Needs.{needs}
-use mathlib.Core.Path.{_≡_, refl, sym, ap, subst, _∙_}
+use Rattle.lines.proofs.read_line.Reads as read-line-reads
+use Rattle.translating.proofs.blocks.line_end.Reads as line-end-reads
+use Rattle.translating.proofs.steps.begin.Reads as begin-reads
+use Rattle.translating.proofs.steps.close.Reads as close-reads
+use mathlib.Core.Path.{_≡_}
 use native.Mathlib.Omega.{arith}
-use Prim.Native.Nat.{_+_, _-_, _*_}
+use Prim.Native.Nat.{_+_, _-_, _*_, _≤_}
 use lib.ListN.{length}
+use Rattle.translating.specs.Work.{Work}
+use Rattle.translating.specs.declared.Fault.the-variants.{Grammar}
+use Rattle.translating.specs.declared.blocks.Block.the-variants as block
+use Rattle.translating.proofs.Nesting.{Passed, mark-in, moved, passed-none, passed-more, block-after, block-over, block-last, block-line, block-ended, block-refused, statement-further, statement-passed, statement-on, statement-ended, statement-refused, inner, open-over, over-within, open-refused, ended-within, close-statement, close-refused}
 use Prim.Native.Nat.{ℕ, _<_}
 use borrow.Fn.Kinds.{In}
 use borrow.Fn.PlainCycle.{Measures, is, falls, and}
@@ -15,10 +20,6 @@ use Rattle.translating.proofs.blocks.+read_block+read_statement.Lts-rea
 use Rattle.translating.proofs.blocks.read_statement.Reads as read-statement
 use Rattle.translating.proofs.blocks.read_statement.Kinds as read-statement-kinds
 use Rattle.translating.proofs.blocks.+read_block+read_statement.Lts-read_statement as read-statement-lts
-use Rattle.lines.proofs.read_line.Reads as read-line-reads
-use Rattle.translating.proofs.blocks.line_end.Reads as line-end-reads
-use Rattle.translating.proofs.steps.begin.Reads as begin-reads
-use Rattle.translating.proofs.steps.close.Reads as close-reads
 use Rattle.translating.proofs.blocks.+read_block+read_statement.{statement}
 use Rattle.translating.proofs.blocks.+read_block+read_statement.Tie.{close}
 
@@ -52,6 +53,24 @@ read-statement-below t =
     (falls 4 read-statement-kinds.ps _<_ μ-read-statement t)
     read-statement.Pre
 
+abbrev read-block-Inv-loop : read-block-lts.InvT-loop
+read-block-Inv-loop text depth job₀ letters₀ states₀ reached₀ job letters states reached =
+    Passed text depth reached₀ (record { job = job₀; letters = letters₀; states = states₀ }) reached (record { job = job; letters = letters; states = states })
+
+abbrev read-block-μ-loop : read-block-lts.MeasureT-loop
+read-block-μ-loop text depth job₀ letters₀ states₀ reached₀ job letters states reached =
+    length text - reached .at
+
+read-block-loop-holds : (t : ℕ) → read-block-lts.Need-loop-holds (
+  line-end-reads.Asked,
+  line-end-reads.Learnt,
+  read-line-reads.Asked,
+  read-line-reads.Learnt,
+  read-statement-below t,
+  read-statement.Post,
+) (read-block-at t) read-block.Post read-block-Inv-loop read-block-μ-loop
+read-block-loop-holds t c = let a = c .before .args in passed-none (a .text .now) (a .depth) (a .p) (record { job = a .job .now; letters = a .letters .now; states = a .states .now }) (c .before .pre .1 .0) (c .before .pre .1 .1)
+
 read-block-returns : (t : ℕ) → read-block-lts.Need-returns (
   line-end-reads.Asked,
   line-end-reads.Learnt,
@@ -59,10 +78,14 @@ read-block-returns : (t : ℕ) → read-block-lts.Need-returns (
   read-line-reads.Learnt,
   read-statement-below t,
   read-statement.Post,
-  read-block-below t,
-  read-block.Post,
-) (read-block-at t) read-block.Post
-read-block-returns t c = let a = c .before .before .args in block-over (a .text .now) (a .depth) (a .p) (record { job = a .job .now; letters = a .letters .now; states = a .states .now }) (c .before .before .pre .1 .0) (c .if1 .taken)
+) (read-block-at t) read-block.Post read-block-Inv-loop read-block-μ-loop
+read-block-returns t c =
+    let a = c .before .before .before .args in
+    let text = a .text .now in
+    let w : Work = (record { job = a .job .now; letters = a .letters .now; states = a .states .now }) in
+    let l = c .before .loop in
+    let v : Work = record { job = l .job; letters = l .letters; states = l .states } in
+    block-after text (a .depth) (a .p) w (l .reached) v (l .inv) (block.Over (l .reached)) v (block-over text (a .depth) (l .reached) v (l .inv .further .within) (c .if1 .taken))
 
 read-block-line-end-requires : (t : ℕ) → read-block-lts.Need-line-end-requires (
   line-end-reads.Asked,
@@ -71,22 +94,18 @@ read-block-line-end-requires : (t : ℕ) → read-block-lts.Need-line-end-requir
   read-line-reads.Learnt,
   read-statement-below t,
   read-statement.Post,
-  read-block-below t,
-  read-block.Post,
-) (read-block-at t) read-block.Post
+) (read-block-at t) read-block.Post read-block-Inv-loop read-block-μ-loop
 read-block-line-end-requires t c κs = search needs
 
-read-block-add-t19 : (t : ℕ) → read-block-lts.Need-add-t19 (
+read-block-add-t20 : (t : ℕ) → read-block-lts.Need-add-t20 (
   line-end-reads.Asked,
   line-end-reads.Learnt,
   read-line-reads.Asked,
   read-line-reads.Learnt,
   read-statement-below t,
   read-statement.Post,
-  read-block-below t,
-  read-block.Post,
-) (read-block-at t) read-block.Post
-read-block-add-t19 t c = search needs
+) (read-block-at t) read-block.Post read-block-Inv-loop read-block-μ-loop
+read-block-add-t20 t c = omega (arith, c .before .before .before .before .loop .inv .further .within .passed)
 
 read-block-returns-2 : (t : ℕ) → read-block-lts.Need-returns-2 (
   line-end-reads.Asked,
@@ -95,13 +114,16 @@ read-block-returns-2 : (t : ℕ) → read-block-lts.Need-returns-2 (
   read-line-reads.Learnt,
   read-statement-below t,
   read-statement.Post,
-  read-block-below t,
-  read-block.Post,
-) (read-block-at t) read-block.Post
+) (read-block-at t) read-block.Post read-block-Inv-loop read-block-μ-loop
 read-block-returns-2 t c =
-    let a = c .before .before .before .before .before .args in
+    let a = c .before .before .before .before .before .before .args in
+    let text = a .text .now in
+    let w : Work = (record { job = a .job .now; letters = a .letters .now; states = a .states .now }) in
+    let l = c .before .before .before .before .loop in
+    let v : Work = record { job = l .job; letters = l .letters; states = l .states } in
     let end = c .before .before .line-end in
-    block-last (a .text .now) (a .depth) (a .p) (record { job = a .job .now; letters = a .letters .now; states = a .states .now }) (end .result) (c .before .before .before .if1 .left) (c .before .if2 .taken) (end .ensures .2)
+    block-after text (a .depth) (a .p) w (l .reached) v (l .inv) (block.Refused Grammar (l .reached .passed + 1)) v
+    (block-last text (a .depth) (l .reached) v (end .result) (c .before .before .before .if1 .left) (c .before .if2 .taken) (end .ensures .2))
 
 read-block-sub-read-line : (t : ℕ) → read-block-lts.Need-sub-read-line (
   line-end-reads.Asked,
@@ -110,9 +132,7 @@ read-block-sub-read-line : (t : ℕ) → read-block-lts.Need-sub-read-line (
   read-line-reads.Learnt,
   read-statement-below t,
   read-statement.Post,
-  read-block-below t,
-  read-block.Post,
-) (read-block-at t) read-block.Post
+) (read-block-at t) read-block.Post read-block-Inv-loop read-block-μ-loop
 read-block-sub-read-line t c = search needs
 
 read-block-part-read-line-start : (t : ℕ) → read-block-lts.Need-part-read-line-start (
@@ -122,9 +142,7 @@ read-block-part-read-line-start : (t : ℕ) → read-block-lts.Need-part-read-li
   read-line-reads.Learnt,
   read-statement-below t,
   read-statement.Post,
-  read-block-below t,
-  read-block.Post,
-) (read-block-at t) read-block.Post
+) (read-block-at t) read-block.Post read-block-Inv-loop read-block-μ-loop
 read-block-part-read-line-start t c = search needs
 
 read-block-part-read-line-end : (t : ℕ) → read-block-lts.Need-part-read-line-end (
@@ -134,9 +152,7 @@ read-block-part-read-line-end : (t : ℕ) → read-block-lts.Need-part-read-line
   read-line-reads.Learnt,
   read-statement-below t,
   read-statement.Post,
-  read-block-below t,
-  read-block.Post,
-) (read-block-at t) read-block.Post
+) (read-block-at t) read-block.Post read-block-Inv-loop read-block-μ-loop
 read-block-part-read-line-end t c = search needs
 
 read-block-read-line-requires : (t : ℕ) → read-block-lts.Need-read-line-requires (
@@ -146,22 +162,18 @@ read-block-read-line-requires : (t : ℕ) → read-block-lts.Need-read-line-requ
   read-line-reads.Learnt,
   read-statement-below t,
   read-statement.Post,
-  read-block-below t,
-  read-block.Post,
-) (read-block-at t) read-block.Post
+) (read-block-at t) read-block.Post read-block-Inv-loop read-block-μ-loop
 read-block-read-line-requires t c κs = search needs
 
-read-block-add-t16 : (t : ℕ) → read-block-lts.Need-add-t16 (
+read-block-add-t17 : (t : ℕ) → read-block-lts.Need-add-t17 (
   line-end-reads.Asked,
   line-end-reads.Learnt,
   read-line-reads.Asked,
   read-line-reads.Learnt,
   read-statement-below t,
   read-statement.Post,
-  read-block-below t,
-  read-block.Post,
-) (read-block-at t) read-block.Post
-read-block-add-t16 t c = search needs
+) (read-block-at t) read-block.Post read-block-Inv-loop read-block-μ-loop
+read-block-add-t17 t c = search needs
 
 read-block-read-statement-requires : (t : ℕ) → read-block-lts.Need-read-statement-requires (
   line-end-reads.Asked,
@@ -170,15 +182,16 @@ read-block-read-statement-requires : (t : ℕ) → read-block-lts.Need-read-stat
   read-line-reads.Learnt,
   read-statement-below t,
   read-statement.Post,
-  read-block-below t,
-  read-block.Post,
-) (read-block-at t) read-block.Post
+) (read-block-at t) read-block.Post read-block-Inv-loop read-block-μ-loop
 read-block-read-statement-requires t c κs =
-    let a = c .before .before .before .before .before .before .before .before .before .args in
-    let pre = c .before .before .before .before .before .before .before .before .before .pre in
+    let a = c .before .before .before .before .before .before .before .before .before .before .args in
+    let text = a .text .now in
+    let w : Work = (record { job = a .job .now; letters = a .letters .now; states = a .states .now }) in
+    let l = c .before .before .before .before .before .before .before .before .loop in
+    let v : Work = record { job = l .job; letters = l .letters; states = l .states } in
     let end = c .before .before .before .before .before .before .line-end .ensures in (
-      omega (arith, pre .0, end .0, c .before .before .before .before .before .if2 .left),
-      (mark-in _ _ (c .before .before .before .read-line .ensures), moved (a .p) (record { job = a .job .now; letters = a .letters .now; states = a .states .now }) _ (pre .1 .0), omega (arith, c .before .before .before .before .before .if2 .left), pre .1 .2),
+      omega (arith, c .before .before .before .before .before .before .before .before .before .before .pre .0, end .0, l .inv .further .on, c .before .before .before .before .before .if2 .left),
+      (mark-in _ _ (c .before .before .before .read-line .ensures), moved (l .reached) v _ (l .inv .further .within), omega (arith, c .before .before .before .before .before .if2 .left), c .before .before .before .before .before .before .before .before .before .before .pre .1 .2),
     )
 
 read-block-enum-known-first : (t : ℕ) → read-block-lts.Need-enum-known-first (
@@ -188,33 +201,54 @@ read-block-enum-known-first : (t : ℕ) → read-block-lts.Need-enum-known-first
   read-line-reads.Learnt,
   read-statement-below t,
   read-statement.Post,
-  read-block-below t,
-  read-block.Post,
-) (read-block-at t) read-block.Post
+) (read-block-at t) read-block.Post read-block-Inv-loop read-block-μ-loop
 read-block-enum-known-first t c = search needs
 
-read-block-read-block-requires : (t : ℕ) → read-block-lts.Need-read-block-requires (
+read-block-loop-less : (t : ℕ) → read-block-lts.Need-loop-less (
   line-end-reads.Asked,
   line-end-reads.Learnt,
   read-line-reads.Asked,
   read-line-reads.Learnt,
   read-statement-below t,
   read-statement.Post,
-  read-block-below t,
-  read-block.Post,
-) (read-block-at t) read-block.Post
-read-block-read-block-requires t c κs =
-    let a = c .before .before .before .before .before .before .before .before .before .before .before .before .before .before .before .before .args in
+) (read-block-at t) read-block.Post read-block-Inv-loop read-block-μ-loop
+read-block-loop-less t c =
+    let a = c .before .before .before .before .before .before .before .before .before .before .before .before .before .before .args in
     let text = a .text .now in
     let w : Work = (record { job = a .job .now; letters = a .letters .now; states = a .states .now }) in
-    let end = c .before .before .before .before .before .before .before .before .before .before .before .before .before .line-end in
+    let l = c .before .before .before .before .before .before .before .before .before .before .before .before .loop in
+    let v : Work = record { job = l .job; letters = l .letters; states = l .states } in
+    let end = c .before .before .before .before .before .before .before .before .before .before .line-end in
     let cut = end .ensures in
-    let read = c .before .before .before .before .before .before .before .before .before .before .read-line in
-    let lines = block-line text (a .depth) (a .p) w (read .result) (end .result) (read .ensures) (cut .0) (c .before .before .before .before .before .before .before .before .before .before .before .before .if2 .left) (cut .2) (cut .3 (c .before .before .before .before .before .before .before .before .before .before .before .before .if2 .left)) in
-    let on : a .p .at ≤ end .result + 1 = omega (arith, cut .0) in
-    let st = c .before .before .before .before .before .before .read-statement in
-    let further = statement-further text (a .depth) (a .p) w (read .result) (end .result + 1) on lines (st .result) (record { job = st .last .1 .1 .1 .1 .0; letters = st .last .1 .1 .1 .1 .1 .0; states = st .last .1 .1 .1 .1 .1 .1 .0 }) (c .before .before .before .before .first .given .0 .0) (st .ensures) (c .before .before .before .before .first .given .1) in
-    (omega (arith, c .before .before .before .before .before .before .before .before .before .before .before .before .before .before .before .before .pre .0, cut .0, further .on, further .inside, c .before .before .before .before .before .before .before .before .before .before .before .before .if2 .left), (further .within, further .inside, c .before .before .before .before .before .before .before .before .before .before .before .before .before .before .before .before .pre .1 .2))
+    let read = c .before .before .before .before .before .before .before .read-line in
+    let lines = block-line text (a .depth) (l .reached) v (read .result) (end .result) (read .ensures) (cut .0) (c .before .before .before .before .before .before .before .before .before .if2 .left) (cut .2) (cut .3 (c .before .before .before .before .before .before .before .before .before .if2 .left)) in
+    let on : l .reached .at ≤ end .result + 1 = omega (arith, cut .0) in
+    let st = c .before .before .before .read-statement in
+    let further = statement-further text (a .depth) (l .reached) v (read .result) (end .result + 1) on lines (st .result) (record { job = st .last .1 .1 .1 .1 .0; letters = st .last .1 .1 .1 .1 .1 .0; states = st .last .1 .1 .1 .1 .1 .1 .0 }) (c .before .first .given .0 .0) (st .ensures) (c .before .first .given .1) in
+    omega (arith, cut .0, further .on, c .before .before .before .before .before .before .before .before .before .if2 .left)
+
+read-block-loop-again : (t : ℕ) → read-block-lts.Need-loop-again (
+  line-end-reads.Asked,
+  line-end-reads.Learnt,
+  read-line-reads.Asked,
+  read-line-reads.Learnt,
+  read-statement-below t,
+  read-statement.Post,
+) (read-block-at t) read-block.Post read-block-Inv-loop read-block-μ-loop
+read-block-loop-again t c =
+    let a = c .before .before .before .before .before .before .before .before .before .before .before .before .before .before .args in
+    let text = a .text .now in
+    let w : Work = (record { job = a .job .now; letters = a .letters .now; states = a .states .now }) in
+    let l = c .before .before .before .before .before .before .before .before .before .before .before .before .loop in
+    let v : Work = record { job = l .job; letters = l .letters; states = l .states } in
+    let end = c .before .before .before .before .before .before .before .before .before .before .line-end in
+    let cut = end .ensures in
+    let read = c .before .before .before .before .before .before .before .read-line in
+    let lines = block-line text (a .depth) (l .reached) v (read .result) (end .result) (read .ensures) (cut .0) (c .before .before .before .before .before .before .before .before .before .if2 .left) (cut .2) (cut .3 (c .before .before .before .before .before .before .before .before .before .if2 .left)) in
+    let on : l .reached .at ≤ end .result + 1 = omega (arith, cut .0) in
+    let st = c .before .before .before .read-statement in
+    passed-more text (a .depth) (a .p) w (l .reached) v (l .inv) (c .before .first .given .0 .0) (record { job = st .last .1 .1 .1 .1 .0; letters = st .last .1 .1 .1 .1 .1 .0; states = st .last .1 .1 .1 .1 .1 .1 .0 })
+    (statement-passed text (a .depth) (l .reached) v (read .result) (end .result + 1) on lines (st .result) (record { job = st .last .1 .1 .1 .1 .0; letters = st .last .1 .1 .1 .1 .1 .0; states = st .last .1 .1 .1 .1 .1 .1 .0 }) (c .before .first .given .0 .0) (st .ensures) (c .before .first .given .1))
 
 read-block-enum-known-first-2 : (t : ℕ) → read-block-lts.Need-enum-known-first-2 (
   line-end-reads.Asked,
@@ -223,22 +257,8 @@ read-block-enum-known-first-2 : (t : ℕ) → read-block-lts.Need-enum-known-fir
   read-line-reads.Learnt,
   read-statement-below t,
   read-statement.Post,
-  read-block-below t,
-  read-block.Post,
-) (read-block-at t) read-block.Post
+) (read-block-at t) read-block.Post read-block-Inv-loop read-block-μ-loop
 read-block-enum-known-first-2 t c = search needs
-
-read-block-enum-known-first-3 : (t : ℕ) → read-block-lts.Need-enum-known-first-3 (
-  line-end-reads.Asked,
-  line-end-reads.Learnt,
-  read-line-reads.Asked,
-  read-line-reads.Learnt,
-  read-statement-below t,
-  read-statement.Post,
-  read-block-below t,
-  read-block.Post,
-) (read-block-at t) read-block.Post
-read-block-enum-known-first-3 t c = search needs
 
 read-block-returns-3 : (t : ℕ) → read-block-lts.Need-returns-3 (
   line-end-reads.Asked,
@@ -247,21 +267,30 @@ read-block-returns-3 : (t : ℕ) → read-block-lts.Need-returns-3 (
   read-line-reads.Learnt,
   read-statement-below t,
   read-statement.Post,
-  read-block-below t,
-  read-block.Post,
-) (read-block-at t) read-block.Post
+) (read-block-at t) read-block.Post read-block-Inv-loop read-block-μ-loop
 read-block-returns-3 t c =
-    let a = c .before .before .before .before .before .before .before .before .before .before .before .before .before .before .before .before .before .args in
+    let a = c .before .before .before .before .before .before .before .before .before .before .before .before .before .before .args in
     let text = a .text .now in
     let w : Work = (record { job = a .job .now; letters = a .letters .now; states = a .states .now }) in
-    let end = c .before .before .before .before .before .before .before .before .before .before .before .before .before .before .line-end in
+    let l = c .before .before .before .before .before .before .before .before .before .before .before .before .loop in
+    let v : Work = record { job = l .job; letters = l .letters; states = l .states } in
+    let end = c .before .before .before .before .before .before .before .before .before .before .line-end in
     let cut = end .ensures in
-    let read = c .before .before .before .before .before .before .before .before .before .before .before .read-line in
-    let lines = block-line text (a .depth) (a .p) w (read .result) (end .result) (read .ensures) (cut .0) (c .before .before .before .before .before .before .before .before .before .before .before .before .before .if2 .left) (cut .2) (cut .3 (c .before .before .before .before .before .before .before .before .before .before .before .before .before .if2 .left)) in
-    let on : a .p .at ≤ end .result + 1 = omega (arith, cut .0) in
-    let st = c .before .before .before .before .before .before .before .read-statement in
-    block-more text (a .depth) (a .p) w (read .result) (end .result + 1) on lines (st .result) (record { job = st .last .1 .1 .1 .1 .0; letters = st .last .1 .1 .1 .1 .1 .0; states = st .last .1 .1 .1 .1 .1 .1 .0 }) (c .before .before .before .before .before .first .given .0 .0) (st .ensures) (c .before .before .before .before .before .first .given .1)
-    (c .read-block .result) (record { job = c .read-block .last .1 .1 .1 .0; letters = c .read-block .last .1 .1 .1 .1 .0; states = c .read-block .last .1 .1 .1 .1 .1 .0 }) (c .read-block .ensures)
+    let read = c .before .before .before .before .before .before .before .read-line in
+    let lines = block-line text (a .depth) (l .reached) v (read .result) (end .result) (read .ensures) (cut .0) (c .before .before .before .before .before .before .before .before .before .if2 .left) (cut .2) (cut .3 (c .before .before .before .before .before .before .before .before .before .if2 .left)) in
+    let on : l .reached .at ≤ end .result + 1 = omega (arith, cut .0) in
+    let st = c .before .before .before .read-statement in
+    block-after text (a .depth) (a .p) w (l .reached) v (l .inv) (block.Ended (c .before .first2 .given .0 .0)) (record { job = st .last .1 .1 .1 .1 .0; letters = st .last .1 .1 .1 .1 .1 .0; states = st .last .1 .1 .1 .1 .1 .1 .0 }) (block-ended text (a .depth) (l .reached) v (read .result) (end .result + 1) on lines (st .result) (record { job = st .last .1 .1 .1 .1 .0; letters = st .last .1 .1 .1 .1 .1 .0; states = st .last .1 .1 .1 .1 .1 .1 .0 }) (c .before .first2 .given .0 .0) (st .ensures) (c .before .first2 .given .1))
+
+read-block-enum-known-first-3 : (t : ℕ) → read-block-lts.Need-enum-known-first-3 (
+  line-end-reads.Asked,
+  line-end-reads.Learnt,
+  read-line-reads.Asked,
+  read-line-reads.Learnt,
+  read-statement-below t,
+  read-statement.Post,
+) (read-block-at t) read-block.Post read-block-Inv-loop read-block-μ-loop
+read-block-enum-known-first-3 t c = search needs
 
 read-block-returns-4 : (t : ℕ) → read-block-lts.Need-returns-4 (
   line-end-reads.Asked,
@@ -270,42 +299,21 @@ read-block-returns-4 : (t : ℕ) → read-block-lts.Need-returns-4 (
   read-line-reads.Learnt,
   read-statement-below t,
   read-statement.Post,
-  read-block-below t,
-  read-block.Post,
-) (read-block-at t) read-block.Post
+) (read-block-at t) read-block.Post read-block-Inv-loop read-block-μ-loop
 read-block-returns-4 t c =
-    let a = c .before .before .before .before .before .before .before .before .before .before .before .before .before .args in
+    let a = c .before .before .before .before .before .before .before .before .before .before .before .before .before .before .args in
     let text = a .text .now in
     let w : Work = (record { job = a .job .now; letters = a .letters .now; states = a .states .now }) in
+    let l = c .before .before .before .before .before .before .before .before .before .before .before .before .loop in
+    let v : Work = record { job = l .job; letters = l .letters; states = l .states } in
     let end = c .before .before .before .before .before .before .before .before .before .before .line-end in
     let cut = end .ensures in
     let read = c .before .before .before .before .before .before .before .read-line in
-    let lines = block-line text (a .depth) (a .p) w (read .result) (end .result) (read .ensures) (cut .0) (c .before .before .before .before .before .before .before .before .before .if2 .left) (cut .2) (cut .3 (c .before .before .before .before .before .before .before .before .before .if2 .left)) in
-    let on : a .p .at ≤ end .result + 1 = omega (arith, cut .0) in
+    let lines = block-line text (a .depth) (l .reached) v (read .result) (end .result) (read .ensures) (cut .0) (c .before .before .before .before .before .before .before .before .before .if2 .left) (cut .2) (cut .3 (c .before .before .before .before .before .before .before .before .before .if2 .left)) in
+    let on : l .reached .at ≤ end .result + 1 = omega (arith, cut .0) in
     let st = c .before .before .before .read-statement in
-    block-ended text (a .depth) (a .p) w (read .result) (end .result + 1) on lines (st .result) (record { job = st .last .1 .1 .1 .1 .0; letters = st .last .1 .1 .1 .1 .1 .0; states = st .last .1 .1 .1 .1 .1 .1 .0 }) (c .before .first2 .given .0 .0) (st .ensures) (c .before .first2 .given .1)
-
-read-block-returns-5 : (t : ℕ) → read-block-lts.Need-returns-5 (
-  line-end-reads.Asked,
-  line-end-reads.Learnt,
-  read-line-reads.Asked,
-  read-line-reads.Learnt,
-  read-statement-below t,
-  read-statement.Post,
-  read-block-below t,
-  read-block.Post,
-) (read-block-at t) read-block.Post
-read-block-returns-5 t c =
-    let a = c .before .before .before .before .before .before .before .before .before .before .before .before .before .args in
-    let text = a .text .now in
-    let w : Work = (record { job = a .job .now; letters = a .letters .now; states = a .states .now }) in
-    let end = c .before .before .before .before .before .before .before .before .before .before .line-end in
-    let cut = end .ensures in
-    let read = c .before .before .before .before .before .before .before .read-line in
-    let lines = block-line text (a .depth) (a .p) w (read .result) (end .result) (read .ensures) (cut .0) (c .before .before .before .before .before .before .before .before .before .if2 .left) (cut .2) (cut .3 (c .before .before .before .before .before .before .before .before .before .if2 .left)) in
-    let on : a .p .at ≤ end .result + 1 = omega (arith, cut .0) in
-    let st = c .before .before .before .read-statement in
-    block-refused text (a .depth) (a .p) w (read .result) (end .result + 1) on lines (st .result) (record { job = st .last .1 .1 .1 .1 .0; letters = st .last .1 .1 .1 .1 .1 .0; states = st .last .1 .1 .1 .1 .1 .1 .0 }) (c .before .first3 .given .0 .0) (c .before .first3 .given .0 .1 .0) (st .ensures) (c .before .first3 .given .1)
+    block-after text (a .depth) (a .p) w (l .reached) v (l .inv) (block.Refused (c .before .first3 .given .0 .0) (c .before .first3 .given .0 .1 .0)) (record { job = st .last .1 .1 .1 .1 .0; letters = st .last .1 .1 .1 .1 .1 .0; states = st .last .1 .1 .1 .1 .1 .1 .0 })
+    (block-refused text (a .depth) (l .reached) v (read .result) (end .result + 1) on lines (st .result) (record { job = st .last .1 .1 .1 .1 .0; letters = st .last .1 .1 .1 .1 .1 .0; states = st .last .1 .1 .1 .1 .1 .1 .0 }) (c .before .first3 .given .0 .0) (c .before .first3 .given .0 .1 .0) (st .ensures) (c .before .first3 .given .1))
 
 read-statement-begin-requires : (t : ℕ) → read-statement-lts.Need-begin-requires (
   begin-reads.Asked,
@@ -666,28 +674,29 @@ pub +read-block+read-statement-spec : {M : Type 1} → statement M
   read-line-reads.Learnt,
   read-statement-below t,
   read-statement.Post,
-  read-block-below t,
-  read-block.Post,
 )
     (read-block-at t)
     read-block.Post
+    read-block-Inv-loop
+    read-block-μ-loop
+    (read-block-loop-holds t)
     (read-block-returns t)
     (read-block-line-end-requires t)
-    (read-block-add-t19 t)
+    (read-block-add-t20 t)
     (read-block-returns-2 t)
     (read-block-sub-read-line t)
     (read-block-part-read-line-start t)
     (read-block-part-read-line-end t)
     (read-block-read-line-requires t)
-    (read-block-add-t16 t)
+    (read-block-add-t17 t)
     (read-block-read-statement-requires t)
     (read-block-enum-known-first t)
-    (read-block-read-block-requires t)
+    (read-block-loop-less t)
+    (read-block-loop-again t)
     (read-block-enum-known-first-2 t)
-    (read-block-enum-known-first-3 t)
     (read-block-returns-3 t)
-    (read-block-returns-4 t)
-    (read-block-returns-5 t))
+    (read-block-enum-known-first-3 t)
+    (read-block-returns-4 t))
     λ t. read-statement-lts.spec (
       begin-reads.Asked,
       begin-reads.Learnt,
