@@ -175,6 +175,40 @@ uint32_t vorruda_forbid_lost_block(const uint8_t *job, size_t job_len,
 uint32_t vorruda_forbid_bad_steps(const uint8_t *job, size_t job_len,
                                   uint8_t *bytes, size_t len, uint64_t *out, size_t out_len);
 
+/* ---- Listings ---------------------------------------------------------------------------------
+ *
+ * A routine as the desk writes it: lines, each with a byte 10 at its end and single blanks as here,
+ *
+ *   x = y   x != y   x := y   x := y.next   x.next := y   new(x)   delete(x)
+ *   while T   if T   end   mark k
+ *
+ * where x and y are letters a to z, y or both sides of a test may be `null` (not before `.next`), T
+ * is a test or the word `any`, and k is 0 to 63, each once. At most 16 `while` and `if` are open at
+ * once. Names are numbered from 1 as first met. */
+
+#define VORRUDA_LISTING_LINE    17 /* a line outside the grammar, or an `end` too many or missing */
+#define VORRUDA_LISTING_NESTING 18 /* more than 16 `while` and `if` open */
+#define VORRUDA_LISTING_LIMITS  19 /* more than 8 names or 64 states */
+
+/* Translates a listing.
+ *   0: out[0] is how many bytes were filled, from the first of `bytes`, none beyond is touched: a job
+ *      ahead of the number of its forbidden shapes. marks[k] is the state of mark k, 64 for none; where
+ *      `marks_len` is below 64 none of `marks` is written.
+ *   VORRUDA_LISTING_LINE, VORRUDA_LISTING_NESTING, VORRUDA_LISTING_LIMITS: out[0] is the line, from 1,
+ *      the first where any of these falls, the lowest number first; a missing `end` is at the line
+ *      after the last.
+ *   VORRUDA_NO_ROOM: out[0] is the length needed.
+ * Where it isn't 0, no byte of `bytes` or `marks` is touched. out has one entry.
+ * The call needs less than 8 KiB of stack.
+ *
+ * A run over the listing's lines reaches a mark with a heap exactly if a run of the job is at the
+ * mark's state with that heap. So if the job, with shapes forbidden at the state of a mark, is
+ * accepted with some certificate, the listing never reaches the mark with a heap that satisfies one. */
+uint32_t vorruda_translate(const uint8_t *text, size_t text_len,
+                           uint8_t *bytes, size_t len,
+                           uint8_t *marks, size_t marks_len,
+                           uint64_t *out, size_t out_len);
+
 #ifdef __cplusplus
 }
 #endif
