@@ -169,6 +169,30 @@ static void ready_shapes(void)
     expect("there is no variable 2: refused", answer, VORRUDA_OUTSIDE);
 }
 
+/* A listing that builds a list of any length, as transitions; its mark is the state at the end. */
+static void listing(void)
+{
+    const char text[] = "x := null\nwhile any\nnew(n)\nn.next := x\nx := n\nend\nmark 0\n";
+    const char wrong[] = "x := null\nwhile  any\nend\n";
+    uint8_t bytes[64];
+    uint8_t marks[64];
+    uint64_t out[1] = {0};
+    uint32_t answer;
+
+    answer = vorruda_translate((const uint8_t *)text, strlen(text), bytes, sizeof bytes, marks,
+                               sizeof marks, out, 1);
+    expect("a listing: translated", answer, 0);
+    expect("bytes filled", out[0], 45);
+    expect("variables", bytes[1], 2);
+    expect("the state of mark 0", marks[0], 6);
+    expect("there is no mark 1", marks[1], 64);
+
+    answer = vorruda_translate((const uint8_t *)wrong, strlen(wrong), bytes, sizeof bytes, marks,
+                               sizeof marks, out, 1);
+    expect("two blanks: refused", answer, VORRUDA_LISTING_LINE);
+    expect("at line", out[0], 2);
+}
+
 int main(void)
 {
     puts("Numbers as bytes");
@@ -182,6 +206,8 @@ int main(void)
     certificates_that_do_not();
     puts("Forbidden shapes, ready cut");
     ready_shapes();
+    puts("Listings");
+    listing();
     puts(surprises == 0 ? "As expected." : "NOT as expected.");
     return surprises == 0 ? 0 : 1;
 }
