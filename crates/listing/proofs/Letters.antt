@@ -8,7 +8,7 @@ use native.Mathlib.Omega.{arith}
 use lib.Dec.{eqb, T}
 use lib.ListN.{length, getD}
 use Rattle.lists.specs.List.{_∈_, absent}
-use Rattle.lists.proofs.List.{All, Distinct, distinct-snoc, getD-mem}
+use Rattle.lists.proofs.List.{All, Distinct, distinct-snoc, getD-mem, all-append}
 use Rattle.lists.proofs.Reflect.{r-eq, r-absent, is-true, is-false}
 use Rattle.heap.specs.Operation.{Op, equal, different, assign, load, store, new, delete, Allowed}
 use Rattle.lines.specs.declared.Line.{Line}
@@ -22,7 +22,7 @@ use Rattle.listing.specs.Text.{operationFor, operationForTest, linesFor,
 use Rattle.listing.specs.Translation.{test}
 use Rattle.listing.proofs.Lines.{Proper, Inside}
 use Rattle.listing.proofs.Operations.{small-op, small-test, is-operation, is-test}
-use Rattle.listing.proofs.Lists.{all-left, all-right, all-both}
+use Rattle.listing.proofs.Lists.{all-left, all-right}
 use Rattle.listing.proofs.Names.{Met, MetIn, MetLine}
 
 at-index : (x : ℕ) (names : List ℕ) → x ∈ names → getD names (indexOf x names) 0 ≡ x
@@ -200,14 +200,14 @@ module _ (names : List ℕ) (d : Distinct names) (a : Letters names) where
     spelled-statement (while t b) f m =
         let (x, y) = spelled-block b (f .1) m in
         let ls = linesIn (blockBy (letterIn names) b) in (
-          (λ e. let q : _≡_ {A = ℕ} 0 1 = cc in omega arith, all-both Inside ls (End ∷ []) x (λ e. let q : _≡_ {A = ℕ} 0 1 = cc in omega arith, tt)),
-          (is-test (testBy (letterIn names) t) (spelled-test t (f .0)), all-both Proper ls (End ∷ []) y (tt, tt)),
+          (λ e. let q : _≡_ {A = ℕ} 0 1 = cc in omega arith, all-append Inside ls (End ∷ []) x (λ e. let q : _≡_ {A = ℕ} 0 1 = cc in omega arith, tt)),
+          (is-test (testBy (letterIn names) t) (spelled-test t (f .0)), all-append Proper ls (End ∷ []) y (tt, tt)),
         )
     spelled-statement (if t b) f m =
         let (x, y) = spelled-block b (f .1) m in
         let ls = linesIn (blockBy (letterIn names) b) in (
-          (λ e. let q : _≡_ {A = ℕ} 0 1 = cc in omega arith, all-both Inside ls (End ∷ []) x (λ e. let q : _≡_ {A = ℕ} 0 1 = cc in omega arith, tt)),
-          (is-test (testBy (letterIn names) t) (spelled-test t (f .0)), all-both Proper ls (End ∷ []) y (tt, tt)),
+          (λ e. let q : _≡_ {A = ℕ} 0 1 = cc in omega arith, all-append Inside ls (End ∷ []) x (λ e. let q : _≡_ {A = ℕ} 0 1 = cc in omega arith, tt)),
+          (is-test (testBy (letterIn names) t) (spelled-test t (f .0)), all-append Proper ls (End ∷ []) y (tt, tt)),
         )
 
     pub spelled-block : (b : Block) → Fits b (length names) → All (λ k. k ≤ 63) (marksIn b)
@@ -218,4 +218,4 @@ module _ (names : List ℕ) (d : Distinct names) (a : Letters names) where
         let (z, w) = spelled-block b (f .1) (all-right (λ k. k ≤ 63) (markOf s) (marksIn b) m) in
         let first = linesFor (statementBy (letterIn names) s) in
         let rest = linesIn (blockBy (letterIn names) b) in
-        (all-both Inside first rest x z, all-both Proper first rest y w)
+        (all-append Inside first rest x z, all-append Proper first rest y w)

@@ -1,12 +1,8 @@
--- Laws of lists: a property of each element, over lists that are put together; a function on them.
-use mathlib.Core.List.{List, [], _∷_, _++_, map, List·Memᴰ·head, List·Memᴰ·tail}
-use mathlib.Core.Path.{_≡_, refl, ap}
+-- Laws of lists: a property of each element, over lists that are put together.
+use mathlib.Core.List.{List, [], _∷_, _++_, List·Memᴰ·head, List·Memᴰ·tail}
+use mathlib.Core.Path.{refl}
 use Rattle.lists.specs.List.{_∈_}
 use Rattle.lists.proofs.List.{All}
-
-pub map-append : {A B : Type 0} (f : A → B) (xs ys : List A) → map f (xs ++ ys) ≡ map f xs ++ map f ys
-map-append f [] ys = refl
-map-append f (x ∷ xs) ys = ap (λ l. f x ∷ l) (map-append f xs ys)
 
 pub all-left : {A : Type 0} (P : A → Type 0) (xs ys : List A) → All P (xs ++ ys) → All P xs
 all-left P [] ys a = tt
@@ -15,10 +11,6 @@ all-left P (x ∷ xs) ys a = (a .0, all-left P xs ys (a .1))
 pub all-right : {A : Type 0} (P : A → Type 0) (xs ys : List A) → All P (xs ++ ys) → All P ys
 all-right P [] ys a = a
 all-right P (x ∷ xs) ys a = all-right P xs ys (a .1)
-
-pub all-both : {A : Type 0} (P : A → Type 0) (xs ys : List A) → All P xs → All P ys → All P (xs ++ ys)
-all-both P [] ys a b = b
-all-both P (x ∷ xs) ys a b = (a .0, all-both P xs ys (a .1) b)
 
 -- a property of each member is one of each element
 pub all-of : {A : Type 0} {P : A → Type 0} (xs : List A) → ((x : A) → x ∈ xs → P x) → All P xs
