@@ -1,4 +1,11 @@
 // One line of a listing, read from its bytes.
+use kinds::ASSIGN;
+use kinds::DELETE;
+use kinds::DIFFERENT;
+use kinds::EQUAL;
+use kinds::LOAD;
+use kinds::NEW;
+use kinds::STORE;
 use kinds::allows;
 ghost use mathlib.Core.Bool.{true};
 ghost use mathlib.Core.Path.{_≡_};
@@ -6,6 +13,9 @@ ghost use Prim.Native.Nat.{_≤_};
 ghost use lib.ListN.{length};
 ghost use Rattle.lines.specs.Words.{starts, isWord};
 ghost use Rattle.lines.specs.Line.{letterOf, operandOf, checked, enclosedOf, secondOf, betweenOf, operationOf, opens, testOf, digitOf, markFor, markOf, lineOf};
+
+// The kind of the word `any`, which the table of kinds does not have.
+pub const ANY: u8 = 0;
 
 // An operation as it stands on a line: its kind and its operands, 0 for null and 1 to 26 for the letters; kind 0 is the word `any`.
 pub struct Operation {
@@ -123,11 +133,11 @@ fn read_second(kind: u8, a: u8, bytes: &[u8]) -> Line
     if is_word(&bytes[length..], b"") {
         return check_table(kind, a, b.value);
     }
-    if kind != 3 {
+    if kind != ASSIGN {
         return Line::Other;
     }
     if is_word(&bytes[length..], b".next") {
-        return check_table(4, a, b.value);
+        return check_table(LOAD, a, b.value);
     }
     Line::Other
 }
@@ -137,16 +147,16 @@ fn read_between(a: u8, bytes: &[u8]) -> Line
     ensures { λ r. ⌜ r ≡ betweenOf a (now (bytes .entry)) ⌝ }
 {
     if has_front(bytes, b" = ") {
-        return read_second(1, a, &bytes[3..]);
+        return read_second(EQUAL, a, &bytes[3..]);
     }
     if has_front(bytes, b" != ") {
-        return read_second(2, a, &bytes[4..]);
+        return read_second(DIFFERENT, a, &bytes[4..]);
     }
     if has_front(bytes, b" := ") {
-        return read_second(3, a, &bytes[4..]);
+        return read_second(ASSIGN, a, &bytes[4..]);
     }
     if has_front(bytes, b".next := ") {
-        return read_second(5, a, &bytes[9..]);
+        return read_second(STORE, a, &bytes[9..]);
     }
     Line::Other
 }
@@ -156,10 +166,10 @@ fn read_operation(bytes: &[u8]) -> Line
     ensures { λ r. ⌜ r ≡ operationOf (now (bytes .entry)) ⌝ }
 {
     if has_front(bytes, b"new(") {
-        return read_enclosed(6, &bytes[4..]);
+        return read_enclosed(NEW, &bytes[4..]);
     }
     if has_front(bytes, b"delete(") {
-        return read_enclosed(7, &bytes[7..]);
+        return read_enclosed(DELETE, &bytes[7..]);
     }
     let a = read_operand(bytes);
     let length = a.length;
@@ -184,7 +194,7 @@ fn read_test(loops: bool, bytes: &[u8]) -> Line
         return open(
             loops,
             Operation {
-                kind: 0,
+                kind: ANY,
                 a: 0,
                 b: 0,
             },
@@ -194,7 +204,7 @@ fn read_test(loops: bool, bytes: &[u8]) -> Line
     let Line::Perform(test) = line else {
         return Line::Other;
     };
-    if test.kind <= 2 {
+    if test.kind <= DIFFERENT {
         return open(loops, test);
     }
     Line::Other

@@ -1,6 +1,9 @@
 // The transitions and marks of one line.
 use crate::Fault;
 use crate::names::number_operation;
+use kinds::DIFFERENT;
+use kinds::EQUAL;
+use lines::ANY;
 use lines::Line;
 use lines::Operation;
 ghost use mathlib.Core.List.{List};
@@ -49,7 +52,7 @@ fn skip() -> Operation
     ensures { λ r. ⌜ r ≡ skipNumbers ⌝ }
 {
     Operation {
-        kind: 1,
+        kind: EQUAL,
         a: 0,
         b: 0,
     }
@@ -59,7 +62,7 @@ fn skip() -> Operation
 fn test_of(test: Operation) -> Operation
     ensures { λ r. ⌜ r ≡ testNumbers test ⌝ }
 {
-    if test.kind == 0 {
+    if test.kind == ANY {
         return skip();
     }
     test
@@ -69,18 +72,18 @@ fn test_of(test: Operation) -> Operation
 fn opposite_of(test: Operation) -> Operation
     ensures { λ r. ⌜ r ≡ oppositeNumbers test ⌝ }
 {
-    if test.kind == 0 {
+    if test.kind == ANY {
         return skip();
     }
-    if test.kind == 1 {
+    if test.kind == EQUAL {
         return Operation {
-            kind: 2,
+            kind: DIFFERENT,
             a: test.a,
             b: test.b,
         };
     }
     Operation {
-        kind: 1,
+        kind: EQUAL,
         a: test.a,
         b: test.b,
     }
