@@ -3,6 +3,7 @@
 
 pub mod checker;
 pub mod embedding;
+mod job;
 pub mod number;
 pub mod operations;
 pub mod predecessor;
