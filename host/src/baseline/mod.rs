@@ -1,5 +1,6 @@
 //! The calls in plain fast Rust without proofs, the benchmark's baseline: fixed arrays, nothing
 //! allocated for a cover, no predecessor made that would be dropped. Also the search tool's engine.
+//! [`quicker`] is the checker again, in fewer instructions.
 
 pub mod checker;
 pub mod embedding;
@@ -7,6 +8,7 @@ mod job;
 pub mod number;
 pub mod operations;
 pub mod predecessor;
+pub mod quicker;
 mod reader;
 pub mod shape;
 pub mod stepper;

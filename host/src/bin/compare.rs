@@ -11,9 +11,10 @@ use vorruda_host::verdict::Check;
 use vorruda_host::{baseline, check};
 
 /// The checkers that are compared with the reference.
-const CHECKERS: [(&str, Check); 2] = [
+const CHECKERS: [(&str, Check); 3] = [
     ("the proved checker's verdicts", check::check),
     ("the baseline's verdicts", baseline::checker::check),
+    ("the quicker baseline's verdicts", baseline::quicker::check),
 ];
 
 const PAIRS: u64 = 100_000;
