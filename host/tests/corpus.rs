@@ -62,7 +62,11 @@ fn routines_end_as_their_names_say() {
                 let (job, certificate) = (routine.job.bytes(), certificate.bytes());
                 let verdict = check(&job, &certificate);
                 assert!(matches!(verdict, Verdict::Accepted(_)), "{name}: {verdict}");
-                for other in [baseline::checker::check, proved::check] {
+                for other in [
+                    baseline::checker::check,
+                    baseline::quicker::check,
+                    proved::check,
+                ] {
                     assert_eq!(other(&job, &certificate), verdict, "{name}");
                 }
             }

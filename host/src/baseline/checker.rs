@@ -1,36 +1,46 @@
 //! The verdict on a job and a certificate, fast.
 
 use super::embedding::{passed, variables_agree, ENDS, NO_IMAGES};
+use super::job::{Entry, Job};
 use super::predecessor::each_predecessor;
 use super::reader::{Reader, Stopped};
 use super::shape::{Located, Shape, CELL};
 use crate::reference::certificate::MOST_MEMBERS;
 use crate::reference::checker::MOST_BYTES;
-use crate::reference::job::{
-    MOST_FORBIDDEN, MOST_STATES, MOST_TRANSITIONS, MOST_VARIABLES, VERSION,
-};
-use crate::reference::operation::Operation;
+use crate::reference::job::VERSION;
 use crate::verdict::{Counts, Refusal, Verdict};
 
 /// The verdict on two buffers.
 pub fn check(job: &[u8], certificate: &[u8]) -> Verdict {
-    accept(job, certificate).into()
+    verdict(job, certificate, |job, certificate| {
+        let mut covers = Covers::new(certificate);
+        covers
+            .check_all(job)
+            .map_err(|Stopped| covers.reader.refusal)?;
+        Ok((covers.members.len() as u64, covers.count))
+    })
 }
 
-fn accept(job: &[u8], certificate: &[u8]) -> Result<Counts, Refusal> {
-    check_length(job, 1)?;
-    check_length(certificate, 2)?;
-    let mut reader = Reader::new(job, 3, 4);
-    let job = Job::read(&mut reader).map_err(|Stopped| reader.refusal)?;
-    let mut covers = Covers::new(certificate);
-    covers
-        .check_all(&job)
-        .map_err(|Stopped| covers.reader.refusal)?;
-    Ok(Counts {
-        bads: job.forbidden.len() as u64,
-        members: covers.members.len() as u64,
-        covers: covers.count,
-    })
+/// The verdict on two buffers, given a check of the certificate that counts its members and covers.
+#[inline(always)]
+pub fn verdict<S: Entry>(
+    job: &[u8],
+    certificate: &[u8],
+    check: impl FnOnce(&Job<S>, &[u8]) -> Result<(u64, u64), Refusal>,
+) -> Verdict {
+    let accept = || {
+        check_length(job, 1)?;
+        check_length(certificate, 2)?;
+        let mut reader = Reader::new(job, 3, 4);
+        let job = Job::read(&mut reader).map_err(|Stopped| reader.refusal)?;
+        let (members, covers) = check(&job, certificate)?;
+        Ok(Counts {
+            bads: job.forbidden.len() as u64,
+            members,
+            covers,
+        })
+    };
+    accept().into()
 }
 
 fn check_length(bytes: &[u8], number: u32) -> Result<(), Refusal> {
@@ -40,78 +50,19 @@ fn check_length(bytes: &[u8], number: u32) -> Result<(), Refusal> {
     }
 }
 
-struct Transition {
-    from: u8,
-    operation: Operation,
-    /// The number of the next transition into the same state.
-    next: Option<u16>,
-}
-
-struct Job {
-    variables: u16,
-    states: u16,
-    start: u8,
-    transitions: Vec<Transition>,
-    /// The number of the first transition into each state.
-    first: [Option<u16>; MOST_STATES as usize],
-    forbidden: Vec<Located>,
-}
-
-impl Job {
-    fn read(reader: &mut Reader) -> Result<Job, Stopped> {
-        reader.number(VERSION as u16, VERSION as u16)?;
-        let variables = reader.number(1, MOST_VARIABLES as u16)?;
-        let states = reader.number(1, MOST_STATES as u16)?;
-        let start = reader.number(0, states - 1)? as u8;
-        let count = reader.number(0, MOST_TRANSITIONS as u16)?;
-        let mut targets = Vec::with_capacity(count.into());
-        let mut transitions = Vec::with_capacity(count.into());
-        for _ in 0..count {
-            transitions.push(Transition {
-                from: reader.number(0, states - 1)? as u8,
-                operation: reader.operation(variables)?,
-                next: None,
-            });
-            targets.push(reader.number(0, states - 1)?);
-        }
-        let mut first = [None; MOST_STATES as usize];
-        for number in (0..count).rev() {
-            let into = &mut first[usize::from(targets[usize::from(number)])];
-            transitions[usize::from(number)].next = into.replace(number);
-        }
-        let count = reader.number(1, MOST_FORBIDDEN as u16)?;
-        let mut forbidden = Vec::with_capacity(count.into());
-        for _ in 0..count {
-            forbidden.push(reader.located(variables, states)?);
-        }
-        reader.end(5)?;
-        Ok(Job {
-            variables,
-            states,
-            start,
-            transitions,
-            first,
-            forbidden,
-        })
-    }
-
-    /// The transitions that lead to a state, in the job's order.
-    fn leading_to(&self, state: u8) -> impl Iterator<Item = &Transition> {
-        let mut next = self.first[usize::from(state)];
-        std::iter::from_fn(move || {
-            let transition = &self.transitions[usize::from(next?)];
-            next = transition.next;
-            Some(transition)
-        })
+impl Entry for Located {
+    #[inline(always)]
+    fn read(reader: &mut Reader, variables: u16, states: u16) -> Result<Located, Stopped> {
+        reader.located(variables, states)
     }
 }
 
 /// The members, and how far the covers have been read.
-struct Covers<'a> {
-    reader: Reader<'a>,
-    members: Vec<Located>,
-    variables: usize,
-    count: u64,
+pub struct Covers<'a> {
+    pub reader: Reader<'a>,
+    pub members: Vec<Located>,
+    pub variables: usize,
+    pub count: u64,
 }
 
 impl<'a> Covers<'a> {
@@ -124,7 +75,7 @@ impl<'a> Covers<'a> {
         }
     }
 
-    fn check_all(&mut self, job: &Job) -> Result<(), Stopped> {
+    fn check_all(&mut self, job: &Job<Located>) -> Result<(), Stopped> {
         self.read_members(job)?;
         for bad in &job.forbidden {
             self.check(bad.state, &bad.shape)?;
@@ -141,7 +92,7 @@ impl<'a> Covers<'a> {
     }
 
     /// Reads the members, and refuses one that the empty heap satisfies at the start.
-    fn read_members(&mut self, job: &Job) -> Result<(), Stopped> {
+    fn read_members(&mut self, job: &Job<Located>) -> Result<(), Stopped> {
         self.variables = job.variables.into();
         self.reader.number(VERSION as u16, VERSION as u16)?;
         let count = self.reader.number(1, MOST_MEMBERS as u16)?;
@@ -162,7 +113,7 @@ impl<'a> Covers<'a> {
     }
 
     /// Reads the next cover and tests that it holds for a shape at a state.
-    fn check(&mut self, state: u8, covered: &Shape) -> Result<(), Stopped> {
+    pub fn check(&mut self, state: u8, covered: &Shape) -> Result<(), Stopped> {
         let place = self.reader.place;
         let number = self.reader.number(0, self.members.len() as u16 - 1)?;
         let member = &self.members[usize::from(number)];

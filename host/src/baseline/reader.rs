@@ -9,8 +9,9 @@ use crate::verdict::Refusal;
 #[derive(Clone, Copy, Debug, PartialEq, Eq)]
 pub struct Stopped;
 
+#[derive(Clone, Copy)]
 pub struct Reader<'a> {
-    bytes: &'a [u8],
+    pub bytes: &'a [u8],
     pub place: usize,
     unreadable: u32,
     out_of_range: u32,
@@ -30,6 +31,11 @@ impl<'a> Reader<'a> {
                 place: 0,
             },
         }
+    }
+
+    /// The bytes from the place on.
+    pub fn rest(&self) -> &'a [u8] {
+        &self.bytes[self.place..]
     }
 
     #[cold]
@@ -101,6 +107,7 @@ impl<'a> Reader<'a> {
         self.longer_number(1, 0).map(|_| 0)
     }
 
+    #[inline(always)]
     pub fn operation(&mut self, variables: u16) -> Result<Operation, Stopped> {
         let kind = self.number(*KINDS.start() as u16, *KINDS.end() as u16)?;
         let range = range_of_a(kind.into(), variables.into());

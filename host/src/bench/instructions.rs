@@ -9,7 +9,7 @@ use std::path::Path;
 use std::process::{Command, Stdio};
 
 use super::suite::{read_pairs, Suite};
-use super::{calls, Cost, Work};
+use super::{calls, check_quickly, Cost, Work};
 
 /// The argument with which the process does the measured work.
 pub const ARGUMENT: &str = "measured";
@@ -31,6 +31,7 @@ pub fn run(folder: &Path) -> Result<(), String> {
     vorruda_measured(&|| ());
     for pair in &pairs {
         measure(&Work::of_pair(pair));
+        measure_call(&|| check_quickly(pair));
     }
     for (_, work) in calls::works() {
         measure(&work);
@@ -38,12 +39,15 @@ pub fn run(folder: &Path) -> Result<(), String> {
     Ok(())
 }
 
-/// Each once before it counts, so that what a first call costs more is left out.
 fn measure(work: &Work) {
-    for call in [&work.proved, &work.baseline] {
-        call();
-        vorruda_measured(call);
-    }
+    measure_call(&work.proved);
+    measure_call(&work.baseline);
+}
+
+/// Once before it counts, so that what a first call costs more is left out.
+fn measure_call(call: &dyn Fn()) {
+    call();
+    vorruda_measured(call);
 }
 
 /// Counts the instructions of each pair of the suite, and gives those of the other calls.
@@ -53,14 +57,20 @@ pub fn count(suite: &mut Suite, folder: &Path) -> Result<Vec<Cost>, String> {
         .map_err(|error| error.to_string())?;
     let counts = callgrind(folder)?;
     let (empty, counts) = counts.split_first().ok_or("callgrind counted nothing")?;
-    let mut costs = counts.chunks_exact(2).map(|pair| Cost {
-        proved: pair[0] - empty,
-        baseline: pair[1] - empty,
-    });
+    let mut counts = counts.iter().map(|count| count - empty);
     for case in suite.cases() {
-        case.instructions = costs.next().ok_or("callgrind counted too little")?;
+        case.instructions = cost(&mut counts).ok_or("callgrind counted too little")?;
+        case.quicker = counts.next().ok_or("callgrind counted too little")?;
     }
-    Ok(costs.collect())
+    Ok(std::iter::from_fn(|| cost(&mut counts)).collect())
+}
+
+/// The next two counts.
+fn cost(counts: &mut impl Iterator<Item = f64>) -> Option<Cost> {
+    Some(Cost {
+        proved: counts.next()?,
+        baseline: counts.next()?,
+    })
 }
 
 /// Runs the process itself under callgrind, and gives the counts in their order.

@@ -34,6 +34,11 @@ impl<'a> Work<'a> {
     }
 }
 
+/// Checks a pair by the quicker baseline.
+pub fn check_quickly(pair: &Pair) {
+    black_box(baseline::quicker::check(&pair.job, &pair.certificate));
+}
+
 /// What the work costs, in instructions or nanoseconds.
 #[derive(Clone, Copy, Debug, Default, PartialEq)]
 pub struct Cost {

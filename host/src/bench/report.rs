@@ -27,6 +27,8 @@ pub fn print(suite: &mut Suite, calls: &[Cost]) {
     largest(&suite.sweep);
     println!("\n### Random pairs, accepted and damaged: the largest ratios\n");
     largest(&suite.random);
+    println!("\n### Against the quicker baseline, in instructions\n");
+    quicker(suite);
     println!("\n### The other calls\n");
     other_calls(calls);
 }
@@ -154,6 +156,27 @@ fn largest(cases: &[Case]) {
     for case in sorted_by_ratio(long).into_iter().take(SHOWN) {
         row_with_verdict(case);
     }
+}
+
+/// The corpus and the sweep in all, and the worst cases.
+fn quicker(suite: &Suite) {
+    heading("| pairs | instructions | baseline | ratio | quicker baseline | ratio |");
+    row_with_quicker("**the corpus in all**", &suite.corpus);
+    for case in &suite.extremes {
+        row_with_quicker(&case.name, std::slice::from_ref(case));
+    }
+    row_with_quicker("**every kind in all**", &suite.sweep);
+}
+
+fn row_with_quicker(name: &str, cases: &[Case]) {
+    let all: Cost = cases.iter().map(|case| case.instructions).sum();
+    let quicker: f64 = cases.iter().map(|case| case.quicker).sum();
+    println!(
+        "| {name} | {} | {} | {:.2} |",
+        instructions(all),
+        thousands(quicker as u64),
+        all.proved / quicker,
+    );
 }
 
 fn other_calls(costs: &[Cost]) {

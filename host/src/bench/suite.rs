@@ -15,6 +15,8 @@ pub struct Case {
     pub name: String,
     pub pair: Pair,
     pub instructions: Cost,
+    /// Those of the quicker baseline.
+    pub quicker: f64,
 }
 
 pub struct Suite {
@@ -79,6 +81,7 @@ fn named<N: Into<String>>(pairs: impl IntoIterator<Item = (N, Pair)>) -> Vec<Cas
         name: name.into(),
         pair,
         instructions: Cost::default(),
+        quicker: 0.0,
     };
     pairs.into_iter().map(case).collect()
 }

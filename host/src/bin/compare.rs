@@ -12,9 +12,10 @@ use vorruda_host::verdict::Check;
 use vorruda_host::{baseline, check, library};
 
 /// The checkers that are compared with the reference.
-const CHECKERS: [(&str, Check); 2] = [
+const CHECKERS: [(&str, Check); 3] = [
     ("the proved checker's verdicts", check::check),
     ("the baseline's verdicts", baseline::checker::check),
+    ("the quicker baseline's verdicts", baseline::quicker::check),
 ];
 
 /// The translators of listings that are compared with it.

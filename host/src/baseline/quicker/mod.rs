@@ -1,0 +1,56 @@
+//! The verdict in fewer instructions: a shape is one array, an entry is tested and loaded eight bytes
+//! at a time, choices are a set of bits, and a cover is tested on its bytes as they are read. Where
+//! that test fails, the other baseline says why.
+
+mod choices;
+mod cover;
+mod kinds;
+mod members;
+mod places;
+mod words;
+
+use self::cover::Covers;
+use self::members::read_members;
+use self::places::Places;
+use super::checker::verdict;
+use super::job::Job;
+use super::reader::{Reader, Stopped};
+use crate::verdict::Verdict;
+
+/// The verdict on two buffers.
+pub fn check(job: &[u8], certificate: &[u8]) -> Verdict {
+    verdict(job, certificate, |job, certificate| {
+        let mut reader = Reader::new(certificate, 6, 7);
+        count(job, &mut reader).map_err(|Stopped| reader.refusal)
+    })
+}
+
+/// Checks a certificate, and counts its members and covers.
+#[inline(always)]
+fn count(job: &Job<Places>, reader: &mut Reader) -> Result<(u64, u64), Stopped> {
+    let members = read_members(reader, job)?;
+    let mut covers = Covers {
+        rest: reader.rest(),
+        reader,
+        members: &members,
+        variables: job.variables.into(),
+        count: 0,
+    };
+    covers.check_all(job)?;
+    Ok((members.len() as u64, covers.count))
+}
+
+impl Covers<'_, '_> {
+    fn check_all(&mut self, job: &Job<Places>) -> Result<(), Stopped> {
+        for bad in &job.forbidden {
+            self.check(bad.state(), bad)?;
+        }
+        for member in self.members {
+            for transition in job.leading_to(member.state()) {
+                self.check_transition(member, transition)?;
+            }
+        }
+        self.reader.place = self.place();
+        self.reader.end(10)
+    }
+}
