@@ -3,15 +3,13 @@ use mathlib.Core.Bool.{Bool, true, false, _&&_, cond}
 use mathlib.Core.List.{List, [], _∷_, _++_, append-nil, append-assoc}
 use mathlib.Core.Path.{_≡_, refl, sym, ap, ap₂, _∙_, subst}
 use Prim.Native.Nat.{ℕ, zero, suc, _+_, _-_, _*_, _/_, _%_, _≤_, _<_, min}
-use native.Mathlib.Decide.{decLt}
-use native.Mathlib.Nat.{mod-lt, div-add-mod'}
 use native.Mathlib.Omega.{arith}
-use borrow.Author.Tests.{leb-true, leb-false, eqb-true, ne-eqb, lt-ltb, le-ltb, le-leb}
+use borrow.Author.Tests.{leb-true, eqb-true, ne-eqb, lt-ltb, le-ltb}
 use lib.Dec.{eqb, leb, ltb}
 use lib.ListN.{length, getD, drop, drop-of-length-le}
 use Rattle.lists.specs.List.{absent}
 use Rattle.lists.proofs.Test.{and-left, and-right}
-use Rattle.kinds.specs.Kinds.{mostB, allowed}
+use Rattle.kinds.specs.Kinds.{allowed}
 use Rattle.kinds.proofs.Rows.{by-kind}
 use Rattle.lines.specs.Words.{null, any, end, while, if, mark, equals, differs, gets, next, nextGets, new, delete, close, starts, isWord}
 use Rattle.lines.specs.Line.{operandText, operationText, decimal, lineText, isOperation, isTest, isLine, letterOf, operandOf, checked, enclosedOf, secondOf, betweenOf, operationOf, opens, opensLine, testOf, digitOf, markFor, markOf, lineOf}
@@ -19,7 +17,7 @@ use Rattle.lines.specs.declared.Operand.{Operand}
 use Rattle.lines.specs.declared.Operation.{Operation}
 use Rattle.lines.specs.declared.Line.{Line}
 use Rattle.lines.specs.declared.Line.the-variants.{Perform, While, If, End, Mark, Other}
-use Rattle.lines.proofs.TextReads.{Operands, operands}
+use Rattle.lines.proofs.TextReads.{operands}
 
 -- the line, unless it is outside the grammar, is of the grammar and has this text
 abbrev Told : List ℕ → Line → Type 0

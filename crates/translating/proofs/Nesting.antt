@@ -1,8 +1,7 @@
 -- The block reader and the statement reader, one call after the other: what each comes to is what the definitions come to.
-use mathlib.Core.Bool.{Bool, true, false}
 use mathlib.Core.List.{List, [], _∷_}
 use mathlib.Core.Path.{_≡_, refl, sym, ap, subst, _∙_}
-use Prim.Native.Nat.{ℕ, zero, suc, _+_, _-_, _≤_, _<_}
+use Prim.Native.Nat.{ℕ, suc, _+_, _-_, _≤_, _<_}
 use native.Mathlib.Numerals.{add-one}
 use native.Mathlib.Omega.{arith}
 use borrow.Author.Tests.{leb-true}
@@ -11,12 +10,11 @@ use Rattle.lines.specs.Line.{lineOf}
 use Rattle.lines.specs.declared.Line.{Line}
 use Rattle.lines.specs.declared.Line.the-variants.{Perform, While, If, End, Mark, Other}
 use Rattle.lines.proofs.ReadsText.{reads-text}
-use Rattle.listing.specs.LineByLine.{Open, Position, Outcome, reached, refused, limited, closed, advance, onward, goOn}
+use Rattle.listing.specs.LineByLine.{Open, Position, Outcome, reached, refused, advance, onward, goOn}
 use Rattle.listing.specs.Text.{linesOf}
 use Rattle.translating.specs.Reading.{Begins, MarkIn, Closes, Comes, Further, restFrom, BlockRead, StatementRead}
 use Rattle.translating.specs.Work.{Work, faultNumber, openOf, positionOf, Within}
 use Rattle.translating.specs.declared.Fault.{Fault}
-use Rattle.translating.specs.declared.Fault.the-variants.{Grammar, Nesting, Limits}
 use Rattle.translating.specs.declared.blocks.Block.{Block}
 use Rattle.translating.specs.declared.blocks.Block.the-variants as block
 use Rattle.translating.specs.declared.blocks.Statement.{Statement}
@@ -138,18 +136,16 @@ module _ (text : List ℕ) (line : Line) (depth : ℕ) (p : Progress) (w : Work)
 
   pub statement-on : (q : Progress) → r ≡ begun.On q → StatementRead text line depth p w (statement.On q) w′
   statement-on q e =
-      let ((within, at), steps) = subst (λ x. Begins depth line p w x w′) e begins in
-      (
+      let ((within, at), steps) = subst (λ x. Begins depth line p w x w′) e begins in (
         record { within = within; on = omega arith; inside = omega arith },
         λ os d.
-        go-on line (restFrom text p) (positionOf p w os) (positionOf q w′ os) (steps os d)
-        ∙ ap (λ ls. goOn ls (positionOf q w′ os)) (same-rest q at),
+            go-on line (restFrom text p) (positionOf p w os) (positionOf q w′ os) (steps os d)
+            ∙ ap (λ ls. goOn ls (positionOf q w′ os)) (same-rest q at),
       )
 
   pub statement-ended : r ≡ begun.Ended → StatementRead text line depth p w (statement.Ended p) w′
   statement-ended e =
-      let (is-end, same) = subst (λ x. Begins depth line p w x w′) e begins in
-      (
+      let (is-end, same) = subst (λ x. Begins depth line p w x w′) e begins in (
         record { within = subst (Within p) (sym same) bounds; on = omega arith; inside = inside },
         λ os d. ap (λ l. goOn (l ∷ restFrom text p) (positionOf p w os)) is-end ∙ ap (λ x. goOn (End ∷ restFrom text p) (positionOf p x os)) (sym same),
       )
@@ -203,13 +199,12 @@ module _ (text : List ℕ) (line : Line) (depth : ℕ) (p : Progress) (w : Work)
           pub close-statement : (t : Progress) → l ≡ led.On t → StatementRead text line depth p w (statement.On t) w‴
           close-statement t g =
               let ((within, at), steps) = subst (λ x. Closes s w″ o x w‴) g closes in
-              let further = ended-here .0 in
-              (
+              let further = ended-here .0 in (
                 record { within = within; on = omega (arith, further .on, inner .at); inside = omega (arith, further .inside) },
                 λ os d.
-                enter _ (ended-here .1) os d
-                ∙ go-on End (restFrom text s) (positionOf s w″ (openOf o ∷ os)) (positionOf t w‴ os) (steps (openOf o ∷ os) os)
-                ∙ ap (λ n. goOn (linesOf (drop n text)) (positionOf t w‴ os)) (sym at),
+                    enter _ (ended-here .1) os d
+                    ∙ go-on End (restFrom text s) (positionOf s w″ (openOf o ∷ os)) (positionOf t w‴ os) (steps (openOf o ∷ os) os)
+                    ∙ ap (λ n. goOn (linesOf (drop n text)) (positionOf t w‴ os)) (sym at),
               )
 
           pub close-refused : l ≡ led.Full → Comes depth (line ∷ restFrom text p) p w (λ os. refused 19 (s .passed + 1))

@@ -1,7 +1,7 @@
 -- One line as the code does it is one line of the definitions, whatever is open: an operation, `while` and `if`, a mark, an `end`.
 use mathlib.Core.Bool.{Bool, true, false, _||_, cond}
 use mathlib.Core.List.{List, [], _∷_, _++_, append-assoc}
-use mathlib.Core.Path.{_≡_, refl, sym, ap, ap₂, subst, _∙_}
+use mathlib.Core.Path.{_≡_, refl, sym, ap, subst, _∙_}
 use Prim.Native.Nat.{ℕ, zero, suc, _+_, _*_, _≤_, _<_}
 use native.Mathlib.Decide.{decLe}
 use native.Mathlib.Nat.{not-suc-le-zero, le-of-suc-le-suc}
@@ -12,14 +12,13 @@ use lib.Dec.{eqb, leb, ltb}
 use lib.ListN.{length, getD, take, set, length-set}
 use lib.Seq.{length-take-le}
 use Rattle.lines.specs.Line.{opens}
-use Rattle.lines.specs.declared.Line.the-variants.{Perform, While, If, Mark}
+use Rattle.lines.specs.declared.Line.the-variants.{Perform, Mark}
 use Rattle.lines.specs.declared.Operation.{Operation}
-use Rattle.listing.specs.LineByLine.{Open, Position, Outcome, reached, refused, numbered, arrowNumbers, skipNumbers, testNumbers, oppositeNumbers, operated, marked, opened, closed, limited, advance}
+use Rattle.listing.specs.LineByLine.{Open, Position, reached, refused, numbered, arrowNumbers, skipNumbers, testNumbers, oppositeNumbers, marked, opened, closed, limited, advance}
 use Rattle.translating.specs.Reading.{namesAfter, Numbers, Adds, Leads, Steps, Begins, Closes}
 use Rattle.translating.specs.Work.{Work, openOf, transitionsIn, positionOf, Within}
 use Rattle.translating.specs.declared.names.Numbered.{Numbered}
 use Rattle.translating.specs.declared.steps.Begun.the-variants as begun
-use Rattle.translating.specs.declared.steps.Led.{Led}
 use Rattle.translating.specs.declared.steps.Led.the-variants as led
 use Rattle.translating.specs.declared.steps.Open as declared
 use Rattle.translating.specs.declared.steps.Progress.{Progress}
@@ -130,9 +129,10 @@ module _ (p : Progress) (job letters : List ℕ) (passed : p .passed ≤ 63) (co
       pub perform-on : (job′ : List ℕ) (depth : ℕ) (q : Progress) → Leads p (n .met) (n .operation) job (led.On q) job′
           → Begins depth (Perform o) p w₀ (begun.On q) (w₁ job′)
       perform-on job′ depth q (few, room, is, added) =
-          subst (λ x. Begins depth (Perform o) p w₀ (begun.On x) (w₁ job′)) (sym is)
-          ((within-after (n .met) job′ letters′ states few room (added .size) (numbers .size) size, refl),
-          λ os e. limited-to states size (λ y. y) job′ few room added os)
+          subst (λ x. Begins depth (Perform o) p w₀ (begun.On x) (w₁ job′)) (sym is) (
+            (within-after (n .met) job′ letters′ states few room (added .size) (numbers .size) size, refl),
+            λ os e. limited-to states size (λ y. y) job′ few room added os,
+          )
 
       pub perform-full : (depth : ℕ) → (n .met ≤ 8 → 62 < p .passed) → Steps depth (Perform o) p w₀ (λ os. refused 19 (p .passed + 1))
       perform-full depth full os e = rw (add-one (p .passed)) (limited-full states size (λ y. y) full os)
@@ -149,13 +149,16 @@ module _ (p : Progress) (job letters : List ℕ) (passed : p .passed ≤ 63) (co
             → Begins depth (opens loops o) p w₀ (begun.Opened q (record { loops = loops; test = n .operation; state = p .passed })) (w₁ job′)
         open-on job′ q (few, room, is, added) =
             let test : numbered-test ≡ n .operation = sym (numbers .operation few ∙ ap (λ l. numbered l o) (numbers .names few)) in
-            subst (λ x. Begins depth (opens loops o) p w₀ (begun.Opened x (record { loops = loops; test = n .operation; state = p .passed })) (w₁ job′)) (sym is)
-            ((within-after (n .met) job′ letters′ states few room (added .size) (numbers .size) size, refl), h, omega arith,
-            λ os e.
-            opens-line loops o (positionOf p w₀ os)
-            ∙ rw (lt-leb 16 (length os) (omega arith))
-            (limited-to states size testNumbers job′ few room added (inner numbered-test ∷ os)
-            ∙ ap (λ t. reached (positionOf (after p (n .met)) (w₁ job′) (inner t ∷ os))) test))
+            subst (λ x. Begins depth (opens loops o) p w₀ (begun.Opened x (record { loops = loops; test = n .operation; state = p .passed })) (w₁ job′)) (sym is) (
+              (within-after (n .met) job′ letters′ states few room (added .size) (numbers .size) size, refl),
+              h,
+              omega arith,
+              λ os e.
+                  opens-line loops o (positionOf p w₀ os)
+                  ∙ rw (lt-leb 16 (length os) (omega arith))
+                  (limited-to states size testNumbers job′ few room added (inner numbered-test ∷ os)
+                  ∙ ap (λ t. reached (positionOf (after p (n .met)) (w₁ job′) (inner t ∷ os))) test),
+            )
 
         pub open-full : (n .met ≤ 8 → 62 < p .passed) → Steps depth (opens loops o) p w₀ (λ os. refused 19 (p .passed + 1))
         open-full full os e =
@@ -183,19 +186,20 @@ module _ (p : Progress) (job letters : List ℕ) (passed : p .passed ≤ 63) (co
           → Begins depth (Mark k) p w₂ (begun.On q) (record { job = job′; letters = letters; states = set states k (p .passed) })
       mark-on depth q job′ (m, room, is, added) =
           let after-mark : Work = record { job = job′; letters = letters; states = set states k (p .passed) } in
-          subst (λ x. Begins depth (Mark k) p w₂ (begun.On x) after-mark) (sym is)
-          ((within-after (p .met) job′ letters (set states k (p .passed)) met room (added .size) letters-size (length-set states k (p .passed) ∙ size), refl),
-          λ os e.
-          rw is-free
-          (limited-on (marked k (positionOf p w₂ os)) few (omega arith)
-          ∙ (λ i. reached (record {
-            passed = suc (p .passed);
-            names = take (p .met) letters;
-            opens = os;
-            count = suc (p .count);
-            transitions = sym (added .all) i;
-            marks = set states k (p .passed);
-          }))))
+          subst (λ x. Begins depth (Mark k) p w₂ (begun.On x) after-mark) (sym is) (
+            (within-after (p .met) job′ letters (set states k (p .passed)) met room (added .size) letters-size (length-set states k (p .passed) ∙ size), refl),
+            λ os e.
+                rw is-free
+                (limited-on (marked k (positionOf p w₂ os)) few (omega arith)
+                ∙ (λ i. reached (record {
+                  passed = suc (p .passed);
+                  names = take (p .met) letters;
+                  opens = os;
+                  count = suc (p .count);
+                  transitions = sym (added .all) i;
+                  marks = set states k (p .passed);
+                }))),
+          )
 
       pub mark-full : (depth : ℕ) → (p .met ≤ 8 → 62 < p .passed) → Steps depth (Mark k) p w₂ (λ os. refused 19 (p .passed + 1))
       mark-full depth full os e = rw (is-free, add-one (p .passed)) (limited-states (marked k (positionOf p w₂ os)) (omega (arith, full met)))
@@ -211,12 +215,11 @@ module _ (p : Progress) (w : Work) (o : declared.Open) (bounds : Within p w) whe
       → Adds (w .job) (p .count) (p .passed) skipNumbers (cond (o .loops) (o .state) (suc (p .passed))) job₁
       → Adds job₁ (suc (p .count)) (o .state) (oppositeNumbers (o .test)) (suc (p .passed)) job₂
       → Closes p w o (led.On (record { at = p .at; passed = suc (p .passed); count = suc (suc (p .count)); met = p .met }))
-          (record { job = job₂; letters = w .letters; states = w .states })
+      (record { job = job₂; letters = w .letters; states = w .states })
   close-on job₁ job₂ room one two =
       let back = arrowNumbers (p .passed) skipNumbers (cond (o .loops) (o .state) (suc (p .passed))) in
       let on = arrowNumbers (o .state) (oppositeNumbers (o .test)) (suc (p .passed)) in
-      let all = two .all ∙ ap (λ l. l ++ on) (one .all) ∙ append-assoc (transitionsIn (p .count) (w .job)) back on in
-      (
+      let all = two .all ∙ ap (λ l. l ++ on) (one .all) ∙ append-assoc (transitionsIn (p .count) (w .job)) back on in (
         (
           record {
             passed = omega arith;
@@ -229,16 +232,16 @@ module _ (p : Progress) (w : Work) (o : declared.Open) (bounds : Within p w) whe
           refl,
         ),
         λ inner os.
-        limited-on (closed (openOf o) os (positionOf p w inner))
-        (omega (arith, bounds .met, bounds .letters, length-take-le (p .met) (w .letters) (omega (arith, bounds .met, bounds .letters)))) (omega arith)
-        ∙ (λ i. reached (record {
-          passed = suc (p .passed);
-          names = take (p .met) (w .letters);
-          opens = os;
-          count = suc (suc (p .count));
-          transitions = sym all i;
-          marks = w .states;
-        })),
+            limited-on (closed (openOf o) os (positionOf p w inner))
+            (omega (arith, bounds .met, bounds .letters, length-take-le (p .met) (w .letters) (omega (arith, bounds .met, bounds .letters)))) (omega arith)
+            ∙ (λ i. reached (record {
+              passed = suc (p .passed);
+              names = take (p .met) (w .letters);
+              opens = os;
+              count = suc (suc (p .count));
+              transitions = sym all i;
+              marks = w .states;
+            })),
       )
 
 -- where an `end` leads back to is a state

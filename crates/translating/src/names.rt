@@ -39,10 +39,7 @@ fn number_operand(letters: &mut [u8; 8], met: usize, operand: u8) -> Met
     ensures { λ r. ⌜ Meets (now (letters .entry)) met operand r (now (letters .exit)) ⌝ }
 {
     if operand == 0 {
-        return Met {
-            met,
-            number: 0,
-        };
+        return Met { met, number: 0 };
     }
     let i = find(letters, met, operand);
     let number = (i + 1) as u8;

@@ -165,7 +165,14 @@ fn perform(operation: Operation, p: Progress, job: &mut [u8; 635], letters: &mut
 }
 
 // `while T` (it loops) or `if T`, with so many open already.
-fn open_block(loops: bool, test: Operation, p: Progress, depth: usize, job: &mut [u8; 635], letters: &mut [u8; 8]) -> Begun
+fn open_block(
+    loops: bool,
+    test: Operation,
+    p: Progress,
+    depth: usize,
+    job: &mut [u8; 635],
+    letters: &mut [u8; 8],
+) -> Begun
     requires { ⌜ (length (now job) ≡ 635) × (length (now letters) ≡ 8) × (p .passed ≤ 63) × (p .count ≤ 2 * p .passed) × (p .met ≤ 8) ⌝ }
     ensures { λ r. ⌜ ((states : List ℕ) → length states ≡ 64 → Begins depth (opens loops test) p (record { job = now (job .entry); letters = now (letters .entry); states = states }) r (record { job = now (job .exit); letters = now (letters .exit); states = states })) ⌝ }
 {

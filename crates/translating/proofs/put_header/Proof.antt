@@ -1,13 +1,12 @@
+-- Five stores at the front are the numbers ahead of the transitions.
 use mathlib.Core.List.{List, [], _∷_}
 use Prim.Native.Nat.{ℕ, _+_}
-use mathlib.Core.Path.{_≡_, refl, ap, _∙_}
+use mathlib.Core.Path.{refl, _∙_}
 use native.Mathlib.Numerals.{add-one}
-use lib.ListN.{length}
-use Rattle.translating.specs.Work.{transitionsIn}
 use Rattle.translating.proofs.Answering.{variables-most}
 use mathlib.Core.List.{[], _∷_}
-use mathlib.Core.Path.{_≡_, refl, _∙_}
-use Prim.Native.Nat.{suc, _+_}
+use mathlib.Core.Path.{refl, _∙_}
+use Prim.Native.Nat.{_+_}
 use native.Mathlib.Omega.{arith}
 use lib.Seq.{length-sets}
 use Rattle.translating.proofs.Emitting.{put-ahead}
@@ -46,11 +45,10 @@ element-write-job-5 : tie.Need-element-write-job-5
 element-write-job-5 c = search needs
 
 returns : tie.Need-returns
-returns c = 
+returns c =
     let a = c .before .before .before .args in
     let v = c .before .before .variables-for in
-    let vs : List ℕ = 1 ∷ v .result ∷ (a .p .passed + 1) ∷ 0 ∷ a .p .count ∷ [] in
-    (
+    let vs : List ℕ = 1 ∷ v .result ∷ (a .p .passed + 1) ∷ 0 ∷ a .p .count ∷ [] in (
       length-sets (a .job .now) 0 vs ∙ c .before .before .before .pre .0,
       put-ahead (a .job .now) vs (a .p .count) (c .before .before .before .pre .0) refl ∙ rw (v .ensures, add-one (a .p .passed)) refl,
     )

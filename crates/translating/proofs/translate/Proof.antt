@@ -1,11 +1,11 @@
+-- What was read is written, or the refusal is told: by the one pass of the definitions.
 use mathlib.Core.Path.{sym}
-use Prim.Native.Nat.{ℕ, _+_, _*_}
+use Prim.Native.Nat.{_+_, _*_}
 use lib.Seq.{length-take-le}
 use native.Mathlib.Omega.{arith}
-use Prim.Native.Nat.{ℕ}
 use lib.ListN.{replicate}
 use Rattle.translating.specs.Work.{Work}
-use Rattle.translating.proofs.Answering.{Writes, over-within, ended-within, answers-over, answers-ended, answers-refused}
+use Rattle.translating.proofs.Answering.{over-within, ended-within, answers-over, answers-ended, answers-refused}
 use borrow.Author.Needs.{needs}
 use Rattle.translating.proofs.translate.Statement.{statement}
 use Rattle.translating.proofs.translate.Tie as tie
@@ -17,7 +17,7 @@ enum-known-read : tie.Need-enum-known-read
 enum-known-read c = search needs
 
 put-header-requires : tie.Need-put-header-requires
-put-header-requires c κs = 
+put-header-requires c κs =
     let a = c .before .before .before .before .before .before .before .before .before .before .before .args in
     let r = c .before .before .before .before .read-block in
     let w : Work = (record { job = r .last .1 .1 .1 .0; letters = r .last .1 .1 .1 .1 .0; states = r .last .1 .1 .1 .1 .1 .0 }) in
@@ -26,7 +26,7 @@ put-header-requires c κs =
     (bounds .job, bounds .passed, bounds .count, bounds .met)
 
 mul-needed : tie.Need-mul-needed
-mul-needed c = 
+mul-needed c =
     let a = c .before .before .before .before .before .before .before .before .before .before .before .before .before .args in
     let r = c .before .before .before .before .before .before .read-block in
     let w : Work = (record { job = r .last .1 .1 .1 .0; letters = r .last .1 .1 .1 .1 .0; states = r .last .1 .1 .1 .1 .1 .0 }) in
@@ -35,7 +35,7 @@ mul-needed c =
     omega (arith, bounds .passed, bounds .count)
 
 add-needed : tie.Need-add-needed
-add-needed c = 
+add-needed c =
     let a = c .before .before .before .before .before .before .before .before .before .before .before .before .before .args in
     let r = c .before .before .before .before .before .before .read-block in
     let w : Work = (record { job = r .last .1 .1 .1 .0; letters = r .last .1 .1 .1 .1 .0; states = r .last .1 .1 .1 .1 .1 .0 }) in
@@ -44,7 +44,7 @@ add-needed c =
     omega (arith, bounds .passed, bounds .count)
 
 array-share-prefix-job : tie.Need-array-share-prefix-job
-array-share-prefix-job c = 
+array-share-prefix-job c =
     let a = c .before .before .before .before .before .before .before .before .before .before .before .before .before .args in
     let r = c .before .before .before .before .before .before .read-block in
     let w : Work = (record { job = r .last .1 .1 .1 .0; letters = r .last .1 .1 .1 .1 .0; states = r .last .1 .1 .1 .1 .1 .0 }) in
@@ -53,7 +53,7 @@ array-share-prefix-job c =
     omega (arith, bounds .passed, bounds .count)
 
 slice-aggregate-write : tie.Need-slice-aggregate-write
-slice-aggregate-write c = 
+slice-aggregate-write c =
     let a = c .before .before .before .before .before .before .before .before .before .before .before .before .before .before .args in
     let r = c .before .before .before .before .before .before .before .read-block in
     let w : Work = (record { job = r .last .1 .1 .1 .0; letters = r .last .1 .1 .1 .1 .0; states = r .last .1 .1 .1 .1 .1 .0 }) in
@@ -62,7 +62,7 @@ slice-aggregate-write c =
     sym (length-take-le (5 + 5 * told .0 .0 .count) (c .before .before .put-header .last .1 .0) (omega (arith, bounds .passed, bounds .count, c .before .before .put-header .ensures .0)))
 
 slice-aggregate-write-2 : tie.Need-slice-aggregate-write-2
-slice-aggregate-write-2 c = 
+slice-aggregate-write-2 c =
     let a = c .before .before .before .before .before .before .before .before .before .before .before .before .before .before .before .args in
     let r = c .before .before .before .before .before .before .before .before .read-block in
     let w : Work = (record { job = r .last .1 .1 .1 .0; letters = r .last .1 .1 .1 .1 .0; states = r .last .1 .1 .1 .1 .1 .0 }) in
@@ -76,7 +76,7 @@ enum-known-read-2 : tie.Need-enum-known-read-2
 enum-known-read-2 c = search needs
 
 add-t30 : tie.Need-add-t30
-add-t30 c = 
+add-t30 c =
     let a = c .before .before .before .before .before .before .before .before .before .before .before .args in
     let r = c .before .before .before .before .read-block in
     let w : Work = (record { job = r .last .1 .1 .1 .0; letters = r .last .1 .1 .1 .1 .0; states = r .last .1 .1 .1 .1 .1 .0 }) in
@@ -93,7 +93,7 @@ same-length-2 : tie.Need-same-length-2
 same-length-2 c = search needs
 
 returns : tie.Need-returns
-returns c = 
+returns c =
     let a = c .before .before .before .before .before .before .before .before .before .before .before .before .before .before .before .before .before .before .before .before .before .before .args in
     let r = c .before .before .before .before .before .before .before .before .before .before .before .before .before .before .before .read-block in
     let w : Work = (record { job = r .last .1 .1 .1 .0; letters = r .last .1 .1 .1 .1 .0; states = r .last .1 .1 .1 .1 .1 .0 }) in
@@ -102,7 +102,7 @@ returns c =
     answers-over (a .text .now) (replicate 635 0) (replicate 8 0) (r .result) w (r .ensures) (a .bytes .now) (a .marks .now) (told .0 .0) (told .1) _ (c .before .before .before .before .before .before .before .before .before .before .put-header .ensures .1) (c .before .before .before .before .write .result) _ _ (record { result = e .0; output = e .1 .0; beside = e .1 .1 })
 
 returns-2 : tie.Need-returns-2
-returns-2 c = 
+returns-2 c =
     let a = c .before .before .before .before .before .before .before .before .before .before .before .args in
     let r = c .before .before .before .before .read-block in
     let w : Work = (record { job = r .last .1 .1 .1 .0; letters = r .last .1 .1 .1 .1 .0; states = r .last .1 .1 .1 .1 .1 .0 }) in
@@ -110,7 +110,7 @@ returns-2 c =
     answers-ended (a .text .now) (replicate 635 0) (replicate 8 0) (r .result) w (r .ensures) (a .bytes .now) (a .marks .now) (told .0 .0) (told .1)
 
 returns-3 : tie.Need-returns-3
-returns-3 c = 
+returns-3 c =
     let a = c .before .before .before .before .before .before .before .before .before .before .args in
     let r = c .before .before .before .read-block in
     let w : Work = (record { job = r .last .1 .1 .1 .0; letters = r .last .1 .1 .1 .1 .0; states = r .last .1 .1 .1 .1 .1 .0 }) in

@@ -1,9 +1,9 @@
+-- A block is its statements, a statement may hold a block: the place in the text moves on at each call, and the position with it.
 use borrow.Author.Needs.{needs}
 use Rattle.lines.proofs.read_line.Reads as read-line-reads
 use Rattle.translating.proofs.blocks.line_end.Reads as line-end-reads
 use Rattle.translating.proofs.steps.begin.Reads as begin-reads
 use Rattle.translating.proofs.steps.close.Reads as close-reads
-use mathlib.Core.Path.{_≡_}
 use native.Mathlib.Omega.{arith}
 use Prim.Native.Nat.{_+_, _-_, _*_, _≤_}
 use lib.ListN.{length}
@@ -79,7 +79,7 @@ read-block-returns : (t : ℕ) → read-block-lts.Need-returns (
   read-statement-below t,
   read-statement.Post,
 ) (read-block-at t) read-block.Post read-block-Inv-loop read-block-μ-loop
-read-block-returns t c = 
+read-block-returns t c =
     let a = c .before .before .before .args in
     let text = a .text .now in
     let w : Work = (record { job = a .job .now; letters = a .letters .now; states = a .states .now }) in
@@ -115,7 +115,7 @@ read-block-returns-2 : (t : ℕ) → read-block-lts.Need-returns-2 (
   read-statement-below t,
   read-statement.Post,
 ) (read-block-at t) read-block.Post read-block-Inv-loop read-block-μ-loop
-read-block-returns-2 t c = 
+read-block-returns-2 t c =
     let a = c .before .before .before .before .before .before .args in
     let text = a .text .now in
     let w : Work = (record { job = a .job .now; letters = a .letters .now; states = a .states .now }) in
@@ -183,14 +183,13 @@ read-block-read-statement-requires : (t : ℕ) → read-block-lts.Need-read-stat
   read-statement-below t,
   read-statement.Post,
 ) (read-block-at t) read-block.Post read-block-Inv-loop read-block-μ-loop
-read-block-read-statement-requires t c κs = 
+read-block-read-statement-requires t c κs =
     let a = c .before .before .before .before .before .before .before .before .before .before .args in
     let text = a .text .now in
     let w : Work = (record { job = a .job .now; letters = a .letters .now; states = a .states .now }) in
     let l = c .before .before .before .before .before .before .before .before .loop in
     let v : Work = record { job = l .job; letters = l .letters; states = l .states } in
-    let end = c .before .before .before .before .before .before .line-end .ensures in
-    (
+    let end = c .before .before .before .before .before .before .line-end .ensures in (
       omega (arith, c .before .before .before .before .before .before .before .before .before .before .pre .0, end .0, l .inv .further .on, c .before .before .before .before .before .if2 .left),
       (mark-in _ _ (c .before .before .before .read-line .ensures), moved (l .reached) v _ (l .inv .further .within), omega (arith, c .before .before .before .before .before .if2 .left), c .before .before .before .before .before .before .before .before .before .before .pre .1 .2),
     )
@@ -213,7 +212,7 @@ read-block-loop-less : (t : ℕ) → read-block-lts.Need-loop-less (
   read-statement-below t,
   read-statement.Post,
 ) (read-block-at t) read-block.Post read-block-Inv-loop read-block-μ-loop
-read-block-loop-less t c = 
+read-block-loop-less t c =
     let a = c .before .before .before .before .before .before .before .before .before .before .before .before .before .before .args in
     let text = a .text .now in
     let w : Work = (record { job = a .job .now; letters = a .letters .now; states = a .states .now }) in
@@ -236,7 +235,7 @@ read-block-loop-again : (t : ℕ) → read-block-lts.Need-loop-again (
   read-statement-below t,
   read-statement.Post,
 ) (read-block-at t) read-block.Post read-block-Inv-loop read-block-μ-loop
-read-block-loop-again t c = 
+read-block-loop-again t c =
     let a = c .before .before .before .before .before .before .before .before .before .before .before .before .before .before .args in
     let text = a .text .now in
     let w : Work = (record { job = a .job .now; letters = a .letters .now; states = a .states .now }) in
@@ -269,7 +268,7 @@ read-block-returns-3 : (t : ℕ) → read-block-lts.Need-returns-3 (
   read-statement-below t,
   read-statement.Post,
 ) (read-block-at t) read-block.Post read-block-Inv-loop read-block-μ-loop
-read-block-returns-3 t c = 
+read-block-returns-3 t c =
     let a = c .before .before .before .before .before .before .before .before .before .before .before .before .before .before .args in
     let text = a .text .now in
     let w : Work = (record { job = a .job .now; letters = a .letters .now; states = a .states .now }) in
@@ -301,7 +300,7 @@ read-block-returns-4 : (t : ℕ) → read-block-lts.Need-returns-4 (
   read-statement-below t,
   read-statement.Post,
 ) (read-block-at t) read-block.Post read-block-Inv-loop read-block-μ-loop
-read-block-returns-4 t c = 
+read-block-returns-4 t c =
     let a = c .before .before .before .before .before .before .before .before .before .before .before .before .before .before .args in
     let text = a .text .now in
     let w : Work = (record { job = a .job .now; letters = a .letters .now; states = a .states .now }) in
@@ -384,7 +383,7 @@ read-statement-read-block-requires : (t : ℕ) → read-statement-lts.Need-read-
   close-reads.Asked,
   close-reads.Learnt,
 ) (read-statement-at t) read-statement.Post
-read-statement-read-block-requires t c κs = 
+read-statement-read-block-requires t c κs =
     let a = c .before .before .before .before .before .before .before .before .before .before .before .args in
     let text = a .text .now in
     let pre = c .before .before .before .before .before .before .before .before .before .before .before .pre .1 in
@@ -415,7 +414,7 @@ read-statement-add-t31 : (t : ℕ) → read-statement-lts.Need-add-t31 (
   close-reads.Asked,
   close-reads.Learnt,
 ) (read-statement-at t) read-statement.Post
-read-statement-add-t31 t c = 
+read-statement-add-t31 t c =
     let a = c .before .before .before .before .before .before .before .before .before .before .before .before .before .before .before .before .args in
     let text = a .text .now in
     let pre = c .before .before .before .before .before .before .before .before .before .before .before .before .before .before .before .before .pre .1 in
@@ -458,7 +457,7 @@ read-statement-close-requires : (t : ℕ) → read-statement-lts.Need-close-requ
   close-reads.Asked,
   close-reads.Learnt,
 ) (read-statement-at t) read-statement.Post
-read-statement-close-requires t c κs = 
+read-statement-close-requires t c κs =
     let a = c .before .before .before .before .before .before .before .before .before .before .before .before .before .before .before .before .args in
     let text = a .text .now in
     let pre = c .before .before .before .before .before .before .before .before .before .before .before .before .before .before .before .before .pre .1 in
@@ -503,7 +502,7 @@ read-statement-add-t35 : (t : ℕ) → read-statement-lts.Need-add-t35 (
   close-reads.Asked,
   close-reads.Learnt,
 ) (read-statement-at t) read-statement.Post
-read-statement-add-t35 t c = 
+read-statement-add-t35 t c =
     let a = c .before .before .before .before .before .before .before .before .before .before .before .before .before .before .before .before .before .before .before .before .args in
     let text = a .text .now in
     let pre = c .before .before .before .before .before .before .before .before .before .before .before .before .before .before .before .before .before .before .before .before .pre .1 in
@@ -526,7 +525,7 @@ read-statement-returns : (t : ℕ) → read-statement-lts.Need-returns (
   close-reads.Asked,
   close-reads.Learnt,
 ) (read-statement-at t) read-statement.Post
-read-statement-returns t c = 
+read-statement-returns t c =
     let a = c .before .before .before .before .before .before .before .before .args in
     let text = a .text .now in
     let pre = c .before .before .before .before .before .before .before .before .pre .1 in
@@ -543,7 +542,7 @@ read-statement-returns-2 : (t : ℕ) → read-statement-lts.Need-returns-2 (
   close-reads.Asked,
   close-reads.Learnt,
 ) (read-statement-at t) read-statement.Post
-read-statement-returns-2 t c = 
+read-statement-returns-2 t c =
     let a = c .before .before .before .before .before .before .before .args in
     let text = a .text .now in
     let pre = c .before .before .before .before .before .before .before .pre .1 in
@@ -560,7 +559,7 @@ read-statement-returns-3 : (t : ℕ) → read-statement-lts.Need-returns-3 (
   close-reads.Asked,
   close-reads.Learnt,
 ) (read-statement-at t) read-statement.Post
-read-statement-returns-3 t c = 
+read-statement-returns-3 t c =
     let a = c .before .before .before .before .before .before .before .before .args in
     let text = a .text .now in
     let pre = c .before .before .before .before .before .before .before .before .pre .1 in
@@ -577,7 +576,7 @@ read-statement-returns-4 : (t : ℕ) → read-statement-lts.Need-returns-4 (
   close-reads.Asked,
   close-reads.Learnt,
 ) (read-statement-at t) read-statement.Post
-read-statement-returns-4 t c = 
+read-statement-returns-4 t c =
     let a = c .before .before .before .before .before .before .before .before .before .before .before .before .before .before .before .before .args in
     let text = a .text .now in
     let pre = c .before .before .before .before .before .before .before .before .before .before .before .before .before .before .before .before .pre .1 in
@@ -600,7 +599,7 @@ read-statement-returns-5 : (t : ℕ) → read-statement-lts.Need-returns-5 (
   close-reads.Asked,
   close-reads.Learnt,
 ) (read-statement-at t) read-statement.Post
-read-statement-returns-5 t c = 
+read-statement-returns-5 t c =
     let a = c .before .before .before .before .before .before .before .before .before .before .before .before .before .before .before .args in
     let text = a .text .now in
     let pre = c .before .before .before .before .before .before .before .before .before .before .before .before .before .before .before .pre .1 in
@@ -623,7 +622,7 @@ read-statement-returns-6 : (t : ℕ) → read-statement-lts.Need-returns-6 (
   close-reads.Asked,
   close-reads.Learnt,
 ) (read-statement-at t) read-statement.Post
-read-statement-returns-6 t c = 
+read-statement-returns-6 t c =
     let a = c .before .before .before .before .before .before .before .before .before .before .before .before .before .before .before .before .before .before .before .before .args in
     let text = a .text .now in
     let pre = c .before .before .before .before .before .before .before .before .before .before .before .before .before .before .before .before .before .before .before .before .pre .1 in
@@ -649,7 +648,7 @@ read-statement-returns-7 : (t : ℕ) → read-statement-lts.Need-returns-7 (
   close-reads.Asked,
   close-reads.Learnt,
 ) (read-statement-at t) read-statement.Post
-read-statement-returns-7 t c = 
+read-statement-returns-7 t c =
     let a = c .before .before .before .before .before .before .before .before .before .before .before .before .before .before .before .before .before .before .before .before .args in
     let text = a .text .now in
     let pre = c .before .before .before .before .before .before .before .before .before .before .before .before .before .before .before .before .before .before .before .before .pre .1 in

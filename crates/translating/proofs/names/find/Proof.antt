@@ -1,8 +1,9 @@
+-- So far the letter is none of the names.
 use borrow.Author.Needs.{needs}
-use mathlib.Core.Path.{_≡_, refl, sym, _∙_}
-use Prim.Native.Nat.{_+_, _-_, _≤_}
+use mathlib.Core.Path.{_≡_, sym, _∙_}
+use Prim.Native.Nat.{_-_, _≤_}
 use native.Mathlib.Omega.{arith}
-use lib.ListN.{take, drop, getD}
+use lib.ListN.{take}
 use lib.Seq.{getD-take}
 use Rattle.translating.proofs.Naming.{Sought, sought-here, sought-later, sought-end, names-length}
 use Rattle.translating.proofs.names.find.Statement.{statement}
@@ -21,7 +22,7 @@ element-copy-out-if1 : tie.Need-element-copy-out-if1 Inv-loop μ-loop
 element-copy-out-if1 c = search needs
 
 returns : tie.Need-returns Inv-loop μ-loop
-returns c = 
+returns c =
     let a = c .before .before .before .before .args in
     let i = c .before .before .before .loop .i in
     let l = take (a .met) (a .letters .now) in
@@ -35,18 +36,17 @@ loop-less : tie.Need-loop-less Inv-loop μ-loop
 loop-less c = search needs
 
 loop-again : tie.Need-loop-again Inv-loop μ-loop
-loop-again c = 
+loop-again c =
     let a = c .before .before .before .before .args in
     let i = c .before .before .before .loop .i in
     let l = take (a .met) (a .letters .now) in
-    let size = names-length (a .letters .now) (a .met) (c .before .before .before .before .pre .0) (c .before .before .before .before .pre .1) in
-    (
+    let size = names-length (a .letters .now) (a .met) (c .before .before .before .before .pre .0) (c .before .before .before .before .pre .1) in (
       omega arith,
       sought-later (a .letter) l i (c .before .before .before .loop .inv .1) (omega arith) (λ e. c .if1 .left (sym (getD-take (a .met) (a .letters .now) i 0 (omega arith)) ∙ e)),
     )
 
 returns-2 : tie.Need-returns-2 Inv-loop μ-loop
-returns-2 c = 
+returns-2 c =
     let a = c .before .before .args in
     let i = c .before .loop .i in
     let l = take (a .met) (a .letters .now) in

@@ -1,4 +1,4 @@
-use native.Mathlib.Omega.{arith}
+-- null, a name, a ninth name, or a new one.
 use Rattle.translating.proofs.Naming.{meets-null, meets-found, meets-ninth, meets-new}
 use borrow.Author.Needs.{needs}
 use Rattle.translating.proofs.names.number_operand.Statement.{statement}
@@ -17,7 +17,7 @@ cast-number : tie.Need-cast-number
 cast-number c = search needs
 
 returns-2 : tie.Need-returns-2
-returns-2 c = 
+returns-2 c =
     let a = c .before .before .before .before .args in
     let few = c .before .before .before .before .pre in
     meets-found (a .letters .now) (a .met) (few .0) (few .1) (a .operand) (c .before .find .result) (c .before .before .before .if1 .left) (c .before .find .ensures .0) (c .if2 .taken)
@@ -26,7 +26,7 @@ add-t9 : tie.Need-add-t9
 add-t9 c = search needs
 
 returns-3 : tie.Need-returns-3
-returns-3 c = 
+returns-3 c =
     let a = c .before .before .before .before .before .args in
     let few = c .before .before .before .before .before .pre in
     meets-ninth (a .letters .now) (a .met) (few .0) (few .1) (a .operand) (c .before .before .find .result) (c .before .before .before .before .if1 .left) (c .before .before .find .ensures .0) (c .before .if2 .left) (c .if3 .taken)
@@ -38,7 +38,7 @@ add-t8 : tie.Need-add-t8
 add-t8 c = search needs
 
 returns-4 : tie.Need-returns-4
-returns-4 c = 
+returns-4 c =
     let a = c .before .before .before .before .before .args in
     let few = c .before .before .before .before .before .pre in
     meets-new (a .letters .now) (a .met) (few .0) (few .1) (a .operand) (c .before .before .find .result) (c .before .before .before .before .if1 .left) (c .before .before .find .ensures .0) (c .before .if2 .left) (c .if3 .left)

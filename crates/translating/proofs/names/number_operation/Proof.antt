@@ -1,4 +1,4 @@
-use native.Mathlib.Omega.{arith}
+-- The first operand, and the second unless there are nine names already.
 use Rattle.translating.proofs.Naming.{numbers-over, numbers-both}
 use borrow.Author.Needs.{needs}
 use Rattle.translating.proofs.names.number_operation.Statement.{statement}
@@ -8,7 +8,7 @@ number-operand-requires : tie.Need-number-operand-requires
 number-operand-requires c κs = search needs
 
 returns : tie.Need-returns
-returns c = 
+returns c =
     let a = c .before .before .before .before .args in
     numbers-over (a .letters .now) (a .met) (a .operation) (c .before .before .number-operand .result) _ (c .before .before .number-operand .ensures) (c .if1 .taken)
 
@@ -16,7 +16,7 @@ number-operand-requires-2 : tie.Need-number-operand-requires-2
 number-operand-requires-2 c κs = (c .before .if1 .left, c .before .before .before .number-operand .ensures .size)
 
 returns-2 : tie.Need-returns-2
-returns-2 c = 
+returns-2 c =
     let a = c .before .before .before .before .before .before .args in
     numbers-both (a .letters .now) (a .met) (a .operation) (c .before .before .before .before .number-operand .result) _ (c .before .before .before .before .number-operand .ensures) (c .before .before .if1 .left)
     (c .number-operand2 .result) _ (c .number-operand2 .ensures)

@@ -1,6 +1,6 @@
+-- Line by line, what the line does is what the definitions do.
 use mathlib.Core.Path.{refl, subst}
 use native.Mathlib.Numerals.{add-one}
-use native.Mathlib.Omega.{arith}
 use Rattle.translating.specs.Reading.{MarkIn}
 use borrow.Author.Needs.{needs}
 use Rattle.translating.proofs.steps.begin.Statement.{statement}
@@ -31,7 +31,7 @@ enum-known-line-4 : tie.Need-enum-known-line-4
 enum-known-line-4 c = search needs
 
 mark-requires : tie.Need-mark-requires
-mark-requires c κs = 
+mark-requires c κs =
     let pre = c .before .before .before .before .before .pre in
     (subst MarkIn (c .before .before .before .line4 .given .1) (pre .0), pre .1 .job, pre .1 .states, pre .1 .passed, pre .1 .count, pre .1 .met)
 

@@ -1,8 +1,6 @@
-use mathlib.Core.Path.{_≡_}
+-- A transition to a new state, within the limits.
 use native.Mathlib.Numerals.{add-one}
 use native.Mathlib.Omega.{arith}
-use Prim.Native.Nat.{suc, _+_}
-use Rattle.translating.specs.Reading.{Adds}
 use borrow.Author.Needs.{needs}
 use Rattle.translating.proofs.steps.lead.Statement.{statement}
 use Rattle.translating.proofs.steps.lead.Tie as tie
@@ -23,11 +21,10 @@ add-t9 : tie.Need-add-t9
 add-t9 c = search needs
 
 returns-3 : tie.Need-returns-3
-returns-3 c = 
+returns-3 c =
     let a = c .before .before .before .before .before .before .before .args in
     let one = add-one (a .p .passed) in
-    let two = add-one (a .p .count) in
-    (
+    let two = add-one (a .p .count) in (
       omega arith,
       omega arith,
       λ i. record { at = a .p .at; passed = one i; count = two i; met = a .met },

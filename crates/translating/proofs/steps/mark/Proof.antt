@@ -1,7 +1,7 @@
+-- A mark that is free is set, and the step leads on.
 use Rattle.listing.specs.LineByLine.{skipNumbers}
 use Rattle.translating.specs.Reading.{Leads}
 use mathlib.Core.Path.{subst}
-use native.Mathlib.Omega.{arith}
 use Rattle.translating.proofs.Stepping.{mark-again, mark-on, mark-full}
 use borrow.Author.Needs.{needs}
 use Rattle.translating.proofs.steps.mark.Statement.{statement}
@@ -14,7 +14,7 @@ add-t12 : tie.Need-add-t12
 add-t12 c = search needs
 
 returns : tie.Need-returns
-returns c = 
+returns c =
     let a = c .before .before .before .args in
     let pre = c .before .before .before .pre in
     λ depth letters size. mark-again (a .p) (a .job .now) letters (pre .3) (pre .4) (a .k) (a .states .now) (pre .2) (pre .0) size (pre .5) depth (c .before .if1 .taken)
@@ -41,7 +41,7 @@ add-t20 : tie.Need-add-t20
 add-t20 c = search needs
 
 returns-2 : tie.Need-returns-2
-returns-2 c = 
+returns-2 c =
     let a = c .before .before .before .before .before .before .before .before .before .args in
     let pre = c .before .before .before .before .before .before .before .before .before .pre in
     let by = subst (λ o. Leads (a .p) (a .p .met) o (a .job .now) (c .before .before .before .before .lead .result) (c .before .before .before .before .lead .last .1 .1 .1 .0)) (c .before .before .before .before .before .before .skip .ensures) (c .before .before .before .before .lead .ensures) in
@@ -50,7 +50,7 @@ returns-2 c =
     mark-on (a .p) (a .job .now) letters (pre .3) (pre .4) (a .k) (a .states .now) (pre .2) (pre .0) size (pre .5) (c .before .before .before .before .before .before .before .if1 .left) depth _ _ leads
 
 returns-3 : tie.Need-returns-3
-returns-3 c = 
+returns-3 c =
     let a = c .before .before .before .before .before .before .before .before .args in
     let pre = c .before .before .before .before .before .before .before .before .pre in
     let by = subst (λ o. Leads (a .p) (a .p .met) o (a .job .now) (c .before .before .before .lead .result) (c .before .before .before .lead .last .1 .1 .1 .0)) (c .before .before .before .before .before .skip .ensures) (c .before .before .before .lead .ensures) in

@@ -1,7 +1,7 @@
+-- Unless it is too deep, T leads on and is kept.
 use Rattle.listing.specs.LineByLine.{testNumbers}
 use Rattle.translating.specs.Reading.{Leads}
 use mathlib.Core.Path.{subst}
-use native.Mathlib.Omega.{arith}
 use Rattle.translating.proofs.Stepping.{open-deep, open-on, open-full}
 use borrow.Author.Needs.{needs}
 use Rattle.translating.proofs.steps.open_block.Statement.{statement}
@@ -11,7 +11,7 @@ add-t13 : tie.Need-add-t13
 add-t13 c = search needs
 
 returns : tie.Need-returns
-returns c = 
+returns c =
     let a = c .before .before .args in
     λ states size. open-deep (a .loops) (a .test) (a .p) (a .depth) (record { job = a .job .now; letters = a .letters .now; states = states }) (c .before .if1 .taken)
 
@@ -34,7 +34,7 @@ add-t20 : tie.Need-add-t20
 add-t20 c = search needs
 
 returns-2 : tie.Need-returns-2
-returns-2 c = 
+returns-2 c =
     let a = c .before .before .before .before .before .before .before .before .before .before .args in
     let pre = c .before .before .before .before .before .before .before .before .before .before .pre in
     let n = c .before .before .before .before .before .before .before .number-operation in
@@ -44,7 +44,7 @@ returns-2 c =
     open-on (a .p) (a .job .now) (a .letters .now) (pre .2) (pre .3) (a .test) (n .result) _ (n .ensures) states size (a .loops) (a .depth) (c .before .before .before .before .before .before .before .before .before .if1 .left) _ _ leads
 
 returns-3 : tie.Need-returns-3
-returns-3 c = 
+returns-3 c =
     let a = c .before .before .before .before .before .before .before .before .before .before .args in
     let pre = c .before .before .before .before .before .before .before .before .before .before .pre in
     let n = c .before .before .before .before .before .before .before .number-operation in

@@ -1,6 +1,6 @@
+-- The operands are numbered, and the operation leads on.
 use Rattle.translating.specs.Reading.{Leads}
 use mathlib.Core.Path.{subst}
-use native.Mathlib.Omega.{arith}
 use Rattle.translating.proofs.Stepping.{perform-on, perform-full}
 use borrow.Author.Needs.{needs}
 use Rattle.translating.proofs.steps.perform.Statement.{statement}
@@ -22,7 +22,7 @@ add-t13 : tie.Need-add-t13
 add-t13 c = search needs
 
 returns : tie.Need-returns
-returns c = 
+returns c =
     let a = c .before .before .before .before .before .before .before .before .args in
     let pre = c .before .before .before .before .before .before .before .before .pre in
     let n = c .before .before .before .before .before .before .number-operation in
@@ -30,7 +30,7 @@ returns c =
     λ depth states size. perform-on (a .p) (a .job .now) (a .letters .now) (pre .2) (pre .3) (a .operation) (n .result) _ (n .ensures) states size _ depth _ leads
 
 returns-2 : tie.Need-returns-2
-returns-2 c = 
+returns-2 c =
     let a = c .before .before .before .before .before .before .before .before .args in
     let pre = c .before .before .before .before .before .before .before .before .pre in
     let n = c .before .before .before .before .before .before .number-operation in

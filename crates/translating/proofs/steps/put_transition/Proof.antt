@@ -1,3 +1,4 @@
+-- Five stores behind the transitions that are there.
 use mathlib.Core.Path.{_≡_}
 use Prim.Native.Nat.{suc, _+_, _*_}
 use native.Mathlib.Omega.{arith}
@@ -46,7 +47,7 @@ element-write-job-5 : tie.Need-element-write-job-5
 element-write-job-5 c = search needs
 
 returns : tie.Need-returns
-returns c = 
+returns c =
     let a = c .args in
     let at = 5 + 5 * a .count in
     let one : at + 1 ≡ suc at = omega arith in
