@@ -20,7 +20,7 @@ same-length-3 : tie.Need-same-length-3
 same-length-3 c = search needs
 
 returns : tie.Need-returns
-returns c = 
+returns c =
     let r = c .before .before .before .before .before .before .before .before .translate in
     let t = c .before .before .tell in
     translated _ _ _ _ _ (r .result) _ _ _ (r .ensures) (t .ensures .0) (t .ensures .1)
