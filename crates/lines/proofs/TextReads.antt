@@ -2,13 +2,13 @@
 use mathlib.Core.Bool.{Bool, true, false, _&&_, cond}
 use mathlib.Core.List.{List, [], _∷_, _++_, append-nil}
 use mathlib.Core.Path.{_≡_, refl, sym, ap, ap₂, _∙_}
-use Prim.Native.Nat.{ℕ, zero, suc, _+_, _-_, _*_, _/_, _%_, _≤_, _<_, min}
+use Prim.Native.Nat.{ℕ, zero, suc, _+_, _-_, _/_, _%_, _≤_, _<_, min}
 use native.Mathlib.Decide.{decLt}
 use native.Mathlib.Nat.{mod-lt, div-add-mod'}
 use native.Mathlib.Omega.{arith}
 use borrow.Author.Tests.{leb-true, eqb-true, ne-eqb, lt-ltb, le-ltb, le-leb}
 use lib.Dec.{eqb, leb}
-use lib.ListN.{length, getD, drop}
+use lib.ListN.{length, drop}
 use lib.Seq.{drop-append-seam}
 use Rattle.lists.proofs.Test.{and-left, and-right}
 use Rattle.kinds.specs.Kinds.{leastA, leastB, mostB, allowed}
@@ -16,8 +16,7 @@ use Rattle.lists.proofs.List.{end as no-row, _&_}
 use Rattle.heap.proofs.Rows.{by-kind}
 use Rattle.kinds.proofs.Rows.{known, allowed-row, most-bound}
 use Rattle.lines.specs.Words.{null, any, end, while, if, mark, equals, differs, gets, next, nextGets, new, delete, close, starts, isWord}
-use Rattle.lines.specs.Line.{operandText, operationText, decimal, lineText, isOperation, isTest, isLine, letterOf, operandOf, checked, enclosedOf, secondOf, betweenOf, operationOf, opens, opensLine, testOf, digitOf, markFor, markOf, lineOf}
-use Rattle.lines.specs.declared.Operand.{Operand}
+use Rattle.lines.specs.Line.{operandText, operationText, decimal, lineText, isOperation, isTest, isLine, letterOf, operandOf, checked, enclosedOf, secondOf, betweenOf, operationOf, opens, testOf, digitOf, markFor, markOf, lineOf}
 use Rattle.lines.specs.declared.Operation.{Operation}
 use Rattle.lines.specs.declared.Line.{Line}
 use Rattle.lines.specs.declared.Line.the-variants.{Perform, While, If, End, Mark, Other}

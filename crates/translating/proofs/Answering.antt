@@ -1,25 +1,21 @@
 -- What is written and answered, once the text is read.
-use mathlib.Core.Bool.{cond}
 use mathlib.Core.List.{List, [], _∷_, _++_}
 use mathlib.Core.Path.{_≡_, refl, sym, ap, subst, _∙_}
-use Prim.Native.Nat.{ℕ, zero, suc, _+_, _*_, _≤_, _<_}
+use Prim.Native.Nat.{ℕ, zero, suc, _+_, _≤_, _<_}
 use native.Mathlib.Numerals.{add-one}
 use native.Mathlib.Omega.{arith}
-use borrow.Author.Tests.{eq-eqb, ne-eqb, lt-ltb, le-ltb, le-leb, lt-leb}
-use lib.Dec.{eqb}
+use borrow.Author.Tests.{ne-eqb, lt-ltb, le-ltb, le-leb, lt-leb}
 use lib.ListN.{length, take, drop, replicate}
 use lib.Seq.{length-take-le}
-use Rattle.number.specs.CallResult.{CallResult, lent}
-use Rattle.lines.specs.declared.Line.{Line}
-use Rattle.lines.specs.declared.Line.the-variants.{End}
-use Rattle.listing.specs.LineByLine.{Position, Outcome, reached, refused, begin, goOn, bytesAhead, translateBy}
+use Rattle.number.specs.CallResult.{lent}
+use Rattle.listing.specs.LineByLine.{reached, refused, begin, goOn, bytesAhead, translateBy}
 use Rattle.listing.specs.Names.{variablesFor}
 use Rattle.listing.specs.Promise.{Translates}
 use Rattle.listing.specs.Text.{linesOf}
 use Rattle.listing.specs.Written.{inRoom, translateResult, bytesAfter, marksAfter}
 use Rattle.listing.proofs.Promise.{translates}
 use Rattle.translating.specs.Answer.{answerResult, variablesOf}
-use Rattle.translating.specs.Reading.{Further, BlockRead}
+use Rattle.translating.specs.Reading.{BlockRead}
 use Rattle.translating.specs.Work.{Work, faultNumber, transitionsIn, positionOf, Within}
 use Rattle.translating.specs.declared.Fault.{Fault}
 use Rattle.translating.specs.declared.Fault.the-variants.{Grammar}

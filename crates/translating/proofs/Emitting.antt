@@ -1,9 +1,9 @@
 -- Transitions put one after the other into the job's bytes, and the numbers ahead of them.
-use mathlib.Core.List.{List, [], _∷_, _++_, append-assoc}
-use mathlib.Core.Path.{_≡_, refl, sym, ap, ap₂, subst, _∙_}
-use Prim.Native.Nat.{ℕ, zero, suc, _+_, _*_, _≤_, _<_}
+use mathlib.Core.List.{List, [], _∷_, _++_}
+use mathlib.Core.Path.{_≡_, refl, sym, ap, ap₂, _∙_}
+use Prim.Native.Nat.{ℕ, zero, suc, _+_, _*_, _<_}
 use native.Mathlib.Omega.{arith}
-use lib.ListN.{length, take, drop, length-append, length-take, length-drop}
+use lib.ListN.{length, take, drop, length-append, length-drop}
 use lib.Seq.{sets, length-sets, sets-eq, take-at, take-nil, drop-append-le, length-take-le, take-append-add}
 use Rattle.lines.specs.declared.Operation.{Operation}
 use Rattle.listing.specs.LineByLine.{arrowNumbers}

@@ -1,23 +1,21 @@
 -- Letters and their numbers: a letter is found among the names or becomes the next one, and keeps its number.
 use mathlib.Core.Bool.{Bool, true, false, cond}
 use mathlib.Core.List.{List, [], _∷_, _++_, append-nil}
-use mathlib.Core.Path.{_≡_, refl, sym, ap, ap₂, subst, _∙_}
+use mathlib.Core.Path.{_≡_, refl, sym, ap, ap₂, _∙_}
 use Prim.Native.Nat.{ℕ, zero, suc, _+_, _≤_, _<_}
 use native.Mathlib.Decide.{decLt}
 use native.Mathlib.Nat.{not-suc-le-zero}
 use native.Mathlib.Numerals.{add-one}
 use native.Mathlib.Omega.{arith}
-use borrow.Author.Tests.{eqb-true, eq-eqb, ne-eqb}
+use borrow.Author.Tests.{eq-eqb, ne-eqb}
 use lib.Dec.{eqb}
-use lib.ListN.{length, getD, take, drop, set, length-set, length-append, length-take, drop-of-length-le}
-use lib.Seq.{drop-cons, getD-take, length-take-le, take-suc-set}
+use lib.ListN.{length, getD, take, drop, set, length-set, length-append, drop-of-length-le}
+use lib.Seq.{drop-cons, length-take-le, take-suc-set}
 use Rattle.lists.specs.List.{absent}
 use Rattle.lines.specs.declared.Operation.{Operation}
-use Rattle.listing.specs.LineByLine.{numbered}
 use Rattle.listing.specs.Names.{meet, indexOf, numberIn}
 use Rattle.translating.specs.Reading.{Meets, namesAfter, Numbers}
 use Rattle.translating.specs.declared.names.Met.{Met}
-use Rattle.translating.specs.declared.names.Numbered.{Numbered}
 
 -- ---- the index of a letter
 

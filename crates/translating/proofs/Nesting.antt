@@ -1,8 +1,7 @@
 -- The block reader and the statement reader, one call after the other: what each comes to is what the definitions come to.
-use mathlib.Core.Bool.{Bool, true, false}
 use mathlib.Core.List.{List, [], _∷_}
 use mathlib.Core.Path.{_≡_, refl, sym, ap, subst, _∙_}
-use Prim.Native.Nat.{ℕ, zero, suc, _+_, _-_, _≤_, _<_}
+use Prim.Native.Nat.{ℕ, suc, _+_, _-_, _≤_, _<_}
 use native.Mathlib.Numerals.{add-one}
 use native.Mathlib.Omega.{arith}
 use borrow.Author.Tests.{leb-true}
@@ -11,12 +10,11 @@ use Rattle.lines.specs.Line.{lineOf}
 use Rattle.lines.specs.declared.Line.{Line}
 use Rattle.lines.specs.declared.Line.the-variants.{Perform, While, If, End, Mark, Other}
 use Rattle.lines.proofs.ReadsText.{reads-text}
-use Rattle.listing.specs.LineByLine.{Open, Position, Outcome, reached, refused, limited, closed, advance, onward, goOn}
+use Rattle.listing.specs.LineByLine.{Open, Position, Outcome, reached, refused, advance, onward, goOn}
 use Rattle.listing.specs.Text.{linesOf}
 use Rattle.translating.specs.Reading.{Begins, MarkIn, Closes, Comes, Further, restFrom, BlockRead, StatementRead}
 use Rattle.translating.specs.Work.{Work, faultNumber, openOf, positionOf, Within}
 use Rattle.translating.specs.declared.Fault.{Fault}
-use Rattle.translating.specs.declared.Fault.the-variants.{Grammar, Nesting, Limits}
 use Rattle.translating.specs.declared.blocks.Block.{Block}
 use Rattle.translating.specs.declared.blocks.Block.the-variants as block
 use Rattle.translating.specs.declared.blocks.Statement.{Statement}

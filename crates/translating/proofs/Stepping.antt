@@ -1,7 +1,7 @@
 -- One line as the code does it is one line of the definitions, whatever is open: an operation, `while` and `if`, a mark, an `end`.
 use mathlib.Core.Bool.{Bool, true, false, _||_, cond}
 use mathlib.Core.List.{List, [], _∷_, _++_, append-assoc}
-use mathlib.Core.Path.{_≡_, refl, sym, ap, ap₂, subst, _∙_}
+use mathlib.Core.Path.{_≡_, refl, sym, ap, subst, _∙_}
 use Prim.Native.Nat.{ℕ, zero, suc, _+_, _*_, _≤_, _<_}
 use native.Mathlib.Decide.{decLe}
 use native.Mathlib.Nat.{not-suc-le-zero, le-of-suc-le-suc}
@@ -12,14 +12,13 @@ use lib.Dec.{eqb, leb, ltb}
 use lib.ListN.{length, getD, take, set, length-set}
 use lib.Seq.{length-take-le}
 use Rattle.lines.specs.Line.{opens}
-use Rattle.lines.specs.declared.Line.the-variants.{Perform, While, If, Mark}
+use Rattle.lines.specs.declared.Line.the-variants.{Perform, Mark}
 use Rattle.lines.specs.declared.Operation.{Operation}
-use Rattle.listing.specs.LineByLine.{Open, Position, Outcome, reached, refused, numbered, arrowNumbers, skipNumbers, testNumbers, oppositeNumbers, operated, marked, opened, closed, limited, advance}
+use Rattle.listing.specs.LineByLine.{Open, Position, reached, refused, numbered, arrowNumbers, skipNumbers, testNumbers, oppositeNumbers, marked, opened, closed, limited, advance}
 use Rattle.translating.specs.Reading.{namesAfter, Numbers, Adds, Leads, Steps, Begins, Closes}
 use Rattle.translating.specs.Work.{Work, openOf, transitionsIn, positionOf, Within}
 use Rattle.translating.specs.declared.names.Numbered.{Numbered}
 use Rattle.translating.specs.declared.steps.Begun.the-variants as begun
-use Rattle.translating.specs.declared.steps.Led.{Led}
 use Rattle.translating.specs.declared.steps.Led.the-variants as led
 use Rattle.translating.specs.declared.steps.Open as declared
 use Rattle.translating.specs.declared.steps.Progress.{Progress}

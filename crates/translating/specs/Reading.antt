@@ -6,7 +6,7 @@ use lib.ListN.{length, take, drop}
 use Rattle.lines.specs.declared.Line.{Line}
 use Rattle.lines.specs.declared.Line.the-variants.{Perform, While, If, End, Mark, Other}
 use Rattle.lines.specs.declared.Operation.{Operation}
-use Rattle.listing.specs.LineByLine.{Open, Position, Outcome, reached, refused, numbered, arrowNumbers, limited, closed, advance, goOn}
+use Rattle.listing.specs.LineByLine.{Open, Outcome, reached, refused, numbered, arrowNumbers, limited, closed, advance, goOn}
 use Rattle.listing.specs.Names.{meet, numberIn}
 use Rattle.listing.specs.Text.{linesOf}
 use Rattle.translating.specs.Work.{Work, faultNumber, openOf, transitionsIn, positionOf, Within}

@@ -1,6 +1,6 @@
 -- What the reading keeps in arrays, and the position of the definitions that it stands for.
 use mathlib.Core.List.{List}
-use Prim.Native.Nat.{ℕ, _+_, _*_, _≤_}
+use Prim.Native.Nat.{ℕ, _*_, _≤_}
 use mathlib.Core.Path.{_≡_}
 use lib.ListN.{length, take, drop}
 use Rattle.listing.specs.LineByLine.{Open, Position}

@@ -1,5 +1,5 @@
-use mathlib.Core.Path.{sym, ap, _∙_}
-use native.Mathlib.Omega.{arith}
+-- As the table of kinds says.
+use mathlib.Core.Path.{sym, _∙_}
 use Rattle.lines.specs.Line.{checked}
 use borrow.Author.Needs.{needs}
 use Rattle.lines.proofs.check_table.Statement.{statement}

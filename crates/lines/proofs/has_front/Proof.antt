@@ -1,11 +1,11 @@
-use mathlib.Core.Bool.{true, false}
+-- Byte by byte: so far the bytes and the word agree, and what is left decides.
 use mathlib.Core.Path.{_≡_, refl, sym, _∙_}
-use Prim.Native.Nat.{ℕ, _+_, _-_, _≤_}
+use Prim.Native.Nat.{ℕ, _-_, _≤_}
 use native.Mathlib.Omega.{arith}
 use borrow.Author.Tests.{eq-eqb, ne-eqb}
 use lib.ListN.{length, getD, drop}
 use Rattle.lines.specs.Words.{starts}
-use Rattle.lines.proofs.Starting.{starts-length, starts-short, starts-here, starts-end}
+use Rattle.lines.proofs.Starting.{starts-short, starts-here, starts-end}
 use borrow.Author.Needs.{needs}
 use Rattle.lines.proofs.has_front.Statement.{statement}
 use Rattle.lines.proofs.has_front.Tie as tie

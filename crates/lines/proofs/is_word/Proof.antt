@@ -1,8 +1,8 @@
-use mathlib.Core.Path.{sym, ap, _∙_}
-use native.Mathlib.Omega.{arith}
+-- A word at the front of bytes of its length.
+use mathlib.Core.Path.{_∙_}
 use borrow.Author.Tests.{eq-eqb, ne-eqb}
 use lib.ListN.{length}
-use Rattle.lines.specs.Words.{starts, isWord}
+use Rattle.lines.specs.Words.{isWord}
 use borrow.Author.Needs.{needs}
 use Rattle.lines.proofs.is_word.Statement.{statement}
 use Rattle.lines.proofs.is_word.Tie as tie

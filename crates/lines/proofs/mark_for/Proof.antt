@@ -1,3 +1,4 @@
+-- By the bound of a mark.
 use native.Mathlib.Omega.{arith}
 use borrow.Author.Tests.{le-leb, lt-leb}
 use Rattle.lines.specs.Line.{markFor}

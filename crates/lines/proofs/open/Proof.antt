@@ -1,6 +1,4 @@
-use mathlib.Core.Path.{sym, ap, _∙_}
-use native.Mathlib.Omega.{arith}
-use Rattle.lines.specs.Line.{opens}
+-- By the word.
 use Rattle.lines.proofs.open.Statement.{statement}
 use Rattle.lines.proofs.open.Tie as tie
 

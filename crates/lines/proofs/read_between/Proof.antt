@@ -1,3 +1,4 @@
+-- By the word behind the first operand.
 use Rattle.lines.proofs.Starting.{rest}
 use Rattle.lines.specs.Line.{secondOf, betweenOf}
 use mathlib.Core.Path.{sym, ap, _∙_}

@@ -1,10 +1,10 @@
+-- The operand, and the bracket behind it.
 use mathlib.Core.Path.{sym, ap, _∙_}
-use native.Mathlib.Omega.{arith}
 use Rattle.lines.proofs.Starting.{rest}
-use lib.ListN.{length, drop, take}
+use lib.ListN.{length}
 use Prim.Native.Nat.{_-_}
 use Rattle.lines.specs.Words.{isWord, close}
-use Rattle.lines.specs.Line.{operandOf, checked, enclosedOf}
+use Rattle.lines.specs.Line.{enclosedOf}
 use borrow.Author.Needs.{needs}
 use Rattle.lines.proofs.read_enclosed.Statement.{statement}
 use Rattle.lines.proofs.read_enclosed.Tie as tie

@@ -1,4 +1,5 @@
-use mathlib.Core.Path.{sym, ap, _∙_}
+-- By how many digits there are.
+use mathlib.Core.Path.{ap, _∙_}
 use mathlib.Core.Path.{_≡_, ap, _∙_}
 use Prim.Native.Nat.{_+_, _*_}
 use native.Mathlib.Omega.{arith}

@@ -1,9 +1,6 @@
-use mathlib.Core.Path.{ap₂}
-use lib.ListN.{length, getD}
-use Rattle.lines.specs.Line.{letterOf}
-use Rattle.lines.specs.declared.Operand.{Operand}
+-- null, no byte, or the first byte.
 use Rattle.lines.proofs.Starting.{operand-none, operand-letter}
-use mathlib.Core.Path.{sym, ap, _∙_}
+use mathlib.Core.Path.{sym, _∙_}
 use native.Mathlib.Omega.{arith}
 use Rattle.lines.specs.Line.{operandOf}
 use borrow.Author.Needs.{needs}

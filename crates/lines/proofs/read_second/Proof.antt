@@ -1,5 +1,5 @@
+-- The operand, and what is behind it: nothing, or `.next`.
 use mathlib.Core.Path.{sym, ap, _∙_}
-use native.Mathlib.Omega.{arith}
 use Rattle.lines.proofs.Starting.{rest}
 use mathlib.Core.List.{[]}
 use borrow.Author.Tests.{eq-eqb, ne-eqb}

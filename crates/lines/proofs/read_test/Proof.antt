@@ -1,5 +1,5 @@
+-- `any`, or an operation of kind 1 or 2.
 use mathlib.Core.Path.{sym, ap, _∙_}
-use native.Mathlib.Omega.{arith}
 use Rattle.lines.proofs.Starting.{test-taken, test-left, no-operation}
 use Rattle.lines.specs.Line.{opensLine, testOf}
 use borrow.Author.Needs.{needs}

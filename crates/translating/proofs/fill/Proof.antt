@@ -1,3 +1,4 @@
+-- The loop copies the bytes one after the other.
 use borrow.Author.Needs.{needs}
 use Prim.Native.Nat.{_-_}
 use native.Mathlib.Omega.{arith}

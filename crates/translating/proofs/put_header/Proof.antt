@@ -1,13 +1,12 @@
+-- Five stores at the front are the numbers ahead of the transitions.
 use mathlib.Core.List.{List, [], _∷_}
 use Prim.Native.Nat.{ℕ, _+_}
-use mathlib.Core.Path.{_≡_, refl, ap, _∙_}
+use mathlib.Core.Path.{refl, _∙_}
 use native.Mathlib.Numerals.{add-one}
-use lib.ListN.{length}
-use Rattle.translating.specs.Work.{transitionsIn}
 use Rattle.translating.proofs.Answering.{variables-most}
 use mathlib.Core.List.{[], _∷_}
-use mathlib.Core.Path.{_≡_, refl, _∙_}
-use Prim.Native.Nat.{suc, _+_}
+use mathlib.Core.Path.{refl, _∙_}
+use Prim.Native.Nat.{_+_}
 use native.Mathlib.Omega.{arith}
 use lib.Seq.{length-sets}
 use Rattle.translating.proofs.Emitting.{put-ahead}

@@ -1,11 +1,11 @@
+-- What was read is written, or the refusal is told: by the one pass of the definitions.
 use mathlib.Core.Path.{sym}
-use Prim.Native.Nat.{ℕ, _+_, _*_}
+use Prim.Native.Nat.{_+_, _*_}
 use lib.Seq.{length-take-le}
 use native.Mathlib.Omega.{arith}
-use Prim.Native.Nat.{ℕ}
 use lib.ListN.{replicate}
 use Rattle.translating.specs.Work.{Work}
-use Rattle.translating.proofs.Answering.{Writes, over-within, ended-within, answers-over, answers-ended, answers-refused}
+use Rattle.translating.proofs.Answering.{over-within, ended-within, answers-over, answers-ended, answers-refused}
 use borrow.Author.Needs.{needs}
 use Rattle.translating.proofs.translate.Statement.{statement}
 use Rattle.translating.proofs.translate.Tie as tie

@@ -1,4 +1,4 @@
-use borrow.Author.Needs.{needs}
+-- By whether there is a name.
 use borrow.Author.Tests.{eq-eqb, ne-eqb}
 use Rattle.translating.proofs.variables_for.Statement.{statement}
 use Rattle.translating.proofs.variables_for.Tie as tie

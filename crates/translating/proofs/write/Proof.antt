@@ -1,6 +1,5 @@
+-- Both outputs, where there is room.
 use Rattle.translating.proofs.Copying.{filled-length}
-use mathlib.Core.Path.{ap, _∙_}
-use native.Mathlib.Omega.{arith}
 use Rattle.translating.proofs.Answering.{writes-short, writes-all, lent-all, lent-none}
 use borrow.Author.Needs.{needs}
 use Rattle.translating.proofs.write.Statement.{statement}

@@ -1,9 +1,9 @@
+-- A block is its statements, a statement may hold a block: the place in the text moves on at each call, and the position with it.
 use borrow.Author.Needs.{needs}
 use Rattle.lines.proofs.read_line.Reads as read-line-reads
 use Rattle.translating.proofs.blocks.line_end.Reads as line-end-reads
 use Rattle.translating.proofs.steps.begin.Reads as begin-reads
 use Rattle.translating.proofs.steps.close.Reads as close-reads
-use mathlib.Core.Path.{_≡_}
 use native.Mathlib.Omega.{arith}
 use Prim.Native.Nat.{_+_, _-_, _*_, _≤_}
 use lib.ListN.{length}

@@ -1,8 +1,9 @@
+-- So far the letter is none of the names.
 use borrow.Author.Needs.{needs}
-use mathlib.Core.Path.{_≡_, refl, sym, _∙_}
-use Prim.Native.Nat.{_+_, _-_, _≤_}
+use mathlib.Core.Path.{_≡_, sym, _∙_}
+use Prim.Native.Nat.{_-_, _≤_}
 use native.Mathlib.Omega.{arith}
-use lib.ListN.{take, drop, getD}
+use lib.ListN.{take}
 use lib.Seq.{getD-take}
 use Rattle.translating.proofs.Naming.{Sought, sought-here, sought-later, sought-end, names-length}
 use Rattle.translating.proofs.names.find.Statement.{statement}

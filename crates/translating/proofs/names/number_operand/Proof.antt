@@ -1,4 +1,4 @@
-use native.Mathlib.Omega.{arith}
+-- null, a name, a ninth name, or a new one.
 use Rattle.translating.proofs.Naming.{meets-null, meets-found, meets-ninth, meets-new}
 use borrow.Author.Needs.{needs}
 use Rattle.translating.proofs.names.number_operand.Statement.{statement}

@@ -1,4 +1,4 @@
-use native.Mathlib.Omega.{arith}
+-- The first operand, and the second unless there are nine names already.
 use Rattle.translating.proofs.Naming.{numbers-over, numbers-both}
 use borrow.Author.Needs.{needs}
 use Rattle.translating.proofs.names.number_operation.Statement.{statement}

@@ -1,6 +1,6 @@
+-- Line by line, what the line does is what the definitions do.
 use mathlib.Core.Path.{refl, subst}
 use native.Mathlib.Numerals.{add-one}
-use native.Mathlib.Omega.{arith}
 use Rattle.translating.specs.Reading.{MarkIn}
 use borrow.Author.Needs.{needs}
 use Rattle.translating.proofs.steps.begin.Statement.{statement}

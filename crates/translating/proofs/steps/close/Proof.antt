@@ -1,12 +1,11 @@
-use mathlib.Core.Path.{_≡_, subst, sym, _∙_, ap}
+-- The two transitions of an `end`.
+use mathlib.Core.Path.{subst, sym, _∙_, ap}
 use mathlib.Core.Bool.{cond}
-use Prim.Native.Nat.{suc, _+_, _<_}
+use Prim.Native.Nat.{_+_, _<_}
 use native.Mathlib.Numerals.{add-one, add-two}
 use native.Mathlib.Omega.{arith}
-use Rattle.listing.specs.LineByLine.{skipNumbers, oppositeNumbers}
-use Rattle.translating.specs.Reading.{Adds, Closes}
-use Rattle.translating.specs.declared.steps.Led.the-variants as led
-use Rattle.translating.specs.declared.steps.Progress.{Progress}
+use Rattle.listing.specs.LineByLine.{skipNumbers}
+use Rattle.translating.specs.Reading.{Adds}
 use Rattle.translating.proofs.Stepping.{close-full, close-on, cond-below}
 use borrow.Author.Needs.{needs}
 use Rattle.translating.proofs.steps.close.Statement.{statement}

@@ -1,8 +1,6 @@
-use mathlib.Core.Path.{_≡_}
+-- A transition to a new state, within the limits.
 use native.Mathlib.Numerals.{add-one}
 use native.Mathlib.Omega.{arith}
-use Prim.Native.Nat.{suc, _+_}
-use Rattle.translating.specs.Reading.{Adds}
 use borrow.Author.Needs.{needs}
 use Rattle.translating.proofs.steps.lead.Statement.{statement}
 use Rattle.translating.proofs.steps.lead.Tie as tie

@@ -1,7 +1,7 @@
+-- A mark that is free is set, and the step leads on.
 use Rattle.listing.specs.LineByLine.{skipNumbers}
 use Rattle.translating.specs.Reading.{Leads}
 use mathlib.Core.Path.{subst}
-use native.Mathlib.Omega.{arith}
 use Rattle.translating.proofs.Stepping.{mark-again, mark-on, mark-full}
 use borrow.Author.Needs.{needs}
 use Rattle.translating.proofs.steps.mark.Statement.{statement}

@@ -1,7 +1,7 @@
+-- Unless it is too deep, T leads on and is kept.
 use Rattle.listing.specs.LineByLine.{testNumbers}
 use Rattle.translating.specs.Reading.{Leads}
 use mathlib.Core.Path.{subst}
-use native.Mathlib.Omega.{arith}
 use Rattle.translating.proofs.Stepping.{open-deep, open-on, open-full}
 use borrow.Author.Needs.{needs}
 use Rattle.translating.proofs.steps.open_block.Statement.{statement}

@@ -1,6 +1,6 @@
+-- The operands are numbered, and the operation leads on.
 use Rattle.translating.specs.Reading.{Leads}
 use mathlib.Core.Path.{subst}
-use native.Mathlib.Omega.{arith}
 use Rattle.translating.proofs.Stepping.{perform-on, perform-full}
 use borrow.Author.Needs.{needs}
 use Rattle.translating.proofs.steps.perform.Statement.{statement}

@@ -1,3 +1,4 @@
+-- Five stores behind the transitions that are there.
 use mathlib.Core.Path.{_≡_}
 use Prim.Native.Nat.{suc, _+_, _*_}
 use native.Mathlib.Omega.{arith}
