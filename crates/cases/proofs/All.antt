@@ -4,13 +4,15 @@ use mathlib.Core.Path.{_≡_, refl}
 use Prim.Native.Nat.{ℕ, suc, _<_}
 use native.Mathlib.Omega.{arith}
 use lib.ListN.{length, getD}
-use Rattle.lists.specs.Test.{allFrom}
+use Rattle.lists.specs.Test.{allFrom, lowest}
 use Rattle.lists.proofs.List.{all-cons, getD-mem}
 use Rattle.heap.specs.Place.{cell}
 use Rattle.graph.proofs.Proper.{Closed}
-use Rattle.shape.specs.Shape.{AllBelow, shapeGraph}
+use Rattle.shape.specs.Shape.{Shape, AllBelow, shapeGraph}
 use Rattle.shape.proofs.InRange.{in-range-closed}
-use Rattle.cover.proofs.Embeds.{embeds-reflects}
+use Rattle.run.specs.Run.{Located}
+use Rattle.cover.specs.Test.{Answer, holds, broken}
+use Rattle.cover.proofs.Answer.{answer-holds}
 use Rattle.number.specs.Number.{numberIn}
 use Rattle.number.specs.Range.{AtMost}
 use Rattle.format.specs.Parser.{many, each, readAs, end}
@@ -37,19 +39,26 @@ closed n links long codes =
 images-below : (k : ℕ) (images : List ℕ) → AtMost k images → (i : ℕ) → i < length images → getD images i 0 < suc k
 images-below k images t i b = below k images t (getD images i 0) (getD-mem images i b)
 
+-- a shape at a state
+abbrev at-0 : Shape → Located
+at-0 s = record { state = 0; shape = s }
+
 P10-holds : P10
-unfolding allFrom
-P10-holds =
-    embeds-reflects twoLinks fourCells (0 ∷ 1 ∷ 3 ∷ []) (closed 3 (5 ∷ 5 ∷ 0 ∷ []) refl (omega arith)) refl
-    (images-below 3 (0 ∷ 1 ∷ 3 ∷ []) (omega arith)) .tests
+unfolding allFrom lowest
+P10-holds e =
+    let z : _≡_ {A = Answer} (broken 5 1) holds =
+    answer-holds (at-0 twoLinks) (0 ∷ 1 ∷ 3 ∷ []) (at-0 fourCells) (closed 3 (5 ∷ 5 ∷ 0 ∷ []) refl (omega arith)) refl
+    (images-below 3 (0 ∷ 1 ∷ 3 ∷ []) (omega arith)) .1 (refl, e) in
+    let q : _≡_ {A = ℕ} 0 1 = cc in
+    omega arith
 
 P11-holds : P11
-unfolding allFrom
+unfolding allFrom lowest
 P11-holds =
-    embeds-reflects oneLink fourCells (0 ∷ 3 ∷ []) (closed 2 (4 ∷ 0 ∷ []) refl (omega arith)) refl
-    (images-below 3 (0 ∷ 3 ∷ []) (omega arith)) .holds tt
+    answer-holds (at-0 oneLink) (0 ∷ 3 ∷ []) (at-0 fourCells) (closed 2 (4 ∷ 0 ∷ []) refl (omega arith)) refl
+    (images-below 3 (0 ∷ 3 ∷ []) (omega arith)) .0 refl .1
 
 -- the twelve rows
 pub all-rows : Conjunction rows
-unfolding allFrom numberIn many each readAs end readShape readLocated readTransition readJob readWholeJob readMember readMembers readCover readCertificate readBoth verdict
+unfolding allFrom lowest numberIn many each readAs end readShape readLocated readTransition readJob readWholeJob readMember readMembers readCover readCertificate readBoth verdict
 all-rows = (refl, (refl, (refl, (refl, (refl, (refl, (refl, (refl, (refl, (P10-holds, (P11-holds, (refl, tt))))))))))))

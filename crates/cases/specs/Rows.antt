@@ -11,6 +11,7 @@ use Rattle.shape.specs.Shape.{Shape, shapeGraph}
 use Rattle.backward.specs.Predecessors.{predecessors}
 use Rattle.cover.specs.Test.{imageMap}
 use Rattle.number.specs.Number.{numberAt, readResult}
+use Rattle.format.specs.Parser.{refusal, broken-rule}
 use Rattle.format.specs.Verdict.{verdict, accepted, refused}
 
 -- job J with a kind: "state 0, new of variable 1, state 1; forbidden there: variable 1 at #", where the kind is 6
@@ -44,17 +45,17 @@ fourCells = shape (0 ∷ []) (5 ∷ 5 ∷ 6 ∷ 0 ∷ [])
 abbrev pub P1 : Type 0
 P1 = verdict (J 6) (1 ∷ 1 ∷ 1 ∷ 0 ∷ 1 ∷ 0 ∷ []) ≡ accepted (record { bads = 1; members = 1; covers = 1 })
 
--- "P2 J with `1 1 1 0 2 0`: 9 at 5."
+-- "P2 J with `1 1 1 0 2 0`: 9 at 5." Document 02: "`refused 9 at 5 rule 3 of 1` for P2".
 abbrev pub P2 : Type 0
-P2 = verdict (J 6) (1 ∷ 1 ∷ 1 ∷ 0 ∷ 2 ∷ 0 ∷ []) ≡ refused 9 5
+P2 = verdict (J 6) (1 ∷ 1 ∷ 1 ∷ 0 ∷ 2 ∷ 0 ∷ []) ≡ refused (broken-rule 3 1) 5
 
 -- "P3 J with kind 3 for 6, and `1 1 1 0 1 0`: a predecessor needs a cover, so 6 at 6."
 abbrev pub P3 : Type 0
-P3 = verdict (J 3) (1 ∷ 1 ∷ 1 ∷ 0 ∷ 1 ∷ 0 ∷ []) ≡ refused 6 6
+P3 = verdict (J 3) (1 ∷ 1 ∷ 1 ∷ 0 ∷ 1 ∷ 0 ∷ []) ≡ refused (refusal 6) 6
 
 -- "P4 the same job with `1 2 1 0 1 0 0 0 0`: 8 at 5."
 abbrev pub P4 : Type 0
-P4 = verdict (J 3) (1 ∷ 2 ∷ 1 ∷ 0 ∷ 1 ∷ 0 ∷ 0 ∷ 0 ∷ 0 ∷ []) ≡ refused 8 5
+P4 = verdict (J 3) (1 ∷ 2 ∷ 1 ∷ 0 ∷ 1 ∷ 0 ∷ 0 ∷ 0 ∷ 0 ∷ []) ≡ refused (refusal 8) 5
 
 -- "P5 kind 2, a = 1, b = 2, on the shape with no cells and nothing placed, V = 2: three predecessors (# and cell 0; cell 0 and #; cells 0
 -- and 1)."

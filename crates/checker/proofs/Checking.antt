@@ -36,7 +36,7 @@ module _ (cert : List ℕ) (ms : List Located) where
           → onward r (λ u. checkAll cert ms (os ++ rest) (suc covers))
           ≡ onward (onward r (λ u. checkAll cert ms os (suc covers))) (checkAll cert ms rest)
       go (parsed u next) later = later next
-      go (fault number place) later = refl
+      go (fault why place) later = refl
 
   -- as many are counted as are taken
   pub checkAll-each : (os : List Located) (covers at : ℕ)
@@ -49,14 +49,14 @@ module _ (cert : List ℕ) (ms : List Located) where
           → onward r (λ us next. parsed (suc covers + length os) next)
           ≡ onward (onward r (λ us next. parsed (u ∷ us) next)) (λ us next. parsed (covers + suc (length os)) next)
       second (parsed us next) u = ap (λ (k : ℕ). parsed k next) (omega arith)
-      second (fault number place) u = refl
+      second (fault why place) u = refl
 
       go : (r : Parsed (Unit {0}))
           → ((next : ℕ) → checkAll cert ms os (suc covers) next ≡ onward (each (readCover (certificateBuffer cert) ms) os next) (λ us next. parsed (suc covers + length os) next))
           → onward r (λ u. checkAll cert ms os (suc covers))
           ≡ onward (onward r (λ u next. onward (each (readCover (certificateBuffer cert) ms) os next) (λ us next. parsed (u ∷ us) next))) (λ us next. parsed (covers + suc (length os)) next)
       go (parsed u next) later = later next ∙ second (each (readCover (certificateBuffer cert) ms) os next) u
-      go (fault number place) later = refl
+      go (fault why place) later = refl
 
   pub checkAll-inside : (os : List Located) (covers at c next : ℕ) → checkAll cert ms os covers at ≡ parsed c next → covers ≤ at → at ≤ length cert
       → (c ≤ next) × (next ≤ length cert)

@@ -16,14 +16,14 @@ use Rattle.format.specs.Conditions.{Conditions, countsOf}
 use Rattle.format.specs.JobBytes.{SafeBytes}
 use Rattle.format.specs.Job.{readWholeJob}
 use Rattle.format.specs.JobNumbers.{JobFile}
-use Rattle.format.specs.Parser.{Parsed, parsed, fault, Parser, onward, each, certificateBuffer, jobBuffer, end}
+use Rattle.format.specs.Parser.{Reason, Parsed, parsed, fault, Parser, onward, each, certificateBuffer, jobBuffer, end}
 use Rattle.format.specs.Verdict.{Counts, accepted, refused, conclude, readCertificate, fits, verdict, readBoth}
 use Rattle.format.proofs.Exact.{exact}
 use Rattle.format.proofs.Guarantee.{safe-bytes}
 use Rattle.reader.specs.Job.{JobRead}
 use Rattle.reader.specs.Members.{Bounds, tested, readTested}
 use Rattle.reader.specs.declared.Header.{Header}
-use Rattle.verdict.specs.Verdict.{refusalNumber, verdictOf}
+use Rattle.verdict.specs.Verdict.{reasonOf, verdictOf}
 use Rattle.verdict.specs.declared.Refusal.{Refusal}
 use Rattle.verdict.specs.declared.Counts.{Counts as CountsAnswer}
 use Rattle.verdict.specs.declared.Verdict.{Verdict as Answer}
@@ -48,7 +48,7 @@ module _ (cert : List ℕ) (j : Job) (ms : List Located) (at : ℕ) (g : Checked
   after us place = onward (end (certificateBuffer cert) place) (λ u next. parsed (countsOf j ms) next)
 
   by-each : (r : Parsed (List (Unit {0}))) → checkedOf g ≡ onward r (λ us next. parsed (0 + length (owed j ms)) next)
-      → ((why : Refusal) (place : ℕ) → g ≡ Refused why place → onward r after ≡ fault (refusalNumber why) place)
+      → ((why : Refusal) (place : ℕ) → g ≡ Refused why place → onward r after ≡ fault (reasonOf why) place)
       × ((t : Position) → g ≡ Upto t → (t .covers ≡ length (owed j ms)) × (onward r after ≡ after [] (t .at)))
   by-each (parsed us next) e = (
     (λ why place g-is. let z : _≡_ {A = ℕ} 0 1 = cc (ap checkedOf g-is) in absurd (omega arith)),
@@ -58,16 +58,16 @@ module _ (cert : List ℕ) (j : Job) (ms : List Located) (at : ℕ) (g : Checked
         let at-is : t .at ≡ next = cc in
         (covers-is ∙ omega arith, ap (after []) (sym at-is))),
   )
-  by-each (fault number place) e = (
+  by-each (fault why place) e = (
     (λ why q g-is.
-        let f : _≡_ {A = Parsed ℕ} (fault (refusalNumber why) q) (fault number place) = sym (ap checkedOf g-is) ∙ e in
-        let number-is : number ≡ refusalNumber why = cc in
+        let f : _≡_ {A = Parsed ℕ} (fault (reasonOf why) q) (fault why place) = sym (ap checkedOf g-is) ∙ e in
+        let number-is : number ≡ reasonOf why = cc in
         let place-is : place ≡ q = cc in
         ap₂ fault number-is place-is),
     (λ t g-is. let z : _≡_ {A = ℕ} 0 1 = cc (ap checkedOf g-is) in absurd (omega arith)),
   )
 
-  pub covers-refused : (why : Refusal) (place : ℕ) → g ≡ Refused why place → refused (refusalNumber why) place ≡ conclude (readCovers cert j ms at)
+  pub covers-refused : (why : Refusal) (place : ℕ) → g ≡ Refused why place → refused (reasonOf why) place ≡ conclude (readCovers cert j ms at)
   unfolding readCovers
   covers-refused why place g-is =
       let r = each (readCover (certificateBuffer cert) ms) (owed j ms) at in
@@ -110,13 +110,13 @@ module _ (cert : List ℕ) (f : JobFile) where
         where
           tests : (r : Parsed (List (Unit {0}))) → onward r (λ us. covers ms) ≡ onward (onward r (λ us at. parsed ms at)) covers
           tests (parsed us at) = refl
-          tests (fault number place) = refl
-      go (fault number place) = refl
+          tests (fault why place) = refl
+      go (fault why place) = refl
 
-  pub certificate-refused : (number place : ℕ)
-      → readTested (certificateBuffer cert) (f .job .variables) (f .states) (f .job .start) 0 ≡ fault number place
-      → refused number place ≡ conclude (readCertificate (certificateBuffer cert) f 0)
-  certificate-refused number place e = rw (in-turn, e) refl
+  pub certificate-refused : (why : Reason) (place : ℕ)
+      → readTested (certificateBuffer cert) (f .job .variables) (f .states) (f .job .start) 0 ≡ fault why place
+      → refused why place ≡ conclude (readCertificate (certificateBuffer cert) f 0)
+  certificate-refused why place e = rw (in-turn, e) refl
 
   pub certificate-members : (ms : List Member) (next : ℕ)
       → readTested (certificateBuffer cert) (f .job .variables) (f .states) (f .job .start) 0 ≡ parsed ms next
@@ -149,9 +149,9 @@ module _ (job cert : List ℕ) where
     certificate-length e = rw (job-fits, e) refl
 
     module _ (cert-fits : fits cert ≡ true) where
-      pub job-refused : (number place : ℕ) → readWholeJob (jobBuffer job) 0 ≡ fault number place → refused number place ≡ verdict job cert
+      pub job-refused : (why : Reason) (place : ℕ) → readWholeJob (jobBuffer job) 0 ≡ fault why place → refused why place ≡ verdict job cert
       unfolding verdict readBoth
-      job-refused number place e = rw (job-fits, cert-fits, e) refl
+      job-refused why place e = rw (job-fits, cert-fits, e) refl
 
       pub job-read : (h : Header) → JobRead job h → conclude (readCertificate (certificateBuffer cert) (fileIn job h) 0) ≡ verdict job cert
       unfolding verdict readBoth

@@ -7,7 +7,7 @@ use Rattle.shape.specs.Shape.{Shape}
 use Rattle.run.specs.Run.{Located}
 use Rattle.format.specs.Certificate.{readCover}
 use Rattle.format.specs.Parser.{Parsed, parsed, fault, Parser, _>>=_, _>>_, return, certificateBuffer}
-use Rattle.verdict.specs.Verdict.{refusalNumber}
+use Rattle.verdict.specs.Verdict.{reasonOf}
 use Rattle.checker.specs.declared.checked.Checked.{Checked}
 use Rattle.checker.specs.declared.checked.Checked.the-variants.{Upto, Refused}
 use Rattle.checker.specs.declared.checked.Position.{Position}
@@ -22,7 +22,7 @@ checkAll cert ms (o ∷ os) covers = do
 -- how far the covers are checked, as the answer of a parser
 abbrev pub checkedOf : Checked → Parsed ℕ
 checkedOf (Upto t) = parsed (t .covers) (t .at)
-checkedOf (Refused r place) = fault (refusalNumber r) place
+checkedOf (Refused r place) = fault (reasonOf r) place
 
 -- a cover has at least one byte
 pub record Within (cert : List ℕ) (t : Position) : Type 0 where

@@ -12,7 +12,7 @@ use Rattle.shape.specs.Shape.{Shape, size}
 use Rattle.run.specs.Run.{Located}
 use Rattle.cover.specs.Test.{embeds?}
 use Rattle.format.specs.Certificate.{readCover}
-use Rattle.format.specs.Parser.{Parsed, parsed, fault, certificateBuffer}
+use Rattle.format.specs.Parser.{refusal, Parsed, parsed, fault, certificateBuffer}
 use Rattle.verdict.specs.Verdict.{reachedOf}
 use Rattle.verdict.specs.declared.Reached.{Reached}
 use Rattle.verdict.specs.declared.Reached.the-variants.{At}

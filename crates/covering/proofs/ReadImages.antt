@@ -12,7 +12,7 @@ use lib.Seq.{getD-set-same, getD-set-other, drop-set-add, take-suc-set}
 use Rattle.heap.specs.Place.{cell}
 use Rattle.number.specs.Number.{numberAt}
 use Rattle.number.specs.declared.Read.the-variants.{Number, Unreadable}
-use Rattle.format.specs.Parser.{Parsed, parsed, fault, Parser, onward, return, many, certificateBuffer, within, such, meant, readAs, ranged}
+use Rattle.format.specs.Parser.{Reason, Parsed, parsed, fault, Parser, onward, return, many, certificateBuffer, within, such, meant, readAs, ranged}
 use Rattle.format.proofs.Parsing.{read-outside, read-complete}
 use Rattle.covering.specs.Images.{imagesIn, ImageCodes}
 
@@ -82,7 +82,7 @@ module _ (cert : List ℕ) (first n count : ℕ) where
 
   return-all : (r : Parsed (List ℕ)) → onward r (λ xs. return xs) ≡ r
   return-all (parsed xs next) = refl
-  return-all (fault number place) = refl
+  return-all (fault why place) = refl
 
   pub reading-none : (codes : List ℕ) → ImageCodes 0 n codes → Reading codes first 0
   reading-none codes m =
@@ -108,9 +108,9 @@ module _ (cert : List ℕ) (first n count : ℕ) where
       left : count - i ≡ suc (count - (i + 1))
       left = omega arith
 
-      stops-here : (number place : ℕ) → image at ≡ fault number place → fault number place ≡ many count image first
+      stops-here : (why : Reason) (place : ℕ) → image at ≡ fault why place → fault why place ≡ many count image first
       unfolding many
-      stops-here number place e = rw (left, e) at (r .whole)
+      stops-here why place e = rw (left, e) at (r .whole)
 
       pub reading-unreadable : (place : ℕ) → numberAt cert at ≡ Unreadable place → fault 6 at ≡ many count image first
       reading-unreadable place e = stops-here 6 at (read-unreadable cert (such (within 0 n)) at place e)
@@ -133,4 +133,4 @@ module _ (cert : List ℕ) (first n count : ℕ) where
           regroup : (q : Parsed (List ℕ)) → onward q (λ xs. return ((imagesIn i codes ++ (x ∷ [])) ++ xs))
               ≡ onward (onward q (λ xs. return (x ∷ xs))) (λ xs. return (imagesIn i codes ++ xs))
           regroup (parsed xs k) = ap (λ (l : List ℕ). parsed l k) (append-assoc (imagesIn i codes) (x ∷ []) xs)
-          regroup (fault number place) = refl
+          regroup (fault why place) = refl

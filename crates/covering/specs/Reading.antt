@@ -9,7 +9,7 @@ use Rattle.run.specs.Run.{Located}
 use Rattle.cover.specs.Cover.{holds?}
 use Rattle.format.specs.Certificate.{readCover}
 use Rattle.format.specs.Parser.{Parsed, parsed, fault, many, ranged, require, certificateBuffer}
-use Rattle.verdict.specs.Verdict.{refusalNumber}
+use Rattle.verdict.specs.Verdict.{reasonOf}
 use Rattle.verdict.specs.declared.Reached.{Reached}
 use Rattle.verdict.specs.declared.Reached.the-variants.{At, Refused}
 use Rattle.layout.specs.Entries.{locatedAt, Whole}
@@ -21,7 +21,7 @@ use Rattle.covering.specs.declared.reading.CoverRead.the-variants.{Taken
 -- a place reached with images beside, as the answer of a parser
 abbrev pub imagesOf : Reached → List ℕ → Parsed (List ℕ)
 imagesOf (At next) images = parsed images next
-imagesOf (Refused r place) images = fault (refusalNumber r) place
+imagesOf (Refused r place) images = fault (reasonOf r) place
 
 -- so many images below n are read from a place on, into an array
 pub record ImagesRead (cert : List ℕ) (first n count : ℕ) (r : Reached) (codes : List ℕ) : Type 0 where
@@ -42,7 +42,7 @@ module _ (cert : List ℕ) (variables : ℕ) (starts : List ℕ) where
   abbrev pub coverOf : ℕ → Located → CoverRead → List ℕ → Parsed (Unit {0})
   coverOf at covered (Taken m next) codes =
       require (holds? (locatedAt cert variables (getD starts m 0)) (imagesIn (cellsAt m) codes) covered) 9 at next
-  coverOf at covered (NotRead r place) codes = fault (refusalNumber r) place
+  coverOf at covered (NotRead r place) codes = fault (reasonOf r) place
 
   -- what is known of a cover that was read, or refused
   pub record CoverIs (at n : ℕ) (r : CoverRead) (codes : List ℕ) : Type 0 where

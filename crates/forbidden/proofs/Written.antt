@@ -152,7 +152,7 @@ module _ (job : List ℕ) (set : ReadySet) (room : ℕ) (bytes : List ℕ) where
     where
       by-read : (r : Parsed JobFile) → readWholeJob (jobBuffer job) 0 ≡ r → rewriteRead set room r ≡ written bytes → Wrote job set bytes
       by-read (parsed f next) e z = wrote-file f next e z
-      by-read (fault number place) e z = let q : _≡_ {A = ℕ} 0 1 = cc in absurd (omega arith)
+      by-read (fault why place) e z = let q : _≡_ {A = ℕ} 0 1 = cc in absurd (omega arith)
 
       by-fits : (b : Bool) → cond b (rewriteRead set room (readWholeJob (jobBuffer job) 0)) (refused 1 0) ≡ written bytes → Wrote job set bytes
       by-fits true z = by-read (readWholeJob (jobBuffer job) 0) refl z

@@ -13,7 +13,7 @@ use Rattle.format.specs.Conditions.{Acceptable}
 use Rattle.format.specs.Job.{readWholeJob}
 use Rattle.format.specs.JobBytes.{IsJob}
 use Rattle.format.specs.JobNumbers.{JobFile, jobNumbers}
-use Rattle.format.specs.Parser.{Parsed, parsed, fault, jobBuffer, within}
+use Rattle.format.specs.Parser.{reasonNumber, Parsed, parsed, fault, jobBuffer, within}
 use Rattle.format.specs.Verdict.{fits}
 use Rattle.forbidden.specs.Guarantees.{ListAt, NoneLostAt, StepsAtCells}
 use Rattle.forbidden.specs.Sets.{notList, lostBlock, atState, badSteps, alsoForbid}
@@ -62,7 +62,7 @@ rewriteFile set room f =
 
 abbrev pub rewriteRead : ReadySet → ℕ → Parsed JobFile → Rewritten
 rewriteRead set room (parsed f next) = rewriteFile set room f
-rewriteRead set room (fault number place) = refused number place
+rewriteRead set room (fault why place) = refused (reasonNumber why) place
 
 -- What comes out for every job, set and room: "After the job's own refusals come 16 [..], 31 [..], 12 [..]".
 unfoldable pub rewrite : List ℕ → ReadySet → ℕ → Rewritten

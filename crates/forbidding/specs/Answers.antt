@@ -4,12 +4,13 @@ use Prim.Native.Nat.{ℕ, _+_, _*_, _≤_, _<_}
 use lib.ListN.{length, set}
 use Rattle.lists.specs.List.{concatMap}
 use Rattle.number.specs.CallResult.{CallResult}
+use Rattle.format.specs.Parser.{reasonNumber}
 use Rattle.number.specs.Number.{bytesOf}
 use Rattle.format.specs.JobNumbers.{locatedNumbers}
 use Rattle.forbidden.specs.Written.{ReadySet, not-list, lost-block, bad-steps, shapesOf}
 use Rattle.reader.specs.Transitions.{transitionsIn}
 use Rattle.reader.specs.declared.Header.{Header}
-use Rattle.verdict.specs.Verdict.{refusalNumber}
+use Rattle.verdict.specs.Verdict.{reasonOf}
 use Rattle.forbidding.specs.declared.Asked.{Asked}
 use Rattle.forbidding.specs.declared.Asked.the-variants.{NotList, LostBlock, BadSteps}
 use Rattle.forbidding.specs.declared.put.Point.{Point}
@@ -26,7 +27,7 @@ setOf BadSteps = bad-steps
 -- all, 12 for short room"; "new numbers [..] stand at place 0".
 abbrev pub answerResult : Rewritten → CallResult
 answerResult (Filled k) = record { code = 0; values = k ∷ [] }
-answerResult (Job why place) = record { code = refusalNumber why; values = place ∷ [] }
+answerResult (Job why place) = record { code = reasonNumber (reasonOf why); values = place ∷ [] }
 answerResult Outside = record { code = 16; values = 0 ∷ [] }
 answerResult TooMany = record { code = 31; values = 0 ∷ [] }
 answerResult (TooShort k) = record { code = 12; values = k ∷ [] }

@@ -15,7 +15,7 @@ use Rattle.number.specs.Range.{AtMost}
 use Rattle.heap.specs.Operation.{Kind, kindOf, allowsA, allowsB}
 use Rattle.heap.specs.Place.{cell}
 use Rattle.heap.proofs.Rows.{tested, most-b-is}
-use Rattle.format.specs.Parser.{fault, jobBuffer, certificateBuffer, within, such, readAs, ranged}
+use Rattle.format.specs.Parser.{refusal, Reason, fault, jobBuffer, certificateBuffer, within, such, readAs, ranged}
 use Rattle.format.specs.Job.{readShape, readLocated, readTransition, readJob}
 use Rattle.format.specs.JobNumbers.{JobFile, jobNumbers}
 use Rattle.format.specs.JobBytes.{JobInRange}
@@ -50,7 +50,7 @@ allows-some variables kind row h f = record { first = first; second = second; ro
     room (yes z) = let none : row .least-b ≤ 0 = rw z at room-one in omega arith
     room (no z) = rw (most-b-is variables kind row f, ne-eqb (row .most-b 1) 0 z) (omega (arith, second))
 
-module _ (u o l : ℕ) where
+module _ (u o l : Reason) where
   -- a number that passes a test, where n does
   completes-such : (test : ℕ → Bool) (n : ℕ) → n ≤ largest → T (test n) → Completes u o l (λ x. T (test x)) (λ b. readAs (on u o l b) (such test))
   completes-such test n small t =
@@ -122,7 +122,7 @@ module _ (u o l : ℕ) where
 -- ---- what the parsers refuse
 
 -- the parser of a job reads the numbers of jobs in range
-job-accepts : (u o l : ℕ) → Accepts OfJob (λ b. readJob (on u o l b))
+job-accepts : (u o l : Reason) → Accepts OfJob (λ b. readJob (on u o l b))
 job-accepts u o l =
     record {
       sound = λ b f next h. let (g, ok) = job-exact (on u o l b) .sound 0 f next h in (jobNumbers f, (f, ok, refl), g);
@@ -131,11 +131,13 @@ job-accepts u o l =
     }
 
 -- the parser of a job refuses the first faulty number
-pub job-faults : (job : List ℕ) (number place : ℕ) → (readJob (jobBuffer job) 0 ≡ fault number place) ↔ FirstFault OfJob job 3 4 number place
-job-faults = faults OfJob (job-accepts 3 4 5) 3 4 5 (completes-job 3 4 5)
+pub job-faults : (job : List ℕ) (why : Reason) (place : ℕ) → (readJob (jobBuffer job) 0 ≡ fault why place) ↔ FirstFault OfJob job (refusal 3) (refusal 4) why place
+job-faults =
+    faults OfJob (job-accepts (refusal 3) (refusal 4) (refusal 5)) (refusal 3) (refusal 4) (refusal 5)
+    (completes-job (refusal 3) (refusal 4) (refusal 5))
 
 -- the parser of members reads the numbers of members in range
-members-accepts : (u o l : ℕ) (f : JobFile) → JobInRange f → Accepts (OfMembers f) (λ b. readMembers (on u o l b) (f .job .variables) (f .states))
+members-accepts : (u o l : Reason) (f : JobFile) → JobInRange f → Accepts (OfMembers f) (λ b. readMembers (on u o l b) (f .job .variables) (f .states))
 members-accepts u o l f ok =
     record {
       sound = λ b ms next h.
@@ -148,6 +150,8 @@ members-accepts u o l f ok =
     }
 
 -- the parser of members refuses the first faulty number
-pub members-faults : (f : JobFile) → JobInRange f → (certificate : List ℕ) (number place : ℕ)
-    → (readMembers (certificateBuffer certificate) (f .job .variables) (f .states) 0 ≡ fault number place) ↔ FirstFault (OfMembers f) certificate 6 7 number place
-members-faults f ok = faults (OfMembers f) (members-accepts 6 7 10 f ok) 6 7 10 (completes-members 6 7 10 (f .job .variables) (f .states) (ok .states .0))
+pub members-faults : (f : JobFile) → JobInRange f → (certificate : List ℕ) (why : Reason) (place : ℕ)
+    → (readMembers (certificateBuffer certificate) (f .job .variables) (f .states) 0 ≡ fault why place) ↔ FirstFault (OfMembers f) certificate (refusal 6) (refusal 7) why place
+members-faults f ok =
+    faults (OfMembers f) (members-accepts (refusal 6) (refusal 7) (refusal 10) f ok) (refusal 6) (refusal 7) (refusal 10)
+    (completes-members (refusal 6) (refusal 7) (refusal 10) (f .job .variables) (f .states) (ok .states .0))

@@ -1,8 +1,9 @@
 -- What the parsers of members and covers read.
 use mathlib.Core.Bool.{not}
 use mathlib.Core.List.{List, [], _∷_, List·Memᴰ·head, List·Memᴰ·tail, List·Memᴰ·not-nil}
+use mathlib.Core.Logic.{_↔_}
 use mathlib.Core.Path.{_≡_, refl, ap, subst, _∙_}
-use Prim.Native.Nat.{ℕ, zero, suc}
+use Prim.Native.Nat.{ℕ, zero, suc, _<_}
 use native.Mathlib.Omega.{arith}
 use lib.ListN.{length, getD, getElem?}
 use Rattle.lists.specs.List.{_∈_, concatMap}
@@ -11,22 +12,24 @@ use Rattle.lists.proofs.Reflect.{Reflect, r-eq, r-and, r-not, r-iff}
 use Rattle.heap.specs.Heap.{empty}
 use Rattle.heap.specs.Place.{cell}
 use Rattle.graph.specs.Graph.{Embeds}
+use Rattle.graph.proofs.Proper.{Closed}
 use Rattle.shape.specs.Shape.{size, shapeGraph, Satisfies, AllBelow, InRange}
 use Rattle.shape.proofs.InRange.{in-range-closed}
 use Rattle.run.specs.Run.{Located}
 use Rattle.lists.proofs.List.{element-mem}
-use Rattle.cover.specs.Cover.{Cover, Holds, holds?, AllHold}
-use Rattle.cover.specs.Test.{imageMap}
-use Rattle.cover.proofs.Embeds.{embeds-reflects}
+use Rattle.cover.specs.Cover.{Cover, Holds, AllHold}
+use Rattle.cover.specs.Rules.{Breaks, First}
+use Rattle.cover.specs.Test.{imageMap, Answer, holds, broken, coverAnswer}
+use Rattle.cover.proofs.Answer.{answer-holds, answer-exactly}
 use Rattle.cover.proofs.Start.{empty-reflects}
-use Rattle.format.specs.Parser.{parsed, many, each, Buffer, readAs, ranged}
+use Rattle.format.specs.Parser.{broken-rule, refusal, parsed, many, each, Buffer, readAs, ranged}
 use Rattle.format.specs.Job.{readLocated}
-use Rattle.format.specs.Certificate.{Member, withoutPlaces, readMember, readMembers, atStart, testStart, readCover}
+use Rattle.format.specs.Certificate.{Member, withoutPlaces, readMember, readMembers, atStart, testStart, judge, readCover}
 use Rattle.format.specs.Numbers.{memberNumbers, coverNumbers}
 use Rattle.format.specs.Conditions.{ImageForEach}
 use Rattle.format.specs.JobBytes.{Between, LocatedInRange}
 use Rattle.format.proofs.Sequence.{Reads, done, more, one, reads-none, reads-first, reads-append, reads-split}
-use Rattle.format.proofs.Parsing.{then, require-sound, require-complete, read-sound, read-complete, ranged-exact, many-exact, codes-exact}
+use Rattle.format.proofs.Parsing.{not-fault, then, require-sound, require-complete, read-sound, read-complete, ranged-exact, many-exact, codes-exact}
 use Rattle.format.proofs.Files.{located-exact, version}
 
 -- ---- members
@@ -125,7 +128,7 @@ module _ (variables states start : ℕ) where
       then (testStart start m at) _
       (λ u a h₁. then (each (testStart start) ms a) _
       (λ us b h₂ r.
-      let (t, at-is) = require-sound (not (atStart start (m .located))) 8 (m .first) at h₁ in
+      let (t, at-is) = require-sound (not (atStart start (m .located))) (refusal 8) (m .first) at h₁ in
       let (rest, a-is) = tests-sound ms (λ l i. oks l (List·Memᴰ·tail i)) a h₂ in
       (all-cons (Avoids start) (r-avoids (m .located) (oks (m .located) (List·Memᴰ·head refl)) .holds t) rest, cc))) e
 
@@ -136,9 +139,14 @@ module _ (variables states start : ℕ) where
   tests-complete (m ∷ ms) oks at h =
       let (us, r) = tests-complete ms (λ l i. oks l (List·Memᴰ·tail i)) at (λ l i. h l (List·Memᴰ·tail i)) in
       let t = r-avoids (m .located) (oks (m .located) (List·Memᴰ·head refl)) .tests (h (m .located) (List·Memᴰ·head refl)) in
-      (tt ∷ us, rw (require-complete (not (atStart start (m .located))) 8 (m .first) at t, r))
+      (tt ∷ us, rw (require-complete (not (atStart start (m .located))) (refusal 8) (m .first) at t, r))
 
 -- ---- covers
+
+-- a cover goes through exactly if it holds
+judge-sound : (a : Answer) (first at : ℕ) {u : Unit {0}} {next : ℕ} → judge a first at ≡ parsed u next → (a ≡ holds) × (at ≡ next)
+judge-sound holds first at e = (refl, cc)
+judge-sound (broken rule name) first at {u} {next} e = absurd (not-fault u next (broken-rule rule name) first e)
 
 -- the images of a cover that holds are below the number of cells of the covered shape
 pub images-below : (ms : List Located) (o : Located) (c : Cover) → Holds ms c o → ImageForEach ms c → AllBelow (size (o .shape)) (c .images)
@@ -149,11 +157,19 @@ images-below ms o c h each-cell x k =
     omega arith
 
 module _ (s : Buffer) (variables : ℕ) (ms : List Located) (oks : (m : Located) → m ∈ ms → InRange variables 12 (m .shape)) where
-  pub holds-reflects : (m o : Located) (images : List ℕ) → m ∈ ms → length images ≡ size (m .shape) → AllBelow (size (o .shape)) images
-      → Reflect ((m .state ≡ o .state) × Embeds (shapeGraph (m .shape)) (shapeGraph (o .shape)) (imageMap images)) (holds? m images o)
-  holds-reflects m o images i long below =
-      r-and (r-eq (m .state) (o .state))
-      (embeds-reflects (m .shape) (o .shape) images (in-range-closed variables 12 (m .shape) (oks m i)) long (λ k b. below (getD images k 0) (getD-mem images k (omega arith))))
+  -- the member and the images of a cover that reads are such that its test's answer means what it says
+  module _ (m o : Located) (images : List ℕ) (i : m ∈ ms) (long : length images ≡ size (m .shape)) (below : AllBelow (size (o .shape)) images) where
+    closed : Closed (shapeGraph (m .shape))
+    closed = in-range-closed variables 12 (m .shape) (oks m i)
+
+    in-range : (k : ℕ) → k < size (m .shape) → getD images k 0 < size (o .shape)
+    in-range k b = below (getD images k 0) (getD-mem images k (omega arith))
+
+    pub judged-holds : (coverAnswer m images o ≡ holds) ↔ ((m .state ≡ o .state) × Embeds (shapeGraph (m .shape)) (shapeGraph (o .shape)) (imageMap images))
+    judged-holds = answer-holds m images o closed long in-range
+
+    pub judged-broken : (rule name : ℕ) → (coverAnswer m images o ≡ broken rule name) ↔ First (Breaks m images o) rule name
+    judged-broken rule name = answer-exactly m images o closed long in-range (broken rule name)
 
   -- a cover that holds, with an image for each cell of its member
   abbrev pub Fit : Cover → Located → Type 0
@@ -169,8 +185,8 @@ module _ (s : Buffer) (variables : ℕ) (ms : List Located) (oks : (m : Located)
       let (n, g₁, numbered) = read-sound s (getElem? ms) at m a h₁ in
       let i = element-mem ms n m numbered in
       let (g₂, (long, below)) = codes-exact s _ _ .sound a images b h₂ in
-      let (t, next-is) = require-sound (holds? m images o) 9 at b h₃ in
-      let (state, embeds) = holds-reflects m o images i long below .holds t in (
+      let (t, next-is) = judge-sound (coverAnswer m images o) at b h₃ in
+      let (state, embeds) = judged-holds m o images i long below .0 t in (
         record { member = n; images = images },
         rw (← next-is) (more g₁ g₂),
         (record { member = m; numbered = numbered; state = state; embeds = embeds }, λ m′ e. let m-is : m ≡ m′ = cc in rw (← m-is) long),
@@ -187,8 +203,8 @@ module _ (s : Buffer) (variables : ℕ) (ms : List Located) (oks : (m : Located)
       rw (
         read-complete s (getElem? ms) at (c .member) a m g₁ (h .numbered),
         codes-exact s (size (m .shape)) (size (o .shape)) .complete a (c .images) next g₂ (long, below),
+        judged-holds m o (c .images) i long below .1 (h .state, h .embeds),
       )
-      (require-complete (holds? m (c .images) o) 9 at next (holds-reflects m o (c .images) i long below .tests (h .state, h .embeds)))
 
   pub covers-sound : (os : List Located) (at : ℕ) {us : List (Unit {0})} {next : ℕ} → each (readCover s ms) os at ≡ parsed us next
       → (cs : List Cover) × Reads (s .bytes) at (concatMap coverNumbers cs) next × AllHold ms cs os × ((c : Cover) → c ∈ cs → ImageForEach ms c)

@@ -14,8 +14,9 @@ use Rattle.lists.proofs.Reflect.{r-le, r-lt, r-and, cond-true, cond-false}
 use Rattle.shape.specs.Shape.{size, InRange}
 use Rattle.run.specs.Run.{Located}
 use Rattle.lists.proofs.List.{element-mem}
-use Rattle.cover.specs.Cover.{owed, Holds, holds?}
-use Rattle.format.specs.Parser.{parsed, fault, Parser, onward, return, each, Buffer, within, such, readAs, ranged, jobBuffer, certificateBuffer, end}
+use Rattle.cover.specs.Cover.{owed}
+use Rattle.cover.specs.Rules.{Breaks, First}
+use Rattle.format.specs.Parser.{broken-rule, Reason, refusal, parsed, fault, Parser, onward, return, each, Buffer, within, such, readAs, ranged, jobBuffer, certificateBuffer, end}
 use Rattle.format.specs.Job.{readWholeJob}
 use Rattle.format.specs.JobNumbers.{JobFile, locatedNumbers}
 use Rattle.format.specs.Certificate.{Member, withoutPlaces, readMembers, atStart, testStart, readCover}
@@ -29,35 +30,35 @@ use Rattle.format.specs.Meaning.{Meaning, job-length, certificate-length
 use Rattle.format.proofs.Sequence.{Reads, reads-first, reads-append, reads-split, reads-place}
 use Rattle.format.proofs.Parsing.{then, require-refuses, Faulty, faulty-map, read-complete, read-refuses, codes-exact, codes-refuses}
 use Rattle.format.proofs.Files.{end-refuses, job-exact}
-use Rattle.format.proofs.Covers.{members-complete, Avoids, Every, r-avoids, tests-complete, holds-reflects, covers-complete}
+use Rattle.format.proofs.Covers.{members-complete, Avoids, Every, r-avoids, tests-complete, judged-broken, covers-complete}
 use Rattle.format.proofs.Exact.{r-fits, job-read}
 use Rattle.format.proofs.Local.{before-reads}
 use Rattle.format.proofs.Completing.{job-faults, members-faults}
 use Rattle.format.proofs.Refusals.{member-first}
 
 -- after those that are read, the next is refused
-each-refuses : {A B : Type 0} (p : A → Parser B) (xs : List A) (y : A) (ys : List A) (at : ℕ) {vs : List B} {mid number place : ℕ}
-    → each p xs at ≡ parsed vs mid → p y mid ≡ fault number place → each p (xs ++ (y ∷ ys)) at ≡ fault number place
+each-refuses : {A B : Type 0} (p : A → Parser B) (xs : List A) (y : A) (ys : List A) (at : ℕ) {vs : List B} {mid : ℕ} {why : Reason} {place : ℕ}
+    → each p xs at ≡ parsed vs mid → p y mid ≡ fault why place → each p (xs ++ (y ∷ ys)) at ≡ fault why place
 unfolding each
-each-refuses p [] y ys at {vs} {mid} {number} {place} h f =
+each-refuses p [] y ys at {vs} {mid} {why} {place} h f =
     let mid-is : mid ≡ at = cc in
-    let e : p y at ≡ fault number place = ap (p y) (sym mid-is) ∙ f in
+    let e : p y at ≡ fault why place = ap (p y) (sym mid-is) ∙ f in
     rw e
-each-refuses p (x ∷ xs) y ys at {vs} {mid} {number} {place} h f =
+each-refuses p (x ∷ xs) y ys at {vs} {mid} {why} {place} h f =
     then (p x at) _
     (λ v a h₁. then (each p xs a) _
     (λ ws b h₂ r.
     let b-is : mid ≡ b = cc in
-    let e : each p (xs ++ (y ∷ ys)) a ≡ fault number place = each-refuses p xs y ys a h₂ (ap (p y) (sym b-is) ∙ f) in
+    let e : each p (xs ++ (y ∷ ys)) a ≡ fault why place = each-refuses p xs y ys a h₂ (ap (p y) (sym b-is) ∙ f) in
     rw (h₁, e))) h
 
 -- ---- the job
 
-job-refused : (job : List ℕ) (number place : ℕ) → InJob job number place → readWholeJob (jobBuffer job) 0 ≡ fault number place
+job-refused : (job : List ℕ) (why : Reason) (place : ℕ) → InJob job why place → readWholeJob (jobBuffer job) 0 ≡ fault why place
 unfolding readWholeJob
-job-refused job number place (job-number at f) = rw (job-faults job 3 at .1 (inl (refl, f)))
-job-refused job number place (job-range at f) = rw (job-faults job 4 at .1 (inr (refl, f)))
-job-refused job number place (job-left f at i more) =
+job-refused job why place (job-number at f) = rw (job-faults job (refusal 3) at .1 (inl (refl, f)))
+job-refused job why place (job-range at f) = rw (job-faults job (refusal 4) at .1 (inr (refl, f)))
+job-refused job why place (job-left f at i more) =
     let inside : at ≤ length job = omega arith in
     let r = before-reads job (inside, i .reads) in
     rw (job-exact (jobBuffer job) .complete 0 f at r (i .in-range), end-refuses (jobBuffer job) at more)
@@ -116,19 +117,19 @@ module _ (certificate : List ℕ) (f : JobFile) (ok : JobInRange f) where
         (next, vs, to-covers (c .members) (c .members-range) (c .start) next r₁, h)
 
   -- the next cover is refused
-  cover-refused : {first : ℕ} {shape : Located} {later : List Located} (c : Covered f certificate first (shape ∷ later)) (number place : ℕ)
-      → readCover s (c .members) shape first ≡ fault number place → readCertificate s f 0 ≡ fault number place
-  cover-refused {shape = shape} {later = later} c number place h =
+  cover-refused : {first : ℕ} {shape : Located} {later : List Located} (c : Covered f certificate first (shape ∷ later)) (why : Reason) (place : ℕ)
+      → readCover s (c .members) shape first ≡ fault why place → readCertificate s f 0 ≡ fault why place
+  cover-refused {shape = shape} {later = later} c why place h =
       let (next, vs, e, g) = covered-read c in
-      let stops : each (readCover s (c .members)) (owed (f .job) (c .members)) next ≡ fault number place =
+      let stops : each (readCover s (c .members)) (owed (f .job) (c .members)) next ≡ fault why place =
       rw (c .owed-is) (each-refuses (readCover s (c .members)) (c .done) shape later next g h) in
       e ∙ rw stops
 
   -- its member number is refused
-  member-refused : (members : List Located) (shape : Located) (first number : ℕ) → readAs s (getElem? members) first ≡ fault number first
-      → readCover s members shape first ≡ fault number first
+  member-refused : (members : List Located) (shape : Located) (first : ℕ) (why : Reason) → readAs s (getElem? members) first ≡ fault why first
+      → readCover s members shape first ≡ fault why first
   unfolding readCover
-  member-refused members shape first number h = rw h
+  member-refused members shape first why h = rw h
 
   -- a cover that is read up to a place
   module _ {first next : ℕ} (c : CoverBegun f certificate first next) where
@@ -147,43 +148,41 @@ module _ (certificate : List ℕ) (f : JobFile) (ok : JobInRange f) where
         subst (λ (k : ℕ). Reads certificate k (coverNumbers (c .cover)) next) first-is r₄
 
     -- the next image is refused
-    image-refused : (number : ℕ) → length (c .cover .images) < size (c .member .shape) → ranged s 0 (size (c .shape .shape)) next ≡ fault number next
-        → readCover s ms (c .shape) first ≡ fault number next
+    image-refused : (why : Reason) → length (c .cover .images) < size (c .member .shape) → ranged s 0 (size (c .shape .shape)) next ≡ fault why next
+        → readCover s ms (c .shape) first ≡ fault why next
     unfolding readCover
-    image-refused number fewer h =
+    image-refused why fewer h =
         let (a, g₁, g₂) = reads-first cover-numbers in
         rw (
           read-complete s (getElem? ms) first (c .cover .member) a (c .member) g₁ (c .numbered),
-          codes-refuses s (size (c .member .shape)) (size (c .shape .shape)) a (c .cover .images) next number next g₂ fewer (c .below) h,
+          codes-refuses s (size (c .member .shape)) (size (c .shape .shape)) a (c .cover .images) next why next g₂ fewer (c .below) h,
         )
 
-    -- the cover does not hold
-    holds-refused : length (c .cover .images) ≡ size (c .member .shape) → ¬ Holds ms (c .cover) (c .shape) → readCover s ms (c .shape) first ≡ fault 9 first
+    -- the cover breaks a rule first
+    rule-refused : (rule name : ℕ) → length (c .cover .images) ≡ size (c .member .shape) → First (Breaks (c .member) (c .cover .images) (c .shape)) rule name
+        → readCover s ms (c .shape) first ≡ fault (broken-rule rule name) first
     unfolding readCover
-    holds-refused long fails =
+    rule-refused rule name long breaks =
         let (a, g₁, g₂) = reads-first cover-numbers in
         let i = element-mem ms (c .cover .member) (c .member) (c .numbered) in
-        let reflects = holds-reflects s (f .job .variables) ms (shapes (c .so-far)) (c .member) (c .shape) (c .cover .images) i long (c .below) in
+        let answer = judged-broken s (f .job .variables) ms (shapes (c .so-far)) (c .member) (c .shape) (c .cover .images) i long (c .below) rule name .1 breaks in
         rw (
           read-complete s (getElem? ms) first (c .cover .member) a (c .member) g₁ (c .numbered),
           codes-exact s (size (c .member .shape)) (size (c .shape .shape)) .complete a (c .cover .images) next g₂ (long, c .below),
+          answer,
         )
-        (require-refuses (holds? (c .member) (c .cover .images) (c .shape)) 9 first next
-        (λ t.
-        let (state, embeds) = reflects .holds t in
-        fails (record { member = c .member; numbered = c .numbered; state = state; embeds = embeds })))
 
   -- the number that is due is refused
-  number-refused : (number place limit : ℕ) → CoverDue f certificate place limit → Faulty s (λ n. limit ≤ n) number place
-      → readCertificate s f 0 ≡ fault number place
-  number-refused number place limit (member-due shape later c e) w =
-      cover-refused c number place
-      (member-refused (c .members) shape place number
-      (read-refuses s (getElem? (c .members)) place number (faulty-map s (λ n h. past-last (c .members) n (omega arith)) w)))
-  number-refused number place limit (image-due first c fewer e) w =
-      cover-refused (c .so-far) number place
-      (image-refused c number fewer
-      (read-refuses s (such (within 0 (size (c .shape .shape)))) place number (faulty-map s (λ n h. outside n (omega arith)) w)))
+  number-refused : (why : Reason) (place limit : ℕ) → CoverDue f certificate place limit → Faulty s (λ n. limit ≤ n) why place
+      → readCertificate s f 0 ≡ fault why place
+  number-refused why place limit (member-due shape later c e) w =
+      cover-refused c why place
+      (member-refused (c .members) shape place why
+      (read-refuses s (getElem? (c .members)) place why (faulty-map s (λ n h. past-last (c .members) n (omega arith)) w)))
+  number-refused why place limit (image-due first c fewer e) w =
+      cover-refused (c .so-far) why place
+      (image-refused c why fewer
+      (read-refuses s (such (within 0 (size (c .shape .shape)))) place why (faulty-map s (λ n h. outside n (omega arith)) w)))
     where
       outside : (n : ℕ) → size (c .shape .shape) ≤ n → such (within 0 (size (c .shape .shape))) n ≡ none
       outside n h =
@@ -215,16 +214,16 @@ module _ (certificate : List ℕ) (f : JobFile) (ok : JobInRange f) where
           let ok = w .members-range .members (w .member) (Memᴰ·append-right (w .earlier) (List·Memᴰ·head refl)) in
           r-avoids (f .job .variables) (f .states) (f .job .start) (w .member) ok .holds (rw member-is at t) (w .state) (w .satisfied)
 
-      member-fails : readCertificate s f 0 ≡ fault 8 place
+      member-fails : readCertificate s f 0 ≡ fault (refusal 8) place
       unfolding readCertificate
       member-fails =
           let (us, h₃) = tests-complete (f .job .variables) (f .states) (f .job .start) earlier range-earlier (w .next) avoid-earlier in
-          let stops : each (testStart (f .job .start)) (earlier ++ (member ∷ later)) (w .next) ≡ fault 8 (member .first) =
+          let stops : each (testStart (f .job .start)) (earlier ++ (member ∷ later)) (w .next) ≡ fault (refusal 8) (member .first) =
           each-refuses (testStart (f .job .start)) earlier member later (w .next) h₃
-          (require-refuses (not (atStart (f .job .start) (member .located))) 8 (member .first) (w .next) test-fails) in
-          rw (h, stops) (ap (fault 8) place-is)
+          (require-refuses (not (atStart (f .job .start) (member .located))) (refusal 8) (member .first) (w .next) test-fails) in
+          rw (h, stops) (ap (fault (refusal 8)) place-is)
 
-    start-refused : readCertificate s f 0 ≡ fault 8 place
+    start-refused : readCertificate s f 0 ≡ fault (refusal 8) place
     start-refused =
         let (members, same, h) =
         members-complete s (f .job .variables) (f .states) 0 (w .earlier ++ (w .member ∷ w .later)) (w .next) (before-reads certificate (w .members-read))
@@ -234,35 +233,35 @@ module _ (certificate : List ℕ) (f : JobFile) (ok : JobInRange f) where
 
   -- ---- the end
 
-  left-refused : (place : ℕ) → Covered f certificate place [] → place < length certificate → readCertificate s f 0 ≡ fault 10 place
+  left-refused : (place : ℕ) → Covered f certificate place [] → place < length certificate → readCertificate s f 0 ≡ fault (refusal 10) place
   left-refused place c more =
       let (next, vs, e, g) = covered-read c in
       let all : each (readCover s (c .members)) (owed (f .job) (c .members)) next ≡ parsed vs place =
       ap (λ l. each (readCover s (c .members)) l next) (c .owed-is ∙ append-nil (c .done)) ∙ g in
       e ∙ rw (all, end-refuses s place more)
 
-  certificate-refused : (number place : ℕ) → InCertificate f certificate number place → readCertificate s f 0 ≡ fault number place
+  certificate-refused : (why : Reason) (place : ℕ) → InCertificate f certificate why place → readCertificate s f 0 ≡ fault why place
   unfolding readCertificate
-  certificate-refused number place (member-unread at w) = rw (members-faults f ok certificate 6 at .1 (inl (refl, w)))
-  certificate-refused number place (member-range at w) = rw (members-faults f ok certificate 7 at .1 (inr (refl, w)))
-  certificate-refused number place (cover-unread at limit d g) = number-refused 6 at limit d (inl (refl, g))
-  certificate-refused number place (cover-range at limit d n next g h) = number-refused 7 at limit d (inr (refl, (n, next, g, h)))
-  certificate-refused number place (member-satisfied at w) = start-refused w
-  certificate-refused number place (cover-fails at w) =
-      cover-refused (w .cover .so-far) 9 at (holds-refused (w .cover) (w .images) (w .fails))
-  certificate-refused number place (certificate-left at c more) = left-refused at c more
+  certificate-refused why place (member-unread at w) = rw (members-faults f ok certificate (refusal 6) at .1 (inl (refl, w)))
+  certificate-refused why place (member-range at w) = rw (members-faults f ok certificate (refusal 7) at .1 (inr (refl, w)))
+  certificate-refused why place (cover-unread at limit d g) = number-refused (refusal 6) at limit d (inl (refl, g))
+  certificate-refused why place (cover-range at limit d n next g h) = number-refused (refusal 7) at limit d (inr (refl, (n, next, g, h)))
+  certificate-refused why place (member-satisfied at w) = start-refused w
+  certificate-refused why place (cover-fails rule name at w) =
+      cover-refused (w .cover .so-far) (broken-rule rule name) at (rule-refused (w .cover) rule name (w .images) (w .first))
+  certificate-refused why place (certificate-left at c more) = left-refused at c more
 
 -- ---- the verdict
 
-pub decided : (job certificate : List ℕ) (number place : ℕ) → Meaning job certificate number place → verdict job certificate ≡ refused number place
+pub decided : (job certificate : List ℕ) (why : Reason) (place : ℕ) → Meaning job certificate why place → verdict job certificate ≡ refused why place
 unfolding verdict readBoth
-decided job certificate number place (job-length n) = cond-false (fits job) _ (refused 1 0) (λ t. n (r-fits job .holds t))
-decided job certificate number place (certificate-length i n) =
-    cond-true (fits job) _ (refused 1 0) (r-fits job .tests i) ∙ cond-false (fits certificate) _ (refused 2 0) (λ t. n (r-fits certificate .holds t))
-decided job certificate number place (in-job k q i j m) =
-    cond-true (fits job) _ (refused 1 0) (r-fits job .tests i) ∙ cond-true (fits certificate) _ (refused 2 0) (r-fits certificate .tests j)
+decided job certificate why place (job-length n) = cond-false (fits job) _ (refused (refusal 1) 0) (λ t. n (r-fits job .holds t))
+decided job certificate why place (certificate-length i n) =
+    cond-true (fits job) _ (refused (refusal 1) 0) (r-fits job .tests i) ∙ cond-false (fits certificate) _ (refused (refusal 2) 0) (λ t. n (r-fits certificate .holds t))
+decided job certificate why place (in-job k q i j m) =
+    cond-true (fits job) _ (refused (refusal 1) 0) (r-fits job .tests i) ∙ cond-true (fits certificate) _ (refused (refusal 2) 0) (r-fits certificate .tests j)
     ∙ rw (job-refused job k q m)
-decided job certificate number place (in-certificate k q i j f is m) =
+decided job certificate why place (in-certificate k q i j f is m) =
     let (next, h) = job-read job f is in
-    cond-true (fits job) _ (refused 1 0) (r-fits job .tests i) ∙ cond-true (fits certificate) _ (refused 2 0) (r-fits certificate .tests j)
+    cond-true (fits job) _ (refused (refusal 1) 0) (r-fits job .tests i) ∙ cond-true (fits certificate) _ (refused (refusal 2) 0) (r-fits certificate .tests j)
     ∙ rw (h, certificate-refused certificate f (is .in-range) k q m)

@@ -13,7 +13,7 @@ use Rattle.heap.specs.Heap.{empty}
 use Rattle.shape.specs.Shape.{Satisfies}
 use Rattle.run.specs.Run.{Located}
 use Rattle.cover.specs.Cover.{Cover, owed, AllHold}
-use Rattle.format.specs.Parser.{Parsed, parsed, fault, each, jobBuffer, certificateBuffer, end}
+use Rattle.format.specs.Parser.{refusal, Parsed, parsed, fault, each, jobBuffer, certificateBuffer, end}
 use Rattle.format.specs.Job.{readWholeJob}
 use Rattle.format.specs.JobNumbers.{JobFile, jobNumbers}
 use Rattle.format.specs.Certificate.{Member, withoutPlaces, readMembers, testStart, readCover}
@@ -45,7 +45,7 @@ module _ (job certificate : List ℕ) (counts : Counts) where
   unfolding verdict
   accepted-both = by-fits (fits job) (fits certificate)
     where
-      by-fits : (a b : Bool) → cond a (cond b (conclude (readBoth job certificate)) (refused 2 0)) (refused 1 0) ≡ accepted counts
+      by-fits : (a b : Bool) → cond a (cond b (conclude (readBoth job certificate)) (refused (refusal 2) 0)) (refused (refusal 1) 0) ≡ accepted counts
           → T a × T b × ((next : ℕ) × (readBoth job certificate ≡ parsed counts next))
       by-fits true true e = (tt, tt, read-both (readBoth job certificate) e)
       by-fits true false e = let z : _≡_ {A = ℕ} 0 1 = cc in absurd (omega arith)
@@ -117,8 +117,8 @@ module _ (job certificate : List ℕ) (counts : Counts) where
         members-complete (certificateBuffer certificate) (c .file .job .variables) (c .file .states) 0 (c .members) p₂ g₂ (c .members-range .number)
         (c .members-range .members) in
         let h = answers members same p₁ p₂ p₄ h₁ h₂ g₄ whole′ in
-        cond-true (fits job) (cond (fits certificate) (conclude (readBoth job certificate)) (refused 2 0)) (refused 1 0) (r-fits job .tests (c .job-length))
-        ∙ cond-true (fits certificate) (conclude (readBoth job certificate)) (refused 2 0) (r-fits certificate .tests (c .certificate-length))
+        cond-true (fits job) (cond (fits certificate) (conclude (readBoth job certificate)) (refused (refusal 2) 0)) (refused (refusal 1) 0) (r-fits job .tests (c .job-length))
+        ∙ cond-true (fits certificate) (conclude (readBoth job certificate)) (refused (refusal 2) 0) (r-fits certificate .tests (c .certificate-length))
         ∙ ap conclude h
 
 -- EXACT: the verdict is accepted with these counts if and only if every condition holds

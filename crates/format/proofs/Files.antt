@@ -15,7 +15,7 @@ use Rattle.heap.specs.Place.{cell}
 use Rattle.heap.proofs.Rows.{column, most-b-is, Keeps, in-table, table-named}
 use Rattle.shape.specs.Shape.{Shape, size, InRange}
 use Rattle.run.specs.Run.{Transition, Located}
-use Rattle.format.specs.Parser.{parsed, fault, many, Buffer, such, readAs, ranged, end}
+use Rattle.format.specs.Parser.{Reason, parsed, fault, many, Buffer, such, readAs, ranged, end}
 use Rattle.format.specs.Job.{readShape, readLocated, readTransition, readJob, readWholeJob}
 use Rattle.format.specs.JobNumbers.{JobFile, opNumbers, transitionNumbers, shapeNumbers, locatedNumbers, jobNumbers}
 use Rattle.format.specs.JobBytes.{LocatedInRange, TransitionInRange, JobInRange}
@@ -163,7 +163,7 @@ module _ (s : Buffer) where
   unfolding end
   end-complete at h = require-complete (leb (length (s .bytes)) at) (s .left) at at (r-le (length (s .bytes)) at .tests h)
 
-  pub end-fault : (at : ℕ) {number place : ℕ} → end s at ≡ fault number place → (s .left ≡ number) × (at ≡ place) × (at < length (s .bytes))
+  pub end-fault : (at : ℕ) {why : Reason} {place : ℕ} → end s at ≡ fault why place → (s .left ≡ why) × (at ≡ place) × (at < length (s .bytes))
   unfolding end
   end-fault at e =
       let (k, q, n) = require-fault (leb (length (s .bytes)) at) (s .left) at at e in

@@ -11,7 +11,7 @@ use Rattle.number.specs.Number.{largest, numberAt}
 use Rattle.number.specs.NumberList.{encode}
 use Rattle.number.specs.Range.{AtMost}
 use Rattle.number.specs.declared.Read.the-variants.{Number}
-use Rattle.format.specs.Parser.{Parsed, parsed, fault, Parser}
+use Rattle.format.specs.Parser.{Reason, Parsed, parsed, fault, Parser}
 use Rattle.format.specs.Meaning.{NumberDue, Unread, OutOfRange}
 use Rattle.format.proofs.Sequence.{Reads, more, number-in, reads-first, reads-on, reads-append, reads-split, reads-inside, reads-further}
 use Rattle.format.proofs.Parsing.{not-fault, Faulty}
@@ -35,21 +35,21 @@ at-most-later m (n ∷ ns) ms (_, h) = at-most-later m ns ms h
 
 module _ (L : List ℕ → Type 0) where
   -- the number that is due can't be read or breaks its range
-  abbrev pub FirstFault : List ℕ → ℕ → ℕ → ℕ → ℕ → Type 0
-  FirstFault s u o number place = ((u ≡ number) × Unread L s place) ⊎ ((o ≡ number) × OutOfRange L s place)
+  abbrev pub FirstFault : List ℕ → Reason → Reason → Reason → ℕ → Type 0
+  FirstFault s u o why place = ((u ≡ why) × Unread L s place) ⊎ ((o ≡ why) × OutOfRange L s place)
 
   -- ---- one place at most
 
-  due-at : {s : List ℕ} {u o number place : ℕ} → FirstFault s u o number place → NumberDue L s place
+  due-at : {s : List ℕ} {u o why : Reason} {place : ℕ} → FirstFault s u o why place → NumberDue L s place
   due-at (inl (_, f)) = f .due
   due-at (inr (_, f)) = f .due
 
   due-reads : {s : List ℕ} {place : ℕ} (d : NumberDue L s place) → Reads s 0 (d .earlier) place
   due-reads {s} d = before-reads s (d .before)
 
-  module _ (s : List ℕ) (u o number place : ℕ) where
+  module _ (s : List ℕ) (u o why : Reason) (place : ℕ) where
     -- what is read beyond the place begins no list of which L holds
-    not-beyond : (q : ℕ) (ns later : List ℕ) → FirstFault s u o number place → Reads s 0 ns q → place < q → ¬ L (ns ++ later)
+    not-beyond : (q : ℕ) (ns later : List ℕ) → FirstFault s u o why place → Reads s 0 ns q → place < q → ¬ L (ns ++ later)
     not-beyond q ns later (inl (_, f)) r b holds =
         let (_, _, _, _, g) = reads-further (due-reads (f .due)) r b in
         let k = f .unread in
@@ -62,13 +62,13 @@ module _ (L : List ℕ → Type 0) where
         let whole : ns ++ later ≡ f .due .earlier ++ (n ∷ (rest ++ later)) = ap (λ (l : List ℕ). l ++ later) e ∙ append-assoc (f .due .earlier) (n ∷ rest) later in
         f .none (rest ++ later) (subst (λ (m : ℕ). L (f .due .earlier ++ (m ∷ (rest ++ later)))) n-is (subst L whole holds))
 
-  not-earlier : {s : List ℕ} {u o number place k q : ℕ} → FirstFault s u o number place → FirstFault s u o k q → ¬ (place < q)
-  not-earlier {s} {u} {o} {number} {place} {k} {q} f g b =
+  not-earlier : {s : List ℕ} {u o why k : Reason} {place q : ℕ} → FirstFault s u o why place → FirstFault s u o k q → ¬ (place < q)
+  not-earlier {s} {u} {o} {why} {k} {place} {q} f g b =
       let d = due-at g in
-      not-beyond s u o number place q (d .earlier) (d .number ∷ d .later) f (due-reads d) b (d .goes-on)
+      not-beyond s u o why place q (d .earlier) (d .number ∷ d .later) f (due-reads d) b (d .goes-on)
 
-  one-fault : (s : List ℕ) (u o number place k q : ℕ) → FirstFault s u o number place → FirstFault s u o k q → (number ≡ k) × (place ≡ q)
-  one-fault s u o number place k q f g =
+  one-fault : (s : List ℕ) (u o why : Reason) (place : ℕ) (k : Reason) (q : ℕ) → FirstFault s u o why place → FirstFault s u o k q → (why ≡ k) × (place ≡ q)
+  one-fault s u o why place k q f g =
       let a = not-earlier f g in
       let b = not-earlier g f in
       let place-is : q ≡ place = omega arith in
@@ -80,7 +80,7 @@ module _ (L : List ℕ → Type 0) where
           let z : _≡_ {A = ℕ} 0 1 = cc in
           omega arith
 
-      by-kind : FirstFault s u o number place → FirstFault s u o k place → number ≡ k
+      by-kind : FirstFault s u o why place → FirstFault s u o k place → why ≡ k
       by-kind (inl (x, _)) (inl (y, _)) = sym x ∙ y
       by-kind (inr (x, _)) (inr (y, _)) = sym x ∙ y
       by-kind (inl (_, x)) (inr (_, y)) = absurd (apart x y)
@@ -95,15 +95,15 @@ module _ (L : List ℕ → Type 0) where
     pub small : (ns : List ℕ) → L ns → AtMost largest ns
 
   module _ {A : Type 0} {p : List ℕ → Parser A} (a : Accepts p) where
-    module _ (u o l : ℕ) {P : A → Type 0} (c : Completes u o l P p) (b : List ℕ) (number place : ℕ) where
-      due : NumberFault u o l p b 0 number place → NumberDue L b place
+    module _ (u o l : Reason) {P : A → Type 0} (c : Completes u o l P p) (b : List ℕ) (why : Reason) (place : ℕ) where
+      due : NumberFault u o l p b 0 why place → NumberDue L b place
       due f =
           let (ns, holds, g) = a .sound (f .other) (f .value) (length (f .other)) (f .parses) in
           let (n, later, _, e, _) = reads-further (reads-local b (f .other) place (f .same) (f .before) (omega arith)) g (f .longer) in
           record { earlier = f .earlier; before = reads-before b (f .before); number = n; later = later; goes-on = subst L e holds }
 
       -- a list that has the refused number there would be read from a buffer that begins with the same bytes
-      none : (f : NumberFault u o l p b 0 number place) (n next : ℕ) → numberAt b place ≡ Number n next → (later : List ℕ) → ¬ L (f .earlier ++ (n ∷ later))
+      none : (f : NumberFault u o l p b 0 why place) (n next : ℕ) → numberAt b place ≡ Number n next → (later : List ℕ) → ¬ L (f .earlier ++ (n ∷ later))
       none f n next g later holds =
           let (_, further, end) = number-in place _ _ _ _ n next g in
           let inside = reads-inside (f .before) (omega arith) in
@@ -114,17 +114,17 @@ module _ (L : List ℕ → Type 0) where
           let rest : Reads b′ next later (length b′) = subst (λ (k : ℕ). Reads b′ k later (length b′)) long (written-reads (take next b) later small) in
           let r = reads-append (reads-local b b′ next agree (f .before) (omega arith)) (more (number-local b b′ next agree place n next g (omega arith)) rest) in
           let (x, z) = a .complete b′ (f .earlier ++ (n ∷ later)) (length b′) holds r in
-          not-fault x (length b′) number place (sym (f .again n next g b′ agree) ∙ z)
+          not-fault x (length b′) why place (sym (f .again n next g b′ agree) ∙ z)
 
       -- what p refuses is the first faulty number
-      first-fault : p b 0 ≡ fault number place → FirstFault b u o number place
+      first-fault : p b 0 ≡ fault why place → FirstFault b u o why place
       unfolding due
       first-fault h = by-fault (f .faulty)
         where
-          f : NumberFault u o l p b 0 number place
-          f = c .refused b 0 number place (omega arith) h
+          f : NumberFault u o l p b 0 why place
+          f = c .refused b 0 why place (omega arith) h
 
-          by-fault : Faulty (on u o l b) (λ n. Unit {0}) number place → FirstFault b u o number place
+          by-fault : Faulty (on u o l b) (λ n. Unit {0}) why place → FirstFault b u o why place
           by-fault (inl (k, g)) = inl (sym k, record { due = due f; unread = g })
           by-fault (inr (k, (n, next, g, _))) = inr (sym k, record { due = due f; number = n; next = next; reads = g; none = none f n next g })
 
@@ -145,11 +145,11 @@ module _ (L : List ℕ → Type 0) where
         absurd (omega arith)
 
     -- there is no fault where what is read is whole
-    no-fault : (s : List ℕ) (u o number place q : ℕ) (ns : List ℕ) → L ns → Reads s 0 ns q → ¬ FirstFault s u o number place
-    no-fault s u o number place q ns holds r f = by-place (decLt place q)
+    no-fault : (s : List ℕ) (u o why : Reason) (place q : ℕ) (ns : List ℕ) → L ns → Reads s 0 ns q → ¬ FirstFault s u o why place
+    no-fault s u o why place q ns holds r f = by-place (decLt place q)
       where
         by-place : Dec (place < q) → ⊥
-        by-place (yes b) = not-beyond s u o number place q ns [] f r b (subst L (sym (append-nil ns)) holds)
+        by-place (yes b) = not-beyond s u o why place q ns [] f r b (subst L (sym (append-nil ns)) holds)
         by-place (no b) =
             let d = due-at f in
             let (later, e) = reads-begin s r (due-reads d) (omega arith) in
@@ -159,12 +159,12 @@ module _ (L : List ℕ → Type 0) where
             omega (arith, length-append later (d .number ∷ d .later))
 
     -- p refuses the first faulty number, and no other
-    pub faults : (u o l : ℕ) {P : A → Type 0} → Completes u o l P p → (s : List ℕ) (number place : ℕ)
-        → (p s 0 ≡ fault number place) ↔ FirstFault s u o number place
-    faults u o l c s number place = (first-fault u o l c s number place, λ f. by-result f (p s 0) refl)
+    pub faults : (u o l : Reason) {P : A → Type 0} → Completes u o l P p → (s : List ℕ) (why : Reason) (place : ℕ)
+        → (p s 0 ≡ fault why place) ↔ FirstFault s u o why place
+    faults u o l c s why place = (first-fault u o l c s why place, λ f. by-result f (p s 0) refl)
       where
-        by-result : FirstFault s u o number place → (r : Parsed A) → p s 0 ≡ r → r ≡ fault number place
-        by-result f (parsed x next) h = let (ns, holds, g) = a .sound s x next h in absurd (no-fault s u o number place next ns holds g f)
+        by-result : FirstFault s u o why place → (r : Parsed A) → p s 0 ≡ r → r ≡ fault why place
+        by-result f (parsed x next) h = let (ns, holds, g) = a .sound s x next h in absurd (no-fault s u o why place next ns holds g f)
         by-result f (fault k q) h =
-            let (k-is, q-is) = one-fault s u o k q number place (first-fault u o l c s k q h) f in
-            ap₂ {A = ℕ} {B = ℕ} {C = Parsed A} fault k-is q-is
+            let (k-is, q-is) = one-fault s u o k q why place (first-fault u o l c s k q h) f in
+            ap₂ {A = Reason} {B = ℕ} {C = Parsed A} fault k-is q-is

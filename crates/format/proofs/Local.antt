@@ -17,7 +17,7 @@ use Rattle.number.specs.declared.Read.the-variants.{Number, Unreadable}
 use Rattle.number.proofs.Reading.{one-byte, two-bytes, three-bytes}
 use Rattle.number.proofs.RoundTrip.{reads}
 use Rattle.number.proofs.Writing.{some-bytes}
-use Rattle.format.specs.Parser.{parsed, fault, Parser, onward, _>>=_, return, here, many, Buffer, readAs}
+use Rattle.format.specs.Parser.{Reason, parsed, fault, Parser, onward, _>>=_, return, here, many, Buffer, readAs}
 use Rattle.format.specs.Meaning.{Before}
 use Rattle.format.proofs.Sequence.{Reads, done, more, one, reads-on, reads-inside, reads-append, number-in, reads-decode, decode-reads}
 use Rattle.format.proofs.Parsing.{not-fault, then, then-fault, read-sound, read-complete, read-outside, Faulty, faulty-map, read-fault}
@@ -112,7 +112,7 @@ module _ (s : List ℕ) where
 
 -- ---- parsers of numbers, on any buffer
 
-module _ (u o l : ℕ) where
+module _ (u o l : Reason) where
   -- the buffer of these bytes, with the refusals u, o and l
   abbrev pub on : List ℕ → Buffer
   on b = record { bytes = b; unreadable = u; outside = o; left = l }
@@ -126,11 +126,11 @@ module _ (u o l : ℕ) where
 
   -- A number at the place, after others, is refused; one that breaks its range is so on every buffer with the same bytes up to its end. p
   -- reads another buffer, which has the same bytes before the place and goes on there, to its end.
-  pub record NumberFault {A : Type 0} (p : List ℕ → Parser A) (b : List ℕ) (at number place : ℕ) : Type 0 where
+  pub record NumberFault {A : Type 0} (p : List ℕ → Parser A) (b : List ℕ) (at : ℕ) (why : Reason) (place : ℕ) : Type 0 where
     pub earlier : List ℕ
     pub before : Reads b at earlier place
-    pub faulty : Faulty (on b) (λ n. Unit {0}) number place
-    pub again : (n next : ℕ) → numberAt b place ≡ Number n next → (b′ : List ℕ) → take next b ≡ take next b′ → p b′ at ≡ fault number place
+    pub faulty : Faulty (on b) (λ n. Unit {0}) why place
+    pub again : (n next : ℕ) → numberAt b place ≡ Number n next → (b′ : List ℕ) → take next b ≡ take next b′ → p b′ at ≡ fault why place
     pub other : List ℕ
     pub same : take place b ≡ take place other
     pub longer : place < length other
@@ -143,7 +143,7 @@ module _ (u o l : ℕ) where
     pub ok : (b : List ℕ) (at : ℕ) (x : A) (next : ℕ) → p b at ≡ parsed x next → P x
     pub same : (b b′ : List ℕ) (at : ℕ) (x : A) (next : ℕ) → take next b ≡ take next b′ → p b at ≡ parsed x next → p b′ at ≡ parsed x next
     pub grows : (b : List ℕ) → Grown p b
-    pub refused : (b : List ℕ) (at number place : ℕ) → at ≤ length b → p b at ≡ fault number place → NumberFault p b at number place
+    pub refused : (b : List ℕ) (at : ℕ) (why : Reason) (place : ℕ) → at ≤ length b → p b at ≡ fault why place → NumberFault p b at why place
 
   pub completes-weaken : {A : Type 0} {P Q : A → Type 0} {p : List ℕ → Parser A} → ((x : A) → P x → Q x) → Completes P p → Completes Q p
   completes-weaken to c =
@@ -157,7 +157,7 @@ module _ (u o l : ℕ) where
         ok = λ b at x next e. let x-is : f at ≡ x = cc in subst P x-is (h at);
         same = λ b b′ at x next agree e. e;
         grows = λ b. record { other = b; begins = take-length b; value = f (length b); parses = refl };
-        refused = λ b at number place i e. absurd (not-fault (f at) at number place (sym e));
+        refused = λ b at why place i e. absurd (not-fault (f at) at why place (sym e));
       }
 
   pub completes-return : {A : Type 0} {P : A → Type 0} (x : A) → P x → Completes P (λ b. return x)
@@ -175,10 +175,10 @@ module _ (u o l : ℕ) where
         read-complete (on (b ++ bytesOf n)) meaning (length b) n (length (b ++ bytesOf n)) x
         (reads (b ++ bytesOf n) (length b) n [] small e ∙ ap (Number n) (sym (length-append b (bytesOf n)))) allowed
 
-    read-refused : (b : List ℕ) (at number place : ℕ) → at ≤ length b → (at ≡ place) × Faulty (on b) (λ n. meaning n ≡ none) number at
-        → NumberFault (λ b. readAs (on b) meaning) b at number place
-    read-refused b at number place inside (at-is, f) =
-        subst (NumberFault (λ b. readAs (on b) meaning) b at number) at-is
+    read-refused : (b : List ℕ) (at : ℕ) (why : Reason) (place : ℕ) → at ≤ length b → (at ≡ place) × Faulty (on b) (λ n. meaning n ≡ none) why at
+        → NumberFault (λ b. readAs (on b) meaning) b at why place
+    read-refused b at why place inside (at-is, f) =
+        subst (NumberFault (λ b. readAs (on b) meaning) b at why) at-is
         (record {
           earlier = [];
           before = done;
@@ -194,8 +194,8 @@ module _ (u o l : ℕ) where
         long : length (take at b) ≡ at
         long = length-take-le at b inside
 
-        again : Faulty (on b) (λ n. meaning n ≡ none) number at → (m next : ℕ) → numberAt b at ≡ Number m next → (b′ : List ℕ) → take next b ≡ take next b′
-            → readAs (on b′) meaning at ≡ fault number at
+        again : Faulty (on b) (λ n. meaning n ≡ none) why at → (m next : ℕ) → numberAt b at ≡ Number m next → (b′ : List ℕ) → take next b ≡ take next b′
+            → readAs (on b′) meaning at ≡ fault why at
         again (inl (_, g)) m next h b′ agree = let q : _≡_ {A = ℕ} 0 1 = cc in absurd (omega arith)
         again (inr (k, (m′, next′, g, outside))) m next h b′ agree =
             let next-is : next′ ≡ next = cc in
@@ -210,7 +210,7 @@ module _ (u o l : ℕ) where
               let (m, g, e) = read-sound (on b) meaning at y next h in
               read-complete (on b′) meaning at m next y (number-local b b′ next agree at m next g (omega arith)) e;
           grows = λ b. record { other = b ++ bytesOf n; begins = take-at b (bytesOf n) (length b) refl; value = x; parses = read-written b };
-          refused = λ b at number place inside h. read-refused b at number place inside (read-fault (on b) meaning at number place h);
+          refused = λ b at why place inside h. read-refused b at why place inside (read-fault (on b) meaning at why place h);
         }
 
   -- one parser, then another for each value of the first
@@ -240,8 +240,8 @@ module _ (u o l : ℕ) where
         }
 
     -- the first refuses: what it reads on another buffer, the second takes further
-    first-refused : (b : List ℕ) (at number place : ℕ) → NumberFault p b at number place → NumberFault both b at number place
-    first-refused b at number place f =
+    first-refused : (b : List ℕ) (at : ℕ) (why : Reason) (place : ℕ) → NumberFault p b at why place → NumberFault both b at why place
+    first-refused b at why place f =
         let k = rest (f .value) (first .ok (f .other) at (f .value) (length (f .other)) (f .parses)) .grows (f .other) in
         let longer = f .longer in
         let further = begins-longer (f .other) (k .other) (k .begins) in
@@ -258,9 +258,9 @@ module _ (u o l : ℕ) where
               after (f .other) (k .other) at (f .value) (length (f .other)) (f .parses) (take-length (f .other) ∙ sym (k .begins)) ∙ k .parses;
         }
 
-    rest-refused : (b : List ℕ) (at number place : ℕ) (x : A) (mid : ℕ) → p b at ≡ parsed x mid → NumberFault (r x) b mid number place
-        → NumberFault both b at number place
-    rest-refused b at number place x mid h f =
+    rest-refused : (b : List ℕ) (at : ℕ) (why : Reason) (place : ℕ) (x : A) (mid : ℕ) → p b at ≡ parsed x mid → NumberFault (r x) b mid why place
+        → NumberFault both b at why place
+    rest-refused b at why place x mid h f =
         let (ns, g) = first .reads b at x mid h in
         let l = reads-on (f .before) in
         record {
@@ -294,12 +294,12 @@ module _ (u o l : ℕ) where
               let l = reads-on (c .reads b mid y next h₂ .1) in
               after b b′ at x mid h₁ (agree-less b b′ mid next l agree) ∙ c .same b b′ mid y next agree h₂);
           grows = bind-grows;
-          refused = λ b at number place inside.
+          refused = λ b at why place inside.
               then-fault (p b at) _
               (λ x mid h₁ h₂.
               let (ns, g) = first .reads b at x mid h₁ in
-              rest-refused b at number place x mid h₁ (rest x (first .ok b at x mid h₁) .refused b mid number place (reads-inside g inside) h₂))
-              (λ h₁. first-refused b at number place (first .refused b at number place inside h₁));
+              rest-refused b at why place x mid h₁ (rest x (first .ok b at x mid h₁) .refused b mid why place (reads-inside g inside) h₂))
+              (λ h₁. first-refused b at why place (first .refused b at why place inside h₁));
         }
 
   pub completes-many : {A : Type 0} {P : A → Type 0} {p : List ℕ → Parser A} → Completes P p → (k : ℕ) → Completes (λ xs. Unit {0}) (λ b. many k (p b))

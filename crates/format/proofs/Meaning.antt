@@ -4,6 +4,7 @@ use mathlib.Core.Logic.{_↔_}
 use mathlib.Core.Path.{_≡_, sym, _∙_}
 use Prim.Native.Nat.{ℕ}
 use native.Mathlib.Omega.{arith}
+use Rattle.format.specs.Parser.{Reason}
 use Rattle.format.specs.Verdict.{Counts, Verdict, accepted, refused, verdict}
 use Rattle.format.specs.Conditions.{Conditions}
 use Rattle.format.specs.Meaning.{Meaning}
@@ -12,19 +13,19 @@ use Rattle.format.proofs.Means.{means}
 use Rattle.format.proofs.Decided.{decided}
 
 -- MEANING: for all lists of bytes, the verdict is refused with this number at this place if and only if that is what is the matter there
-pub meaning : (job certificate : List ℕ) (number place : ℕ) → (verdict job certificate ≡ refused number place) ↔ Meaning job certificate number place
-meaning job certificate number place = (means job certificate number place, decided job certificate number place)
+pub meaning : (job certificate : List ℕ) (why : Reason) (place : ℕ) → (verdict job certificate ≡ refused why place) ↔ Meaning job certificate why place
+meaning job certificate why place = (means job certificate why place, decided job certificate why place)
 
-module _ (job certificate : List ℕ) (number place : ℕ) (m : Meaning job certificate number place) where
+module _ (job certificate : List ℕ) (why : Reason) (place : ℕ) (m : Meaning job certificate why place) where
   -- one number and one place at most
-  pub one-refusal : (k q : ℕ) → Meaning job certificate k q → (number ≡ k) × (place ≡ q)
+  pub one-refusal : (k : Reason) (q : ℕ) → Meaning job certificate k q → (why ≡ k) × (place ≡ q)
   one-refusal k q n =
-      let e : _≡_ {A = Verdict} (refused number place) (refused k q) = sym (meaning job certificate number place .1 m) ∙ meaning job certificate k q .1 n in
+      let e : _≡_ {A = Verdict} (refused why place) (refused k q) = sym (meaning job certificate why place .1 m) ∙ meaning job certificate k q .1 n in
       (cc, cc)
 
   -- and none where the certificate is accepted
   pub not-accepted : (counts : Counts) → ¬ Conditions job certificate counts
   not-accepted counts c =
-      let e : _≡_ {A = Verdict} (refused number place) (accepted counts) = sym (meaning job certificate number place .1 m) ∙ exact job certificate counts .1 c in
+      let e : _≡_ {A = Verdict} (refused why place) (accepted counts) = sym (meaning job certificate why place .1 m) ∙ exact job certificate counts .1 c in
       let z : _≡_ {A = ℕ} 0 1 = cc in
       omega arith

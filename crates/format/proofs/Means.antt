@@ -11,7 +11,7 @@ use Rattle.lists.proofs.List.{concatMap-append}
 use Rattle.shape.specs.Shape.{InRange}
 use Rattle.run.specs.Run.{Located}
 use Rattle.cover.specs.Cover.{Cover, owed, AllHold}
-use Rattle.format.specs.Parser.{Parsed, parsed, fault, each, Buffer, jobBuffer, certificateBuffer, end}
+use Rattle.format.specs.Parser.{broken-rule, Reason, refusal, Parsed, parsed, fault, each, Buffer, jobBuffer, certificateBuffer, end}
 use Rattle.format.specs.Job.{readJob, readWholeJob}
 use Rattle.format.specs.JobNumbers.{JobFile, jobNumbers}
 use Rattle.format.specs.Certificate.{Member, withoutPlaces, readMembers, testStart, readCover}
@@ -34,20 +34,20 @@ use Rattle.format.proofs.Refusals.{member-first, tests-fault, Stopped, 
 
 -- ---- the job
 
-job-meaning : (job : List ℕ) (number place : ℕ) → readWholeJob (jobBuffer job) 0 ≡ fault number place → InJob job number place
+job-meaning : (job : List ℕ) (why : Reason) (place : ℕ) → readWholeJob (jobBuffer job) 0 ≡ fault why place → InJob job why place
 unfolding readWholeJob
-job-meaning job number place h =
+job-meaning job why place h =
     then-fault (readJob (jobBuffer job) 0) _
-    (λ f mid h₁. then-fault (end (jobBuffer job) mid) _ (λ u a _ r. absurd (not-fault f a number place (sym r)))
+    (λ f mid h₁. then-fault (end (jobBuffer job) mid) _ (λ u a _ r. absurd (not-fault f a why place (sym r)))
     (λ h₂.
     let (g, ok) = job-exact (jobBuffer job) .sound 0 f mid h₁ in
     let (k, q, more) = end-fault (jobBuffer job) mid h₂ in
     subst₂ (InJob job) k q (job-left f mid (record { in-range = ok; reads = reads-before job g .1 }) more)))
-    (λ h₁. by-fault (job-faults job number place .0 h₁)) h
+    (λ h₁. by-fault (job-faults job why place .0 h₁)) h
   where
-    by-fault : FirstFault OfJob job 3 4 number place → InJob job number place
-    by-fault (inl (k, f)) = subst (λ (x : ℕ). InJob job x place) k (job-number place f)
-    by-fault (inr (k, f)) = subst (λ (x : ℕ). InJob job x place) k (job-range place f)
+    by-fault : FirstFault OfJob job (refusal 3) (refusal 4) why place → InJob job why place
+    by-fault (inl (k, f)) = subst (λ (x : Reason). InJob job x place) k (job-number place f)
+    by-fault (inr (k, f)) = subst (λ (x : Reason). InJob job x place) k (job-range place f)
 
 -- ---- the certificate
 
@@ -55,24 +55,24 @@ module _ (certificate : List ℕ) (f : JobFile) (ok : JobInRange f) where
   abbrev s : Buffer
   s = certificateBuffer certificate
 
-  members-meaning : (number place : ℕ) → readMembers s (f .job .variables) (f .states) 0 ≡ fault number place → InCertificate f certificate number place
-  members-meaning number place h = by-fault (members-faults f ok certificate number place .0 h)
+  members-meaning : (why : Reason) (place : ℕ) → readMembers s (f .job .variables) (f .states) 0 ≡ fault why place → InCertificate f certificate why place
+  members-meaning why place h = by-fault (members-faults f ok certificate why place .0 h)
     where
-      by-fault : FirstFault (OfMembers f) certificate 6 7 number place → InCertificate f certificate number place
-      by-fault (inl (k, w)) = subst (λ (x : ℕ). InCertificate f certificate x place) k (member-unread place w)
-      by-fault (inr (k, w)) = subst (λ (x : ℕ). InCertificate f certificate x place) k (member-range place w)
+      by-fault : FirstFault (OfMembers f) certificate (refusal 6) (refusal 7) why place → InCertificate f certificate why place
+      by-fault (inl (k, w)) = subst (λ (x : Reason). InCertificate f certificate x place) k (member-unread place w)
+      by-fault (inr (k, w)) = subst (λ (x : Reason). InCertificate f certificate x place) k (member-range place w)
 
   -- ---- once the members are read
 
   module _ (members : List Member) (p₂ : ℕ) (h₂ : readMembers s (f .job .variables) (f .states) 0 ≡ parsed members p₂) where
-    start-meaning : (number place : ℕ) → each (testStart (f .job .start)) members p₂ ≡ fault number place → InCertificate f certificate number place
-    start-meaning number place h₃ =
+    start-meaning : (why : Reason) (place : ℕ) → each (testStart (f .job .start)) members p₂ ≡ fault why place → InCertificate f certificate why place
+    start-meaning why place h₃ =
         let (g₂, count, oks) = members-sound s (f .job .variables) (f .states) 0 members p₂ h₂ in
-        let t = tests-fault (f .job .variables) (f .states) (f .job .start) members oks p₂ number place h₃ in
+        let t = tests-fault (f .job .variables) (f .states) (f .job .start) members oks p₂ why place h₃ in
         let split : withoutPlaces (t .earlier ++ (t .member ∷ t .later)) ≡ withoutPlaces (t .earlier) ++ (t .member .located ∷ withoutPlaces (t .later)) =
         map-append (λ m. m .located) (t .earlier) (t .member ∷ t .later) in
         let all : withoutPlaces members ≡ withoutPlaces (t .earlier) ++ (t .member .located ∷ withoutPlaces (t .later)) = ap withoutPlaces (t .all) ∙ split in
-        subst₂ (InCertificate f certificate) (t .number-is) (t .place-is)
+        subst₂ (InCertificate f certificate) (t .why-is) (t .place-is)
         (member-satisfied (t .member .first)
         (record {
           earlier = withoutPlaces (t .earlier);
@@ -120,12 +120,12 @@ module _ (certificate : List ℕ) (f : JobFile) (ok : JobInRange f) where
             hold = hold;
           }
 
-      covers-meaning : (number place : ℕ) → each (readCover s ms) (owed (f .job) ms) p₃ ≡ fault number place → InCertificate f certificate number place
+      covers-meaning : (why : Reason) (place : ℕ) → each (readCover s ms) (owed (f .job) ms) p₃ ≡ fault why place → InCertificate f certificate why place
       unfolding so-far
-      covers-meaning number place h₄ = by-cover (cover-fault s (f .job .variables) ms shapes (t .shape) (t .mid) number place (t .refused))
+      covers-meaning why place h₄ = by-cover (cover-fault s (f .job .variables) ms shapes (t .shape) (t .mid) why place (t .refused))
         where
-          t : Stopped s (f .job .variables) ms shapes (owed (f .job) ms) p₃ number place
-          t = covers-fault s (f .job .variables) ms shapes (owed (f .job) ms) p₃ number place h₄
+          t : Stopped s (f .job .variables) ms shapes (owed (f .job) ms) p₃ why place
+          t = covers-fault s (f .job .variables) ms shapes (owed (f .job) ms) p₃ why place h₄
 
           covered : Covered f certificate (t .mid) (t .shape ∷ t .later)
           covered = so-far (t .covers) (t .mid) (t .done) (t .shape ∷ t .later) (t .reads) (t .all) (t .hold) (t .images)
@@ -152,68 +152,68 @@ module _ (certificate : List ℕ) (f : JobFile) (ok : JobInRange f) where
           due limit (member-owed q e) = subst (λ (x : ℕ). CoverDue f certificate x limit) q (member-due (t .shape) (t .later) covered e)
           due limit (image-owed w fewer e) = image-due (t .mid) (read place w) fewer e
 
-          by-number : (limit : ℕ) → CoverDue f certificate place limit → Faulty s (λ n. limit ≤ n) number place → InCertificate f certificate number place
-          by-number limit d (inl (k, g)) = subst (λ (x : ℕ). InCertificate f certificate x place) (sym k) (cover-unread place limit d g)
+          by-number : (limit : ℕ) → CoverDue f certificate place limit → Faulty s (λ n. limit ≤ n) why place → InCertificate f certificate why place
+          by-number limit d (inl (k, g)) = subst (λ (x : Reason). InCertificate f certificate x place) (sym k) (cover-unread place limit d g)
           by-number limit d (inr (k, (n, next, g, above))) =
-              subst (λ (x : ℕ). InCertificate f certificate x place) (sym k) (cover-range place limit d n next g above)
+              subst (λ (x : Reason). InCertificate f certificate x place) (sym k) (cover-range place limit d n next g above)
 
-          by-cover : ((9 ≡ number) × (t .mid ≡ place) × Fails s (f .job .variables) ms shapes (t .shape) (t .mid))
-              ⊎ ((limit : ℕ) × Due s (f .job .variables) ms shapes (t .shape) (t .mid) place limit × Faulty s (λ n. limit ≤ n) number place)
-              → InCertificate f certificate number place
+          by-cover : ((rule : ℕ) × (name : ℕ) × (broken-rule rule name ≡ why) × (t .mid ≡ place) × Fails s (f .job .variables) ms shapes (t .shape) (t .mid) rule name)
+              ⊎ ((limit : ℕ) × Due s (f .job .variables) ms shapes (t .shape) (t .mid) place limit × Faulty s (λ n. limit ≤ n) why place)
+              → InCertificate f certificate why place
           by-cover (inr (limit, d, w)) = by-number limit (due limit d) w
-          by-cover (inl (k, q, w)) =
+          by-cover (inl (rule, name, k, q, w)) =
               subst₂ (InCertificate f certificate) k q
-              (cover-fails (t .mid) (record { next = w .next; cover = read (w .next) (w .begun); images = w .images; fails = w .fails }))
+              (cover-fails rule name (t .mid) (record { next = w .next; cover = read (w .next) (w .begun); images = w .images; first = w .first }))
 
-      left-meaning : (number place p₄ : ℕ) (vs : List (Unit {0})) → each (readCover s ms) (owed (f .job) ms) p₃ ≡ parsed vs p₄ → end s p₄ ≡ fault number place
-          → InCertificate f certificate number place
-      left-meaning number place p₄ vs h₄ h₅ =
+      left-meaning : (why : Reason) (place p₄ : ℕ) (vs : List (Unit {0})) → each (readCover s ms) (owed (f .job) ms) p₃ ≡ parsed vs p₄ → end s p₄ ≡ fault why place
+          → InCertificate f certificate why place
+      left-meaning why place p₄ vs h₄ h₅ =
           let (cs, g, hold, images) = covers-sound s (f .job .variables) ms shapes (owed (f .job) ms) p₃ h₄ in
           let (k, q, more) = end-fault s p₄ h₅ in
           subst₂ (InCertificate f certificate) k q
           (certificate-left p₄ (so-far cs p₄ (owed (f .job) ms) [] g (sym (append-nil (owed (f .job) ms))) hold images) more)
 
-  certificate-meaning : (number place : ℕ) → readCertificate s f 0 ≡ fault number place → InCertificate f certificate number place
+  certificate-meaning : (why : Reason) (place : ℕ) → readCertificate s f 0 ≡ fault why place → InCertificate f certificate why place
   unfolding ms readCertificate
-  certificate-meaning number place h =
+  certificate-meaning why place h =
       then-fault (readMembers s (f .job .variables) (f .states) 0) _
       (λ members p₂ h₂. then-fault (each (testStart (f .job .start)) members p₂) _
       (λ us p₃ h₃. then-fault (each (readCover s (withoutPlaces members)) (owed (f .job) (withoutPlaces members)) p₃) _
-      (λ vs p₄ h₄. then-fault (end s p₄) _ (λ u p₅ h₅ r. absurd (not-fault (countsOf (f .job) (withoutPlaces members)) p₅ number place (sym r)))
-      (left-meaning members p₂ h₂ us p₃ h₃ number place p₄ vs h₄))
-      (covers-meaning members p₂ h₂ us p₃ h₃ number place))
-      (start-meaning members p₂ h₂ number place))
-      (members-meaning number place) h
+      (λ vs p₄ h₄. then-fault (end s p₄) _ (λ u p₅ h₅ r. absurd (not-fault (countsOf (f .job) (withoutPlaces members)) p₅ why place (sym r)))
+      (left-meaning members p₂ h₂ us p₃ h₃ why place p₄ vs h₄))
+      (covers-meaning members p₂ h₂ us p₃ h₃ why place))
+      (start-meaning members p₂ h₂ why place))
+      (members-meaning why place) h
 
 -- ---- the verdict
 
-pub means : (job certificate : List ℕ) (number place : ℕ) → verdict job certificate ≡ refused number place → Meaning job certificate number place
+pub means : (job certificate : List ℕ) (why : Reason) (place : ℕ) → verdict job certificate ≡ refused why place → Meaning job certificate why place
 unfolding verdict readBoth
-means job certificate number place = by-fits (fits job) (fits certificate) refl refl
+means job certificate why place = by-fits (fits job) (fits certificate) refl refl
   where
-    same : (k q : ℕ) → refused k q ≡ refused number place → Meaning job certificate k q → Meaning job certificate number place
-    same k q e m = let k-is : k ≡ number = cc in let q-is : q ≡ place = cc in subst₂ (Meaning job certificate) k-is q-is m
+    same : (k : Reason) (q : ℕ) → refused k q ≡ refused why place → Meaning job certificate k q → Meaning job certificate why place
+    same k q e m = let k-is : k ≡ why = cc in let q-is : q ≡ place = cc in subst₂ (Meaning job certificate) k-is q-is m
 
-    by-both : Between 1 65536 (length job) → Between 1 65536 (length certificate) → readBoth job certificate ≡ fault number place → Meaning job certificate number place
+    by-both : Between 1 65536 (length job) → Between 1 65536 (length certificate) → readBoth job certificate ≡ fault why place → Meaning job certificate why place
     by-both a b =
         then-fault (readWholeJob (jobBuffer job) 0) _
         (λ f next h₁ h₂.
         let (h₀, whole) = whole-sound (jobBuffer job) 0 f next h₁ in
         let (g, ok) = job-exact (jobBuffer job) .sound 0 f next h₀ in
-        in-certificate number place a b f (record { in-range = ok; reads = reads-decode job (jobNumbers f) next g whole })
-        (certificate-meaning certificate f ok number place h₂))
-        (λ h₁. in-job number place a b (job-meaning job number place h₁))
+        in-certificate why place a b f (record { in-range = ok; reads = reads-decode job (jobNumbers f) next g whole })
+        (certificate-meaning certificate f ok why place h₂))
+        (λ h₁. in-job why place a b (job-meaning job why place h₁))
 
     by-conclusion : Between 1 65536 (length job) → Between 1 65536 (length certificate) → (r : Parsed Counts) → readBoth job certificate ≡ r
-        → conclude r ≡ refused number place → Meaning job certificate number place
+        → conclude r ≡ refused why place → Meaning job certificate why place
     by-conclusion a b (parsed c next) h e = let z : _≡_ {A = ℕ} 0 1 = cc in absurd (omega arith)
     by-conclusion a b (fault k q) h e =
-        let k-is : k ≡ number = cc in
+        let k-is : k ≡ why = cc in
         let q-is : q ≡ place = cc in
-        by-both a b (h ∙ ap₂ {A = ℕ} {B = ℕ} {C = Parsed Counts} fault k-is q-is)
+        by-both a b (h ∙ ap₂ {A = Reason} {B = ℕ} {C = Parsed Counts} fault k-is q-is)
 
     by-fits : (a b : Bool) → fits job ≡ a → fits certificate ≡ b
-        → cond a (cond b (conclude (readBoth job certificate)) (refused 2 0)) (refused 1 0) ≡ refused number place → Meaning job certificate number place
+        → cond a (cond b (conclude (readBoth job certificate)) (refused (refusal 2) 0)) (refused (refusal 1) 0) ≡ refused why place → Meaning job certificate why place
     by-fits true true x y e = by-conclusion (r-fits job .holds (rw x tt)) (r-fits certificate .holds (rw y tt)) (readBoth job certificate) refl e
-    by-fits true false x y e = same 2 0 e (certificate-length (r-fits job .holds (rw x tt)) (λ k. rw y at (r-fits certificate .tests k)))
-    by-fits false b x y e = same 1 0 e (job-length (λ k. rw x at (r-fits job .tests k)))
+    by-fits true false x y e = same (refusal 2) 0 e (certificate-length (r-fits job .holds (rw x tt)) (λ k. rw y at (r-fits certificate .tests k)))
+    by-fits false b x y e = same (refusal 1) 0 e (job-length (λ k. rw x at (r-fits job .tests k)))

@@ -16,44 +16,44 @@ use Rattle.number.specs.declared.Read.{Read}
 use Rattle.number.specs.declared.Read.the-variants.{Number, Unreadable}
 use Rattle.number.proofs.Reading.{unreadable-at}
 use Rattle.shape.specs.Shape.{AllBelow}
-use Rattle.format.specs.Parser.{Parsed, parsed, fault, Parser, onward, require, many, Buffer, within, such, meant, judged, readAs, ranged}
+use Rattle.format.specs.Parser.{Reason, Parsed, parsed, fault, Parser, onward, require, many, Buffer, within, such, meant, judged, readAs, ranged}
 use Rattle.format.proofs.Sequence.{Reads, done, one, reads-none, reads-one, reads-append, reads-split}
 
-pub not-fault : {A : Type 0} (x : A) (next number place : ℕ) → fault number place ≡ parsed x next → ⊥
-not-fault x next number place e = let z : _≡_ {A = ℕ} 0 1 = cc in omega arith
+pub not-fault : {A : Type 0} (x : A) (next : ℕ) (why : Reason) (place : ℕ) → fault why place ≡ parsed x next → ⊥
+not-fault x next why place e = let z : _≡_ {A = ℕ} 0 1 = cc in omega arith
 
 -- a parser that went on: what it had read, and what the rest made of it
 pub then : {A B Goal : Type 0} (r : Parsed A) (rest : A → Parser B) {y : B} {next : ℕ}
     → ((x : A) (mid : ℕ) → r ≡ parsed x mid → rest x mid ≡ parsed y next → Goal) → onward r rest ≡ parsed y next → Goal
 then (parsed x mid) rest go e = go x mid refl e
-then (fault number place) rest {y} {next} go e = absurd (not-fault y next number place e)
+then (fault why place) rest {y} {next} go e = absurd (not-fault y next why place e)
 
 -- one that was refused: at first, or in the rest
-pub then-fault : {A B Goal : Type 0} (r : Parsed A) (rest : A → Parser B) {number place : ℕ}
-    → ((x : A) (mid : ℕ) → r ≡ parsed x mid → rest x mid ≡ fault number place → Goal) → (r ≡ fault number place → Goal)
-    → onward r rest ≡ fault number place → Goal
+pub then-fault : {A B Goal : Type 0} (r : Parsed A) (rest : A → Parser B) {why : Reason} {place : ℕ}
+    → ((x : A) (mid : ℕ) → r ≡ parsed x mid → rest x mid ≡ fault why place → Goal) → (r ≡ fault why place → Goal)
+    → onward r rest ≡ fault why place → Goal
 then-fault (parsed x mid) rest go stop e = go x mid refl e
-then-fault {A} (fault k q) rest {number} {place} go stop e =
-    let k-is : k ≡ number = cc in
+then-fault {A} (fault k q) rest {why} {place} go stop e =
+    let k-is : k ≡ why = cc in
     let q-is : q ≡ place = cc in
-    stop (ap₂ {A = ℕ} {B = ℕ} {C = Parsed A} fault k-is q-is)
+    stop (ap₂ {A = Reason} {B = ℕ} {C = Parsed A} fault k-is q-is)
 
 -- ---- tests
 
-pub require-sound : (test : Bool) (number place at : ℕ) {u : Unit {0}} {next : ℕ} → require test number place at ≡ parsed u next → T test × (at ≡ next)
-require-sound true number place at e = (tt, cc)
-require-sound false number place at {u} {next} e = absurd (not-fault u next number place e)
+pub require-sound : (test : Bool) (why : Reason) (place at : ℕ) {u : Unit {0}} {next : ℕ} → require test why place at ≡ parsed u next → T test × (at ≡ next)
+require-sound true why place at e = (tt, cc)
+require-sound false why place at {u} {next} e = absurd (not-fault u next why place e)
 
-pub require-fault : (test : Bool) (number place at : ℕ) {k q : ℕ} → require test number place at ≡ fault k q → (number ≡ k) × (place ≡ q) × (¬ T test)
-require-fault true number place at {k} {q} e = absurd (not-fault tt at k q (sym e))
-require-fault false number place at e = (cc, cc, λ t. t)
+pub require-fault : (test : Bool) (why : Reason) (place at : ℕ) {k : Reason} {q : ℕ} → require test why place at ≡ fault k q → (why ≡ k) × (place ≡ q) × (¬ T test)
+require-fault true why place at {k} {q} e = absurd (not-fault tt at k q (sym e))
+require-fault false why place at e = (cc, cc, λ t. t)
 
-pub require-complete : (test : Bool) (number place at : ℕ) → T test → require test number place at ≡ parsed tt at
-require-complete test number place at t = cond-true test (parsed tt at) (fault number place) t
+pub require-complete : (test : Bool) (why : Reason) (place at : ℕ) → T test → require test why place at ≡ parsed tt at
+require-complete test why place at t = cond-true test (parsed tt at) (fault why place) t
 
-pub require-refuses : (test : Bool) (number place at : ℕ) → ¬ T test → require test number place at ≡ fault number place
-require-refuses true number place at n = absurd (n tt)
-require-refuses false number place at n = refl
+pub require-refuses : (test : Bool) (why : Reason) (place at : ℕ) → ¬ T test → require test why place at ≡ fault why place
+require-refuses true why place at n = absurd (n tt)
+require-refuses false why place at n = refl
 
 module _ (s : Buffer) where
   -- ---- one number
@@ -77,28 +77,28 @@ module _ (s : Buffer) where
       by-read (Unreadable p) g e = absurd (not-fault _ _ _ _ e)
 
   -- the number at a place can't be read, or reads as one for which P holds
-  abbrev pub Faulty : (ℕ → Type 0) → ℕ → ℕ → Type 0
-  Faulty P number place =
-      ((number ≡ s .unreadable) × (numberAt (s .bytes) place ≡ Unreadable place))
-      ⊎ ((number ≡ s .outside) × ((n : ℕ) × (next : ℕ) × (numberAt (s .bytes) place ≡ Number n next) × P n))
+  abbrev pub Faulty : (ℕ → Type 0) → Reason → ℕ → Type 0
+  Faulty P why place =
+      ((why ≡ s .unreadable) × (numberAt (s .bytes) place ≡ Unreadable place))
+      ⊎ ((why ≡ s .outside) × ((n : ℕ) × (next : ℕ) × (numberAt (s .bytes) place ≡ Number n next) × P n))
 
-  pub faulty-map : {P Q : ℕ → Type 0} {number place : ℕ} → ((n : ℕ) → P n → Q n) → Faulty P number place → Faulty Q number place
+  pub faulty-map : {P Q : ℕ → Type 0} {why : Reason} {place : ℕ} → ((n : ℕ) → P n → Q n) → Faulty P why place → Faulty Q why place
   faulty-map to (inl f) = inl f
   faulty-map to (inr (k, (n, next, g, h))) = inr (k, (n, next, g, to n h))
 
-  pub read-fault : {A : Type 0} (meaning : ℕ → Option A) (at number place : ℕ) → readAs s meaning at ≡ fault number place
-      → (at ≡ place) × Faulty (λ n. meaning n ≡ none) number at
+  pub read-fault : {A : Type 0} (meaning : ℕ → Option A) (at : ℕ) (why : Reason) (place : ℕ) → readAs s meaning at ≡ fault why place
+      → (at ≡ place) × Faulty (λ n. meaning n ≡ none) why at
   unfolding readAs
-  read-fault {A} meaning at number place = by-read (numberAt (s .bytes) at) refl
+  read-fault {A} meaning at why place = by-read (numberAt (s .bytes) at) refl
     where
       Result : Type 0
-      Result = (at ≡ place) × Faulty (λ n. meaning n ≡ none) number at
+      Result = (at ≡ place) × Faulty (λ n. meaning n ≡ none) why at
 
-      by-meaning : (n k : ℕ) → numberAt (s .bytes) at ≡ Number n k → (o : Option A) → meaning n ≡ o → judged s at k o ≡ fault number place → Result
+      by-meaning : (n k : ℕ) → numberAt (s .bytes) at ≡ Number n k → (o : Option A) → meaning n ≡ o → judged s at k o ≡ fault why place → Result
       by-meaning n k g none h e = (cc, inr (cc, (n, k, g, h)))
-      by-meaning n k g (some y) h e = absurd (not-fault y k number place (sym e))
+      by-meaning n k g (some y) h e = absurd (not-fault y k why place (sym e))
 
-      by-read : (r : Read) → numberAt (s .bytes) at ≡ r → meant s meaning at r ≡ fault number place → Result
+      by-read : (r : Read) → numberAt (s .bytes) at ≡ r → meant s meaning at r ≡ fault why place → Result
       by-read (Number n k) g e = by-meaning n k g (meaning n) refl e
       by-read (Unreadable p) g e = (cc, inl (cc, g ∙ ap Unreadable (sym (unreadable-at at _ _ _ _ p g))))
 
@@ -107,10 +107,10 @@ module _ (s : Buffer) where
   unfolding readAs
   read-outside meaning at n next g h = ap (meant s meaning at) g ∙ ap (judged s at next) h
 
-  pub read-refuses : {A : Type 0} (meaning : ℕ → Option A) (at number : ℕ) → Faulty (λ n. meaning n ≡ none) number at → readAs s meaning at ≡ fault number at
+  pub read-refuses : {A : Type 0} (meaning : ℕ → Option A) (at : ℕ) (why : Reason) → Faulty (λ n. meaning n ≡ none) why at → readAs s meaning at ≡ fault why at
   unfolding readAs
-  read-refuses meaning at number (inl (k, g)) = rw (k, g)
-  read-refuses meaning at number (inr (k, (n, next, g, h))) = rw k (read-outside meaning at n next g h)
+  read-refuses meaning at why (inl (k, g)) = rw (k, g)
+  read-refuses meaning at why (inr (k, (n, next, g, h))) = rw k (read-outside meaning at n next g h)
 
   pub read-complete : {A : Type 0} (meaning : ℕ → Option A) (at n next : ℕ) (x : A) → numberAt (s .bytes) at ≡ Number n next → meaning n ≡ some x
       → readAs s meaning at ≡ parsed x next
@@ -188,29 +188,29 @@ module _ (s : Buffer) where
     many-exact k = record { sound = many-sound k; complete = λ at xs next g (long, oks). many-complete k at xs next g long oks }
 
     -- some are read, and the next is refused
-    many-fault : (k at number place : ℕ) → many k p at ≡ fault number place
-        → (xs : List A) × (mid : ℕ) × Reads (s .bytes) at (concatMap numbers xs) mid × (length xs < k) × ((x : A) → x ∈ xs → Ok x) × (p mid ≡ fault number place)
+    many-fault : (k at : ℕ) (why : Reason) (place : ℕ) → many k p at ≡ fault why place
+        → (xs : List A) × (mid : ℕ) × Reads (s .bytes) at (concatMap numbers xs) mid × (length xs < k) × ((x : A) → x ∈ xs → Ok x) × (p mid ≡ fault why place)
     unfolding many
-    many-fault zero at number place h = absurd (not-fault [] at number place (sym h))
-    many-fault (suc k) at number place h =
+    many-fault zero at why place h = absurd (not-fault [] at why place (sym h))
+    many-fault (suc k) at why place h =
         then-fault (p at) _
-        (λ x a h₁. then-fault (many k p a) _ (λ xs b _ r. absurd (not-fault (x ∷ xs) b number place (sym r)))
+        (λ x a h₁. then-fault (many k p a) _ (λ xs b _ r. absurd (not-fault (x ∷ xs) b why place (sym r)))
         (λ h₂.
         let (g, ok) = e .sound at x a h₁ in
-        let (xs, mid, r, fewer, oks, f) = many-fault k a number place h₂ in
+        let (xs, mid, r, fewer, oks, f) = many-fault k a why place h₂ in
         (x ∷ xs, mid, reads-append g r, omega arith, all-cons Ok ok oks, f)))
         (λ h₁. ([], at, done, omega arith, (λ x i. absurd (List·Memᴰ·not-nil i)), h₁)) h
 
-    many-refuses : (k at : ℕ) (xs : List A) (mid number place : ℕ) → Reads (s .bytes) at (concatMap numbers xs) mid → length xs < k
-        → ((x : A) → x ∈ xs → Ok x) → p mid ≡ fault number place → many k p at ≡ fault number place
+    many-refuses : (k at : ℕ) (xs : List A) (mid : ℕ) (why : Reason) (place : ℕ) → Reads (s .bytes) at (concatMap numbers xs) mid → length xs < k
+        → ((x : A) → x ∈ xs → Ok x) → p mid ≡ fault why place → many k p at ≡ fault why place
     unfolding many
-    many-refuses zero at xs mid number place g fewer oks h = absurd (omega arith)
-    many-refuses (suc k) at [] mid number place g fewer oks h = rw (reads-none g, h)
-    many-refuses (suc k) at (x ∷ xs) mid number place g fewer oks h =
+    many-refuses zero at xs mid why place g fewer oks h = absurd (omega arith)
+    many-refuses (suc k) at [] mid why place g fewer oks h = rw (reads-none g, h)
+    many-refuses (suc k) at (x ∷ xs) mid why place g fewer oks h =
         let (a, g₁, g₂) = reads-split (numbers x) g in
         rw (
           e .complete at x a g₁ (oks x (List·Memᴰ·head refl)),
-          many-refuses k a xs mid number place g₂ (omega arith) (λ y i. oks y (List·Memᴰ·tail i)) h,
+          many-refuses k a xs mid why place g₂ (omega arith) (λ y i. oks y (List·Memᴰ·tail i)) h,
         )
 
   -- ---- so many numbers below a limit
@@ -224,24 +224,24 @@ module _ (s : Buffer) where
       exact-iff singles (λ xs (long, oks). (long, λ x i. oks x i .1)) (λ xs (long, oks). (long, λ x i. (omega arith, oks x i))) (many-exact (ranged-exact 0 limit) k)
 
   -- some are read, and the next can't be read or is not below the limit
-  pub codes-fault : (k limit at number place : ℕ) → many k (ranged s 0 limit) at ≡ fault number place
-      → (xs : List ℕ) × Reads (s .bytes) at xs place × (length xs < k) × AllBelow limit xs × Faulty (λ n. limit ≤ n) number place
-  codes-fault k limit at number place h =
-      let (xs, mid, r, fewer, oks, f) = many-fault (ranged-exact 0 limit) k at number place h in
-      let (mid-is, w) = read-fault (such (within 0 limit)) mid number place f in (
+  pub codes-fault : (k limit at : ℕ) (why : Reason) (place : ℕ) → many k (ranged s 0 limit) at ≡ fault why place
+      → (xs : List ℕ) × Reads (s .bytes) at xs place × (length xs < k) × AllBelow limit xs × Faulty (λ n. limit ≤ n) why place
+  codes-fault k limit at why place h =
+      let (xs, mid, r, fewer, oks, f) = many-fault (ranged-exact 0 limit) k at why place h in
+      let (mid-is, w) = read-fault (such (within 0 limit)) mid why place f in (
         xs,
         subst (Reads (s .bytes) at xs) mid-is (subst (λ (l : List ℕ). Reads (s .bytes) at l mid) (singles xs) r),
         fewer,
         (λ x i. oks x i .1),
-        subst (Faulty (λ n. limit ≤ n) number) mid-is (faulty-map (λ n. above n (within 0 limit n) refl) w),
+        subst (Faulty (λ n. limit ≤ n) why) mid-is (faulty-map (λ n. above n (within 0 limit n) refl) w),
       )
     where
       above : (n : ℕ) (b : Bool) → within 0 limit n ≡ b → cond b (some n) none ≡ none → limit ≤ n
       above n true h e = let z : _≡_ {A = ℕ} 0 1 = cc in absurd (omega arith)
       above n false h e = let k : ¬ (n < limit) = λ q. rw h at (r-and (r-le 0 n) (r-lt n limit) .tests (omega arith, q)) in omega arith
 
-  pub codes-refuses : (k limit at : ℕ) (xs : List ℕ) (mid number place : ℕ) → Reads (s .bytes) at xs mid → length xs < k → AllBelow limit xs
-      → ranged s 0 limit mid ≡ fault number place → many k (ranged s 0 limit) at ≡ fault number place
-  codes-refuses k limit at xs mid number place g fewer below h =
-      many-refuses (ranged-exact 0 limit) k at xs mid number place (subst (λ (l : List ℕ). Reads (s .bytes) at l mid) (sym (singles xs)) g) fewer
+  pub codes-refuses : (k limit at : ℕ) (xs : List ℕ) (mid : ℕ) (why : Reason) (place : ℕ) → Reads (s .bytes) at xs mid → length xs < k → AllBelow limit xs
+      → ranged s 0 limit mid ≡ fault why place → many k (ranged s 0 limit) at ≡ fault why place
+  codes-refuses k limit at xs mid why place g fewer below h =
+      many-refuses (ranged-exact 0 limit) k at xs mid why place (subst (λ (l : List ℕ). Reads (s .bytes) at l mid) (sym (singles xs)) g) fewer
       (λ x i. (omega arith, below x i)) h

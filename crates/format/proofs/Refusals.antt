@@ -14,9 +14,11 @@ use Rattle.heap.specs.Heap.{empty}
 use Rattle.shape.specs.Shape.{size, Satisfies, AllBelow, InRange}
 use Rattle.run.specs.Run.{Located}
 use Rattle.lists.proofs.List.{element-mem}
-use Rattle.cover.specs.Cover.{Cover, Holds, holds?, AllHold}
-use Rattle.format.specs.Parser.{parsed, fault, many, each, Buffer, readAs, ranged}
-use Rattle.format.specs.Certificate.{Member, withoutPlaces, readMember, readMembers, atStart, testStart, readCover}
+use Rattle.cover.specs.Cover.{Cover, AllHold}
+use Rattle.cover.specs.Rules.{Breaks, First}
+use Rattle.cover.specs.Test.{Answer, holds, broken, coverAnswer}
+use Rattle.format.specs.Parser.{broken-rule, Reason, refusal, parsed, fault, many, each, Buffer, readAs, ranged}
+use Rattle.format.specs.Certificate.{Member, withoutPlaces, readMember, readMembers, atStart, testStart, judge, readCover}
 use Rattle.format.specs.Numbers.{coverNumbers}
 use Rattle.format.specs.JobNumbers.{locatedNumbers}
 use Rattle.format.specs.Conditions.{ImageForEach}
@@ -24,7 +26,7 @@ use Rattle.format.specs.JobBytes.{LocatedInRange}
 use Rattle.format.proofs.Sequence.{Reads, done, more, reads-append}
 use Rattle.format.proofs.Parsing.{not-fault, then, then-fault, require-sound, require-fault, Faulty, faulty-map, read-sound, read-fault, ranged-exact, many-exact, codes-exact, codes-fault}
 use Rattle.format.proofs.Files.{version, located-exact}
-use Rattle.format.proofs.Covers.{member-read, without-places, Avoids, Every, r-start, r-avoids, holds-reflects, cover-sound}
+use Rattle.format.proofs.Covers.{member-read, without-places, Avoids, Every, r-start, r-avoids, judged-broken, cover-sound}
 
 -- ---- members
 
@@ -67,12 +69,12 @@ module _ (s : Buffer) (variables states : ℕ) where
 
 module _ (variables states start : ℕ) where
   -- the first member that fails the test
-  pub record Failed (ms : List Member) (number place : ℕ) : Type 0 where
+  pub record Failed (ms : List Member) (why : Reason) (place : ℕ) : Type 0 where
     pub earlier : List Member
     pub member : Member
     pub later : List Member
     pub all : ms ≡ earlier ++ (member ∷ later)
-    pub number-is : 8 ≡ number
+    pub why-is : refusal 8 ≡ why
     pub place-is : member .first ≡ place
     pub avoid : Every earlier (Avoids start)
     pub state : member .located .state ≡ start
@@ -82,36 +84,36 @@ module _ (variables states start : ℕ) where
   not-not true n = tt
   not-not false n = n tt
 
-  pub tests-fault : (ms : List Member) → Every ms (LocatedInRange variables states) → (at number place : ℕ)
-      → each (testStart start) ms at ≡ fault number place → Failed ms number place
+  pub tests-fault : (ms : List Member) → Every ms (LocatedInRange variables states) → (at : ℕ) (why : Reason) (place : ℕ)
+      → each (testStart start) ms at ≡ fault why place → Failed ms why place
   unfolding each
-  tests-fault [] oks at number place e = absurd (not-fault [] at number place (sym e))
-  tests-fault (m ∷ ms) oks at number place e =
+  tests-fault [] oks at why place e = absurd (not-fault [] at why place (sym e))
+  tests-fault (m ∷ ms) oks at why place e =
       then-fault (testStart start m at) _
-      (λ u a h₁. then-fault (each (testStart start) ms a) _ (λ us b h₂ r. absurd (not-fault (u ∷ us) b number place (sym r)))
+      (λ u a h₁. then-fault (each (testStart start) ms a) _ (λ us b h₂ r. absurd (not-fault (u ∷ us) b why place (sym r)))
       (λ h₂.
-      let (t, _) = require-sound (not (atStart start (m .located))) 8 (m .first) at h₁ in
-      let f = tests-fault ms (λ l i. oks l (List·Memᴰ·tail i)) a number place h₂ in
+      let (t, _) = require-sound (not (atStart start (m .located))) (refusal 8) (m .first) at h₁ in
+      let f = tests-fault ms (λ l i. oks l (List·Memᴰ·tail i)) a why place h₂ in
       record {
         earlier = m ∷ f .earlier;
         member = f .member;
         later = f .later;
         all = ap (λ l. m ∷ l) (f .all);
-        number-is = f .number-is;
+        why-is = f .why-is;
         place-is = f .place-is;
         avoid = all-cons (Avoids start) (r-avoids variables states start (m .located) ok .holds t) (f .avoid);
         state = f .state;
         satisfied = f .satisfied;
       }))
       (λ h₁.
-      let (k, q, t) = require-fault (not (atStart start (m .located))) 8 (m .first) at h₁ in
+      let (k, q, t) = require-fault (not (atStart start (m .located))) (refusal 8) (m .first) at h₁ in
       let (state, satisfied) = r-start variables states start (m .located) ok .holds (not-not (atStart start (m .located)) t) in
       record {
         earlier = [];
         member = m;
         later = ms;
         all = refl;
-        number-is = k;
+        why-is = k;
         place-is = q;
         avoid = λ l i. absurd (List·Memᴰ·not-nil i);
         state = state;
@@ -123,9 +125,15 @@ module _ (variables states start : ℕ) where
 
 -- ---- covers
 
+-- a cover is refused for the rule that the answer of its test names
+judge-fault : (a : Answer) (first at : ℕ) {why : Reason} {place : ℕ} → judge a first at ≡ fault why place
+    → (rule : ℕ) × (name : ℕ) × (a ≡ broken rule name) × (broken-rule rule name ≡ why) × (first ≡ place)
+judge-fault holds first at {why} {place} e = absurd (not-fault tt at why place (sym e))
+judge-fault (broken rule name) first at e = (rule, name, refl, cc, cc)
+
 module _ (s : Buffer) (variables : ℕ) (ms : List Located) (oks : (m : Located) → m ∈ ms → InRange variables 12 (m .shape)) where
   -- the first cover that is refused
-  pub record Stopped (os : List Located) (at number place : ℕ) : Type 0 where
+  pub record Stopped (os : List Located) (at : ℕ) (why : Reason) (place : ℕ) : Type 0 where
     pub done : List Located
     pub shape : Located
     pub later : List Located
@@ -135,17 +143,17 @@ module _ (s : Buffer) (variables : ℕ) (ms : List Located) (oks : (m : Located)
     pub reads : Reads (s .bytes) at (concatMap coverNumbers covers) mid
     pub hold : AllHold ms covers done
     pub images : (c : Cover) → c ∈ covers → ImageForEach ms c
-    pub refused : readCover s ms shape mid ≡ fault number place
+    pub refused : readCover s ms shape mid ≡ fault why place
 
-  pub covers-fault : (os : List Located) (at number place : ℕ) → each (readCover s ms) os at ≡ fault number place → Stopped os at number place
+  pub covers-fault : (os : List Located) (at : ℕ) (why : Reason) (place : ℕ) → each (readCover s ms) os at ≡ fault why place → Stopped os at why place
   unfolding each
-  covers-fault [] at number place e = absurd (not-fault [] at number place (sym e))
-  covers-fault (o ∷ os) at number place e =
+  covers-fault [] at why place e = absurd (not-fault [] at why place (sym e))
+  covers-fault (o ∷ os) at why place e =
       then-fault (readCover s ms o at) _
-      (λ u a h₁. then-fault (each (readCover s ms) os a) _ (λ us b h₂ r. absurd (not-fault (u ∷ us) b number place (sym r)))
+      (λ u a h₁. then-fault (each (readCover s ms) os a) _ (λ us b h₂ r. absurd (not-fault (u ∷ us) b why place (sym r)))
       (λ h₂.
       let (c, g, (h, fit)) = cover-sound s variables ms oks o at h₁ in
-      let f = covers-fault os a number place h₂ in
+      let f = covers-fault os a why place h₂ in
       record {
         done = o ∷ f .done;
         shape = f .shape;
@@ -180,12 +188,12 @@ module _ (s : Buffer) (variables : ℕ) (ms : List Located) (oks : (m : Located)
     pub below : AllBelow (size (o .shape)) (cover .images)
     pub reads : Reads (s .bytes) at (coverNumbers cover) next
 
-  -- it reads and does not hold
-  pub record Fails (o : Located) (at : ℕ) : Type 0 where
+  -- it reads, and this is the first rule that it breaks
+  pub record Fails (o : Located) (at rule name : ℕ) : Type 0 where
     pub next : ℕ
     pub begun : Begun o at next
     pub images : length (begun .cover .images) ≡ size (begun .member .shape)
-    pub fails : ¬ Holds ms (begun .cover) o
+    pub first : First (Breaks (begun .member) (begun .cover .images) o) rule name
 
   -- the number at a place of it has to be below the limit
   pub data Due (o : Located) (at place limit : ℕ) : Type 0 where
@@ -193,36 +201,36 @@ module _ (s : Buffer) (variables : ℕ) (ms : List Located) (oks : (m : Located)
     image-owed : (c : Begun o at place) → length (c .cover .images) < size (c .member .shape) → limit ≡ size (o .shape) → Due o at place limit
 
   -- a number of the cover is refused, or the cover does not hold
-  pub cover-fault : (o : Located) (at number place : ℕ) → readCover s ms o at ≡ fault number place
-      → ((9 ≡ number) × (at ≡ place) × Fails o at) ⊎ ((limit : ℕ) × Due o at place limit × Faulty s (λ n. limit ≤ n) number place)
+  pub cover-fault : (o : Located) (at : ℕ) (why : Reason) (place : ℕ) → readCover s ms o at ≡ fault why place
+      → ((rule : ℕ) × (name : ℕ) × (broken-rule rule name ≡ why) × (at ≡ place) × Fails o at rule name) ⊎ ((limit : ℕ) × Due o at place limit × Faulty s (λ n. limit ≤ n) why place)
   unfolding readCover
-  cover-fault o at number place =
+  cover-fault o at why place =
       then-fault (readAs s (getElem? ms) at) _
       (λ m a h₁. then-fault (many _ (ranged s _ _) a) _
       (λ images b h₂ h₃.
       let (n, g₁, numbered) = read-sound s (getElem? ms) at m a h₁ in
       let (g₂, (long, below)) = codes-exact s _ _ .sound a images b h₂ in
-      let (k, q, t) = require-fault (holds? m images o) 9 at b h₃ in
+      let (rule, name, t, k, q) = judge-fault (coverAnswer m images o) at b h₃ in
       let i = element-mem ms n m numbered in
       inl (
+        rule,
+        name,
         k,
         q,
         record {
           next = b;
           begun = record { cover = record { member = n; images = images }; member = m; numbered = numbered; below = below; reads = more g₁ g₂ };
           images = long;
-          fails = λ h.
-              let m-is : h .member ≡ m = cc in
-              t (holds-reflects s variables ms oks m o images i long below .tests (rw m-is at (h .state), rw m-is at (h .embeds)));
+          first = judged-broken s variables ms oks m o images i long below rule name .0 t;
         },
       ))
       (λ h₂.
       let (n, g, numbered) = read-sound s (getElem? ms) at m a h₁ in
-      let (images, r, fewer, below, f) = codes-fault s (size (m .shape)) (size (o .shape)) a number place h₂ in
+      let (images, r, fewer, below, f) = codes-fault s (size (m .shape)) (size (o .shape)) a why place h₂ in
       let c : Begun o at place = record { cover = record { member = n; images = images }; member = m; numbered = numbered; below = below; reads = more g r } in
       inr (size (o .shape), image-owed c fewer refl, f)))
       (λ h₁.
-      let (q, f) = read-fault s (getElem? ms) at number place h₁ in
+      let (q, f) = read-fault s (getElem? ms) at why place h₁ in
       inr (length ms, member-owed q refl, rw (← q) (faulty-map s (λ n. past-last ms n) f)))
     where
       past-last : (l : List Located) (n : ℕ) → getElem? l n ≡ none → length l ≤ n

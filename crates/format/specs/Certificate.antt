@@ -6,8 +6,9 @@ use lib.Dec.{eqb}
 use lib.ListN.{getElem?}
 use Rattle.shape.specs.Shape.{size}
 use Rattle.run.specs.Run.{Located}
-use Rattle.cover.specs.Cover.{holds?, byEmpty}
-use Rattle.format.specs.Parser.{Parser, _>>=_, _>>_, return, here, require, many, Buffer, readAs, ranged}
+use Rattle.cover.specs.Cover.{byEmpty}
+use Rattle.cover.specs.Test.{Answer, holds, broken, coverAnswer}
+use Rattle.format.specs.Parser.{refusal, broken-rule, parsed, fault, Parser, _>>=_, _>>_, return, here, require, many, Buffer, readAs, ranged}
 use Rattle.format.specs.Job.{readLocated}
 
 -- a member with the place of its first byte
@@ -24,7 +25,12 @@ atStart start m = eqb (m .state) start && byEmpty (m .shape)
 
 -- "8. A member at the start state is satisfied by the empty heap [..] (the member's first byte)."
 abbrev pub testStart : ℕ → Member → Parser (Unit {0})
-testStart start m = require (not (atStart start (m .located))) 8 (m .first)
+testStart start m = require (not (atStart start (m .located))) (refusal 8) (m .first)
+
+-- "9. A cover that reads doesn't hold (the cover's first byte)."
+abbrev pub judge : Answer → ℕ → Parser (Unit {0})
+judge holds first at = parsed tt at
+judge (broken rule name) first at = fault (broken-rule rule name) first
 
 module _ (s : Buffer) where
   unfoldable pub readMember : ℕ → ℕ → Parser Member
@@ -40,11 +46,10 @@ module _ (s : Buffer) where
     count ← ranged s 1 513
     many count (readMember variables states)
 
-  -- "A cover is a member number below N and one image for each of its cells, below the number of cells of the covered shape." "9. A cover
-  -- that reads doesn't hold (the cover's first byte)."
+  -- "A cover is a member number below N and one image for each of its cells, below the number of cells of the covered shape."
   unfoldable pub readCover : List Located → Located → Parser (Unit {0})
   readCover members covered = do
     first ← here
     member ← readAs s (getElem? members)
     images ← many (size (member .shape)) (ranged s 0 (size (covered .shape)))
-    require (holds? member images covered) 9 first
+    judge (coverAnswer member images covered) first

@@ -1,5 +1,5 @@
 -- What each refusal says, without the parsers. Document 01, "Refusals, in checking order". `meaning` of the proofs says that the verdict is a
--- refusal with a number at a place exactly if this holds of them.
+-- refusal for a reason at a place exactly if this holds of them.
 use mathlib.Core.List.{List, [], _∷_, _++_}
 use mathlib.Core.Option.{some}
 use mathlib.Core.Path.{_≡_}
@@ -12,7 +12,9 @@ use Rattle.number.specs.declared.Read.the-variants.{Number, Unreadable}
 use Rattle.heap.specs.Heap.{empty}
 use Rattle.shape.specs.Shape.{size, Satisfies, AllBelow}
 use Rattle.run.specs.Run.{Located}
-use Rattle.cover.specs.Cover.{Cover, owed, Holds, AllHold}
+use Rattle.cover.specs.Cover.{Cover, owed, AllHold}
+use Rattle.cover.specs.Rules.{Breaks, First}
+use Rattle.format.specs.Parser.{Reason, refusal, broken-rule}
 use Rattle.format.specs.JobNumbers.{JobFile, locatedNumbers, jobNumbers}
 use Rattle.format.specs.Numbers.{memberNumbers, certificateNumbers}
 use Rattle.format.specs.Conditions.{MembersInRange, ImageForEach}
@@ -50,13 +52,13 @@ abbrev pub OfJob : List ℕ → Type 0
 OfJob ns = (f : JobFile) × JobInRange f × (jobNumbers f ≡ ns)
 
 -- what a refusal 3 to 5 says of the job
-pub data InJob (job : List ℕ) : ℕ → ℕ → Type 0 where
+pub data InJob (job : List ℕ) : Reason → ℕ → Type 0 where
   -- "3. A number of the job can't be read: past the end, above 65,535, or longer than needed (place: its first byte)."
-  job-number : (place : ℕ) → Unread OfJob job place → InJob job 3 place
+  job-number : (place : ℕ) → Unread OfJob job place → InJob job (refusal 3) place
   -- "4. A number of the job reads but breaks its range or the table of kinds (its first byte)."
-  job-range : (place : ℕ) → OutOfRange OfJob job place → InJob job 4 place
+  job-range : (place : ℕ) → OutOfRange OfJob job place → InJob job (refusal 4) place
   -- "5. Bytes are left after the job (the first of them)."
-  job-left : (f : JobFile) (place : ℕ) → IsJob (take place job) f → place < length job → InJob job 5 place
+  job-left : (f : JobFile) (place : ℕ) → IsJob (take place job) f → place < length job → InJob job (refusal 5) place
 
 -- "version 1; N 1..512; N members (state, shape)": the numbers of members in range
 abbrev pub OfMembers : JobFile → List ℕ → Type 0
@@ -100,12 +102,12 @@ module _ (f : JobFile) (certificate : List ℕ) (place : ℕ) where
     pub below : AllBelow (size (shape .shape)) (cover .images)
     pub reads : Before certificate next (certificateNumbers (so-far .members) (so-far .covers ++ (cover ∷ [])))
 
-  -- the cover at the place reads and does not hold
-  pub record CoverFails : Type 0 where
+  -- the cover at the place reads, and this is the first rule that it breaks, at this cell or variable
+  pub record CoverFails (rule name : ℕ) : Type 0 where
     pub next : ℕ
     pub cover : CoverBegun next
     pub images : length (cover .cover .images) ≡ size (cover .member .shape)
-    pub fails : ¬ Holds (cover .so-far .members) (cover .cover) (cover .shape)
+    pub first : First (Breaks (cover .member) (cover .cover .images) (cover .shape)) rule name
 
 -- "then cover by cover 6, 7, 9": at the place a number of the next cover is due, which has to be below the limit. (No cover need begin so and
 -- go on: where the covered shape has no cells, an image that is due has no number to be.)
@@ -118,28 +120,28 @@ pub data CoverDue (f : JobFile) (certificate : List ℕ) (place limit : ℕ) : T
       → limit ≡ size (c .shape .shape) → CoverDue f certificate place limit
 
 -- what a refusal 6 to 10 says of the certificate of a job that is read
-pub data InCertificate (f : JobFile) (certificate : List ℕ) : ℕ → ℕ → Type 0 where
+pub data InCertificate (f : JobFile) (certificate : List ℕ) : Reason → ℕ → Type 0 where
   -- "6. A number of the certificate can't be read, as in 3."
-  member-unread : (place : ℕ) → Unread (OfMembers f) certificate place → InCertificate f certificate 6 place
-  cover-unread : (place limit : ℕ) → CoverDue f certificate place limit → numberAt certificate place ≡ Unreadable place → InCertificate f certificate 6 place
+  member-unread : (place : ℕ) → Unread (OfMembers f) certificate place → InCertificate f certificate (refusal 6) place
+  cover-unread : (place limit : ℕ) → CoverDue f certificate place limit → numberAt certificate place ≡ Unreadable place → InCertificate f certificate (refusal 6) place
   -- "7. A number of the certificate breaks its range (its first byte)."
-  member-range : (place : ℕ) → OutOfRange (OfMembers f) certificate place → InCertificate f certificate 7 place
+  member-range : (place : ℕ) → OutOfRange (OfMembers f) certificate place → InCertificate f certificate (refusal 7) place
   cover-range : (place limit : ℕ) → CoverDue f certificate place limit → (n next : ℕ) → numberAt certificate place ≡ Number n next → limit ≤ n
-      → InCertificate f certificate 7 place
+      → InCertificate f certificate (refusal 7) place
   -- "8. A member at the start state is satisfied by the empty heap [..] (the member's first byte)."
-  member-satisfied : (place : ℕ) → StartSatisfied f certificate place → InCertificate f certificate 8 place
-  -- "9. A cover that reads doesn't hold (the cover's first byte)."
-  cover-fails : (place : ℕ) → CoverFails f certificate place → InCertificate f certificate 9 place
+  member-satisfied : (place : ℕ) → StartSatisfied f certificate place → InCertificate f certificate (refusal 8) place
+  -- "9. A cover that reads doesn't hold (the cover's first byte)." Document 02: "say what broke".
+  cover-fails : (rule name place : ℕ) → CoverFails f certificate place rule name → InCertificate f certificate (broken-rule rule name) place
   -- "10. Bytes are left after the last cover (the first of them)."
-  certificate-left : (place : ℕ) → Covered f certificate place [] → place < length certificate → InCertificate f certificate 10 place
+  certificate-left : (place : ℕ) → Covered f certificate place [] → place < length certificate → InCertificate f certificate (refusal 10) place
 
--- what each refusal, by its number and place, says of the two buffers
-pub data Meaning (job certificate : List ℕ) : ℕ → ℕ → Type 0 where
+-- what each refusal, by its reason and place, says of the two buffers
+pub data Meaning (job certificate : List ℕ) : Reason → ℕ → Type 0 where
   -- "1. The job's length is 0 or above 65,536 (place 0)."
-  job-length : ¬ Between 1 65536 (length job) → Meaning job certificate 1 0
+  job-length : ¬ Between 1 65536 (length job) → Meaning job certificate (refusal 1) 0
   -- "2. The certificate's length is 0 or above 65,536 (place 0)."
-  certificate-length : Between 1 65536 (length job) → ¬ Between 1 65536 (length certificate) → Meaning job certificate 2 0
-  in-job : (number place : ℕ) → Between 1 65536 (length job) → Between 1 65536 (length certificate) → InJob job number place
-      → Meaning job certificate number place
-  in-certificate : (number place : ℕ) → Between 1 65536 (length job) → Between 1 65536 (length certificate) → (f : JobFile) → IsJob job f
-      → InCertificate f certificate number place → Meaning job certificate number place
+  certificate-length : Between 1 65536 (length job) → ¬ Between 1 65536 (length certificate) → Meaning job certificate (refusal 2) 0
+  in-job : (why : Reason) (place : ℕ) → Between 1 65536 (length job) → Between 1 65536 (length certificate) → InJob job why place
+      → Meaning job certificate why place
+  in-certificate : (why : Reason) (place : ℕ) → Between 1 65536 (length job) → Between 1 65536 (length certificate) → (f : JobFile) → IsJob job f
+      → InCertificate f certificate why place → Meaning job certificate why place

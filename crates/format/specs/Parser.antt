@@ -9,10 +9,21 @@ use Rattle.number.specs.Number.{numberAt}
 use Rattle.number.specs.declared.Read.{Read}
 use Rattle.number.specs.declared.Read.the-variants.{Number, Unreadable}
 
--- a value with the next place, or the number of a refusal with its place
+-- Why something is refused: by document 01's number of the refusal; or, which is 9, by the rule of a cover that broke and the cell or variable that
+-- is named (document 02, wish 2).
+pub data Reason : Type 0 where
+  refusal : ℕ → Reason
+  broken-rule : ℕ → ℕ → Reason
+
+-- the number of the refusal
+abbrev pub reasonNumber : Reason → ℕ
+reasonNumber (refusal number) = number
+reasonNumber (broken-rule rule name) = 9
+
+-- a value with the next place, or a refusal with its place
 pub data Parsed (A : Type 0) : Type 0 where
   parsed : A → ℕ → Parsed A
-  fault : ℕ → ℕ → Parsed A
+  fault : Reason → ℕ → Parsed A
 
 -- what is read from a place on
 abbrev pub Parser : Type 0 → Type 0
@@ -21,7 +32,7 @@ Parser A = ℕ → Parsed A
 -- goes on with the value and the next place; the first refusal stays
 abbrev pub onward : {A B : Type 0} → Parsed A → (A → Parser B) → Parsed B
 onward (parsed x next) rest = rest x next
-onward (fault number place) rest = fault number place
+onward (fault why place) rest = fault why place
 
 infixl 1 _>>=_ _>>_
 abbrev pub _>>=_ : {A B : Type 0} → Parser A → (A → Parser B) → Parser B
@@ -37,9 +48,9 @@ return x at = parsed x at
 abbrev pub here : Parser ℕ
 here at = parsed at at
 
--- refused with this number and place unless the test holds
-abbrev pub require : Bool → ℕ → ℕ → Parser (Unit {0})
-require test number place at = cond test (parsed tt at) (fault number place)
+-- refused for this reason at a place unless the test holds
+abbrev pub require : Bool → Reason → ℕ → Parser (Unit {0})
+require test why place at = cond test (parsed tt at) (fault why place)
 
 -- one after the other, so many times
 unfoldable pub many : {A : Type 0} → ℕ → Parser A → Parser (List A)
@@ -61,19 +72,19 @@ each p (x ∷ xs) = do
 -- that are left.
 pub record Buffer : Type 0 where
   pub bytes : List ℕ
-  pub unreadable : ℕ
-  pub outside : ℕ
-  pub left : ℕ
+  pub unreadable : Reason
+  pub outside : Reason
+  pub left : Reason
 
 -- "3. A number of the job can't be read [..] 4. A number of the job reads but breaks its range or the table of kinds [..] 5. Bytes are left
 -- after the job"
 abbrev pub jobBuffer : List ℕ → Buffer
-jobBuffer s = record { bytes = s; unreadable = 3; outside = 4; left = 5 }
+jobBuffer s = record { bytes = s; unreadable = refusal 3; outside = refusal 4; left = refusal 5 }
 
 -- "6. A number of the certificate can't be read, as in 3. 7. A number of the certificate breaks its range [..] 10. Bytes are left after the
 -- last cover"
 abbrev pub certificateBuffer : List ℕ → Buffer
-certificateBuffer s = record { bytes = s; unreadable = 6; outside = 7; left = 10 }
+certificateBuffer s = record { bytes = s; unreadable = refusal 6; outside = refusal 7; left = refusal 10 }
 
 -- n is at least `low` and below `limit`
 abbrev pub within : ℕ → ℕ → ℕ → Bool

@@ -5,7 +5,7 @@ use Prim.Native.Nat.{ℕ}
 use lib.ListN.{length}
 use Rattle.run.specs.Run.{Located}
 use Rattle.cover.specs.Cover.{owed}
-use Rattle.format.specs.Parser.{Parsed, parsed, fault, onward, Parser, _>>=_, _>>_, return, each, Buffer, jobBuffer, certificateBuffer, within, end}
+use Rattle.format.specs.Parser.{Reason, refusal, Parsed, parsed, fault, onward, Parser, _>>=_, _>>_, return, each, Buffer, jobBuffer, certificateBuffer, within, end}
 use Rattle.format.specs.Job.{readWholeJob}
 use Rattle.format.specs.JobNumbers.{JobFile}
 use Rattle.format.specs.Certificate.{withoutPlaces, readMembers, testStart, readCover}
@@ -19,7 +19,7 @@ pub record Counts : Type 0 where
 -- "an answer carries either the three counts or a refusal with its place"
 pub data Verdict : Type 0 where
   accepted : Counts → Verdict
-  refused : ℕ → ℕ → Verdict
+  refused : Reason → ℕ → Verdict
 
 -- "6 and 7 likewise from the certificate's first number to its last member; then 8, the first such member; then cover by cover 6, 7, 9; then
 -- 10."
@@ -39,7 +39,7 @@ readBoth job certificate = onward (readWholeJob (jobBuffer job) 0) (λ f next. r
 
 abbrev pub conclude : Parsed Counts → Verdict
 conclude (parsed counts next) = accepted counts
-conclude (fault number place) = refused number place
+conclude (fault why place) = refused why place
 
 abbrev pub fits : List ℕ → Bool
 fits s = within 1 65537 (length s)
@@ -48,5 +48,5 @@ fits s = within 1 65537 (length s)
 unfoldable pub verdict : List ℕ → List ℕ → Verdict
 verdict job certificate =
     let read = conclude (readBoth job certificate) in
-    let sized = cond (fits certificate) read (refused 2 0) in
-    cond (fits job) sized (refused 1 0)
+    let sized = cond (fits certificate) read (refused (refusal 2) 0) in
+    cond (fits job) sized (refused (refusal 1) 0)

@@ -5,7 +5,7 @@ use mathlib.Core.Option.{none}
 use mathlib.Core.Path.{_≡_, refl, ap, _∙_}
 use Prim.Native.Nat.{ℕ, zero, suc}
 use native.Mathlib.Omega.{arith}
-use Rattle.format.specs.Parser.{Parsed, parsed, fault, Parser, onward, _>>=_, _>>_, return, here, Buffer, jobBuffer, within, such, ranged}
+use Rattle.format.specs.Parser.{Reason, Parsed, parsed, fault, Parser, onward, _>>=_, _>>_, return, here, Buffer, jobBuffer, within, such, ranged}
 use Rattle.format.proofs.Parsing.{Faulty, read-fault}
 use Rattle.jobreader.specs.Reader.{lastReadOf, readOn, lastReadAfter, preambleRead}
 use Rattle.jobreader.specs.declared.Preamble.{Preamble}
@@ -14,7 +14,7 @@ use Rattle.jobreader.specs.declared.LastRead.{LastRead}
 -- a value with the place after it or, where the refusal is not 0, that refusal with its place
 abbrev pub unlessRefused : {A : Type 0} → ℕ → A → ℕ → Parsed A
 unlessRefused zero value at = parsed value at
-unlessRefused (suc k) value at = fault (suc k) at
+unlessRefused (suc k) value at = fault (Reason.refusal (suc k)) at
 
 abbrev pub parsedLast : LastRead → Parsed ℕ
 parsedLast s = unlessRefused (s .refusal) (s .number) (s .at)
@@ -36,29 +36,26 @@ readPreamble s = do
 -- ---- a number
 
 -- a number that is refused can't be read or breaks its range
-pub ranged-fault : (s : Buffer) (low limit at number place : ℕ) → ranged s low limit at ≡ fault number place
-    → (number ≡ s .unreadable) ⊎ (number ≡ s .outside)
-ranged-fault s low limit at number place e = go (read-fault s (such (within low limit)) at number place e .1)
+pub ranged-fault : (s : Buffer) (low limit at : ℕ) (why : Reason) (place : ℕ) → ranged s low limit at ≡ fault why place
+    → (why ≡ s .unreadable) ⊎ (why ≡ s .outside)
+ranged-fault s low limit at why place e = go (read-fault s (such (within low limit)) at why place e .1)
   where
-    go : Faulty s (λ n. such (within low limit) n ≡ none) number at → (number ≡ s .unreadable) ⊎ (number ≡ s .outside)
+    go : Faulty s (λ n. such (within low limit) n ≡ none) why at → (why ≡ s .unreadable) ⊎ (why ≡ s .outside)
     go (inl (k, _)) = inl k
     go (inr (k, _)) = inr k
 
-as-parsed : (x : Parsed ℕ) → ((place : ℕ) → x ≡ fault 0 place → ⊥) → parsedLast (lastReadOf x) ≡ x
+-- a refusal 3 or 4 is told by its number
+as-parsed : (x : Parsed ℕ) → ((why : Reason) (place : ℕ) → x ≡ fault why place → (why ≡ Reason.refusal 3) ⊎ (why ≡ Reason.refusal 4)) → parsedLast (lastReadOf x) ≡ x
 as-parsed (parsed n next) h = refl
-as-parsed (fault zero place) h = absurd (h place refl)
-as-parsed (fault (suc k) place) h = refl
+as-parsed (fault why place) h = go (h why place refl)
+  where
+    go : (why ≡ Reason.refusal 3) ⊎ (why ≡ Reason.refusal 4) → parsedLast (lastReadOf (fault why place)) ≡ fault why place
+    go (inl z) = rw z refl
+    go (inr z) = rw z refl
 
 module _ (job : List ℕ) (low limit : ℕ) where
-  not-zero : (at place : ℕ) → ranged (jobBuffer job) low limit at ≡ fault 0 place → ⊥
-  not-zero at place e = go (ranged-fault (jobBuffer job) low limit at 0 place e)
-    where
-      go : _≡_ {A = ℕ} 0 3 ⊎ _≡_ {A = ℕ} 0 4 → ⊥
-      go (inl z) = omega arith
-      go (inr z) = omega arith
-
   pub last-parsed : (at : ℕ) → parsedLast (lastReadOf (ranged (jobBuffer job) low limit at)) ≡ ranged (jobBuffer job) low limit at
-  last-parsed at = as-parsed (ranged (jobBuffer job) low limit at) (not-zero at)
+  last-parsed at = as-parsed (ranged (jobBuffer job) low limit at) (ranged-fault (jobBuffer job) low limit at)
 
   on-parsed : (at refusal : ℕ) → parsedLast (lastReadOf (readOn at refusal (ranged (jobBuffer job) low limit))) ≡ readOn at refusal (ranged (jobBuffer job) low limit)
   on-parsed at zero = last-parsed at

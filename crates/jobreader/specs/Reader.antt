@@ -1,6 +1,6 @@
 -- What a reader of a job reads, in terms of the parsers.
 use Prim.Native.Nat.{ℕ, zero, suc}
-use Rattle.format.specs.Parser.{Parsed, parsed, fault, Parser, Buffer, ranged}
+use Rattle.format.specs.Parser.{Reason, reasonNumber, Parsed, parsed, fault, Parser, Buffer, ranged}
 use Rattle.jobreader.specs.declared.Preamble.{Preamble}
 use Rattle.jobreader.specs.declared.Reader.{Reader}
 use Rattle.jobreader.specs.declared.LastRead.{LastRead}
@@ -8,12 +8,12 @@ use Rattle.jobreader.specs.declared.LastRead.{LastRead}
 -- what was read: the number and the place after it; or a refusal, its place, and 0 for the number
 abbrev pub lastReadOf : Parsed ℕ → LastRead
 lastReadOf (parsed n next) = record { at = next; number = n; refusal = 0 }
-lastReadOf (fault k place) = record { at = place; number = 0; refusal = k }
+lastReadOf (fault why place) = record { at = place; number = 0; refusal = reasonNumber why }
 
 -- reading goes on at a place, unless a number was refused there
 abbrev pub readOn : ℕ → ℕ → Parser ℕ → Parsed ℕ
 readOn at zero p = p at
-readOn at (suc k) p = fault (suc k) at
+readOn at (suc k) p = fault (Reason.refusal (suc k)) at
 
 abbrev pub lastReadAfter : LastRead → Parser ℕ → LastRead
 lastReadAfter s p = lastReadOf (readOn (s .at) (s .refusal) p)

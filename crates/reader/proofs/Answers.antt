@@ -6,9 +6,9 @@ use Prim.Native.Nat.{ℕ, _≤_, _<_}
 use Rattle.lists.proofs.Reflect.{r-le, r-lt, r-and, cond-true, cond-false}
 use Rattle.number.specs.Number.{numberAt}
 use Rattle.number.specs.declared.Read.the-variants.{Number, Unreadable}
-use Rattle.format.specs.Parser.{Parsed, parsed, fault, Buffer, within, such, meant, readAs, ranged}
+use Rattle.format.specs.Parser.{Reason, Parsed, parsed, fault, Buffer, within, such, meant, readAs, ranged}
 use Rattle.format.proofs.Parsing.{read-complete, read-outside, ranged-exact}
-use Rattle.verdict.specs.Verdict.{refusalNumber, reachedOf}
+use Rattle.verdict.specs.Verdict.{reasonOf, reachedOf}
 use Rattle.verdict.specs.declared.Reached.{Reached}
 use Rattle.verdict.specs.declared.Reached.the-variants.{At, Refused as ReachedRefused}
 use Rattle.verdict.specs.declared.Refusal.{Refusal}
@@ -24,12 +24,12 @@ module _ {r : Ranged} {x : Parsed ℕ} (h : rangedOf r ≡ x) where
   pub got : {n next : ℕ} → r ≡ Value n next → x ≡ parsed n next
   got e = sym h ∙ ap rangedOf e
 
-  pub lost : {why : Refusal} {place : ℕ} → r ≡ Refused why place → x ≡ fault (refusalNumber why) place
+  pub lost : {why : Refusal} {place : ℕ} → r ≡ Refused why place → x ≡ fault (reasonOf why) place
   lost e = sym h ∙ ap rangedOf e
 
   -- the refusal, handed on
   pub passed : {y : Parsed (Unit {0})} {why : Refusal} {place : ℕ} → y ≡ withoutValue (rangedOf r) → r ≡ Refused why place
-      → y ≡ fault (refusalNumber why) place
+      → y ≡ fault (reasonOf why) place
   passed k e = k ∙ ap (λ y. withoutValue (rangedOf y)) e
 
 -- ---- a place that was reached, or a refusal
@@ -38,7 +38,7 @@ module _ {r : Reached} {x : Parsed (Unit {0})} (h : reachedOf r ≡ x) where
   pub reached-got : {next : ℕ} → r ≡ At next → x ≡ parsed tt next
   reached-got e = sym h ∙ ap reachedOf e
 
-  pub reached-lost : {why : Refusal} {place : ℕ} → r ≡ ReachedRefused why place → x ≡ fault (refusalNumber why) place
+  pub reached-lost : {why : Refusal} {place : ℕ} → r ≡ ReachedRefused why place → x ≡ fault (reasonOf why) place
   reached-lost e = sym h ∙ ap reachedOf e
 
 -- ---- a number in its range
@@ -56,7 +56,7 @@ unreadable-of Job bytes = refl
 unreadable-of Certificate bytes = refl
 
 module _ (input : Input) (bytes : List ℕ) (at low limit : ℕ) where
-  pub unread : (k p : ℕ) → k ≡ bufferOf input [] .unreadable → numberAt bytes at ≡ Unreadable p
+  pub unread : (k : Reason) (p : ℕ) → k ≡ bufferOf input [] .unreadable → numberAt bytes at ≡ Unreadable p
       → fault k at ≡ ranged (bufferOf input bytes) low limit at
   unfolding readAs
   unread k p e g =
@@ -64,7 +64,7 @@ module _ (input : Input) (bytes : List ℕ) (at low limit : ℕ) where
       ∙ sym (ap (meant (bufferOf input bytes) (such (within low limit)) at) (ap (λ l. numberAt l at) (bytes-of input bytes) ∙ g))
 
   module _ (n next : ℕ) (g : numberAt bytes at ≡ Number n next) where
-    pub outside : (k : ℕ) → k ≡ bufferOf input [] .outside → ((low ≤ n) × (n < limit) → ⊥) → fault k at ≡ ranged (bufferOf input bytes) low limit at
+    pub outside : (k : Reason) → k ≡ bufferOf input [] .outside → ((low ≤ n) × (n < limit) → ⊥) → fault k at ≡ ranged (bufferOf input bytes) low limit at
     outside k e h =
         ap (λ z. fault z at) (e ∙ outside-of input bytes)
         ∙ sym

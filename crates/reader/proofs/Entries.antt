@@ -7,17 +7,17 @@ use Rattle.heap.specs.Place.{cell}
 use Rattle.shape.specs.Shape.{Shape}
 use Rattle.run.specs.Run.{Located}
 use Rattle.format.specs.Job.{readShape, readLocated}
-use Rattle.format.specs.Parser.{parsed, fault, onward, many, Buffer, ranged}
+use Rattle.format.specs.Parser.{Reason, parsed, fault, onward, many, Buffer, ranged}
 use Rattle.reader.specs.Number.{withoutValue}
 use Rattle.reader.proofs.Many.{remembered, without-value-fault, without-value-made}
 
 module _ (s : Buffer) (variables states at : ℕ) where
-  pub lost-state : {number place : ℕ} → ranged s 0 states at ≡ fault number place → fault number place ≡ withoutValue (readLocated s variables states at)
+  pub lost-state : {why : Reason} {place : ℕ} → ranged s 0 states at ≡ fault why place → fault why place ≡ withoutValue (readLocated s variables states at)
   unfolding readLocated
   lost-state e = rw e refl
 
   module _ {state a : ℕ} (e₁ : ranged s 0 states at ≡ parsed state a) where
-    pub lost-size : {number place : ℕ} → ranged s 0 13 a ≡ fault number place → fault number place ≡ withoutValue (readLocated s variables states at)
+    pub lost-size : {why : Reason} {place : ℕ} → ranged s 0 13 a ≡ fault why place → fault why place ≡ withoutValue (readLocated s variables states at)
     unfolding readLocated readShape
     lost-size e = rw (e₁, e) refl
 
@@ -25,10 +25,10 @@ module _ (s : Buffer) (variables states at : ℕ) where
       codes : (k at : ℕ) → many k (ranged s 0 (3 + n)) at ≡ many k (ranged s 0 (cell n)) at
       codes k at = let z : 3 + n ≡ cell n = omega arith in rw z refl
 
-      pub lost-vars : {number place : ℕ} → withoutValue (many variables (ranged s 0 (3 + n)) b) ≡ fault number place
-          → fault number place ≡ withoutValue (readLocated s variables states at)
+      pub lost-vars : {why : Reason} {place : ℕ} → withoutValue (many variables (ranged s 0 (3 + n)) b) ≡ fault why place
+          → fault why place ≡ withoutValue (readLocated s variables states at)
       unfolding readLocated readShape
-      lost-vars {number} {place} e = rw (e₁, e₂, without-value-fault (many variables (ranged s 0 (cell n)) b) number place (sym (ap withoutValue (codes variables b)) ∙ e)) refl
+      lost-vars {why} {place} e = rw (e₁, e₂, without-value-fault (many variables (ranged s 0 (cell n)) b) why place (sym (ap withoutValue (codes variables b)) ∙ e)) refl
 
       pub links-last : {c : ℕ} → withoutValue (many variables (ranged s 0 (3 + n)) b) ≡ parsed tt c
           → withoutValue (many n (ranged s 0 (3 + n)) c) ≡ withoutValue (readLocated s variables states at)

@@ -9,7 +9,7 @@ use borrow.Author.Tests.{le-leb, lt-leb}
 use lib.Dec.{eqb}
 use lib.ListN.{length}
 use Rattle.format.specs.Job.{readLocated}
-use Rattle.format.specs.Parser.{Parsed, parsed, fault, many, Buffer, jobBuffer, ranged, end}
+use Rattle.format.specs.Parser.{Reason, refusal, Parsed, parsed, fault, many, Buffer, jobBuffer, ranged, end}
 use Rattle.format.proofs.Parsing.{then, then-fault, ranged-exact}
 use Rattle.format.proofs.Sequence.{reads-one}
 use Rattle.number.specs.Number.{numberAt}
@@ -24,23 +24,23 @@ use Rattle.reader.proofs.Many.{remembered, without-value-fault}
 
 -- ---- the numbers before the transitions
 
--- what a reader gives; k is the number of the refusal that the code answers
-module _ {A : Type 0} (refusal at : ℕ) (value : A) {x : Parsed A} where
-  pub reader-refused : (k : ℕ) → unlessRefused refusal value at ≡ x → (refusal ≡ 0 → ⊥) → ((number place : ℕ) → x ≡ fault number place → (number ≡ 3) ⊎ (number ≡ 4))
-      → k ≡ cond (eqb refusal 3) 3 4 → x ≡ fault k at
-  reader-refused k e some which k-is = go refusal refl
+-- what a reader gives, with the number n of a refusal; k is the refusal that the code answers
+module _ {A : Type 0} (n at : ℕ) (value : A) {x : Parsed A} where
+  pub reader-refused : (k : Reason) → unlessRefused n value at ≡ x → (n ≡ 0 → ⊥)
+      → ((why : Reason) (place : ℕ) → x ≡ fault why place → (why ≡ refusal 3) ⊎ (why ≡ refusal 4)) → k ≡ refusal (cond (eqb n 3) 3 4) → x ≡ fault k at
+  reader-refused k e some which k-is = go n refl
     where
-      as-number : (refusal ≡ 3) ⊎ (refusal ≡ 4) → refusal ≡ k
-      as-number (inl z) = z ∙ sym (rw z at k-is)
-      as-number (inr z) = z ∙ sym (rw z at k-is)
+      as-number : (refusal n ≡ refusal 3) ⊎ (refusal n ≡ refusal 4) → refusal n ≡ k
+      as-number (inl z) = let n-is : n ≡ 3 = cc in z ∙ sym (rw n-is at k-is)
+      as-number (inr z) = let n-is : n ≡ 4 = cc in z ∙ sym (rw n-is at k-is)
 
-      go : (r : ℕ) → refusal ≡ r → x ≡ fault k at
+      go : (r : ℕ) → n ≡ r → x ≡ fault k at
       go zero z = absurd (some z)
       go (suc j) z =
-          let f : x ≡ fault refusal at = sym (rw z at e) ∙ ap (λ n. fault n at) (sym z) in
-          f ∙ ap (λ n. fault n at) (as-number (which refusal at f))
+          let f : x ≡ fault (refusal n) at = sym (rw z at e) ∙ ap (λ r. fault (refusal r) at) (sym z) in
+          f ∙ ap (λ r. fault r at) (as-number (which (refusal n) at f))
 
-  pub reader-read : unlessRefused refusal value at ≡ x → refusal ≡ 0 → x ≡ parsed value at
+  pub reader-read : unlessRefused n value at ≡ x → n ≡ 0 → x ≡ parsed value at
   reader-read e z = sym (rw z at e)
 
 -- a number of a range below 128 is one byte
@@ -50,16 +50,16 @@ one-byte s low limit at n next h small =
     single (s .bytes) at n next (reads-one g) (omega arith) .after
 
 module _ (s : Buffer) (at : ℕ) where
-  pub preamble-fault : (number place : ℕ) → readPreamble s at ≡ fault number place → (number ≡ s .unreadable) ⊎ (number ≡ s .outside)
+  pub preamble-fault : (why : Reason) (place : ℕ) → readPreamble s at ≡ fault why place → (why ≡ s .unreadable) ⊎ (why ≡ s .outside)
   unfolding readPreamble
-  preamble-fault number place =
+  preamble-fault why place =
       then-fault (ranged s 1 2 at) _
       (λ version p₁ h₁. then-fault (ranged s 1 9 p₁) _
       (λ variables p₂ h₂. then-fault (ranged s 1 65 p₂) _
       (λ states p₃ h₃. then-fault (ranged s 0 states p₃) _
       (λ start p₄ h₄. then-fault (ranged s 0 257 p₄) _
-      (λ transitions p₅ h₅ e. let z : _≡_ {A = ℕ} 0 1 = cc in absurd (omega arith)) (ranged-fault s 0 257 p₄ number place))
-      (ranged-fault s 0 states p₃ number place)) (ranged-fault s 1 65 p₂ number place)) (ranged-fault s 1 9 p₁ number place)) (ranged-fault s 1 2 at number place)
+      (λ transitions p₅ h₅ e. let z : _≡_ {A = ℕ} 0 1 = cc in absurd (omega arith)) (ranged-fault s 0 257 p₄ why place))
+      (ranged-fault s 0 states p₃ why place)) (ranged-fault s 1 65 p₂ why place)) (ranged-fault s 1 9 p₁ why place)) (ranged-fault s 1 2 at why place)
 
   pub preamble-variables : (f : Preamble) (next : ℕ) → readPreamble s at ≡ parsed f next → f .variables ≤ 8
   unfolding readPreamble
@@ -101,18 +101,18 @@ module _ (job : List ℕ) (f : Preamble) (at : ℕ) where
   abbrev s : Buffer
   s = jobBuffer job
 
-  pub lost-bads : {number place : ℕ} → ranged s 1 65 at ≡ fault number place → readRest job f at ≡ fault number place
+  pub lost-bads : {why : Reason} {place : ℕ} → ranged s 1 65 at ≡ fault why place → readRest job f at ≡ fault why place
   unfolding readRest
   lost-bads e = rw e refl
 
   module _ {bads p : ℕ} (e₁ : ranged s 1 65 at ≡ parsed bads p) where
-    pub lost-forbidden : {number place : ℕ} → withoutValue (many bads (readLocated s (f .variables) (f .states)) p) ≡ fault number place
-        → readRest job f at ≡ fault number place
+    pub lost-forbidden : {why : Reason} {place : ℕ} → withoutValue (many bads (readLocated s (f .variables) (f .states)) p) ≡ fault why place
+        → readRest job f at ≡ fault why place
     unfolding readRest
-    lost-forbidden {number} {place} e = rw (e₁, without-value-fault (many bads (readLocated s (f .variables) (f .states)) p) number place e) refl
+    lost-forbidden {why} {place} e = rw (e₁, without-value-fault (many bads (readLocated s (f .variables) (f .states)) p) why place e) refl
 
     module _ {last : ℕ} (e₂ : withoutValue (many bads (readLocated s (f .variables) (f .states)) p) ≡ parsed tt last) where
-      pub left-over : last < length job → readRest job f at ≡ fault 5 last
+      pub left-over : last < length job → readRest job f at ≡ fault (refusal 5) last
       unfolding readRest end
       left-over h =
           let (ms, e₃) = remembered (many bads (readLocated s (f .variables) (f .states)) p) last e₂ in

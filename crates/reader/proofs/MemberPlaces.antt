@@ -10,7 +10,7 @@ use lib.Seq.{length-take-le, take-suc-set, take-at, drop-set-lt, drop-drop}
 use Rattle.run.specs.Run.{Located}
 use Rattle.format.specs.Certificate.{Member, readMember, readMembers}
 use Rattle.format.specs.Job.{readLocated}
-use Rattle.format.specs.Parser.{Parsed, parsed, fault, Parser, onward, Buffer, certificateBuffer, many, ranged}
+use Rattle.format.specs.Parser.{Reason, Parsed, parsed, fault, Parser, onward, Buffer, certificateBuffer, many, ranged}
 use Rattle.format.proofs.Covers.{members-sound}
 use Rattle.format.proofs.Parsing.{then, ranged-exact}
 use Rattle.format.proofs.Sequence.{reads-one, reads-inside}
@@ -39,9 +39,9 @@ module _ {A : Type 0} (p : Parser A) where
   unfolding placesRead
   places-more k at next e = let (x, g) = remembered (p at) next e in rw g refl
 
-  places-last : (k at number place : ℕ) → withoutValue (p at) ≡ fault number place → placesRead (suc k) p at ≡ at ∷ []
+  places-last : (k at : ℕ) (why : Reason) (place : ℕ) → withoutValue (p at) ≡ fault why place → placesRead (suc k) p at ≡ at ∷ []
   unfolding placesRead
-  places-last k at number place e = rw (without-value-fault (p at) number place e) refl
+  places-last k at why place e = rw (without-value-fault (p at) why place e) refl
 
   module _ (count first : ℕ) (before : List ℕ) where
     pub record Noting (table : List ℕ) (at i : ℕ) : Type 0 where
@@ -85,10 +85,10 @@ module _ {A : Type 0} (p : Parser A) where
               rest = behind;
             }
 
-        pub note-last : (number place : ℕ) → withoutValue (p at) ≡ fault number place → set table i (slot at) ≡ withPlaces (placesRead count p first) before
-        note-last number place e =
+        pub note-last : (why : Reason) (place : ℕ) → withoutValue (p at) ≡ fault why place → set table i (slot at) ≡ withPlaces (placesRead count p first) before
+        note-last why place e =
             let places-left : placesRead (count - i) p at ≡ at ∷ [] =
-            ap (λ k. placesRead k p at) i-left ∙ places-last (count - (i + 1)) at number place e in
+            ap (λ k. placesRead k p at) i-left ∙ places-last (count - (i + 1)) at why place e in
             withPlaces-by (set table i (slot at)) (placesRead count p first) before (i + 1) (omega (arith, length-set table i (slot at), n .size))
             (filled ∙ ap (λ l. take i table ++ map slot l) (sym places-left) ∙ n .places) behind
 
@@ -144,14 +144,14 @@ module _ (cert : List ℕ) (variables states : ℕ) where
   -- ---- the certificate's first bytes
 
   module _ (start : ℕ) where
-    pub lost-version : {number place : ℕ} → ranged s 1 2 0 ≡ fault number place
-        → (readTested s variables states start 0 ≡ fault number place) × (memberPlaces s variables states ≡ [])
+    pub lost-version : {why : Reason} {place : ℕ} → ranged s 1 2 0 ≡ fault why place
+        → (readTested s variables states start 0 ≡ fault why place) × (memberPlaces s variables states ≡ [])
     unfolding readTested readMembers memberPlaces
     lost-version e = rw e (refl, refl)
 
     module _ {version a : ℕ} (e₁ : ranged s 1 2 0 ≡ parsed version a) where
-      pub lost-number : {number place : ℕ} → ranged s 1 513 a ≡ fault number place
-          → (readTested s variables states start 0 ≡ fault number place) × (memberPlaces s variables states ≡ [])
+      pub lost-number : {why : Reason} {place : ℕ} → ranged s 1 513 a ≡ fault why place
+          → (readTested s variables states start 0 ≡ fault why place) × (memberPlaces s variables states ≡ [])
       unfolding readTested readMembers memberPlaces
       lost-number e = rw (e₁, e) (refl, refl)
 
@@ -171,9 +171,9 @@ module _ (cert : List ℕ) (variables states : ℕ) where
         unfolding readTested
         testing-is = ap (λ x. onward x (tested start)) reading-is
 
-        pub lost-test : {number place : ℕ} → withoutValue (onward all (tested start)) ≡ fault number place
-            → readTested s variables states start 0 ≡ fault number place
-        lost-test {number} {place} e = testing-is ∙ without-value-fault (onward all (tested start)) number place e
+        pub lost-test : {why : Reason} {place : ℕ} → withoutValue (onward all (tested start)) ≡ fault why place
+            → readTested s variables states start 0 ≡ fault why place
+        lost-test {why} {place} e = testing-is ∙ without-value-fault (onward all (tested start)) why place e
 
         pub members-made : (before table : List ℕ) (next : ℕ) → table ≡ withPlaces (placesRead count (readMember s variables states) first) before
             → withoutValue (onward all (tested start)) ≡ parsed tt next → length before ≡ 512 → MembersRead cert variables states start table count next

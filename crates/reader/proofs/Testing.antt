@@ -11,7 +11,7 @@ use Rattle.number.proofs.Reading.{one-byte}
 use Rattle.run.specs.Run.{Located}
 use Rattle.format.specs.Certificate.{Member, atStart, readMember, testStart}
 use Rattle.format.specs.Job.{readLocated}
-use Rattle.format.specs.Parser.{Parsed, parsed, fault, Parser, onward, require, many, each, Buffer, certificateBuffer, ranged}
+use Rattle.format.specs.Parser.{Reason, refusal, Parsed, parsed, fault, Parser, onward, require, many, each, Buffer, certificateBuffer, ranged}
 use Rattle.format.proofs.Parsing.{not-fault, then, require-sound, ranged-exact}
 use Rattle.format.proofs.Sequence.{reads-one}
 use Rattle.reader.specs.Members.{emptyAt, tested}
@@ -31,8 +31,8 @@ module _ (cert : List ℕ) (variables states start at : ℕ) (l : Located) (next
     abbrev member : Member
     member = record { first = at; located = l }
 
-    pub state-read : {number place : ℕ} → ranged s 0 states at ≡ fault number place → ⊥
-    state-read {number} {place} e = not-fault tt next number place (lost-state s variables states at e ∙ ap withoutValue h)
+    pub state-read : {why : Reason} {place : ℕ} → ranged s 0 states at ≡ fault why place → ⊥
+    state-read {why} {place} e = not-fault tt next why place (lost-state s variables states at e ∙ ap withoutValue h)
 
     module _ (a : ℕ) (w : EntryAfter s variables states at a l next) where
       -- its test, by its bytes
@@ -46,7 +46,7 @@ module _ (cert : List ℕ) (variables states start at : ℕ) (l : Located) (next
         pub not-empty : emptyAt cert variables a ≡ false → parsed tt next ≡ testStart start member next
         not-empty z = rw (by-bytes, eq-eqb (l .state) start is-start, z) refl
 
-        pub satisfied : emptyAt cert variables a ≡ true → fault 8 at ≡ testStart start member next
+        pub satisfied : emptyAt cert variables a ≡ true → fault (refusal 8) at ≡ testStart start member next
         satisfied z = rw (by-bytes, eq-eqb (l .state) start is-start, z) refl
 
     -- where its state is the number read
@@ -82,7 +82,7 @@ each-place start (m ∷ ms) at us next e =
     then (testStart start m at) _
     (λ u a h₁. then (each (testStart start) ms a) _
     (λ vs b h₂ r.
-    let (_, here) = require-sound (not (atStart start (m .located))) 8 (m .first) at h₁ in
+    let (_, here) = require-sound (not (atStart start (m .located))) (refusal 8) (m .first) at h₁ in
     let later = each-place start ms a vs b h₂ in
     cc)) e
 
@@ -106,18 +106,18 @@ module _ (start : ℕ) (ms : List Member) (at next : ℕ) (e : withoutValue (tes
 -- ---- one member more
 
 module _ (start : ℕ) (m : Member) (ms : List Member) (mid end : ℕ) where
-  pub first-refused : (number place : ℕ) → testStart start m mid ≡ fault number place → fault number place ≡ withoutValue (tested start (m ∷ ms) end)
+  pub first-refused : (why : Reason) (place : ℕ) → testStart start m mid ≡ fault why place → fault why place ≡ withoutValue (tested start (m ∷ ms) end)
   unfolding each
-  first-refused number place e = go (not (atStart start (m .located))) e
+  first-refused why place e = go (not (atStart start (m .located))) e
     where
       one : Unit {0}
       one = tt
 
-      go : (b : Bool) → require b 8 (m .first) mid ≡ fault number place
-          → fault number place ≡ withoutValue (onward (onward (require b 8 (m .first) end) (λ u a. onward (each (testStart start) ms a) (λ us c. parsed (u ∷ us) c)))
+      go : (b : Bool) → require b (refusal 8) (m .first) mid ≡ fault why place
+          → fault why place ≡ withoutValue (onward (onward (require b (refusal 8) (m .first) end) (λ u a. onward (each (testStart start) ms a) (λ us c. parsed (u ∷ us) c)))
           (λ us c. parsed (m ∷ ms) c))
-      go true e = absurd (not-fault one mid number place (sym e))
-      go false e = ap withoutValue {x = fault number place} {y = fault 8 (m .first)} (sym e)
+      go true e = absurd (not-fault one mid why place (sym e))
+      go false e = ap withoutValue {x = fault why place} {y = fault (refusal 8) (m .first)} (sym e)
 
   pub first-passed : (next : ℕ) → testStart start m mid ≡ parsed tt next → (mid ≡ next) × (withoutValue (tested start (m ∷ ms) end) ≡ withoutValue (tested start ms end))
   unfolding each
@@ -129,14 +129,14 @@ module _ (start : ℕ) (m : Member) (ms : List Member) (mid end : ℕ) where
       rest : (x : Parsed (List (Unit {0}))) → withoutValue (onward (onward x (λ us c. parsed (one ∷ us) c)) (λ us c. parsed (m ∷ ms) c))
           ≡ withoutValue (onward x (λ us c. parsed ms c))
       rest (parsed us c) = refl
-      rest (fault number place) = refl
+      rest (fault why place) = refl
 
-      go : (b : Bool) → require b 8 (m .first) mid ≡ parsed one next
+      go : (b : Bool) → require b (refusal 8) (m .first) mid ≡ parsed one next
           → (mid ≡ next)
-          × (withoutValue (onward (onward (require b 8 (m .first) end) (λ u a. onward (each (testStart start) ms a) (λ us c. parsed (u ∷ us) c)))
+          × (withoutValue (onward (onward (require b (refusal 8) (m .first) end) (λ u a. onward (each (testStart start) ms a) (λ us c. parsed (u ∷ us) c)))
           (λ us c. parsed (m ∷ ms) c)) ≡ withoutValue (onward (each (testStart start) ms end) (λ us c. parsed ms c)))
       go true e = (cc, rest (each (testStart start) ms end))
-      go false e = absurd (not-fault one next 8 (m .first) e)
+      go false e = absurd (not-fault one next (refusal 8) (m .first) e)
 
 -- ---- the loop: i of the members are tested, the next is at a place
 
@@ -199,10 +199,10 @@ module _ (cert : List ℕ) (variables states start first count : ℕ) where
       abbrev here : Member
       here = record { first = at; located = n .located }
 
-      pub test-lost : (number place : ℕ) → testStart start here (n .mid) ≡ fault number place
-          → fault number place ≡ withoutValue (onward (many count p first) (tested start))
-      test-lost number place e =
-          first-refused start here (n .others) (n .mid) (w .end) number place e
+      pub test-lost : (why : Reason) (place : ℕ) → testStart start here (n .mid) ≡ fault why place
+          → fault why place ≡ withoutValue (onward (many count p first) (tested start))
+      test-lost why place e =
+          first-refused start here (n .others) (n .mid) (w .end) why place e
           ∙ ap (λ ms. withoutValue (tested start ms (w .end))) (n .left-are) ∙ w .same
 
       pub test-more : (next : ℕ) → i < count → testStart start here (n .mid) ≡ parsed tt next → Testing next (i + 1)
@@ -261,9 +261,9 @@ module _ (cert : List ℕ) (variables states start first count : ℕ) where
         sym done ∙ w
 
   -- a member that is refused as it is read is refused before any test
-  pub read-lost : (number place : ℕ) → fault number place ≡ withoutValue (many count q first)
-      → fault number place ≡ withoutValue (onward (many count q first) (tested start))
-  read-lost number place e = rw (without-value-fault (many count q first) number place (sym e)) refl
+  pub read-lost : (why : Reason) (place : ℕ) → fault why place ≡ withoutValue (many count q first)
+      → fault why place ≡ withoutValue (onward (many count q first) (tested start))
+  read-lost why place e = rw (without-value-fault (many count q first) why place (sym e)) refl
 
 -- all members were read, where all pass
 pub all-read : (start : ℕ) (x : Parsed (List Member)) (next : ℕ) → withoutValue (onward x (tested start)) ≡ parsed tt next
@@ -271,4 +271,4 @@ pub all-read : (start : ℕ) (x : Parsed (List Member)) (next : ℕ) → without
 all-read start (parsed ms at) next e =
     let same : at ≡ next = tested-place start ms at next e in
     (ms, (ap (parsed ms) same, ap (tested start ms) (sym same) ∙ tested-same start ms at next e))
-all-read start (fault number place) next e = absurd (not-fault tt next number place e)
+all-read start (fault why place) next e = absurd (not-fault tt next why place e)

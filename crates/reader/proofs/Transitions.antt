@@ -13,7 +13,7 @@ use Rattle.run.specs.Run.{Transition}
 use Rattle.kinds.specs.Kinds.{leastA, leastB, mostB}
 use Rattle.heap.proofs.Rows.{is-kind, no-kind}
 use Rattle.format.specs.Job.{readTransition}
-use Rattle.format.specs.Parser.{parsed, fault, Buffer, within, such, meant, readAs, ranged}
+use Rattle.format.specs.Parser.{Reason, parsed, fault, Buffer, within, such, meant, readAs, ranged}
 use Rattle.format.proofs.Parsing.{read-complete, read-outside, read-fault, Faulty, ranged-exact}
 use Rattle.format.proofs.Sequence.{reads-one}
 use Rattle.reader.specs.Number.{withoutValue}
@@ -28,11 +28,11 @@ module _ (s : Buffer) (at : ℕ) where
       let (row, r) = is-kind kind l (omega arith) in
       (row, r, read-complete s kindOf at kind next row (reads-one g) r)
 
-  pub kind-lost : (number place : ℕ) → ranged s 1 8 at ≡ fault number place → readAs s kindOf at ≡ fault number place
+  pub kind-lost : (why : Reason) (place : ℕ) → ranged s 1 8 at ≡ fault why place → readAs s kindOf at ≡ fault why place
   unfolding readAs
-  kind-lost number place e = by-fault (read-fault s (such (within 1 8)) at number place e)
+  kind-lost why place e = by-fault (read-fault s (such (within 1 8)) at why place e)
     where
-      by-fault : (at ≡ place) × Faulty s (λ n. such (within 1 8) n ≡ none) number at → readAs s kindOf at ≡ fault number place
+      by-fault : (at ≡ place) × Faulty s (λ n. such (within 1 8) n ≡ none) why at → readAs s kindOf at ≡ fault why place
       by-fault (z, inl (k, g)) = ap (meant s kindOf at) g ∙ cc
       by-fault (z, inr (k, (n, next, g, out))) =
           read-outside s kindOf at n next g
@@ -61,26 +61,26 @@ module _ (s : Buffer) (n kind : ℕ) (row : Kind) (r : kindOf kind ≡ some row)
 -- ---- a transition
 
 module _ (s : Buffer) (variables states at : ℕ) where
-  pub lost-from : {number place : ℕ} → ranged s 0 states at ≡ fault number place → fault number place ≡ withoutValue (readTransition s variables states at)
+  pub lost-from : {why : Reason} {place : ℕ} → ranged s 0 states at ≡ fault why place → fault why place ≡ withoutValue (readTransition s variables states at)
   unfolding readTransition
   lost-from e = rw e refl
 
   module _ {from p₁ : ℕ} (e₁ : ranged s 0 states at ≡ parsed from p₁) where
-    pub lost-kind : {number place : ℕ} → ranged s 1 8 p₁ ≡ fault number place → fault number place ≡ withoutValue (readTransition s variables states at)
+    pub lost-kind : {why : Reason} {place : ℕ} → ranged s 1 8 p₁ ≡ fault why place → fault why place ≡ withoutValue (readTransition s variables states at)
     unfolding readTransition
-    lost-kind {number} {place} e = rw (e₁, kind-lost s p₁ number place e) refl
+    lost-kind {why} {place} e = rw (e₁, kind-lost s p₁ why place e) refl
 
     module _ {kind p₂ : ℕ} (e₂ : ranged s 1 8 p₁ ≡ parsed kind p₂) where
-      pub lost-a : {number place : ℕ} → ranged s (leastA kind) (variables + 1) p₂ ≡ fault number place
-          → fault number place ≡ withoutValue (readTransition s variables states at)
+      pub lost-a : {why : Reason} {place : ℕ} → ranged s (leastA kind) (variables + 1) p₂ ≡ fault why place
+          → fault why place ≡ withoutValue (readTransition s variables states at)
       unfolding readTransition
       lost-a e =
           let (row, r, k) = kind-got s p₁ kind p₂ e₂ in
           rw (e₁, k, sym (operand-a s variables kind row r p₂) ∙ e) refl
 
       module _ {a p₃ : ℕ} (e₃ : ranged s (leastA kind) (variables + 1) p₂ ≡ parsed a p₃) where
-        pub lost-b : {number place : ℕ} → ranged s (leastB kind) (mostB kind variables + 1) p₃ ≡ fault number place
-            → fault number place ≡ withoutValue (readTransition s variables states at)
+        pub lost-b : {why : Reason} {place : ℕ} → ranged s (leastB kind) (mostB kind variables + 1) p₃ ≡ fault why place
+            → fault why place ≡ withoutValue (readTransition s variables states at)
         unfolding readTransition
         lost-b e =
             let (row, r, k) = kind-got s p₁ kind p₂ e₂ in

@@ -7,7 +7,7 @@ use lib.ListN.{length}
 use Rattle.run.specs.Run.{Transition, Located}
 use Rattle.format.specs.Job.{readLocated, readTransition, readJob, readWholeJob}
 use Rattle.format.specs.JobNumbers.{JobFile}
-use Rattle.format.specs.Parser.{Parsed, parsed, fault, Parser, onward, _>>=_, _>>_, return, many, jobBuffer, ranged, end}
+use Rattle.format.specs.Parser.{Reason, Parsed, parsed, fault, Parser, onward, _>>=_, _>>_, return, many, jobBuffer, ranged, end}
 use Rattle.format.proofs.Files.{located-exact, transition-exact, job-exact, whole-sound, end-sound, end-complete}
 use Rattle.format.proofs.Parsing.{then, many-exact, ranged-exact}
 use Rattle.format.proofs.Sequence.{reads-one, reads-inside}
@@ -51,21 +51,21 @@ module _ (job : List ℕ) where
 
   -- ---- refusals
 
-  pub preamble-lost : {number place : ℕ} → readPreamble (jobBuffer job) 0 ≡ fault number place → readWholeJob (jobBuffer job) 0 ≡ fault number place
+  pub preamble-lost : {why : Reason} {place : ℕ} → readPreamble (jobBuffer job) 0 ≡ fault why place → readWholeJob (jobBuffer job) 0 ≡ fault why place
   preamble-lost e = rw (parts, e) refl
 
   module _ (f : Preamble) (e₁ : readPreamble (jobBuffer job) 0 ≡ parsed f (f .at)) where
     abbrev steps : Parsed (List Transition)
     steps = many (f .transitions) (readTransition (jobBuffer job) (f .variables) (f .states)) (f .at)
 
-    pub transitions-lost : {number place : ℕ} → withoutValue steps ≡ fault number place → readWholeJob (jobBuffer job) 0 ≡ fault number place
-    transitions-lost {number} {place} e = rw (parts, e₁, without-value-fault steps number place e) refl
+    pub transitions-lost : {why : Reason} {place : ℕ} → withoutValue steps ≡ fault why place → readWholeJob (jobBuffer job) 0 ≡ fault why place
+    transitions-lost {why} {place} e = rw (parts, e₁, without-value-fault steps why place e) refl
 
     module _ (at : ℕ) (e₂ : withoutValue steps ≡ parsed tt at) where
-      pub rest-lost : {number place : ℕ} → readRest job f at ≡ fault number place → readWholeJob (jobBuffer job) 0 ≡ fault number place
-      rest-lost {number} {place} e =
+      pub rest-lost : {why : Reason} {place : ℕ} → readRest job f at ≡ fault why place → readWholeJob (jobBuffer job) 0 ≡ fault why place
+      rest-lost {why} {place} e =
           let (ts, g) = remembered steps at e₂ in
-          rw (parts, e₁, g) (without-value-fault (fileRest f ts at) number place (sym (same-rest f ts at) ∙ ap withoutValue e))
+          rw (parts, e₁, g) (without-value-fault (fileRest f ts at) why place (sym (same-rest f ts at) ∙ ap withoutValue e))
 
       -- ---- a job that was read
 

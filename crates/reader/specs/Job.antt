@@ -14,7 +14,7 @@ use Rattle.layout.specs.Entries.{entriesAt, EntriesIn}
 use Rattle.layout.specs.Transitions.{transitionAt}
 use Rattle.number.specs.Number.{numberAt}
 use Rattle.number.specs.declared.Read.the-variants.{Number}
-use Rattle.verdict.specs.Verdict.{refusalNumber}
+use Rattle.verdict.specs.Verdict.{reasonOf}
 use Rattle.jobreader.specs.declared.Preamble.{Preamble}
 use Rattle.reader.specs.declared.Header.{Header}
 use Rattle.reader.specs.declared.JobAnswer.{JobAnswer}
@@ -68,8 +68,8 @@ readRest job f = do
 
 abbrev pub RestAnswered : List ℕ → Preamble → ℕ → JobAnswer → Type 0
 RestAnswered job f at (Job h) = (next : ℕ) × (readRest job f at ≡ parsed h next)
-RestAnswered job f at (Refused r place) = readRest job f at ≡ fault (refusalNumber r) place
+RestAnswered job f at (Refused r place) = readRest job f at ≡ fault (reasonOf r) place
 
 abbrev pub JobAnswered : List ℕ → JobAnswer → Type 0
 JobAnswered job (Job h) = JobRead job h
-JobAnswered job (Refused r place) = readWholeJob (jobBuffer job) 0 ≡ fault (refusalNumber r) place
+JobAnswered job (Refused r place) = readWholeJob (jobBuffer job) 0 ≡ fault (reasonOf r) place

@@ -11,7 +11,7 @@ use Rattle.format.specs.Certificate.{Member, withoutPlaces, readMember, readMem
 use Rattle.format.specs.JobBytes.{Between}
 use Rattle.format.specs.Parser.{Parsed, parsed, fault, Parser, _>>=_, _>>_, return, here, each, Buffer, certificateBuffer, ranged}
 use Rattle.layout.specs.Entries.{membersAt, Table}
-use Rattle.verdict.specs.Verdict.{refusalNumber}
+use Rattle.verdict.specs.Verdict.{reasonOf}
 use Rattle.reader.specs.declared.MembersAnswer.{MembersAnswer}
 use Rattle.reader.specs.declared.MembersAnswer.the-variants.{Members, Refused}
 
@@ -26,7 +26,7 @@ pub record Bounds (cert : List ℕ) (variables states : ℕ) : Type 0 where
 -- what comes after a value that was read; nothing after a refusal
 abbrev pub placesAfter : {A : Type 0} → Parsed A → (ℕ → List ℕ) → List ℕ
 placesAfter (parsed x next) rest = rest next
-placesAfter (fault number place) rest = []
+placesAfter (fault why place) rest = []
 
 -- the places at which so many values are read, one after the other; where one is refused, its place is the last
 unfoldable pub placesRead : {A : Type 0} → ℕ → Parser A → ℕ → List ℕ
@@ -35,7 +35,7 @@ placesRead (suc left) p at = at ∷ placesAfter (p at) (placesRead left p)
 
 abbrev pub placesOf : Parsed (List ℕ) → List ℕ
 placesOf (parsed places next) = places
-placesOf (fault number place) = []
+placesOf (fault why place) = []
 
 -- the places at which members of a certificate are read; none where the version or the number of members is refused
 unfoldable pub memberPlaces : Buffer → ℕ → ℕ → List ℕ
@@ -85,4 +85,4 @@ pub record MembersRead (cert : List ℕ) (variables states start : ℕ) (table :
 abbrev pub MembersAnswered : List ℕ → ℕ → ℕ → ℕ → List ℕ → MembersAnswer → Type 0
 MembersAnswered cert variables states start table (Members count next) = MembersRead cert variables states start table count next
 MembersAnswered cert variables states start table (Refused r place) =
-    readTested (certificateBuffer cert) variables states start 0 ≡ fault (refusalNumber r) place
+    readTested (certificateBuffer cert) variables states start 0 ≡ fault (reasonOf r) place

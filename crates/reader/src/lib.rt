@@ -18,9 +18,9 @@ ghost use lib.ListN.{length, getD};
 ghost use Rattle.lists.specs.Test.{allFrom};
 ghost use Rattle.format.specs.Certificate.{readMember};
 ghost use Rattle.format.specs.Job.{readLocated, readTransition};
-ghost use Rattle.format.specs.Parser.{parsed, onward, jobBuffer, certificateBuffer, many, ranged};
+ghost use Rattle.format.specs.Parser.{refusal, parsed, onward, jobBuffer, certificateBuffer, many, ranged};
 ghost use Rattle.number.specs.Number.{numberAt};
-ghost use Rattle.verdict.specs.Verdict.{refusalNumber, reachedOf};
+ghost use Rattle.verdict.specs.Verdict.{reasonOf, reachedOf};
 ghost use Rattle.reader.specs.Job.{RestAnswered, JobAnswered};
 ghost use Rattle.reader.specs.Members.{placesRead, memberPlaces, withPlaces, tested, MembersAnswered};
 ghost use Rattle.reader.specs.Number.{bufferOf, rangedOf, withoutValue};
@@ -64,7 +64,7 @@ pub enum MembersAnswer {
 
 // The refusal of a number that can't be read.
 fn unreadable(input: Input) -> Refusal
-    ensures { λ r. ⌜ refusalNumber r ≡ bufferOf input [] .unreadable ⌝ }
+    ensures { λ r. ⌜ reasonOf r ≡ bufferOf input [] .unreadable ⌝ }
 {
     match input {
         Input::Job => Refusal::JobUnreadable,
@@ -74,7 +74,7 @@ fn unreadable(input: Input) -> Refusal
 
 // The refusal of a number that breaks its range.
 fn outside(input: Input) -> Refusal
-    ensures { λ r. ⌜ refusalNumber r ≡ bufferOf input [] .outside ⌝ }
+    ensures { λ r. ⌜ reasonOf r ≡ bufferOf input [] .outside ⌝ }
 {
     match input {
         Input::Job => Refusal::JobRange,
@@ -109,7 +109,7 @@ pub(crate) fn read_ranged(input: Input, bytes: &[u8], at: usize, low: usize, lim
 
 // The refusal of a job's number that has the number 3 or 4.
 fn job_refusal(number: usize) -> Refusal
-    ensures { λ r. ⌜ refusalNumber r ≡ cond (eqb number 3) 3 4 ⌝ }
+    ensures { λ r. ⌜ reasonOf r ≡ refusal (cond (eqb number 3) 3 4) ⌝ }
 {
     if number == 3 {
         Refusal::JobUnreadable

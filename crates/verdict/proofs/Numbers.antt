@@ -1,12 +1,13 @@
 -- The numbers of refusals.
 use Prim.Native.Nat.{_≤_}
 use native.Mathlib.Omega.{arith}
-use Rattle.verdict.specs.Verdict.{refusalNumber}
+use Rattle.format.specs.Parser.{reasonNumber}
+use Rattle.verdict.specs.Verdict.{reasonOf}
 use Rattle.verdict.specs.declared.Refusal.{Refusal}
 use Rattle.verdict.specs.declared.Refusal.the-variants.{JobLength, CertificateLength, JobUnreadable, JobRange, JobLeft, CertificateUnreadable, CertificateRange, StartSatisfied, CoverFails, CertificateLeft}
 
 -- no refusal has the number 0
-pub numbered : (r : Refusal) → 1 ≤ refusalNumber r
+pub numbered : (r : Refusal) → 1 ≤ reasonNumber (reasonOf r)
 numbered JobLength = omega arith
 numbered CertificateLength = omega arith
 numbered JobUnreadable = omega arith
@@ -15,5 +16,5 @@ numbered JobLeft = omega arith
 numbered CertificateUnreadable = omega arith
 numbered CertificateRange = omega arith
 numbered StartSatisfied = omega arith
-numbered CoverFails = omega arith
+numbered (CoverFails broken) = omega arith
 numbered CertificateLeft = omega arith

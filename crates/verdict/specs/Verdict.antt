@@ -1,7 +1,7 @@
--- The code's answers in document 01's numbers.
+-- The code's answers in the numbers of documents 01 and 02.
 use mathlib.Core.List.{[], _∷_}
 use Prim.Native.Nat.{ℕ}
-use Rattle.format.specs.Parser.{Parsed, parsed, fault}
+use Rattle.format.specs.Parser.{Reason, refusal, broken-rule, reasonNumber, Parsed, parsed, fault}
 use Rattle.format.specs.Verdict.{Verdict, accepted, refused}
 use Rattle.number.specs.CallResult.{CallResult}
 use Rattle.verdict.specs.declared.Reached.{Reached}
@@ -12,29 +12,38 @@ use Rattle.verdict.specs.declared.Verdict.{Verdict as Answer}
 use Rattle.verdict.specs.declared.Verdict.the-variants.{Accepted, Refused}
 
 -- document 01, "Refusals, in checking order"
-abbrev pub refusalNumber : Refusal → ℕ
-refusalNumber JobLength = 1
-refusalNumber CertificateLength = 2
-refusalNumber JobUnreadable = 3
-refusalNumber JobRange = 4
-refusalNumber JobLeft = 5
-refusalNumber CertificateUnreadable = 6
-refusalNumber CertificateRange = 7
-refusalNumber StartSatisfied = 8
-refusalNumber CoverFails = 9
-refusalNumber CertificateLeft = 10
+abbrev pub reasonOf : Refusal → Reason
+reasonOf JobLength = refusal 1
+reasonOf CertificateLength = refusal 2
+reasonOf JobUnreadable = refusal 3
+reasonOf JobRange = refusal 4
+reasonOf JobLeft = refusal 5
+reasonOf CertificateUnreadable = refusal 6
+reasonOf CertificateRange = refusal 7
+reasonOf StartSatisfied = refusal 8
+reasonOf (CoverFails broken) = broken-rule (broken .rule) (broken .name)
+reasonOf CertificateLeft = refusal 10
+
+-- the number of the rule that broke, and the name; 0 where none did
+abbrev pub ruleTold : Reason → ℕ
+ruleTold (refusal number) = 0
+ruleTold (broken-rule rule name) = rule
+
+abbrev pub nameTold : Reason → ℕ
+nameTold (refusal number) = 0
+nameTold (broken-rule rule name) = name
 
 -- the verdict of the definitions that an answer of the code is
 abbrev pub verdictOf : Answer → Verdict
 verdictOf (Accepted c) = accepted (record { bads = c .bads; members = c .members; covers = c .covers })
-verdictOf (Refused r place) = refused (refusalNumber r) place
+verdictOf (Refused r place) = refused (reasonOf r) place
 
 -- what a place reached, or a refusal, is as the answer of a parser
 abbrev pub reachedOf : Reached → Parsed (Unit {0})
 reachedOf (At next) = parsed tt next
-reachedOf (ReachedRefused r place) = fault (refusalNumber r) place
+reachedOf (ReachedRefused r place) = fault (reasonOf r) place
 
--- what a host is told: 0 with the three counts, or document 01's number with the place
+-- what a host is told: 0 with the three counts, or document 01's number with the place, the rule that broke and the name
 abbrev pub verdictResult : Verdict → CallResult
 verdictResult (accepted c) = record { code = 0; values = c .bads ∷ c .members ∷ c .covers ∷ [] }
-verdictResult (refused number place) = record { code = number; values = place ∷ 0 ∷ 0 ∷ [] }
+verdictResult (refused why place) = record { code = reasonNumber why; values = place ∷ ruleTold why ∷ nameTold why ∷ [] }

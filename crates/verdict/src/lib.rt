@@ -1,6 +1,24 @@
 // The verdict on a job and a certificate: three counts, or a refusal with its place.
 ghost use mathlib.Core.Path.{_≡_};
-ghost use Rattle.verdict.specs.Verdict.{refusalNumber};
+ghost use Rattle.format.specs.Parser.{reasonNumber};
+ghost use Rattle.verdict.specs.Verdict.{reasonOf, ruleTold, nameTold};
+
+// The rules of a cover, by document 02's numbers.
+pub const WRONG_STATE: u8 = 1;
+
+pub const IMAGE_TWICE: u8 = 2;
+
+pub const VARIABLE_ELSEWHERE: u8 = 3;
+
+pub const LINK_MISSES: u8 = 4;
+
+pub const SHARED_PATH: u8 = 5;
+
+// The rule of a cover that broke, and the cell (from 0) or the variable (from 1) that is named; 0 for the state.
+pub struct Broken {
+    pub rule: u8,
+    pub name: u8,
+}
 
 // The refusals 1 to 10 of document 01, in their order.
 pub enum Refusal {
@@ -12,7 +30,7 @@ pub enum Refusal {
     CertificateUnreadable,
     CertificateRange,
     StartSatisfied,
-    CoverFails,
+    CoverFails(Broken),
     CertificateLeft,
 }
 
@@ -37,7 +55,7 @@ pub enum Reached {
 
 // Document 01's number of a refusal.
 pub fn refusal_number(refusal: Refusal) -> u32
-    ensures { λ r. ⌜ r ≡ refusalNumber refusal ⌝ }
+    ensures { λ r. ⌜ r ≡ reasonNumber (reasonOf refusal) ⌝ }
 {
     match refusal {
         Refusal::JobLength => 1,
@@ -48,7 +66,43 @@ pub fn refusal_number(refusal: Refusal) -> u32
         Refusal::CertificateUnreadable => 6,
         Refusal::CertificateRange => 7,
         Refusal::StartSatisfied => 8,
-        Refusal::CoverFails => 9,
+        Refusal::CoverFails(_) => 9,
         Refusal::CertificateLeft => 10,
+    }
+}
+
+// Document 02's number of the rule that broke, 0 where none did.
+pub fn rule_number(refusal: Refusal) -> u32
+    ensures { λ r. ⌜ r ≡ ruleTold (reasonOf refusal) ⌝ }
+{
+    match refusal {
+        Refusal::JobLength => 0,
+        Refusal::CertificateLength => 0,
+        Refusal::JobUnreadable => 0,
+        Refusal::JobRange => 0,
+        Refusal::JobLeft => 0,
+        Refusal::CertificateUnreadable => 0,
+        Refusal::CertificateRange => 0,
+        Refusal::StartSatisfied => 0,
+        Refusal::CoverFails(broken) => broken.rule as u32,
+        Refusal::CertificateLeft => 0,
+    }
+}
+
+// The cell or variable that is named with it, 0 where none is.
+pub fn rule_name(refusal: Refusal) -> u32
+    ensures { λ r. ⌜ r ≡ nameTold (reasonOf refusal) ⌝ }
+{
+    match refusal {
+        Refusal::JobLength => 0,
+        Refusal::CertificateLength => 0,
+        Refusal::JobUnreadable => 0,
+        Refusal::JobRange => 0,
+        Refusal::JobLeft => 0,
+        Refusal::CertificateUnreadable => 0,
+        Refusal::CertificateRange => 0,
+        Refusal::StartSatisfied => 0,
+        Refusal::CoverFails(broken) => broken.name as u32,
+        Refusal::CertificateLeft => 0,
     }
 }
