@@ -1,25 +1,24 @@
 -- One cover, case by case.
-use mathlib.Core.Bool.{true, false}
 use mathlib.Core.List.{List}
-use mathlib.Core.Logic.{_≢_}
-use mathlib.Core.Path.{_≡_, refl, sym}
+use mathlib.Core.Path.{_≡_, refl, sym, ap, _∙_}
 use Prim.Native.Nat.{ℕ, _+_, _<_}
-use borrow.Author.Tests.{eq-eqb, ne-eqb}
 use lib.ListN.{length, getD}
 use Rattle.number.specs.Number.{numberAt}
 use Rattle.number.specs.declared.Read.the-variants.{Number}
 use Rattle.shape.specs.Shape.{Shape, size}
 use Rattle.run.specs.Run.{Located}
-use Rattle.cover.specs.Test.{embeds?}
-use Rattle.format.specs.Certificate.{readCover}
-use Rattle.format.specs.Parser.{refusal, Parsed, parsed, fault, certificateBuffer}
+use Rattle.cover.specs.Test.{Answer, holds, coverAnswer}
+use Rattle.format.specs.Certificate.{judge, readCover}
+use Rattle.format.specs.Parser.{broken-rule, Parsed, parsed, fault, certificateBuffer}
 use Rattle.verdict.specs.Verdict.{reachedOf}
+use Rattle.verdict.specs.declared.Broken.{Broken}
 use Rattle.verdict.specs.declared.Reached.{Reached}
 use Rattle.verdict.specs.declared.Reached.the-variants.{At}
 use Rattle.verdict.specs.declared.Refusal.{Refusal}
 use Rattle.layout.specs.Entries.{locatedAt, Whole}
 use Rattle.layout.specs.ShapeArray.{shapeIn}
 use Rattle.layout.proofs.Whole.{is-whole}
+use Rattle.covering.specs.Answer.{brokenOf}
 use Rattle.covering.specs.Images.{imagesIn}
 use Rattle.covering.specs.Members.{membersFrom}
 use Rattle.covering.specs.Quick.{ImagesEmbed}
@@ -43,18 +42,14 @@ module _ (cert : List ℕ) (variables : ℕ) (starts : List ℕ) (at state : ℕ
   take-refused q refusal place a e = rw (a, e) (rw e at left)
 
   module _ (m next : ℕ) (e : r ≡ Taken m next) where
-    abbrev start : ℕ
-    start = getD starts m 0
+    abbrev answer : Answer
+    answer = coverAnswer (locatedAt cert variables (getD starts m 0)) (imagesIn (cellsAt cert variables starts m) codes) covered
 
-    pub other-state : getD cert start 0 ≢ state → fault 9 at ≡ verdict
-    other-state d = rw (e, ne-eqb (getD cert start 0) state d) at left
+    pub take-broken : (b : Broken) → brokenOf b ≡ answer → fault (broken-rule (b .rule) (b .name)) at ≡ verdict
+    take-broken b z = ap (λ a. judge a at next) z ∙ (rw e at left)
 
-    module _ (s : getD cert start 0 ≡ state) where
-      pub no-embedding : embeds? (locatedAt cert variables start .shape) shape (imagesIn (cellsAt cert variables starts m) codes) ≡ false → fault 9 at ≡ verdict
-      no-embedding z = rw (e, eq-eqb (getD cert start 0) state s, z) at left
-
-      pub take-embedding : embeds? (locatedAt cert variables start .shape) shape (imagesIn (cellsAt cert variables starts m) codes) ≡ true → parsed tt next ≡ verdict
-      take-embedding z = rw (e, eq-eqb (getD cert start 0) state s, z) at left
+    pub take-holding : holds ≡ answer → parsed tt next ≡ verdict
+    take-holding z = ap (λ a. judge a at next) z ∙ (rw e at left)
 
 -- the quick test accepts
 pub quick-embedding : (cert : List ℕ) (variables : ℕ) (starts : List ℕ) (at state : ℕ) → state < 256 → (s : List ℕ) (m first : ℕ)
@@ -67,5 +62,5 @@ quick-embedding cert variables starts at state byte s m first e b w here count c
     let shape = shapeIn variables s in
     let whole = is-whole cert variables (getD starts m 0) w in
     let read = cover-taken cert variables starts at (size shape) (i .codes) m first e b whole count cells (At end) (i .read) end refl in
-    let embeds = rw cells at (i .embeds) in
-    sym (take-embedding cert variables starts at state byte shape (size shape) refl (i .codes) (Taken m end) read m end refl here embeds)
+    let holding = rw cells at (i .holds (record { state = state; shape = shape }) refl (sym here)) in
+    sym (take-holding cert variables starts at state byte shape (size shape) refl (i .codes) (Taken m end) read m end refl (sym holding))

@@ -10,6 +10,7 @@ use lib.ListN.{length, getD, getElem?, drop, length-drop}
 use lib.Seq.{length-take-le}
 use Rattle.number.specs.Number.{numberAt}
 use Rattle.number.specs.declared.Read.the-variants.{Number, Unreadable}
+use Rattle.lists.specs.Test.{lowest}
 use Rattle.shape.specs.Shape.{size}
 use Rattle.format.specs.Certificate.{readCover}
 use Rattle.format.specs.Parser.{certificateBuffer, many}
@@ -61,8 +62,8 @@ module _ (cert : List ℕ) (variables : ℕ) (starts : List ℕ) (at n : ℕ) (c
       member-some : getElem? (membersFrom cert variables starts) m ≡ some (memberAt cert variables start)
       member-some = element (memberAt cert variables) starts m b
 
-      pub cover-absent : isWhole cert variables start ≡ false → Is (NotRead CoverFails at)
-      unfolding readCover many
+      pub cover-absent : isWhole cert variables start ≡ false → Is (NotRead (CoverFails (record { rule = 1; name = 0 })) at)
+      unfolding readCover many lowest
       cover-absent o =
           record {
             reads = λ covered s z.

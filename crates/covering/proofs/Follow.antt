@@ -52,6 +52,29 @@ module _ (n : ℕ) (marks : List ℕ) (p : ℕ) where
       go (no b) = absurd (omega (arith, mark-past (omega arith)))
 
 module _ (links images used s marks₀ : List ℕ) (n from : ℕ) (w : Walking links images used s marks₀ n from) where
+  -- exactly an end is marked as one
+  module _ (passed marks : List ℕ) (k : Marks images passed marks) (p : ℕ) where
+    here-is : p < cell n → getD marks p 0 ≡ mark (stops images p) (absent p passed)
+    here-is b = k .marked p (omega (arith, b, w .cells, w .linked .fit))
+
+    stop-met : markIn n marks p ≡ 1 → stops images p ≡ true
+    stop-met e = go (decLt p (cell n))
+      where
+        go : Dec (p < cell n) → stops images p ≡ true
+        go (yes b) = mark-stop (stops images p) (absent p passed) (sym (here-is b) ∙ sym (mark-read n marks p b) ∙ e)
+        go (no b) = absurd (omega (arith, mark-past n marks p (omega arith)))
+
+    met-stop : stops images p ≡ true → markIn n marks p ≡ 1
+    met-stop stop =
+        let here : p < cell n = omega (arith, w .cells, w .ends-in p stop) in
+        mark-read n marks p here ∙ here-is here ∙ rw stop refl
+
+  pub marked-end : (p : ℕ) → markIn n marks₀ p ≡ 1 → stops images p ≡ true
+  marked-end p = stop-met used marks₀ (w .marked) p
+
+  pub end-marked : (p : ℕ) → stops images p ≡ true → markIn n marks₀ p ≡ 1
+  end-marked p = met-stop used marks₀ (w .marked) p
+
   pub follow-none : Following links images used from marks₀ (getD s from 0)
   follow-none =
       record {
@@ -117,21 +140,6 @@ module _ (links images used s marks₀ : List ℕ) (n from : ℕ) (w : Walking l
             (used-cell (mem? p (f .path ++ used)) (rw free at (here-marked b)) (λ z. o (mark-read n marks p b ∙ z)))
         go (no b) = inl (trail-past links images used from (f .path) p (f .trail) (omega (arith, w .cells)) free)
 
-    -- exactly an end is marked as one
-    met-stop : markIn n marks p ≡ 1 → stops images p ≡ true
-    met-stop e = go (decLt p (cell n))
-      where
-        go : Dec (p < cell n) → stops images p ≡ true
-        go (yes b) =
-            let here : mark (stops images p) (absent p (f .path ++ used)) ≡ 1 = sym (here-marked b) ∙ sym (mark-read n marks p b) ∙ e in
-            mark-stop (stops images p) (absent p (f .path ++ used)) here
-        go (no b) = absurd (omega (arith, mark-past n marks p (omega arith)))
-
-    met-marked : stops images p ≡ true → markIn n marks p ≡ 1
-    met-marked stop =
-        let here : p < cell n = omega (arith, w .cells, w .ends-in p stop) in
-        mark-read n marks p here ∙ here-marked here ∙ rw stop refl
-
     pub follow-met : markIn n marks p ≢ 0 → Followed links images used from p marks
     follow-met o =
         record {
@@ -139,12 +147,12 @@ module _ (links images used s marks₀ : List ℕ) (n from : ℕ) (w : Walking l
           unshared = λ stop. rw (met-end stop .1) (is-true (disjoint (f .path) used) (r-disjoint (f .path) used .tests (f .trail .unused)));
           marked = λ stop. rw (met-end stop .1) (f .marked);
           lost = met-none o;
-          marked-stop = rw (w .cells) met-stop;
-          stop-marked = rw (w .cells) met-marked;
+          marked-stop = rw (w .cells) (stop-met (f .path ++ used) marks (f .marked) p);
+          stop-marked = rw (w .cells) (met-stop (f .path ++ used) marks (f .marked) p);
         }
 
   -- a path of one step, to an end
   pub follow-direct : (r : ℕ) → getD s from 0 ≡ r → stops images r ≡ true → Followed links images used from r marks₀
   follow-direct r e stop =
       let f = rw e at follow-none in
-      follow-met marks₀ r f (λ z. let one : 1 ≡ 0 = sym (met-marked marks₀ r f stop) ∙ z in omega arith)
+      follow-met marks₀ r f (λ z. let one : 1 ≡ 0 = sym (end-marked r stop) ∙ z in omega arith)

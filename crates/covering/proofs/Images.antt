@@ -12,7 +12,7 @@ use lib.Seq.{getD-take, getD-drop}
 use Rattle.lists.proofs.Reflect.{is-true}
 use Rattle.heap.specs.Place.{cell}
 use Rattle.cover.specs.Test.{imageMap, stops}
-use Rattle.cover.proofs.Embeds.{r-stops}
+use Rattle.cover.proofs.Paths.{r-stops}
 use Rattle.covering.specs.Images.{imagesIn, ImageCodes, imageIn}
 
 getD-sub : (l : List ℕ) (i : ℕ) → getD (map (λ p. p - 3) l) i 0 ≡ getD l i 0 - 3

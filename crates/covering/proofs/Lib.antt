@@ -1,8 +1,10 @@
 pub mod Trail
 pub mod Marks
 pub mod Follow
+pub mod Ends
 pub mod Images
 pub mod Marking
+pub mod Twice
 pub mod Paths
 pub mod Links
 pub mod Variables

@@ -13,7 +13,7 @@ use lib.Seq.{take-suc, take-all, getD-take, getD-append-seam}
 use Rattle.lists.proofs.Reflect.{Reflect, is-true, is-false, passes, r-eq, r-or, r-not, r-all}
 use Rattle.heap.specs.Place.{cell}
 use Rattle.cover.specs.Test.{stops}
-use Rattle.cover.proofs.Embeds.{r-stops}
+use Rattle.cover.proofs.Paths.{r-stops}
 use Rattle.covering.specs.Images.{once}
 use Rattle.covering.specs.Marks.{mark, Marks}
 use Rattle.covering.proofs.Marks.{mark-free, marks-stop}

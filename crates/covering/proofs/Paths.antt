@@ -9,10 +9,10 @@ use lib.Dec.{eqb}
 use Rattle.lists.specs.List.{disjoint}
 use Rattle.heap.specs.Place.{nowhere, cell}
 use Rattle.shape.specs.Shape.{Shape, linkAt}
-use Rattle.cover.specs.Test.{imageMap, stops, betweenBelow}
+use Rattle.cover.specs.Test.{imageMap, stops, linkMeets, betweenBelow}
 use Rattle.covering.specs.Images.{pathFits}
 use Rattle.covering.specs.Marks.{Marks, endFrom, pathFrom, Followed}
-use Rattle.cover.proofs.Embeds.{somewhere}
+use Rattle.cover.proofs.Paths.{somewhere}
 
 module _ (member covered : Shape) (images : List ℕ) (i : ℕ) where
   abbrev to : ℕ
@@ -25,10 +25,16 @@ module _ (member covered : Shape) (images : List ℕ) (i : ℕ) where
   pub path-none : to ≡ nowhere → pathFits member covered images i ≡ true
   path-none z = rw (eq-eqb to nowhere z) refl
 
+  pub link-none : to ≡ nowhere → linkMeets member covered images i ≡ true
+  link-none z = rw (eq-eqb to nowhere z) refl
+
   pub below-none : to ≡ nowhere → betweenBelow member covered images (suc i) ≡ betweenBelow member covered images i
   below-none z = rw (eq-eqb to nowhere z) refl
 
   module _ (n : to ≢ nowhere) where
+    pub link-some : linkMeets member covered images i ≡ eqb (endFrom (covered .links) images from) (imageMap images to)
+    link-some = rw (ne-eqb to nowhere n) refl
+
     below-some : betweenBelow member covered images (suc i) ≡ pathFrom (covered .links) images from ++ betweenBelow member covered images i
     below-some = rw (ne-eqb to nowhere n) refl
 

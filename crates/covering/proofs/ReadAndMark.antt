@@ -1,24 +1,26 @@
 -- Images of one byte, as they are read and marked in one pass.
-use mathlib.Core.Bool.{true}
 use mathlib.Core.List.{List, []}
-use mathlib.Core.Path.{_≡_, refl, sym}
+use mathlib.Core.Option.{none}
+use mathlib.Core.Path.{_≡_, refl, sym, ap, _∙_}
 use Prim.Native.Nat.{ℕ, _+_, _≤_, _<_}
 use native.Mathlib.Omega.{arith}
 use lib.ListN.{length, getD, set}
 use Rattle.number.specs.declared.Read.the-variants.{Number}
 use Rattle.number.specs.Number.{numberAt}
 use Rattle.number.proofs.Reading.{one-byte}
-use Rattle.lists.specs.Test.{allFrom}
+use Rattle.lists.specs.Test.{lowest}
 use Rattle.heap.specs.Place.{cell}
 use Rattle.shape.specs.Shape.{Shape, size}
+use Rattle.cover.specs.Test.{coverAnswer}
 use Rattle.layout.specs.Entries.{locatedAt, Whole}
 use Rattle.layout.specs.ShapeArray.{shapeIn}
+use Rattle.covering.specs.Answer.{Tested}
 use Rattle.covering.specs.Images.{imagesIn, ImageCodes, varFitsIn, pathFits}
 use Rattle.covering.specs.Marks.{Marks, Linking}
 use Rattle.covering.specs.Quick.{ImagesMarked, ImagesEmbed}
 use Rattle.covering.proofs.Marking.{Marking, marking-none, marking-once, marking-more}
 use Rattle.covering.proofs.ReadImages.{images-snoc, Reading, reading-none, reading-all, reading-more}
-use Rattle.covering.proofs.Whole.{linking-read, by-links}
+use Rattle.covering.proofs.Whole.{linking-read, answer-whole}
 
 module _ (cert : List ℕ) (first n count : ℕ) where
   -- the first i images are read, one byte each, and marked
@@ -58,23 +60,25 @@ module _ (cert : List ℕ) (first n count : ℕ) where
 
 -- ---- what the images, once they are taken, say of the member that starts at a place and of the shape in an array
 
-module _ (variables n : ℕ) (s : List ℕ) (room : length s ≡ 28) (held : size (shapeIn variables s) ≡ n) (cert : List ℕ) (start : ℕ)
-    (e : Whole cert variables start) (first count : ℕ) (read : count ≡ getD cert (start + 1) 0) (codes marks : List ℕ)
-    (t : ImagesMarked cert first n count codes marks) where
+module _ (cert : List ℕ) (variables start n : ℕ) (s : List ℕ) (whole : Whole cert variables start) (room : length s ≡ 28) (held : size (shapeIn variables s) ≡ n)
+    (first count : ℕ) (read : count ≡ getD cert (start + 1) 0) (codes marks : List ℕ) (t : ImagesMarked cert first n count codes marks) where
   abbrev member : Shape
   member = locatedAt cert variables start .shape
 
-  codes-in : ImageCodes (getD cert (start + 1) 0) n codes
-  codes-in = rw read at (t .read .images (first + count) refl)
+  tested : Tested cert variables start codes n s
+  tested = record { whole = whole; room = room; held = held; images = rw read at (t .read .images (first + count) refl) }
 
   pub taken-linking : Linking member (shapeIn variables s) cert (start + 2 + variables) count codes marks n s
-  taken-linking = linking-read variables n s room held cert start e codes codes-in count read marks (t .marked)
+  taken-linking = linking-read cert variables start codes n s tested count read marks (t .marked)
 
-  pub taken-embed : allFrom variables 0 (varFitsIn cert (start + 2) codes s) ≡ true
-      → allFrom count 0 (pathFits member (shapeIn variables s) (imagesIn count codes)) ≡ true → ImagesEmbed cert start variables first count s
+  pub taken-embed : lowest variables 0 (varFitsIn cert (start + 2) codes s) ≡ none
+      → lowest count 0 (pathFits member (shapeIn variables s) (imagesIn count codes)) ≡ none → ImagesEmbed cert start variables first count s
   taken-embed vars links =
       record {
         codes = codes;
         read = rw held (t .read);
-        embeds = rw read (sym (by-links variables n s room held cert start e codes codes-in count read (t .apart) vars true (sym links)));
+        holds = λ covered shape-is state-is.
+            rw read
+            (ap (coverAnswer (locatedAt cert variables start) (imagesIn (getD cert (start + 1) 0) codes)) (λ i. record { state = state-is i; shape = shape-is i })
+            ∙ sym (answer-whole cert variables start codes n s tested (getD cert start 0) refl (rw read at (t .apart)) vars (rw read at links)));
       }

@@ -12,7 +12,7 @@ use lib.Seq.{getD-set-same, getD-set-other, drop-set-add, take-suc-set}
 use Rattle.heap.specs.Place.{cell}
 use Rattle.number.specs.Number.{numberAt}
 use Rattle.number.specs.declared.Read.the-variants.{Number, Unreadable}
-use Rattle.format.specs.Parser.{Reason, Parsed, parsed, fault, Parser, onward, return, many, certificateBuffer, within, such, meant, readAs, ranged}
+use Rattle.format.specs.Parser.{Reason, refusal, Parsed, parsed, fault, Parser, onward, return, many, certificateBuffer, within, such, meant, readAs, ranged}
 use Rattle.format.proofs.Parsing.{read-outside, read-complete}
 use Rattle.covering.specs.Images.{imagesIn, ImageCodes}
 
@@ -25,7 +25,7 @@ such-out : (n x : ℕ) → n ≤ x → such (within 0 n) x ≡ none
 such-out n x h = simp (le-leb 0 x (omega arith), le-ltb x n h)
 
 pub read-unreadable : {A : Type 0} (cert : List ℕ) (meaning : ℕ → Option A) (at place : ℕ) → numberAt cert at ≡ Unreadable place
-    → readAs (certificateBuffer cert) meaning at ≡ fault 6 at
+    → readAs (certificateBuffer cert) meaning at ≡ fault (refusal 6) at
 unfolding readAs
 read-unreadable cert meaning at place e = ap (meant (certificateBuffer cert) meaning at) e
 
@@ -112,11 +112,11 @@ module _ (cert : List ℕ) (first n count : ℕ) where
       unfolding many
       stops-here why place e = rw (left, e) at (r .whole)
 
-      pub reading-unreadable : (place : ℕ) → numberAt cert at ≡ Unreadable place → fault 6 at ≡ many count image first
-      reading-unreadable place e = stops-here 6 at (read-unreadable cert (such (within 0 n)) at place e)
+      pub reading-unreadable : (place : ℕ) → numberAt cert at ≡ Unreadable place → fault (refusal 6) at ≡ many count image first
+      reading-unreadable place e = stops-here (refusal 6) at (read-unreadable cert (such (within 0 n)) at place e)
 
-      pub reading-outside : (x next : ℕ) → numberAt cert at ≡ Number x next → n ≤ x → fault 7 at ≡ many count image first
-      reading-outside x next e h = stops-here 7 at (read-outside (certificateBuffer cert) (such (within 0 n)) at x next e (such-out n x h))
+      pub reading-outside : (x next : ℕ) → numberAt cert at ≡ Number x next → n ≤ x → fault (refusal 7) at ≡ many count image first
+      reading-outside x next e h = stops-here (refusal 7) at (read-outside (certificateBuffer cert) (such (within 0 n)) at x next e (such-out n x h))
 
       pub reading-more : (x next : ℕ) → count ≤ 12 → numberAt cert at ≡ Number x next → x < n → Reading (set codes (i + 3) (x + 3)) next (i + 1)
       unfolding many

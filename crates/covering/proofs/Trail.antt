@@ -36,6 +36,13 @@ module _ (images : List ℕ) where
       go true i z = let u : true ≡ false = z in let v : _≡_ {A = ℕ} 0 1 = cc in absurd (omega arith)
       go false i z = let o : ¬ (p < cell 0) = λ b. fails (ltb p (cell 0)) i (r-lt p (cell 0) .tests b) in omega arith
 
+-- a place past the cells has no link
+pub no-link : (links : List ℕ) (p : ℕ) → cell (length links) ≤ p → linkIn links p ≡ nowhere
+no-link links zero o = refl
+no-link links (suc zero) o = refl
+no-link links (suc (suc zero)) o = refl
+no-link links (suc (suc (suc i))) o = List·getD-eq-default links nowhere (omega arith)
+
 module _ (links images used : List ℕ) (from : ℕ) where
   abbrev link : ℕ → ℕ
   link = linkIn links
@@ -81,23 +88,16 @@ module _ (links images used : List ℕ) (from : ℕ) where
         next (inl j) = j
         next (inr e) = Memᴰ·cast e m
 
-    -- a place past the cells has no link
     pub trail-past : cell (length links) ≤ q → stop q ≡ false → endFrom links images from ≡ nowhere
     trail-past b e = t .ends ∙ go (t .left)
       where
-        dead : (p : ℕ) → cell (length links) ≤ p → link p ≡ nowhere
-        dead zero o = refl
-        dead (suc zero) o = refl
-        dead (suc (suc zero)) o = refl
-        dead (suc (suc (suc i))) o = List·getD-eq-default links nowhere (omega arith)
-
         still : (k : ℕ) → walkEnd link stop k nowhere ≡ nowhere
         still zero = refl
         still (suc k) = refl
 
         go : (k : ℕ) → walkEnd link stop k q ≡ nowhere
         go zero = refl
-        go (suc k) = rw (e, dead q b) (still k)
+        go (suc k) = rw (e, no-link links q b) (still k)
 
     module _ (c : CellOf (length links) from) (s : stop from ≡ true) where
       -- from is an end, so that the path has fewer cells than the shape

@@ -1,124 +1,243 @@
 -- The test of a member in a buffer against a shape in an array, part by part.
-use mathlib.Core.Bool.{Bool, true, false, _&&_, _||_, not}
+use mathlib.Core.Bool.{true, false, _||_, not}
 use mathlib.Core.List.{List, []}
+use mathlib.Core.Logic.{_≢_}
+use mathlib.Core.Option.{Option, some, none}
 use mathlib.Core.Path.{_≡_, refl, sym, ap, ap₂, _∙_}
-use Prim.Native.Nat.{ℕ, suc, _+_, _<_, min}
+use Prim.Native.Nat.{ℕ, suc, _+_, _≤_, _<_, min}
+use native.Mathlib.Decide.{decLt}
+use native.Mathlib.Numerals.{add-one}
 use native.Mathlib.Omega.{arith}
+use borrow.Author.Tests.{eq-eqb, ne-eqb}
 use lib.Dec.{eqb}
 use lib.ListN.{length, getD, drop, length-take, length-drop}
 use lib.Seq.{length-take-le, getD-take, getD-drop}
-use Rattle.lists.specs.Test.{allFrom}
-use Rattle.lists.proofs.Test.{all-same, all-and}
+use Rattle.lists.specs.Test.{allFrom, lowest, numberOr}
+use Rattle.lists.proofs.Lowest.{lowest-none, found-at, found-none, passed-all, lowest-same, next, lowest-next, lowest-second, lowest-both}
+use Rattle.lists.proofs.Test.{all-at, all-made}
 use Rattle.heap.specs.Place.{cell}
 use Rattle.shape.specs.Shape.{Shape, varAt, size}
-use Rattle.cover.specs.Test.{imageMap, varFits, linkMeets, pathUnshared, embeds?}
+use Rattle.run.specs.Run.{Located}
+use Rattle.cover.specs.Test.{imageMap, imageOnce, varFits, linkMeets, pathUnshared, Answer, holds, broken, orElse, coverAnswer}
 use Rattle.layout.specs.ShapeArray.{cellCount, linksIn, shapeIn}
-use Rattle.layout.specs.Entries.{locatedAt, Whole}
-use Rattle.covering.specs.Images.{imagesIn, ImageCodes, imageIn, once, varFitsIn, pathFits}
+use Rattle.layout.specs.Entries.{locatedAt}
+use Rattle.covering.specs.Answer.{Tested, pathsAnswer}
+use Rattle.covering.specs.Images.{imagesIn, ImageCodes, imageIn, onceAt, once, varFitsIn, pathFits}
 use Rattle.covering.specs.Marks.{Marks, LinksIn, Linking}
 use Rattle.covering.proofs.Images.{images-length, image-of}
 
--- ---- the covered shape
+module _ (cert : List ℕ) (variables start : ℕ) (codes : List ℕ) (n : ℕ) (s : List ℕ) (t : Tested cert variables start codes n s) where
+  -- ---- the covered shape
 
-module _ (variables n : ℕ) (s : List ℕ) (room : length s ≡ 28) (held : size (shapeIn variables s) ≡ n) where
   held-length : length (linksIn s) ≡ min (cellCount s) 25
   held-length =
-      let rest : length (drop 3 s) ≡ 25 = length-drop 3 s ∙ omega arith in
+      let rest : length (drop 3 s) ≡ 25 = length-drop 3 s ∙ omega (arith, t .room) in
       length-take (cellCount s) (drop 3 s) ∙ ap (min (cellCount s)) rest
 
   covered-linked : LinksIn (linksIn s) s
   covered-linked =
       record {
-        room = room;
+        room = t .room;
         fit = omega (arith, held-length);
         same = λ i b.
             let swap : 3 + i ≡ cell i = omega arith in
             rw (← swap) (sym (getD-take (cellCount s) (drop 3 s) i 0 (omega (arith, held-length)) ∙ getD-drop 3 s i 0));
       }
 
-  module _ (cert : List ℕ) (start : ℕ) (e : Whole cert variables start) (codes : List ℕ) (im : ImageCodes (getD cert (start + 1) 0) n codes) where
-    abbrev cells : ℕ
-    cells = getD cert (start + 1) 0
+  -- ---- the member
 
-    abbrev member : Shape
-    member = locatedAt cert variables start .shape
+  abbrev cells : ℕ
+  cells = getD cert (start + 1) 0
 
-    abbrev covered : Shape
-    covered = shapeIn variables s
+  abbrev member : Shape
+  member = locatedAt cert variables start .shape
 
-    abbrev images : List ℕ
-    images = imagesIn cells codes
+  abbrev covered : Shape
+  covered = shapeIn variables s
 
-    member-size : size member ≡ cells
-    member-size =
-        length-take-le cells (drop (start + 2 + variables) cert) (omega (arith, length-drop (start + 2 + variables) cert, e .inside))
+  abbrev images : List ℕ
+  images = imagesIn cells codes
 
-    member-vars : length (member .vars) ≡ variables
-    member-vars = length-take-le variables (drop (start + 2) cert) (omega (arith, length-drop (start + 2) cert, e .inside))
+  member-size : size member ≡ cells
+  member-size =
+      length-take-le cells (drop (start + 2 + variables) cert) (omega (arith, length-drop (start + 2 + variables) cert, t .whole .inside))
 
-    member-var : (i : ℕ) → i < variables → getD cert (start + 2 + i) 0 ≡ varAt member (suc i)
-    member-var i b = sym (getD-take variables (drop (start + 2) cert) i 0 b ∙ getD-drop (start + 2) cert i 0)
+  member-vars : length (member .vars) ≡ variables
+  member-vars = length-take-le variables (drop (start + 2) cert) (omega (arith, length-drop (start + 2) cert, t .whole .inside))
 
-    linking : (marks : List ℕ) → Marks images [] marks → Linking member covered cert (start + 2 + variables) cells codes marks n s
-    linking marks m =
-        record {
-          inside = e .inside;
-          cells = member-size;
-          same = λ i b. sym (getD-take cells (drop (start + 2 + variables) cert) i 0 b ∙ getD-drop (start + 2 + variables) cert i 0);
-          covered-cells = held;
-          images = rw held im;
-          linked = covered-linked;
-          marked = m;
-        }
+  member-var : (i : ℕ) → i < variables → getD cert (start + 2 + i) 0 ≡ varAt member (suc i)
+  member-var i b = sym (getD-take variables (drop (start + 2) cert) i 0 b ∙ getD-drop (start + 2) cert i 0)
 
-    var-same : (i : ℕ) → i < variables → varFits member covered images i ≡ varFitsIn cert (start + 2) codes s i
-    var-same i b =
-        let swap : 18 + i ≡ i + 18 = omega arith in
-        let have : varAt covered (suc i) ≡ getD s (i + 18) 0 = rw (← swap) (getD-take variables (drop 18 s) i 0 b ∙ getD-drop 18 s i 0) in
-        let want : imageMap images (getD cert (start + 2 + i) 0) ≡ imageIn codes (getD cert (start + 2 + i) 0) =
-        sym (image-of cells n codes im (getD cert (start + 2 + i) 0)) in
-        rw (← member-var i b, have, want) refl
+  linking : (marks : List ℕ) → Marks images [] marks → Linking member covered cert (start + 2 + variables) cells codes marks n s
+  linking marks m =
+      record {
+        inside = t .whole .inside;
+        cells = member-size;
+        same = λ i b. sym (getD-take cells (drop (start + 2 + variables) cert) i 0 b ∙ getD-drop (start + 2 + variables) cert i 0);
+        covered-cells = t .held;
+        images = rw (t .held) (t .images);
+        linked = covered-linked;
+        marked = m;
+      }
 
-    pub embeds-parts : embeds? member covered images
-        ≡ once images && (allFrom variables 0 (varFitsIn cert (start + 2) codes s) && allFrom cells 0 (pathFits member covered images))
-    embeds-parts =
-        ap₂ _&&_
-        (ap (λ (k : ℕ). allFrom k 0 (λ i. allFrom k 0 (λ j. eqb i j || not (eqb (getD images i 0) (getD images j 0)))))
-        (member-size ∙ sym (images-length cells n codes im)))
-        (ap₂ _&&_
-        (ap (λ (k : ℕ). allFrom k 0 (varFits member covered images)) member-vars
-        ∙ all-same (varFits member covered images) (varFitsIn cert (start + 2) codes s) variables 0 (λ i b. var-same i (omega arith)))
-        (all-and (linkMeets member covered images) (pathUnshared member covered images) (size member) 0
-        ∙ ap (λ (k : ℕ). allFrom k 0 (pathFits member covered images)) member-size))
+  var-same : (i : ℕ) → i < variables → varFits member covered images (suc i) ≡ varFitsIn cert (start + 2) codes s i
+  var-same i b =
+      let swap : 18 + i ≡ i + 18 = omega arith in
+      let have : varAt covered (suc i) ≡ getD s (i + 18) 0 = rw (← swap) (getD-take variables (drop 18 s) i 0 b ∙ getD-drop 18 s i 0) in
+      let want : imageMap images (getD cert (start + 2 + i) 0) ≡ imageIn codes (getD cert (start + 2 + i) 0) =
+      sym (image-of cells n codes (t .images) (getD cert (start + 2 + i) 0)) in
+      rw (← member-var i b, have, want) refl
 
-    -- ---- the tests in turn, where the number of the member's cells has been read
+  -- ---- the answer, rule by rule
 
-    module _ (count : ℕ) (read : count ≡ cells) where
-      pub images-in : ImageCodes count 25 codes
-      images-in =
-          rw read
-          (record {
-            room = im .room;
-            few = im .few;
-            nowhere-fixed = im .nowhere-fixed;
-            null-fixed = im .null-fixed;
-            dangling-fixed = im .dangling-fixed;
-            low = im .low;
-            high = λ i b. omega (arith, im .high i b, held-length);
-            rest = im .rest;
-          })
+  module _ (state : ℕ) where
+    abbrev of-shape : Located
+    of-shape = record { state = state; shape = covered }
 
-      pub linking-read : (marks : List ℕ) → Marks (imagesIn count codes) [] marks
-          → Linking member covered cert (start + 2 + variables) count codes marks n s
-      linking-read marks = rw read (linking marks)
+    abbrev byPaths : Answer
+    byPaths = pathsAnswer member covered images cells
 
-      pub not-once : once (imagesIn count codes) ≡ false → false ≡ embeds? member covered images
-      not-once a = sym (embeds-parts ∙ rw (rw read at a) refl)
+    abbrev byVariables : Answer
+    byVariables = orElse 3 (next (lowest variables 0 (varFitsIn cert (start + 2) codes s))) byPaths
+
+    abbrev byImages : Answer
+    byImages = orElse 2 (lowest cells 0 (onceAt images)) byVariables
+
+    twice-same : lowest (size member) 0 (imageOnce member covered images) ≡ lowest cells 0 (onceAt images)
+    twice-same =
+        let long = images-length cells n codes (t .images) in
+        ap₂ {A = ℕ} {B = ℕ} {C = Option ℕ}
+        (λ a b. lowest a 0 (λ i. allFrom b 0 (λ j. eqb i j || not (eqb (getD images i 0) (getD images j 0))))) member-size (member-size ∙ sym long)
+
+    vars-same : lowest (length (member .vars)) 1 (varFits member covered images) ≡ next (lowest variables 0 (varFitsIn cert (start + 2) codes s))
+    vars-same =
+        ap (λ (k : ℕ). lowest k 1 (varFits member covered images)) member-vars
+        ∙ lowest-next (varFits member covered images) variables 0
+        ∙ ap next (lowest-same (λ i. varFits member covered images (suc i)) (varFitsIn cert (start + 2) codes s) variables 0 (λ i _ b. var-same i (omega arith)))
+
+    answer-parts : coverAnswer (locatedAt cert variables start) images of-shape
+        ≡ orElse 1 (lowest 1 0 (λ _. eqb (getD cert start 0) state)) byImages
+    answer-parts =
+        ap (orElse 1 (lowest 1 0 (λ _. eqb (getD cert start 0) state)))
+        (ap₂ (orElse 2) twice-same (ap₂ (orElse 3) vars-same (ap (λ (k : ℕ). pathsAnswer member covered images k) member-size)))
+
+    pub answer-state : getD cert start 0 ≢ state → broken 1 0 ≡ coverAnswer (locatedAt cert variables start) images of-shape
+    unfolding lowest
+    answer-state d = sym (answer-parts ∙ rw (ne-eqb (getD cert start 0) state d) refl)
+
+    module _ (same : getD cert start 0 ≡ state) where
+      from-images : coverAnswer (locatedAt cert variables start) images of-shape ≡ byImages
+      unfolding lowest
+      from-images = answer-parts ∙ rw (eq-eqb (getD cert start 0) state same) refl
+
+      -- where two images are the same, one is found
+      pub answer-image : (i : ℕ) → once images ≡ false → i ≡ numberOr cells (lowest cells 0 (onceAt images))
+          → broken 2 i ≡ coverAnswer (locatedAt cert variables start) images of-shape
+      answer-image i a e = sym (from-images ∙ ap (λ o. orElse 2 o byVariables) (found (decLt i cells)))
+        where
+          found : Dec (i < cells) → lowest cells 0 (onceAt images) ≡ some i
+          found (yes b) = found-at (onceAt images) cells i e b
+          found (no b) =
+              let long = images-length cells n codes (t .images) in
+              let all : once images ≡ true =
+              all-made (onceAt images) (length images) 0
+              (λ j _ c. passed-all (onceAt images) cells j (found-none (onceAt images) cells i e (omega arith)) (omega arith)) in
+              let z : true ≡ false = sym all ∙ a in
+              cc
+
+      module _ (a : once images ≡ true) where
+        from-variables : coverAnswer (locatedAt cert variables start) images of-shape ≡ byVariables
+        from-variables =
+            let long = images-length cells n codes (t .images) in
+            let no-twice : lowest cells 0 (onceAt images) ≡ none =
+            lowest-none (onceAt images) cells 0 (λ j l b. all-at (onceAt images) (length images) 0 j a (omega arith) (omega arith)) in
+            from-images ∙ ap (λ o. orElse 2 o byVariables) no-twice
+
+        pub answer-variable : (v : ℕ) → lowest variables 0 (varFitsIn cert (start + 2) codes s) ≡ some v
+            → broken 3 (v + 1) ≡ coverAnswer (locatedAt cert variables start) images of-shape
+        answer-variable v e = rw (add-one v) (sym (from-variables ∙ ap (λ o. orElse 3 (next o) byPaths) e))
+
+        module _ (b : lowest variables 0 (varFitsIn cert (start + 2) codes s) ≡ none) where
+          pub answer-paths : byPaths ≡ coverAnswer (locatedAt cert variables start) images of-shape
+          answer-paths = sym (from-variables ∙ ap (λ o. orElse 3 (next o) byPaths) b)
+
+          pub answer-whole : lowest cells 0 (pathFits member covered images) ≡ none
+              → holds ≡ coverAnswer (locatedAt cert variables start) images of-shape
+          answer-whole e =
+              let (meet, apart) = lowest-both (linkMeets member covered images) (pathUnshared member covered images) cells e in
+              ap₂ (λ o u. orElse 4 o (orElse 5 u holds)) (sym meet) (sym apart) ∙ answer-paths
+
+  -- ---- the last two rules, where the path of cell i is the first that fails
+
+  pub paths-miss : (j : ℕ) → lowest cells 0 (linkMeets member covered images) ≡ some j → broken 4 j ≡ pathsAnswer member covered images cells
+  paths-miss j e = sym (ap (λ o. orElse 4 o (orElse 5 (lowest cells 0 (pathUnshared member covered images)) holds)) e)
+
+  pub paths-share : (i : ℕ) → lowest cells 0 (pathFits member covered images) ≡ some i → lowest cells 0 (linkMeets member covered images) ≡ none
+      → broken 5 i ≡ pathsAnswer member covered images cells
+  paths-share i e meet =
+      let apart : lowest cells 0 (pathUnshared member covered images) ≡ some i =
+      sym (lowest-second (linkMeets member covered images) (pathUnshared member covered images) cells meet) ∙ e in
+      sym (ap₂ (λ o u. orElse 4 o (orElse 5 u holds)) meet apart)
+
+  -- ---- the tests in turn, where the number of the member's cells has been read
+
+  module _ (count : ℕ) (read : count ≡ cells) where
+    pub images-in : ImageCodes count 25 codes
+    images-in =
+        rw read
+        (record {
+          room = t .images .room;
+          few = t .images .few;
+          nowhere-fixed = t .images .nowhere-fixed;
+          null-fixed = t .images .null-fixed;
+          dangling-fixed = t .images .dangling-fixed;
+          low = t .images .low;
+          high = λ i b. omega (arith, t .held, t .images .high i b, held-length);
+          rest = t .images .rest;
+        })
+
+    pub linking-read : (marks : List ℕ) → Marks (imagesIn count codes) [] marks
+        → Linking member covered cert (start + 2 + variables) count codes marks n s
+    linking-read marks = rw read (linking marks)
+
+    pub once-read : once images ≡ true → once (imagesIn count codes) ≡ true
+    once-read a = rw read a
+
+    pub once-cells : once (imagesIn count codes) ≡ true → once images ≡ true
+    once-cells a = rw read at a
+
+    module _ (state : ℕ) (same : getD cert start 0 ≡ state) where
+      pub image-found : (i : ℕ) → once (imagesIn count codes) ≡ false → i ≡ numberOr count (lowest count 0 (onceAt (imagesIn count codes)))
+          → broken 2 i ≡ coverAnswer (locatedAt cert variables start) images (of-shape state)
+      image-found i a e = answer-image state same i (rw read at a) (rw read at e)
 
       module _ (a : once (imagesIn count codes) ≡ true) where
-        pub not-vars : allFrom variables 0 (varFitsIn cert (start + 2) codes s) ≡ false → false ≡ embeds? member covered images
-        not-vars b = sym (embeds-parts ∙ rw (rw read at a, b) refl)
+        pub variable-found : (v : ℕ) → v ≡ numberOr variables (lowest variables 0 (varFitsIn cert (start + 2) codes s)) → v < variables
+            → broken 3 (v + 1) ≡ coverAnswer (locatedAt cert variables start) images (of-shape state)
+        variable-found v e b = answer-variable state same (rw read at a) v (found-at (varFitsIn cert (start + 2) codes s) variables v e b)
 
-        pub by-links : allFrom variables 0 (varFitsIn cert (start + 2) codes s) ≡ true → (r : Bool)
-            → r ≡ allFrom count 0 (pathFits member covered (imagesIn count codes)) → r ≡ embeds? member covered images
-        by-links b r c = (rw read at c) ∙ sym (embeds-parts ∙ rw (rw read at a, b) refl)
+        module _ (v : ℕ) (e : v ≡ numberOr variables (lowest variables 0 (varFitsIn cert (start + 2) codes s))) (b : variables ≤ v) where
+          no-variable : lowest variables 0 (varFitsIn cert (start + 2) codes s) ≡ none
+          no-variable = found-none (varFitsIn cert (start + 2) codes s) variables v e b
+
+          pub path-found : (r : Answer) → r ≡ pathsAnswer member covered images cells
+              → r ≡ coverAnswer (locatedAt cert variables start) images (of-shape state)
+          path-found r h = h ∙ answer-paths state same (rw read at a) no-variable
+
+          pub nothing-found : (i : ℕ) → i ≡ numberOr count (lowest count 0 (pathFits member covered (imagesIn count codes))) → count ≤ i
+              → holds ≡ coverAnswer (locatedAt cert variables start) images (of-shape state)
+          nothing-found i h c =
+              answer-whole state same (rw read at a) no-variable
+              (found-none (pathFits member covered images) cells i (rw read at h) (omega arith))
+
+    -- the path of a cell fails
+    pub first-failing : (i : ℕ) → i ≡ numberOr count (lowest count 0 (pathFits member covered (imagesIn count codes))) → i < count
+        → lowest cells 0 (pathFits member covered images) ≡ some i
+    first-failing i h c = found-at (pathFits member covered images) cells i (rw read at h) (omega arith)
+
+    module _ (j : ℕ) (e : j ≡ numberOr count (lowest count 0 (linkMeets member covered (imagesIn count codes)))) where
+      pub miss-found : j < count → broken 4 j ≡ pathsAnswer member covered images cells
+      miss-found b = paths-miss j (found-at (linkMeets member covered images) cells j (rw read at e) (omega arith))
+
+      pub share-found : (i : ℕ) → lowest cells 0 (pathFits member covered images) ≡ some i → count ≤ j → broken 5 i ≡ pathsAnswer member covered images cells
+      share-found i h b = paths-share i h (found-none (linkMeets member covered images) cells j (rw read at e) (omega arith))

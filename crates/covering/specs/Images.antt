@@ -29,11 +29,12 @@ pub record ImageCodes (count n : ℕ) (codes : List ℕ) : Type 0 where
 unfoldable pub imageIn : List ℕ → ℕ → ℕ
 imageIn codes p = cond (ltb p 15) (getD codes p 0) (cell 0)
 
--- "no two cells have the same image"
+-- "no two cells have the same image": cell i and any other
+abbrev pub onceAt : List ℕ → ℕ → Bool
+onceAt images i = allFrom (length images) 0 (λ j. eqb i j || not (eqb (getD images i 0) (getD images j 0)))
+
 abbrev pub once : List ℕ → Bool
-once images =
-    let n = length images in
-    allFrom n 0 (λ i. allFrom n 0 (λ j. eqb i j || not (eqb (getD images i 0) (getD images j 0))))
+once images = allFrom (length images) 0 (onceAt images)
 
 -- variable i + 1 fits, where the member's variables are the bytes from a place on and the covered shape is in an array
 abbrev pub varFitsIn : List ℕ → ℕ → List ℕ → List ℕ → ℕ → Bool

@@ -3,3 +3,4 @@ pub mod Marks
 pub mod Members
 pub mod Reading
 pub mod Quick
+pub mod Answer

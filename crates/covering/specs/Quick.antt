@@ -4,7 +4,8 @@ use mathlib.Core.List.{List, []}
 use mathlib.Core.Path.{_≡_}
 use Prim.Native.Nat.{ℕ, _+_}
 use Rattle.shape.specs.Shape.{size}
-use Rattle.cover.specs.Test.{embeds?}
+use Rattle.run.specs.Run.{Located}
+use Rattle.cover.specs.Test.{Answer, coverAnswer}
 use Rattle.verdict.specs.declared.Reached.the-variants.{At}
 use Rattle.layout.specs.Entries.{locatedAt}
 use Rattle.layout.specs.ShapeArray.{shapeIn}
@@ -22,4 +23,5 @@ pub record ImagesMarked (cert : List ℕ) (first n count : ℕ) (codes marks : L
 pub record ImagesEmbed (cert : List ℕ) (start variables first count : ℕ) (s : List ℕ) : Type 0 where
   pub codes : List ℕ
   pub read : ImagesRead cert first (size (shapeIn variables s)) count (At (first + count)) codes
-  pub embeds : embeds? (locatedAt cert variables start .shape) (shapeIn variables s) (imagesIn count codes) ≡ true
+  pub holds : (covered : Located) → covered .shape ≡ shapeIn variables s → covered .state ≡ locatedAt cert variables start .state
+      → coverAnswer (locatedAt cert variables start) (imagesIn count codes) covered ≡ Answer.holds

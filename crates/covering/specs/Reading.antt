@@ -6,9 +6,9 @@ use Prim.Native.Nat.{ℕ, _+_, _<_}
 use lib.ListN.{length, getD}
 use Rattle.shape.specs.Shape.{size}
 use Rattle.run.specs.Run.{Located}
-use Rattle.cover.specs.Cover.{holds?}
-use Rattle.format.specs.Certificate.{readCover}
-use Rattle.format.specs.Parser.{Parsed, parsed, fault, many, ranged, require, certificateBuffer}
+use Rattle.cover.specs.Test.{coverAnswer}
+use Rattle.format.specs.Certificate.{judge, readCover}
+use Rattle.format.specs.Parser.{Parsed, parsed, fault, many, ranged, certificateBuffer}
 use Rattle.verdict.specs.Verdict.{reasonOf}
 use Rattle.verdict.specs.declared.Reached.{Reached}
 use Rattle.verdict.specs.declared.Reached.the-variants.{At, Refused}
@@ -41,7 +41,7 @@ module _ (cert : List ℕ) (variables : ℕ) (starts : List ℕ) where
   -- what becomes of the cover at a place, once it is read: it is refused, or judged
   abbrev pub coverOf : ℕ → Located → CoverRead → List ℕ → Parsed (Unit {0})
   coverOf at covered (Taken m next) codes =
-      require (holds? (locatedAt cert variables (getD starts m 0)) (imagesIn (cellsAt m) codes) covered) 9 at next
+      judge (coverAnswer (locatedAt cert variables (getD starts m 0)) (imagesIn (cellsAt m) codes) covered) at next
   coverOf at covered (NotRead r place) codes = fault (reasonOf r) place
 
   -- what is known of a cover that was read, or refused

@@ -1,14 +1,12 @@
-// Testing that images embed a member in a shape, exactly, whatever the bytes are.
+// Whether images embed a member in a shape: marks, walks along links, and the tests of variables and paths, exact whatever the bytes are.
 ghost use mathlib.Core.Bool.{true};
 ghost use mathlib.Core.List.{List, []};
 ghost use mathlib.Core.Path.{_≡_};
 ghost use Prim.Native.Nat.{ℕ, _+_, _≤_, _<_};
-ghost use lib.ListN.{length, getD, replicate};
-ghost use Rattle.lists.specs.Test.{allFrom};
-ghost use Rattle.shape.specs.Shape.{Shape, size};
-ghost use Rattle.cover.specs.Test.{embeds?};
-ghost use Rattle.layout.specs.ShapeArray.{linksIn, shapeIn};
-ghost use Rattle.layout.specs.Entries.{locatedAt, Whole};
+ghost use lib.ListN.{length, replicate};
+ghost use Rattle.lists.specs.Test.{lowest, numberOr};
+ghost use Rattle.shape.specs.Shape.{Shape};
+ghost use Rattle.layout.specs.ShapeArray.{linksIn};
 ghost use Rattle.covering.specs.Images.{imagesIn, ImageCodes, imageIn, once, varFitsIn, pathFits};
 ghost use Rattle.covering.specs.Marks.{markIn, Marks, Walking, Followed, Linking};
 
@@ -43,7 +41,7 @@ pub(crate) fn cells_held(s: &[u8; 28]) -> usize
 }
 
 // The image of a place; that of a cell which the member lacks is cell 0.
-fn image_of(images: &[u8; 15], p: usize) -> u8
+pub(crate) fn image_of(images: &[u8; 15], p: usize) -> u8
     ensures { λ r. ⌜ r ≡ imageIn (now (images .entry)) p ⌝ }
 {
     if p < 15 {
@@ -53,7 +51,7 @@ fn image_of(images: &[u8; 15], p: usize) -> u8
 }
 
 // Marks nowhere, #, * and the images as stops. False where two images are the same.
-fn mark_images(images: &[u8; 15], count: usize, marks: &mut [u8; 28]) -> bool
+pub(crate) fn mark_images(images: &[u8; 15], count: usize, marks: &mut [u8; 28]) -> bool
     requires { ⌜ ImageCodes count 25 (now images) × (now marks ≡ replicate 28 0) ⌝ }
     ensures { λ r. ⌜ (r ≡ once (imagesIn count (now (images .entry)))) × (r ≡ true → Marks (imagesIn count (now (images .entry))) [] (now (marks .exit))) ⌝ }
 {
@@ -72,26 +70,32 @@ fn mark_images(images: &[u8; 15], count: usize, marks: &mut [u8; 28]) -> bool
     true
 }
 
-// Whether each variable that the member places stands at the image of that place.
-fn vars_fit(cert: &[u8], first: usize, count: usize, images: &[u8; 15], s: &[u8; 28]) -> bool
+// The lowest variable, from 0, that the member places and that does not stand at the image of that place; as many as there are where each does.
+pub(crate) fn variable_elsewhere(
+    cert: &[u8],
+    first: usize,
+    count: usize,
+    images: &[u8; 15],
+    s: &[u8; 28],
+) -> usize
     requires { ⌜ (first + count ≤ length (now cert)) × (count ≤ 9) ⌝ }
-    ensures { λ r. ⌜ r ≡ allFrom count 0 (varFitsIn (now (cert .entry)) first (now (images .entry)) (now (s .entry))) ⌝ }
+    ensures { λ r. ⌜ r ≡ numberOr count (lowest count 0 (varFitsIn (now (cert .entry)) first (now (images .entry)) (now (s .entry)))) ⌝ }
 {
     let mut i = 0;
     while i < count {
         let p = wide(cert[first + i]);
         if p != 0 {
             if image_of(images, p) != s[i + 18] {
-                return false;
+                return i;
             }
         }
         i += 1;
     }
-    true
+    count
 }
 
 // The mark of a place; one past the shape's cells counts as used.
-fn mark_at(marks: &[u8; 28], n: usize, p: usize) -> u8
+pub(crate) fn mark_at(marks: &[u8; 28], n: usize, p: usize) -> u8
     requires { ⌜ n ≤ 25 ⌝ }
     ensures { λ r. ⌜ r ≡ markIn n (now (marks .entry)) p ⌝ }
 {
@@ -114,9 +118,9 @@ pub(crate) fn walk(n: usize, s: &[u8; 28], marks: &mut [u8; 28], from: usize) ->
     p
 }
 
-// Whether the paths of the member's links end where they should and share no cell. What stands for a cell that the member lacks may be met and yet
-// be no end.
-fn links_fit(
+// The lowest cell whose link's path does not end where it should, or shares a cell with that of a lower one; as many as there are where none is so.
+// What stands for a cell that the member lacks may be met and yet be no end.
+pub(crate) fn path_fails(
     cert: &[u8],
     first: usize,
     count: usize,
@@ -124,9 +128,9 @@ fn links_fit(
     marks: &mut [u8; 28],
     n: usize,
     s: &[u8; 28],
-) -> bool
+) -> usize
     requires { ⌜ ((member : Shape) × (covered : Shape) × Linking member covered (now cert) first count (now images) (now marks) n (now s)) ⌝ }
-    ensures { λ r. ⌜ ((member covered : Shape) → Linking member covered (now (cert .entry)) first count (now (images .entry)) (now (marks .entry)) n (now (s .entry)) → r ≡ allFrom count 0 (pathFits member covered (imagesIn count (now (images .entry))))) ⌝ }
+    ensures { λ r. ⌜ ((member covered : Shape) → Linking member covered (now (cert .entry)) first count (now (images .entry)) (now (marks .entry)) n (now (s .entry)) → r ≡ numberOr count (lowest count 0 (pathFits member covered (imagesIn count (now (images .entry)))))) ⌝ }
 {
     let mut i = 0;
     while i < count {
@@ -136,36 +140,13 @@ fn links_fit(
             let end = wide(image_of(images, p));
             let met = walk(n, s, marks, from);
             if met != end {
-                return false;
+                return i;
             }
             if mark_at(marks, n, met) != STOP {
-                return false;
+                return i;
             }
         }
         i += 1;
     }
-    true
-}
-
-// Whether the images embed the member that starts at a place in a shape.
-pub(crate) fn embeds(
-    cert: &[u8],
-    start: usize,
-    variables: usize,
-    images: &[u8; 15],
-    n: usize,
-    s: &[u8; 28],
-) -> bool
-    requires { ⌜ (Whole (now cert) variables start) × (length (now s) ≡ 28) × (size (shapeIn variables (now s)) ≡ n) × (ImageCodes (getD (now cert) (start + 1) 0) n (now images)) ⌝ }
-    ensures { λ r. ⌜ r ≡ embeds? (locatedAt (now (cert .entry)) variables start .shape) (shapeIn variables (now (s .entry))) (imagesIn (getD (now (cert .entry)) (start + 1) 0) (now (images .entry))) ⌝ }
-{
-    let cells = wide(cert[start + 1]);
-    let mut marks = [0u8; 28];
-    if !mark_images(images, cells, &mut marks) {
-        return false;
-    }
-    if !vars_fit(cert, start + 2, variables, images, s) {
-        return false;
-    }
-    links_fit(cert, start + 2 + variables, cells, images, &mut marks, n, s)
+    count
 }

@@ -1,11 +1,12 @@
 // One cover: reading it, and testing that its images are an embedding.
 use crate::fitting::NO_IMAGES;
 use crate::fitting::cells_held;
-use crate::fitting::embeds;
 use crate::fitting::wide;
 use crate::quick::images_embed;
 use crate::reading::CoverRead;
 use crate::reading::read_cover;
+use crate::rules::Answer;
+use crate::rules::cover_answer;
 use number::Read;
 use number::read_number;
 use verdict::Reached;
@@ -22,6 +23,7 @@ ghost use Rattle.covering.specs.Reading.{withoutMember};
 mod fitting;
 mod quick;
 mod reading;
+mod rules;
 
 // The place after a cover, or its refusal.
 fn refused(read: CoverRead) -> Reached
@@ -51,13 +53,11 @@ pub fn exact_cover(
         return refused(r);
     };
     let start = starts[m] as usize;
-    if cert[start] != state {
-        return Reached::Refused(Refusal::CoverFails, at);
+    let answer = cover_answer(cert, start, variables, state, &images, cells, s);
+    match answer {
+        Answer::Holds => Reached::At(next),
+        Answer::Breaks(broken) => Reached::Refused(Refusal::CoverFails(broken), at),
     }
-    if !embeds(cert, start, variables, &images, cells, s) {
-        return Reached::Refused(Refusal::CoverFails, at);
-    }
-    Reached::At(next)
 }
 
 // A quick test of the cover at a place: the place after it, or 0 where it is left to `exact_cover`. An entry of 9 variables and 12 cells has 23

@@ -6,10 +6,11 @@ use crate::fitting::cells_held;
 use crate::fitting::walk;
 use crate::fitting::wide;
 ghost use mathlib.Core.Bool.{true};
+ghost use mathlib.Core.Option.{none};
 ghost use mathlib.Core.Path.{_≡_};
 ghost use Prim.Native.Nat.{_+_, _≤_};
 ghost use lib.ListN.{length, getD, replicate};
-ghost use Rattle.lists.specs.Test.{allFrom};
+ghost use Rattle.lists.specs.Test.{lowest};
 ghost use Rattle.shape.specs.Shape.{Shape};
 ghost use Rattle.layout.specs.Entries.{Whole};
 ghost use Rattle.covering.specs.Images.{imagesIn, ImageCodes, varFitsIn, pathFits};
@@ -52,7 +53,7 @@ fn read_and_mark(
 // Whether each variable that the member places stands at the image of that place. False also where a place is no cell that a member may have.
 fn quick_vars(cert: &[u8], first: usize, count: usize, images: &[u8; 15], s: &[u8; 28]) -> bool
     requires { ⌜ (first + count ≤ length (now cert)) × (count ≤ 9) ⌝ }
-    ensures { λ r. ⌜ (r ≡ true → allFrom count 0 (varFitsIn (now (cert .entry)) first (now (images .entry)) (now (s .entry))) ≡ true) ⌝ }
+    ensures { λ r. ⌜ (r ≡ true → lowest count 0 (varFitsIn (now (cert .entry)) first (now (images .entry)) (now (s .entry))) ≡ none) ⌝ }
 {
     let mut i = 0;
     while i < count {
@@ -82,7 +83,7 @@ fn quick_links(
     s: &[u8; 28],
 ) -> bool
     requires { ⌜ ((member : Shape) × (covered : Shape) × Linking member covered (now cert) first count (now images) (now marks) n (now s)) ⌝ }
-    ensures { λ r. ⌜ ((member covered : Shape) → Linking member covered (now (cert .entry)) first count (now (images .entry)) (now (marks .entry)) n (now (s .entry)) → r ≡ true → allFrom count 0 (pathFits member covered (imagesIn count (now (images .entry)))) ≡ true) ⌝ }
+    ensures { λ r. ⌜ ((member covered : Shape) → Linking member covered (now (cert .entry)) first count (now (images .entry)) (now (marks .entry)) n (now (s .entry)) → r ≡ true → lowest count 0 (pathFits member covered (imagesIn count (now (images .entry)))) ≡ none) ⌝ }
 {
     let mut i = 0;
     while i < count {

@@ -3,8 +3,10 @@ use crate::fitting::wide;
 use layout::is_whole;
 use number::Read;
 use number::read_number;
+use verdict::Broken;
 use verdict::Reached;
 use verdict::Refusal;
+use verdict::WRONG_STATE;
 ghost use Prim.Native.Nat.{_≤_};
 ghost use Rattle.covering.specs.Images.{ImageCodes};
 ghost use Rattle.covering.specs.Reading.{ImagesRead, CoverIs};
@@ -58,7 +60,12 @@ pub(crate) fn read_cover(
     }
     let start = starts[m] as usize;
     if !is_whole(cert, start, variables) {
-        return CoverRead::Refused(Refusal::CoverFails, at);
+        // no member is there: whatever its state would be, it is another
+        let other = Broken {
+            rule: WRONG_STATE,
+            name: 0,
+        };
+        return CoverRead::Refused(Refusal::CoverFails(other), at);
     }
     let r = read_images(cert, next, n, wide(cert[start + 1]), images);
     match r {

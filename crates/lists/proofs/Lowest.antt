@@ -1,16 +1,17 @@
 -- What the lowest number at which a test fails is, and tests that some number or some member fails.
-use mathlib.Core.Bool.{Bool, true, false, _||_, not, cond}
+use mathlib.Core.Bool.{Bool, true, false, _&&_, _||_, not, cond}
 use mathlib.Core.List.{List, [], _∷_, List·Memᴰ·head, List·Memᴰ·tail, List·Memᴰ·not-nil}
 use mathlib.Core.Option.{Option, some, none}
-use mathlib.Core.Path.{_≡_, refl, subst}
+use mathlib.Core.Path.{_≡_, refl, sym, ap, subst, _∙_}
 use Prim.Native.Nat.{ℕ, zero, suc, _+_, _-_, _≤_, _<_}
 use native.Mathlib.Decide.{ℕ-discrete}
 use native.Mathlib.Numerals.{add-one}
 use native.Mathlib.Omega.{arith}
 use lib.Dec.{T}
 use Rattle.lists.specs.List.{_∈_, disjoint}
-use Rattle.lists.specs.Test.{allFrom, lowest}
+use Rattle.lists.specs.Test.{allFrom, lowest, numberOr}
 use Rattle.lists.proofs.List.{mem?, all-cons}
+use Rattle.lists.proofs.Test.{and-left, and-right}
 use Rattle.lists.proofs.Reflect.{Reflect, passes, r-not, r-all, r-disjoint}
 
 -- nothing from i to i + k fails the test, or n is the lowest that does
@@ -35,6 +36,78 @@ lowest-is test (suc k) i = go (test i) refl (lowest k (suc i) test) (lowest-is t
     go true e (some n) (a, b, c, d) =
         (omega arith, omega arith, c, λ j l b. first (λ j. (i ≤ j) × (j < n)) (λ j p. p .0) e (λ j l p. d j l (p .1)) j (l, b))
     go false e r h = (omega arith, omega arith, e, λ j l b. absurd (omega arith))
+
+pub lowest-none : (test : ℕ → Bool) (k i : ℕ) → ((j : ℕ) → i ≤ j → j < i + k → test j ≡ true) → lowest k i test ≡ none
+lowest-none test k i h = go (lowest k i test) (lowest-is test k i)
+  where
+    go : (o : Option ℕ) → Lowest k i test o → o ≡ none
+    go none l = refl
+    go (some n) (a, b, c, d) = let z : true ≡ false = sym (h n a b) ∙ c in cc
+
+pub passed-all : (test : ℕ → Bool) (k j : ℕ) → lowest k 0 test ≡ none → j < k → test j ≡ true
+passed-all test k j e b = go (lowest k 0 test) e (lowest-is test k 0)
+  where
+    go : (o : Option ℕ) → o ≡ none → Lowest k 0 test o → test j ≡ true
+    go none z l = l j (omega arith) (omega arith)
+    go (some n) z l = let q : _≡_ {A = ℕ} 0 1 = cc in absurd (omega arith)
+
+-- ---- what a search among k numbers that starts at 0 found, where k stands for nothing
+
+module _ (test : ℕ → Bool) (k r : ℕ) (e : r ≡ numberOr k (lowest k 0 test)) where
+  pub found-within : r ≤ k
+  found-within = go (lowest k 0 test) refl (lowest-is test k 0)
+    where
+      go : (o : Option ℕ) → lowest k 0 test ≡ o → Lowest k 0 test o → r ≤ k
+      go none z l = omega (arith, e, ap (numberOr k) z)
+      go (some n) z (_, c, _, _) = omega (arith, e, ap (numberOr k) z)
+
+  pub found-at : r < k → lowest k 0 test ≡ some r
+  found-at b = go (lowest k 0 test) refl
+    where
+      go : (o : Option ℕ) → lowest k 0 test ≡ o → lowest k 0 test ≡ some r
+      go none z = absurd (omega (arith, e, ap (numberOr k) z))
+      go (some n) z = z ∙ ap some (sym (e ∙ ap (numberOr k) z))
+
+  pub found-none : k ≤ r → lowest k 0 test ≡ none
+  found-none b = go (lowest k 0 test) refl (lowest-is test k 0)
+    where
+      go : (o : Option ℕ) → lowest k 0 test ≡ o → Lowest k 0 test o → lowest k 0 test ≡ none
+      go none z l = z
+      go (some n) z (_, c, _, _) = absurd (omega (arith, e, ap (numberOr k) z))
+
+-- ---- one test for another
+
+pub lowest-same : (f g : ℕ → Bool) (k i : ℕ) → ((j : ℕ) → i ≤ j → j < i + k → f j ≡ g j) → lowest k i f ≡ lowest k i g
+unfolding lowest
+lowest-same f g zero i h = refl
+lowest-same f g (suc k) i h = rw (h i (omega arith) (omega arith), lowest-same f g k (suc i) (λ j a b. h j (omega arith) (omega arith)))
+
+-- the number after the one that was found
+abbrev pub next : Option ℕ → Option ℕ
+next none = none
+next (some n) = some (suc n)
+
+pub lowest-next : (test : ℕ → Bool) (k i : ℕ) → lowest k (suc i) test ≡ next (lowest k i (λ j. test (suc j)))
+unfolding lowest
+lowest-next test zero i = refl
+lowest-next test (suc k) i = go (test (suc i)) (lowest-next test k (suc i))
+  where
+    go : (b : Bool) → lowest k (suc (suc i)) test ≡ next (lowest k (suc i) (λ j. test (suc j)))
+        → cond b (lowest k (suc (suc i)) test) (some (suc i)) ≡ next (cond b (lowest k (suc i) (λ j. test (suc j))) (some i))
+    go true h = h
+    go false h = refl
+
+module _ (f g : ℕ → Bool) where
+  -- what fails one of two tests, where the first never fails, fails the second
+  pub lowest-second : (k : ℕ) → lowest k 0 f ≡ none → lowest k 0 (λ j. f j && g j) ≡ lowest k 0 g
+  lowest-second k e = lowest-same (λ j. f j && g j) g k 0 (λ j _ b. rw (passed-all f k j e (omega arith)) refl)
+
+  -- where no number fails one of two tests, none fails either
+  pub lowest-both : (k : ℕ) → lowest k 0 (λ j. f j && g j) ≡ none → (lowest k 0 f ≡ none) × (lowest k 0 g ≡ none)
+  lowest-both k e = (
+    lowest-none f k 0 (λ j _ b. and-left (f j) (g j) (passed-all (λ j. f j && g j) k j e (omega arith))),
+    lowest-none g k 0 (λ j _ b. and-right (f j) (g j) (passed-all (λ j. f j && g j) k j e (omega arith))),
+  )
 
 -- ---- some number fails, some member is shared
 
@@ -75,17 +148,29 @@ pub r-nor : {P Q : Type 0} {a b : Bool} → Reflect P a → Reflect Q b → Refl
 r-nor {a = true} r s = record { holds = λ t. absurd t; tests = λ (p, q). p (r .holds tt) }
 r-nor {a = false} r s = record { holds = λ t. (r .tests, r-not s .holds t); tests = λ (p, q). r-not s .tests q }
 
--- ---- a loop that tests i of n numbers so far: what is left
+-- ---- a loop that ends at the first of n numbers that fails a test
 
-module _ (test : ℕ → Bool) (n i : ℕ) where
-  pub lowest-passed : i < n → test i ≡ true → lowest (n - i) i test ≡ lowest (n - (i + 1)) (i + 1) test
-  unfolding lowest
-  lowest-passed h e = let left : n - i ≡ suc (n - (i + 1)) = omega arith in rw (left, e, add-one i) refl
+module _ (test : ℕ → Bool) (n : ℕ) where
+  -- the first i numbers pass
+  pub record Passing (i : ℕ) : Type 0 where
+    pub inside : i ≤ n
+    pub whole : lowest (n - i) i test ≡ lowest n 0 test
 
-  pub lowest-failed : i < n → test i ≡ false → lowest (n - i) i test ≡ some i
-  unfolding lowest
-  lowest-failed h e = let left : n - i ≡ suc (n - (i + 1)) = omega arith in rw (left, e) refl
+  pub pass-none : Passing 0
+  pass-none = record { inside = omega arith; whole = ap (λ (k : ℕ). lowest k 0 test) (omega arith) }
 
-  pub lowest-done : n ≤ i → lowest (n - i) i test ≡ none
-  unfolding lowest
-  lowest-done h = let left : n - i ≡ 0 = omega arith in rw left refl
+  module _ (i : ℕ) (k : Passing i) where
+    pub pass-more : i < n → test i ≡ true → Passing (i + 1)
+    unfolding lowest
+    pass-more b e =
+        let left : n - i ≡ suc (n - (i + 1)) = omega arith in
+        let on : lowest (n - i) i test ≡ lowest (n - (i + 1)) (i + 1) test = rw (left, e, add-one i) refl in
+        record { inside = omega arith; whole = sym on ∙ k .whole }
+
+    pub pass-failed : i < n → test i ≡ false → lowest n 0 test ≡ some i
+    unfolding lowest
+    pass-failed b e = let left : n - i ≡ suc (n - (i + 1)) = omega arith in sym (k .whole) ∙ rw (left, e) refl
+
+    pub pass-all : n ≤ i → lowest n 0 test ≡ none
+    unfolding lowest
+    pass-all b = let left : n - i ≡ 0 = omega arith in sym (k .whole) ∙ rw left refl

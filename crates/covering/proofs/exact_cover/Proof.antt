@@ -1,12 +1,13 @@
 -- Each return is the case of `readCover` that the tests before it leave.
 use Prim.Native.Nat.{_<_}
-use mathlib.Core.Path.{_∙_, sym}
+use mathlib.Core.Path.{_∙_, sym, ap}
 use native.Mathlib.Omega.{arith}
 use borrow.Author.Needs.{needs}
 use borrow.Author.Tests.{not-true, not-false}
 use Rattle.layout.specs.ShapeArray.{shapeIn}
+use Rattle.covering.specs.Answer.{answerOf}
 use Rattle.covering.proofs.Images.{images-none}
-use Rattle.covering.proofs.CoverCases.{take-refused, other-state, no-embedding, take-embedding}
+use Rattle.covering.proofs.CoverCases.{take-refused, take-broken, take-holding}
 use Rattle.covering.proofs.exact_cover.Statement.{statement}
 use Rattle.covering.proofs.exact_cover.Tie as tie
 
@@ -42,41 +43,32 @@ shared-slice-read-start c = c .before .before .before .before .read-cover .ensur
 cast-start : tie.Need-cast-start
 cast-start c = omega (arith, c .shared-slice-known3 .given (c .before .before .r .given .0 .0))
 
-shared-slice-read-if1 : tie.Need-shared-slice-read-if1
-shared-slice-read-if1 c = omega (arith, c .before .before .before .before .before .read-cover .ensures .whole _ _ (c .before .before .before .r .given .1) .inside)
+cover-answer-requires : tie.Need-cover-answer-requires
+cover-answer-requires c κs =
+    let h = c .before .before .before .before .before .before .before .cells-held .ensures in
+    let k = c .before .before .before .before .before .read-cover .ensures in
+    let e = c .before .before .before .r .given .1 in
+    record { whole = k .whole _ _ e; room = h .0; held = sym (h .2); images = k .images _ _ e }
+
+enum-told-2 : tie.Need-enum-told-2
+enum-told-2 c = search needs
 
 returns-2 : tie.Need-returns-2
 returns-2 c =
-    let a = c .before .before .before .before .before .before .before .before .before .before .before .args in
-    let h = c .before .before .before .before .before .before .before .before .cells-held .ensures in
-    let shape = shapeIn (a .variables) (a .s .now) in
-    let byte : a .state < 256 = omega (arith, c .before .before .before .before .before .before .before .before .before .before .before .fits .state) in
-    other-state _ _ _ _ _ byte shape _ (sym (h .2)) _ _ (c .before .before .before .before .before .before .read-cover .ensures) _ _ (c .before .before .before .before .r .given .1) (c .if1 .taken)
+    let a = c .before .before .before .before .before .before .before .before .before .before .before .before .before .args in
+    let h = c .before .before .before .before .before .before .before .before .before .before .cells-held .ensures in
+    let byte : a .state < 256 = omega (arith, c .before .before .before .before .before .before .before .before .before .before .before .before .before .fits .state) in
+    take-holding _ _ _ _ _ byte (shapeIn (a .variables) (a .s .now)) _ (sym (h .2)) _ _ (c .before .before .before .before .before .before .before .before .read-cover .ensures) _ _ (c .before .before .before .before .before .before .r .given .1) (sym (ap answerOf (c .enum-told2 .given .1)) ∙ c .before .before .cover-answer .ensures)
 
-embeds-requires : tie.Need-embeds-requires
-embeds-requires c κs =
-    let h = c .before .before .before .before .before .before .before .before .before .cells-held .ensures in
-    let k = c .before .before .before .before .before .before .before .read-cover .ensures in
-    let e = c .before .before .before .before .before .r .given .1 in
-    (k .whole _ _ e, h .0, sym (h .2), k .images _ _ e)
+enum-known-answer : tie.Need-enum-known-answer
+enum-known-answer c = search needs
 
 returns-3 : tie.Need-returns-3
 returns-3 c =
     let a = c .before .before .before .before .before .before .before .before .before .before .before .before .before .before .args in
     let h = c .before .before .before .before .before .before .before .before .before .before .before .cells-held .ensures in
-    let shape = shapeIn (a .variables) (a .s .now) in
     let byte : a .state < 256 = omega (arith, c .before .before .before .before .before .before .before .before .before .before .before .before .before .before .fits .state) in
-    no-embedding _ _ _ _ _ byte shape _ (sym (h .2)) _ _ (c .before .before .before .before .before .before .before .before .before .read-cover .ensures) _ _ (c .before .before .before .before .before .before .before .r .given .1) (c .before .before .before .if1 .left)
-    (sym (c .before .embeds .ensures) ∙ not-true _ (c .if2 .taken))
-
-returns-4 : tie.Need-returns-4
-returns-4 c =
-    let a = c .before .before .before .before .before .before .before .before .before .before .before .before .before .before .args in
-    let h = c .before .before .before .before .before .before .before .before .before .before .before .cells-held .ensures in
-    let shape = shapeIn (a .variables) (a .s .now) in
-    let byte : a .state < 256 = omega (arith, c .before .before .before .before .before .before .before .before .before .before .before .before .before .before .fits .state) in
-    take-embedding _ _ _ _ _ byte shape _ (sym (h .2)) _ _ (c .before .before .before .before .before .before .before .before .before .read-cover .ensures) _ _ (c .before .before .before .before .before .before .before .r .given .1) (c .before .before .before .if1 .left)
-    (sym (c .before .embeds .ensures) ∙ not-false _ (c .if2 .left))
+    take-broken _ _ _ _ _ byte (shapeIn (a .variables) (a .s .now)) _ (sym (h .2)) _ _ (c .before .before .before .before .before .before .before .before .before .read-cover .ensures) _ _ (c .before .before .before .before .before .before .before .r .given .1) _ (sym (ap answerOf (c .before .answer .given .1)) ∙ c .before .before .before .cover-answer .ensures)
 
 pub exact-cover-spec : {M : Type 1} → statement M
 exact-cover-spec =
@@ -91,8 +83,8 @@ exact-cover-spec =
     mul-start
     shared-slice-read-start
     cast-start
-    shared-slice-read-if1
+    cover-answer-requires
+    enum-told-2
+    enum-known-answer
     returns-2
-    embeds-requires
-    returns-3
-    returns-4)
+    returns-3)

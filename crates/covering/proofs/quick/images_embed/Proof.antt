@@ -1,4 +1,4 @@
--- Where all three tests pass, the images are read and `embeds?` holds.
+-- Where all three tests pass, the images are read and the cover holds, if its state is right.
 use Prim.Native.Nat.{ℕ}
 use mathlib.Core.Path.{_≡_, refl, sym}
 use native.Mathlib.Omega.{arith}
@@ -40,15 +40,15 @@ quick-links-requires c κs =
     let (w, e, _) = c .before .before .before .before .before .before .before .before .before .before .before .pre in
     let h = c .before .before .before .before .before .before .before .before .before .cells-held .ensures in
     let t = c .before .before .before .before .before .before .read-and-mark .ensures (not-false _ (c .before .before .before .before .before .if1 .left)) in
-    (_, _, taken-linking _ _ _ (h .0) (sym (h .2)) _ _ w _ _ e _ _ t)
+    (_, _, taken-linking _ _ _ _ _ w (h .0) (sym (h .2)) _ _ e _ _ t)
 
 returns-3 : tie.Need-returns-3
 returns-3 c = λ z.
     let (w, e, _) = c .before .before .before .before .before .before .before .before .before .before .before .before .pre in
     let h = c .before .before .before .before .before .before .before .before .before .before .cells-held .ensures in
     let t = c .before .before .before .before .before .before .before .read-and-mark .ensures (not-false _ (c .before .before .before .before .before .before .if1 .left)) in
-    let l = taken-linking _ _ _ (h .0) (sym (h .2)) _ _ w _ _ e _ _ t in
-    taken-embed _ _ _ (h .0) (sym (h .2)) _ _ w _ _ e _ _ t (c .before .before .before .before .quick-vars .ensures (not-false _ (c .before .before .before .if2 .left))) (c .quick-links .ensures _ _ l z)
+    let l = taken-linking _ _ _ _ _ w (h .0) (sym (h .2)) _ _ e _ _ t in
+    taken-embed _ _ _ _ _ w (h .0) (sym (h .2)) _ _ e _ _ t (c .before .before .before .before .quick-vars .ensures (not-false _ (c .before .before .before .if2 .left))) (c .quick-links .ensures _ _ l z)
 
 pub images-embed-spec : {M : Type 1} → statement M
 images-embed-spec =

@@ -1,4 +1,4 @@
--- The loop follows the paths in turn, as `links_fit` does. The image of a place that the member has is an end, so what is met there is one. A link
+-- The loop follows the paths in turn, as `path_fails` does. The image of a place that the member has is an end, so what is met there is one. A link
 -- that stands there at once is a path of one step (`follow-direct`).
 use Prim.Native.Nat.{ℕ, _-_, _≤_}
 use mathlib.Core.Logic.{⊎-elim}
@@ -109,7 +109,7 @@ loop-again c = (
 )
 
 returns-3 : tie.Need-returns-3 Inv-loop μ-loop
-returns-3 c = λ m p l _. sym (fit-all _ _ _ _ _ _ _ _ _ l _ _ (c .before .loop .inv .1 m p l) (omega arith))
+returns-3 c = λ m p l _. fit-all _ _ _ _ _ _ _ _ _ l _ _ (c .before .loop .inv .1 m p l) (omega arith)
 
 pub quick-links-spec : {M : Type 1} → statement M
 quick-links-spec =

@@ -1,11 +1,12 @@
--- The loop tests the variables in turn, as `vars_fit` does; only where all fit is something to be shown.
+-- The loop tests the variables in turn, as `variable_elsewhere` does; only where all fit is something to be shown.
 use Prim.Native.Nat.{ℕ, _-_}
 use mathlib.Core.Logic.{⊎-elim}
 use mathlib.Core.Path.{_≡_, sym}
 use native.Mathlib.Omega.{arith}
 use Rattle.covering.specs.Images.{varFitsIn}
 use Rattle.covering.proofs.Images.{image-read}
-use Rattle.covering.proofs.Variables.{unplaced, at-image, Passing, pass-none, pass-more, pass-all}
+use Rattle.lists.proofs.Lowest.{Passing, pass-none, pass-more, pass-all}
+use Rattle.covering.proofs.Variables.{unplaced, at-image}
 use borrow.Author.Needs.{needs}
 use Rattle.covering.proofs.quick.quick_vars.Statement.{statement}
 use Rattle.covering.proofs.quick.quick_vars.Tie as tie
@@ -61,7 +62,7 @@ loop-again c =
     (λ n. unplaced (a .cert .now) (a .first) (a .images .now) (a .s .now) i p e (n .left)) (c .if1 .came))
 
 returns-3 : tie.Need-returns-3 Inv-loop μ-loop
-returns-3 c = λ _. sym (pass-all _ _ _ (c .before .loop .inv) (omega arith))
+returns-3 c = λ _. pass-all _ _ _ (c .before .loop .inv) (omega arith)
 
 pub quick-vars-spec : {M : Type 1} → statement M
 quick-vars-spec =

@@ -1,14 +1,15 @@
 -- The loop follows the paths of the links in turn: those of the cells before i fit, and are marked (`Fitting`).
 use Prim.Native.Nat.{_-_, _≤_}
 use mathlib.Core.Logic.{⊎-elim}
-use mathlib.Core.Path.{_∙_, sym}
+use mathlib.Core.Path.{_∙_, sym, ap}
 use native.Mathlib.Omega.{arith}
+use Rattle.lists.specs.Test.{numberOr}
 use Rattle.shape.specs.Shape.{Shape}
 use Rattle.covering.specs.Marks.{Linking}
 use Rattle.covering.proofs.Links.{Fitting, fit-none, fit-all, fit-skip, fit-walk, fit-good, fit-bad}
 use borrow.Author.Needs.{needs}
-use Rattle.covering.proofs.fitting.links_fit.Statement.{statement}
-use Rattle.covering.proofs.fitting.links_fit.Tie as tie
+use Rattle.covering.proofs.fitting.path_fails.Statement.{statement}
+use Rattle.covering.proofs.fitting.path_fails.Tie as tie
 
 abbrev Inv-loop : tie.InvT-loop
 Inv-loop cert first count images marks₀ n s i₀ marks i =
@@ -56,8 +57,9 @@ returns c = λ m p l.
     let f = c .before .before .before .before .before .before .before .before .before .before .before .loop .inv .1 m p l in
     let e = c .before .before .before .before .before .before .before .before .wide .ensures .0 in
     let s = c .before .before .before .before .before .wide2 .ensures .0 in
-    fit-bad _ _ _ _ _ _ _ _ _ l _ _ f (omega arith) _ e _ s (c .before .before .before .before .before .before .before .if1 .taken) _ (c .before .before .before .wide3 .ensures .0 ∙ c .before .before .before .before .image-of .ensures) _ _
-    (c .before .walk .ensures _ _ _ (fit-walk _ _ _ _ _ _ _ _ _ l _ _ f (omega arith) _ e _ s)) (λ _. c .if2 .taken)
+    sym (ap (numberOr _)
+    (fit-bad _ _ _ _ _ _ _ _ _ l _ _ f (omega arith) _ e _ s (c .before .before .before .before .before .before .before .if1 .taken) _ (c .before .before .before .wide3 .ensures .0 ∙ c .before .before .before .before .image-of .ensures) _ _
+    (c .before .walk .ensures _ _ _ (fit-walk _ _ _ _ _ _ _ _ _ l _ _ f (omega arith) _ e _ s)) (λ _. c .if2 .taken)))
 
 mark-at-requires : tie.Need-mark-at-requires Inv-loop μ-loop
 mark-at-requires c κs = let (m, p, l) = c .before .before .before .before .before .before .before .before .before .before .before .before .before .before .pre in omega (arith, l .covered-cells, l .linked .fit)
@@ -68,8 +70,9 @@ returns-2 c = λ m p l.
     let e = c .before .before .before .before .before .before .before .before .before .before .before .wide .ensures .0 in
     let s = c .before .before .before .before .before .before .before .before .wide2 .ensures .0 in
     let v = c .before .before .before .before .walk .ensures _ _ _ (fit-walk _ _ _ _ _ _ _ _ _ l _ _ f (omega arith) _ e _ s) in
-    fit-bad _ _ _ _ _ _ _ _ _ l _ _ f (omega arith) _ e _ s (c .before .before .before .before .before .before .before .before .before .before .if1 .taken) _ (c .before .before .before .before .before .before .wide3 .ensures .0 ∙ c .before .before .before .before .before .before .before .image-of .ensures) _ _ v
-    (λ stop _. c .if3 .taken (c .before .mark-at .ensures ∙ (rw (l .covered-cells) at (v .stop-marked stop))))
+    sym (ap (numberOr _)
+    (fit-bad _ _ _ _ _ _ _ _ _ l _ _ f (omega arith) _ e _ s (c .before .before .before .before .before .before .before .before .before .before .if1 .taken) _ (c .before .before .before .before .before .before .wide3 .ensures .0 ∙ c .before .before .before .before .before .before .before .image-of .ensures) _ _ v
+    (λ stop _. c .if3 .taken (c .before .mark-at .ensures ∙ (rw (l .covered-cells) at (v .stop-marked stop))))))
 
 add-i : tie.Need-add-i Inv-loop μ-loop
 add-i c = search needs
@@ -93,10 +96,10 @@ loop-again c = (
 )
 
 returns-3 : tie.Need-returns-3 Inv-loop μ-loop
-returns-3 c = λ m p l. fit-all _ _ _ _ _ _ _ _ _ l _ _ (c .before .loop .inv .1 m p l) (omega arith)
+returns-3 c = λ m p l. sym (ap (numberOr _) (fit-all _ _ _ _ _ _ _ _ _ l _ _ (c .before .loop .inv .1 m p l) (omega arith)))
 
-pub links-fit-spec : {M : Type 1} → statement M
-links-fit-spec =
+pub path-fails-spec : {M : Type 1} → statement M
+path-fails-spec =
     tie.close
     (tie.spec
     Inv-loop

@@ -1,12 +1,15 @@
 -- The loop tests the variables in turn: those before i fit (`Passing`).
 use Prim.Native.Nat.{_-_}
 use mathlib.Core.Logic.{⊎-elim}
+use mathlib.Core.Path.{sym, ap}
 use native.Mathlib.Omega.{arith}
 use Rattle.covering.specs.Images.{varFitsIn}
-use Rattle.covering.proofs.Variables.{unplaced, at-image, elsewhere, Passing, pass-none, pass-more, pass-failed, pass-all}
+use Rattle.lists.specs.Test.{numberOr}
+use Rattle.lists.proofs.Lowest.{Passing, pass-none, pass-more, pass-failed, pass-all}
+use Rattle.covering.proofs.Variables.{unplaced, at-image, elsewhere}
 use borrow.Author.Needs.{needs}
-use Rattle.covering.proofs.fitting.vars_fit.Statement.{statement}
-use Rattle.covering.proofs.fitting.vars_fit.Tie as tie
+use Rattle.covering.proofs.fitting.variable_elsewhere.Statement.{statement}
+use Rattle.covering.proofs.fitting.variable_elsewhere.Tie as tie
 
 abbrev Inv-loop : tie.InvT-loop
 Inv-loop cert first count images s i₀ i = Passing (varFitsIn cert first images s) count i
@@ -39,9 +42,9 @@ returns : tie.Need-returns Inv-loop μ-loop
 returns c =
     let a = c .before .before .before .before .before .before .before .before .before .args in
     let i = c .before .before .before .before .before .before .before .loop .i in
-    pass-failed _ _ i (c .before .before .before .before .before .before .before .loop .inv) (omega arith)
+    sym (ap (numberOr _) (pass-failed _ _ i (c .before .before .before .before .before .before .before .loop .inv) (omega arith)
     (elsewhere (a .cert .now) (a .first) (a .images .now) (a .s .now) i (c .before .before .before .before .wide .result) (c .before .before .before .before .wide .ensures .0) (c .before .before .image-of .result)
-    (c .before .before .image-of .ensures) (c .before .before .before .if1 .taken) (c .if2 .taken))
+    (c .before .before .image-of .ensures) (c .before .before .before .if1 .taken) (c .if2 .taken))))
 
 add-i : tie.Need-add-i Inv-loop μ-loop
 add-i c = search needs
@@ -59,10 +62,10 @@ loop-again c =
     (λ n. unplaced (a .cert .now) (a .first) (a .images .now) (a .s .now) i (c .before .wide .result) e (n .left)) (c .if1 .came))
 
 returns-2 : tie.Need-returns-2 Inv-loop μ-loop
-returns-2 c = pass-all _ _ _ (c .before .loop .inv) (omega arith)
+returns-2 c = sym (ap (numberOr _) (pass-all _ _ _ (c .before .loop .inv) (omega arith)))
 
-pub vars-fit-spec : {M : Type 1} → statement M
-vars-fit-spec =
+pub variable-elsewhere-spec : {M : Type 1} → statement M
+variable-elsewhere-spec =
     tie.close
     (tie.spec
     Inv-loop

@@ -1,0 +1,110 @@
+-- The loop looks at the links in turn: the paths of those of the cells before i end where they should (`Passing`).
+use Prim.Native.Nat.{_-_, _≤_}
+use mathlib.Core.List.{[]}
+use mathlib.Core.Logic.{⊎-elim}
+use mathlib.Core.Path.{_∙_, sym, ap}
+use native.Mathlib.Omega.{arith}
+use Rattle.lists.specs.Test.{numberOr}
+use Rattle.lists.proofs.Lowest.{Passing, pass-none, pass-all}
+use Rattle.shape.specs.Shape.{Shape}
+use Rattle.cover.specs.Test.{linkMeets}
+use Rattle.covering.specs.Images.{imagesIn}
+use Rattle.covering.specs.Marks.{Linking}
+use Rattle.covering.proofs.Links.{walk-from, meet-skip, meet-more, meet-not}
+use borrow.Author.Needs.{needs}
+use Rattle.covering.proofs.rules.link_misses.Statement.{statement}
+use Rattle.covering.proofs.rules.link_misses.Tie as tie
+
+abbrev Inv-loop : tie.InvT-loop
+Inv-loop cert first count images marks n s i₀ i =
+    (i ≤ count)
+    × ((member covered : Shape) → Linking member covered cert first count images marks n s
+    → Passing (linkMeets member covered (imagesIn count images)) count i)
+
+abbrev μ-loop : tie.MeasureT-loop
+μ-loop cert first count images marks n s i₀ i = count - i
+
+loop-holds : tie.Need-loop-holds Inv-loop μ-loop
+loop-holds c = (omega arith, λ m p l. pass-none _ _)
+
+add-wide : tie.Need-add-wide Inv-loop μ-loop
+add-wide c = let (m, p, l) = c .before .before .before .pre in omega (arith, l .inside)
+
+shared-slice-read-wide : tie.Need-shared-slice-read-wide Inv-loop μ-loop
+shared-slice-read-wide c = let (m, p, l) = c .before .before .before .before .pre in omega (arith, l .inside)
+
+wide-requires : tie.Need-wide-requires Inv-loop μ-loop
+wide-requires c κs = search needs
+
+add-wide-2 : tie.Need-add-wide-2 Inv-loop μ-loop
+add-wide-2 c = search needs
+
+element-copy-out-wide : tie.Need-element-copy-out-wide Inv-loop μ-loop
+element-copy-out-wide c = let (m, p, l) = c .before .before .before .before .before .before .pre in omega (arith, l .images .few)
+
+wide-requires-2 : tie.Need-wide-requires-2 Inv-loop μ-loop
+wide-requires-2 c κs = search needs
+
+image-of-requires : tie.Need-image-of-requires Inv-loop μ-loop
+image-of-requires c κs = search needs
+
+wide-requires-3 : tie.Need-wide-requires-3 Inv-loop μ-loop
+wide-requires-3 c κs = search needs
+
+path-end-requires : tie.Need-path-end-requires Inv-loop μ-loop
+path-end-requires c κs =
+    let (m, p, l) = c .before .before .before .before .before .before .before .before .before .before .pre in
+    (p .links, _, [], walk-from _ _ _ _ _ _ _ _ _ l (c .before .before .before .before .before .before .before .before .loop .i) (omega arith) _ (c .before .before .before .before .before .wide .ensures .0) _ (c .before .before .wide2 .ensures .0) [] _ (l .marked))
+
+returns : tie.Need-returns Inv-loop μ-loop
+returns c = λ m p l.
+    let t = c .before .before .before .before .before .before .before .before .before .before .loop in
+    let e = c .before .before .before .before .before .before .before .wide .ensures .0 in
+    let s = c .before .before .before .before .wide2 .ensures .0 in
+    sym (ap (numberOr _)
+    (meet-not _ _ _ _ _ _ _ _ _ l (t .i) (t .inv .1 m p l) (omega arith) _ e _ s (c .before .before .before .before .before .before .if1 .taken) _ (c .before .before .wide3 .ensures .0 ∙ c .before .before .before .image-of .ensures) _
+    (c .before .path-end .ensures _ _ _ (walk-from _ _ _ _ _ _ _ _ _ l (t .i) (omega arith) _ e _ s [] _ (l .marked))) (c .if2 .taken)))
+
+add-i : tie.Need-add-i Inv-loop μ-loop
+add-i c = search needs
+
+loop-less : tie.Need-loop-less Inv-loop μ-loop
+loop-less c = search needs
+
+loop-again : tie.Need-loop-again Inv-loop μ-loop
+loop-again c = (
+  omega arith,
+  λ m p l.
+      let t = c .before .before .before .before .loop in
+      let e = c .before .wide .ensures .0 in
+      ⊎-elim
+      (λ (o, _, s, q, v, w, z).
+      meet-more _ _ _ _ _ _ _ _ _ l (t .i) (t .inv .1 m p l) (omega arith) _ e _ (s .ensures .0) (o .taken) _ (v .ensures .0 ∙ q .ensures) _
+      (w .ensures _ _ _ (walk-from _ _ _ _ _ _ _ _ _ l (t .i) (omega arith) _ e _ (s .ensures .0) [] _ (l .marked))) (z .left))
+      (λ o. meet-skip _ _ _ _ _ _ _ _ _ l (t .i) (t .inv .1 m p l) (omega arith) _ e (o .left)) (c .if1 .came),
+)
+
+returns-2 : tie.Need-returns-2 Inv-loop μ-loop
+returns-2 c = λ m p l. sym (ap (numberOr _) (pass-all _ _ _ (c .before .loop .inv .1 m p l) (omega arith)))
+
+pub link-misses-spec : {M : Type 1} → statement M
+link-misses-spec =
+    tie.close
+    (tie.spec
+    Inv-loop
+    μ-loop
+    loop-holds
+    add-wide
+    shared-slice-read-wide
+    wide-requires
+    add-wide-2
+    element-copy-out-wide
+    wide-requires-2
+    image-of-requires
+    wide-requires-3
+    path-end-requires
+    returns
+    add-i
+    loop-less
+    loop-again
+    returns-2)

@@ -1,0 +1,33 @@
+-- The exact test of one cover: what is tested, and the answer of the code as that of the definitions.
+use mathlib.Core.List.{List}
+use mathlib.Core.Path.{_≡_}
+use Prim.Native.Nat.{ℕ, _+_}
+use lib.ListN.{length, getD}
+use Rattle.lists.specs.Test.{lowest}
+use Rattle.shape.specs.Shape.{Shape, size}
+use Rattle.cover.specs.Test.{linkMeets, pathUnshared, Answer, holds, broken, orElse}
+use Rattle.layout.specs.Entries.{Whole}
+use Rattle.layout.specs.ShapeArray.{shapeIn}
+use Rattle.verdict.specs.declared.Broken.{Broken}
+use Rattle.covering.specs.Images.{ImageCodes}
+use Rattle.covering.specs.declared.rules.Answer.{Answer as Told}
+use Rattle.covering.specs.declared.rules.Answer.the-variants.{Holds, Breaks}
+
+abbrev pub brokenOf : Broken → Answer
+brokenOf b = broken (b .rule) (b .name)
+
+abbrev pub answerOf : Told → Answer
+answerOf Holds = holds
+answerOf (Breaks b) = brokenOf b
+
+-- a member stands whole at a place, a shape of n cells is in an array, and the member's cells have images in it
+pub record Tested (cert : List ℕ) (variables start : ℕ) (codes : List ℕ) (n : ℕ) (s : List ℕ) : Type 0 where
+  pub whole : Whole cert variables start
+  pub room : length s ≡ 28
+  pub held : size (shapeIn variables s) ≡ n
+  pub images : ImageCodes (getD cert (start + 1) 0) n codes
+
+-- what the last two rules say
+abbrev pub pathsAnswer : Shape → Shape → List ℕ → ℕ → Answer
+pathsAnswer member covered images count =
+    orElse 4 (lowest count 0 (linkMeets member covered images)) (orElse 5 (lowest count 0 (pathUnshared member covered images)) holds)

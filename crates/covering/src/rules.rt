@@ -1,0 +1,185 @@
+// The exact test of one cover, rule by rule in document 02's order, and what it names where a rule is broken.
+use crate::fitting::STOP;
+use crate::fitting::image_of;
+use crate::fitting::mark_at;
+use crate::fitting::mark_images;
+use crate::fitting::path_fails;
+use crate::fitting::variable_elsewhere;
+use crate::fitting::wide;
+use verdict::Broken;
+use verdict::IMAGE_TWICE;
+use verdict::LINK_MISSES;
+use verdict::SHARED_PATH;
+use verdict::VARIABLE_ELSEWHERE;
+use verdict::WRONG_STATE;
+ghost use mathlib.Core.Bool.{true};
+ghost use mathlib.Core.List.{List};
+ghost use mathlib.Core.Option.{some};
+ghost use mathlib.Core.Path.{_≡_};
+ghost use Prim.Native.Nat.{ℕ, _+_, _<_};
+ghost use lib.ListN.{getD};
+ghost use Rattle.lists.specs.Test.{lowest, numberOr};
+ghost use Rattle.shape.specs.Shape.{Shape};
+ghost use Rattle.cover.specs.Test.{linkMeets, coverAnswer};
+ghost use Rattle.layout.specs.Entries.{locatedAt, Whole};
+ghost use Rattle.layout.specs.ShapeArray.{shapeIn};
+ghost use Rattle.covering.specs.Answer.{brokenOf, answerOf, Tested, pathsAnswer};
+ghost use Rattle.covering.specs.Images.{imagesIn, ImageCodes, once, onceAt, pathFits};
+ghost use Rattle.covering.specs.Marks.{Walking, endFrom, Linking};
+
+// What the test of a cover says: it holds, or which rule is broken first.
+pub(crate) enum Answer {
+    Holds,
+    Breaks(Broken),
+}
+
+// Whether no other cell has the image of cell i.
+fn image_once(images: &[u8; 15], count: usize, i: usize) -> bool
+    requires { ⌜ ImageCodes count 25 (now images) × (i < count) ⌝ }
+    ensures { λ r. ⌜ r ≡ onceAt (imagesIn count (now (images .entry))) i ⌝ }
+{
+    let mut j = 0;
+    while j < count {
+        if i != j {
+            if images[i + 3] == images[j + 3] {
+                return false;
+            }
+        }
+        j += 1;
+    }
+    true
+}
+
+// The lowest cell whose image another cell has too; as many as there are where none is so.
+fn image_twice(images: &[u8; 15], count: usize) -> usize
+    requires { ⌜ ImageCodes count 25 (now images) ⌝ }
+    ensures { λ r. ⌜ r ≡ numberOr count (lowest count 0 (onceAt (imagesIn count (now (images .entry))))) ⌝ }
+{
+    let mut i = 0;
+    while i < count {
+        if !image_once(images, count, i) {
+            return i;
+        }
+        i += 1;
+    }
+    count
+}
+
+// Where the path from a cell ends: at the first stop that links lead to, or nowhere where they lead to none.
+fn path_end(n: usize, s: &[u8; 28], marks: &[u8; 28], from: usize) -> usize
+    requires { ⌜ ((links : List ℕ) × (images : List ℕ) × (used : List ℕ) × Walking links images used (now s) (now marks) n from) ⌝ }
+    ensures { λ r. ⌜ ((links images used : List ℕ) → Walking links images used (now (s .entry)) (now (marks .entry)) n from → r ≡ endFrom links images from) ⌝ }
+{
+    let mut p = wide(s[from]);
+    let mut left = n;
+    while 0 < left {
+        if mark_at(marks, n, p) == STOP {
+            return p;
+        }
+        if n + 3 <= p {
+            return 0;
+        }
+        p = wide(s[p]);
+        left -= 1;
+    }
+    0
+}
+
+// The lowest cell whose link misses; as many as there are where none does.
+fn link_misses(
+    cert: &[u8],
+    first: usize,
+    count: usize,
+    images: &[u8; 15],
+    marks: &[u8; 28],
+    n: usize,
+    s: &[u8; 28],
+) -> usize
+    requires { ⌜ ((member : Shape) × (covered : Shape) × Linking member covered (now cert) first count (now images) (now marks) n (now s)) ⌝ }
+    ensures { λ r. ⌜ ((member covered : Shape) → Linking member covered (now (cert .entry)) first count (now (images .entry)) (now (marks .entry)) n (now (s .entry)) → r ≡ numberOr count (lowest count 0 (linkMeets member covered (imagesIn count (now (images .entry)))))) ⌝ }
+{
+    let mut i = 0;
+    while i < count {
+        let p = wide(cert[first + i]);
+        if p != 0 {
+            let from = wide(images[i + 3]);
+            let end = wide(image_of(images, p));
+            if path_end(n, s, marks, from) != end {
+                return i;
+            }
+        }
+        i += 1;
+    }
+    count
+}
+
+// What rules 4 and 5 say, where the path of cell i is the first that fails: a link that misses, of any cell, comes before a shared path.
+fn broken_path(
+    cert: &[u8],
+    start: usize,
+    variables: usize,
+    images: &[u8; 15],
+    n: usize,
+    s: &[u8; 28],
+    i: usize,
+) -> Broken
+    requires { ⌜ (Tested (now cert) variables start (now images) n (now s)) × (once (imagesIn (getD (now cert) (start + 1) 0) (now images)) ≡ true) × (i < getD (now cert) (start + 1) 0) × (lowest (getD (now cert) (start + 1) 0) 0 (pathFits (locatedAt (now cert) variables start .shape) (shapeIn variables (now s)) (imagesIn (getD (now cert) (start + 1) 0) (now images))) ≡ some i) ⌝ }
+    ensures { λ r. ⌜ brokenOf r ≡ pathsAnswer (locatedAt (now (cert .entry)) variables start .shape) (shapeIn variables (now (s .entry))) (imagesIn (getD (now (cert .entry)) (start + 1) 0) (now (images .entry))) (getD (now (cert .entry)) (start + 1) 0) ⌝ }
+{
+    let cells = wide(cert[start + 1]);
+    let mut marks = [0u8; 28];
+    mark_images(images, cells, &mut marks);
+    let missing = link_misses(cert, start + 2 + variables, cells, images, &marks, n, s);
+    if missing < cells {
+        return Broken {
+            rule: LINK_MISSES,
+            name: missing as u8,
+        };
+    }
+    Broken {
+        rule: SHARED_PATH,
+        name: i as u8,
+    }
+}
+
+// What the test of a cover says: of a shape at a state, by the member that starts at a place.
+pub(crate) fn cover_answer(
+    cert: &[u8],
+    start: usize,
+    variables: usize,
+    state: u8,
+    images: &[u8; 15],
+    n: usize,
+    s: &[u8; 28],
+) -> Answer
+    requires { ⌜ Tested (now cert) variables start (now images) n (now s) ⌝ }
+    ensures { λ r. ⌜ answerOf r ≡ coverAnswer (locatedAt (now (cert .entry)) variables start) (imagesIn (getD (now (cert .entry)) (start + 1) 0) (now (images .entry))) (record { state = state; shape = shapeIn variables (now (s .entry)) }) ⌝ }
+{
+    if cert[start] != state {
+        return Answer::Breaks(Broken {
+            rule: WRONG_STATE,
+            name: 0,
+        });
+    }
+    let cells = wide(cert[start + 1]);
+    let mut marks = [0u8; 28];
+    if !mark_images(images, cells, &mut marks) {
+        let twice = image_twice(images, cells);
+        return Answer::Breaks(Broken {
+            rule: IMAGE_TWICE,
+            name: twice as u8,
+        });
+    }
+    let elsewhere = variable_elsewhere(cert, start + 2, variables, images, s);
+    if elsewhere < variables {
+        return Answer::Breaks(Broken {
+            rule: VARIABLE_ELSEWHERE,
+            name: (elsewhere + 1) as u8,
+        });
+    }
+    let i = path_fails(cert, start + 2 + variables, cells, images, &mut marks, n, s);
+    if i < cells {
+        return Answer::Breaks(broken_path(cert, start, variables, images, n, s, i));
+    }
+    Answer::Holds
+}
