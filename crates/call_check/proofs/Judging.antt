@@ -6,9 +6,10 @@ use Prim.Native.Nat.{ℕ, _≤_}
 use native.Mathlib.Omega.{arith}
 use Rattle.format.specs.Conditions.{Conditions, Acceptable}
 use Rattle.format.specs.JobBytes.{SafeBytes}
+use Rattle.format.specs.Parser.{Reason, reasonNumber}
 use Rattle.format.specs.Verdict.{Verdict, Counts, accepted, refused, verdict}
 use Rattle.number.specs.CallResult.{lent}
-use Rattle.verdict.specs.Verdict.{refusalNumber, verdictOf, verdictResult}
+use Rattle.verdict.specs.Verdict.{reasonOf, verdictOf, verdictResult}
 use Rattle.verdict.specs.declared.Counts.{Counts as CountsAnswer}
 use Rattle.verdict.specs.declared.Refusal.{Refusal}
 use Rattle.verdict.specs.declared.Verdict.{Verdict as Answer}
@@ -32,14 +33,14 @@ module _
         let counts : Counts = record { bads = c .bads; members = c .members; covers = c .covers } in
         ((λ z. (counts, exact counts .0 (ap verdictOf r-is)), λ d. refl), λ z. safe c r-is)
 
-    pub told-refused : (why : Refusal) (place code : ℕ) → r ≡ Refused why place → code ≡ refusalNumber why → Told code
+    pub told-refused : (why : Refusal) (place code : ℕ) → r ≡ Refused why place → code ≡ reasonNumber (reasonOf why) → Told code
     told-refused why place code r-is code-is =
         ((λ z. absurd (not-zero z), λ (c, d). absurd (not-accepted (sym (exact c .1 d) ∙ ap verdictOf r-is))), λ z. absurd (not-zero z))
       where
         not-zero : ¬ (code ≡ 0)
         not-zero z = absurd (omega (arith, numbered why, code-is))
 
-        not-accepted : {c : Counts} {number at : ℕ} → ¬ (_≡_ {A = Verdict} (accepted c) (refused number at))
+        not-accepted : {c : Counts} {reason : Reason} {at : ℕ} → ¬ (_≡_ {A = Verdict} (accepted c) (refused reason at))
         not-accepted e = let z : _≡_ {A = ℕ} 0 1 = cc in absurd (omega arith)
 
     -- and the values told are the counts of the conditions

@@ -24,7 +24,7 @@ pub extern "C" fn vorruda_check(job: &[u8], cert: &[u8]) -> u32
     }
 }
 
-// The same, with the three counts, or the place and two zeros, in an array that the host lends.
+// The same, with the three counts, or the place, the broken rule and its name (0 and 0 but for refusal 9), in an array that the host lends.
 #[no_mangle]
 pub extern "C" fn vorruda_verdict(job: &[u8], cert: &[u8], out: &mut [u64]) -> u32
     ensures number { λ r. ⌜ r ≡ verdictResult (verdict (now (job .entry)) (now (cert .entry))) .code ⌝ }
@@ -44,7 +44,11 @@ pub extern "C" fn vorruda_verdict(job: &[u8], cert: &[u8], out: &mut [u64]) -> u
             0
         }
         Verdict::Refused(refusal, place) => {
-            let values = [place as u64, 0, 0];
+            let values = [
+                place as u64,
+                verdict::rule_number(refusal) as u64,
+                verdict::rule_name(refusal) as u64,
+            ];
             lend(&values, out);
             verdict::refusal_number(refusal)
         }

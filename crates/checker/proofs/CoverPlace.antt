@@ -6,10 +6,11 @@ use native.Mathlib.Omega.{arith}
 use lib.ListN.{length, getElem?}
 use Rattle.shape.specs.Shape.{size}
 use Rattle.run.specs.Run.{Located}
-use Rattle.cover.specs.Cover.{holds?}
+use Rattle.cover.specs.Test.{coverAnswer}
 use Rattle.format.specs.Certificate.{readCover}
 use Rattle.format.specs.Parser.{parsed, many, ranged, readAs, Buffer}
-use Rattle.format.proofs.Parsing.{then, read-sound, require-sound, codes-exact}
+use Rattle.format.proofs.Parsing.{then, read-sound, codes-exact}
+use Rattle.format.proofs.Covers.{judge-sound}
 use Rattle.format.proofs.Sequence.{number-in, reads-on, reads-inside}
 
 pub cover-place : (s : Buffer) (ms : List Located) (o : Located) (at : ℕ) {u : Unit {0}} {next : ℕ} → readCover s ms o at ≡ parsed u next
@@ -22,5 +23,5 @@ cover-place s ms o at =
     let (n, g, numbered) = read-sound s (getElem? ms) at m a h₁ in
     let (some-left, on, inside) = number-in at (length (s .bytes) - at) _ _ _ n a g in
     let (r, ok) = codes-exact s (size (m .shape)) (size (o .shape)) .sound a images b h₂ in
-    let (t, next-is) = require-sound (holds? m images o) 9 at b h₃ in
+    let (t, next-is) = judge-sound (coverAnswer m images o) at b h₃ in
     (omega (arith, reads-on r), omega (arith, reads-inside r (omega arith)))))

@@ -16,7 +16,7 @@ use Rattle.format.specs.Conditions.{Conditions, countsOf}
 use Rattle.format.specs.JobBytes.{SafeBytes}
 use Rattle.format.specs.Job.{readWholeJob}
 use Rattle.format.specs.JobNumbers.{JobFile}
-use Rattle.format.specs.Parser.{Reason, Parsed, parsed, fault, Parser, onward, each, certificateBuffer, jobBuffer, end}
+use Rattle.format.specs.Parser.{Reason, refusal, Parsed, parsed, fault, Parser, onward, each, certificateBuffer, jobBuffer, end}
 use Rattle.format.specs.Verdict.{Counts, accepted, refused, conclude, readCertificate, fits, verdict, readBoth}
 use Rattle.format.proofs.Exact.{exact}
 use Rattle.format.proofs.Guarantee.{safe-bytes}
@@ -58,12 +58,12 @@ module _ (cert : List ℕ) (j : Job) (ms : List Located) (at : ℕ) (g : Checked
         let at-is : t .at ≡ next = cc in
         (covers-is ∙ omega arith, ap (after []) (sym at-is))),
   )
-  by-each (fault why place) e = (
+  by-each (fault reason place) e = (
     (λ why q g-is.
-        let f : _≡_ {A = Parsed ℕ} (fault (reasonOf why) q) (fault why place) = sym (ap checkedOf g-is) ∙ e in
-        let number-is : number ≡ reasonOf why = cc in
+        let f : _≡_ {A = Parsed ℕ} (fault (reasonOf why) q) (fault reason place) = sym (ap checkedOf g-is) ∙ e in
+        let reason-is : reason ≡ reasonOf why = cc in
         let place-is : place ≡ q = cc in
-        ap₂ fault number-is place-is),
+        ap₂ fault reason-is place-is),
     (λ t g-is. let z : _≡_ {A = ℕ} 0 1 = cc (ap checkedOf g-is) in absurd (omega arith)),
   )
 
@@ -79,7 +79,7 @@ module _ (cert : List ℕ) (j : Job) (ms : List Located) (at : ℕ) (g : Checked
     unfolding readCovers
     reached = by-each (each (readCover (certificateBuffer cert) ms) (owed j ms) at) (taken ∙ checkAll-each cert ms (owed j ms) 0 at) .1 t g-is
 
-    pub covers-left : t .at < length cert → refused 10 (t .at) ≡ conclude (readCovers cert j ms at)
+    pub covers-left : t .at < length cert → refused (refusal 10) (t .at) ≡ conclude (readCovers cert j ms at)
     unfolding end
     covers-left h = rw (reached .1, lt-leb (length cert) (t .at) h) refl
 
@@ -139,12 +139,12 @@ file-is job h d =
     }
 
 module _ (job cert : List ℕ) where
-  pub job-length : fits job ≡ false → refused 1 0 ≡ verdict job cert
+  pub job-length : fits job ≡ false → refused (refusal 1) 0 ≡ verdict job cert
   unfolding verdict
   job-length e = rw e refl
 
   module _ (job-fits : fits job ≡ true) where
-    pub certificate-length : fits cert ≡ false → refused 2 0 ≡ verdict job cert
+    pub certificate-length : fits cert ≡ false → refused (refusal 2) 0 ≡ verdict job cert
     unfolding verdict
     certificate-length e = rw (job-fits, e) refl
 

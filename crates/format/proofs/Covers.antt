@@ -144,7 +144,7 @@ module _ (variables states start : ℕ) where
 -- ---- covers
 
 -- a cover goes through exactly if it holds
-judge-sound : (a : Answer) (first at : ℕ) {u : Unit {0}} {next : ℕ} → judge a first at ≡ parsed u next → (a ≡ holds) × (at ≡ next)
+pub judge-sound : (a : Answer) (first at : ℕ) {u : Unit {0}} {next : ℕ} → judge a first at ≡ parsed u next → (a ≡ holds) × (at ≡ next)
 judge-sound holds first at e = (refl, cc)
 judge-sound (broken rule name) first at {u} {next} e = absurd (not-fault u next (broken-rule rule name) first e)
 

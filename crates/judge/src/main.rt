@@ -42,6 +42,11 @@ fn main() {
         Verdict::Refused(refusal, place) => {
             print(b"refused ", verdict::refusal_number(refusal) as u64);
             print(b" at ", place as u64);
+            let rule = verdict::rule_number(refusal);
+            if rule != 0 {
+                print(b" rule ", rule as u64);
+                print(b" of ", verdict::rule_name(refusal) as u64);
+            }
         }
     }
     io::write_all(STDOUT_FILENO, b"\n");

@@ -33,6 +33,11 @@ fn judge(name: &[u8], job: &[u8], cert: &[u8]) {
         Verdict::Refused(refusal, place) => {
             say_number(b"refused ", verdict::refusal_number(refusal) as u64);
             say_number(b" at ", place as u64);
+            let rule = verdict::rule_number(refusal);
+            if rule != 0 {
+                say_number(b" rule ", rule as u64);
+                say_number(b" of ", verdict::rule_name(refusal) as u64);
+            }
         }
     }
     say(b"\n");
