@@ -29,6 +29,18 @@ lend-requires c κs = search needs
 enum-known-refusal : tie.Need-enum-known-refusal
 enum-known-refusal c = search needs
 
+rule-number-requires : tie.Need-rule-number-requires
+rule-number-requires c κs = search needs
+
+cast-t21 : tie.Need-cast-t21
+cast-t21 c = search needs
+
+rule-name-requires : tie.Need-rule-name-requires
+rule-name-requires c κs = search needs
+
+cast-t23 : tie.Need-cast-t23
+cast-t23 c = search needs
+
 slice-aggregate-lend-2 : tie.Need-slice-aggregate-lend-2
 slice-aggregate-lend-2 c = search needs
 
@@ -55,12 +67,12 @@ same-length-2 c = search needs
 
 returns-2 : tie.Need-returns-2
 returns-2 c =
-    let k = c .before .before .before .before .before .before .before .before .before .check .ensures in
-    let r-is = c .before .before .before .before .before .before .before .refusal .given .1 in (
+    let k = c .before .before .before .before .before .before .before .before .before .before .before .check .ensures in
+    let r-is = c .before .before .before .before .before .before .before .before .before .refusal .given .1 in (
       rw (← k .0, r-is) (c .refusal-number .ensures),
       told-values _ _ _ (k .0) (k .1 .0) (k .1 .1) _ _ _
           (told-refused _ _ _ (k .0) (k .1 .0) (k .1 .1) _ _ _ r-is (c .refusal-number .ensures))
-          (rw (← k .0, r-is) (c .before .before .before .lend2 .ensures)),
+          (rw (← k .0, r-is, ← c .before .before .before .before .before .before .before .rule-number .ensures, ← c .before .before .before .before .before .before .rule-name .ensures) (c .before .before .before .lend2 .ensures)),
     )
 
 pub vorruda-verdict-spec : {M : Type 1} → statement M
@@ -75,6 +87,10 @@ vorruda-verdict-spec =
     slice-aggregate-lend
     lend-requires
     enum-known-refusal
+    rule-number-requires
+    cast-t21
+    rule-name-requires
+    cast-t23
     slice-aggregate-lend-2
     lend-requires-2
     refusal-number-requires
