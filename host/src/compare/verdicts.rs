@@ -7,7 +7,7 @@ use crate::library;
 use crate::pairs::{damaged_copies, near_pairs, Pair, Pairs};
 use crate::reference::checker;
 use crate::sweep;
-use crate::verdict::{Check, Verdict};
+use crate::verdict::{Broken, Check, Verdict};
 
 const OUTCOMES: [&str; 14] = [
     "accepted, up to 5 covers",
@@ -71,7 +71,10 @@ fn expected_answers(verdict: &Verdict, out_len: usize) -> Answers {
     if out_len >= 3 {
         let results = match verdict {
             Verdict::Accepted(counts) => [counts.bads, counts.members, counts.covers],
-            Verdict::Refused(refusal) => [refusal.place as u64, 0, 0],
+            Verdict::Refused(refusal) => {
+                let [rule, name] = refusal.broken.map_or([0, 0], Broken::numbers);
+                [refusal.place as u64, rule, name]
+            }
         };
         out[..3].copy_from_slice(&results);
     }
