@@ -133,7 +133,7 @@ impl<'a> Covers<'a> {
         if holds {
             return Ok(());
         }
-        let broken = broken(member, state, covered, &images, marks, self.variables);
+        let broken = broken(member, state, covered, &images, self.variables);
         self.reader.refusal = Refusal::of_cover(place, broken);
         Err(Stopped)
     }

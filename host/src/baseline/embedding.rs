@@ -82,7 +82,6 @@ pub fn broken(
     state: u8,
     covered: &Shape,
     images: &Images,
-    marks: u32,
     variables: usize,
 ) -> Broken {
     let Located { state: own, shape } = member;
@@ -95,8 +94,10 @@ pub fn broken(
     }
     let cells = usize::from(shape.cells);
     let sources = &images[usize::from(CELL)..][..cells];
-    let is_twice = |image: &u8| sources.iter().filter(|&other| other == image).count() > 1;
-    if let Some(cell) = sources.iter().position(is_twice) {
+    let (marks, twice) = sources.iter().fold((ENDS, 0), |(marks, twice), image| {
+        (marks | 1 << image, twice | marks & 1 << image)
+    });
+    if let Some(cell) = sources.iter().position(|image| twice >> image & 1 == 1) {
         return at(Rule::Image, cell);
     }
     let is_elsewhere = |&x: &usize| !agrees(shape.variables[x], covered.variables[x], images);

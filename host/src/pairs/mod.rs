@@ -1,11 +1,14 @@
 //! Pairs of a job and a certificate to try checkers on: accepted ones, and the same with damage.
 
 mod accepted;
+mod broken;
+mod codes;
 mod damage;
 mod near;
 
 use crate::random::Random;
 use accepted::accepted;
+use broken::broken;
 use damage::damaged;
 use near::near;
 
@@ -67,4 +70,10 @@ pub fn damaged_copies(pair: &Pair, seed: u64) -> impl Iterator<Item = Pair> + '_
 pub fn near_pairs(seed: u64) -> impl Iterator<Item = Pair> {
     let mut random = Random::new(seed);
     std::iter::repeat_with(move || near(&mut random))
+}
+
+/// Endless pairs in which one cover breaks every choice of rules in turn.
+pub fn broken_pairs(seed: u64) -> impl Iterator<Item = Pair> {
+    let mut random = Random::new(seed);
+    (0..).map(move |turn| broken(&mut random, turn))
 }
