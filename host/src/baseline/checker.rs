@@ -32,8 +32,10 @@ pub fn verdict<S: Entry>(
         check_length(job, 1)?;
         check_length(certificate, 2)?;
         let mut reader = Reader::new(job, 3, 4);
-        let job = Job::read(&mut reader).map_err(|Stopped| reader.refusal)?;
-        let (members, covers) = check(&job, certificate)?;
+        // The job stays where it is read to.
+        let job = Job::read(&mut reader);
+        let job = job.as_ref().map_err(|&Stopped| reader.refusal)?;
+        let (members, covers) = check(job, certificate)?;
         Ok(Counts {
             bads: job.forbidden.len() as u64,
             members,

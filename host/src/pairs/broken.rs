@@ -3,9 +3,9 @@
 
 use super::accepted::random_operation;
 use super::codes::{some_cells, some_index, Codes};
-use super::Pair;
+use super::{pair_with, Pair};
 use crate::random::Random;
-use crate::reference::certificate::{Certificate, Cover};
+use crate::reference::certificate::Cover;
 use crate::reference::cover::{owed, Reason};
 use crate::reference::embedding::Map;
 use crate::reference::job::{Job, Located, Transition, MOST_VARIABLES};
@@ -18,11 +18,9 @@ const START: u64 = 0;
 const COVERED: u64 = 1;
 const OTHER: u64 = 2;
 
-/// The members: one that covers anything, one whose predecessors have to be covered, and the one of
-/// the chosen cover.
-const ANYTHING: usize = 0;
+/// The member whose predecessors have to be covered. One that covers anything comes before it, that of
+/// the chosen cover behind it.
 const WHOLE: usize = 1;
-const CHOSEN: usize = 2;
 
 /// How often members of one shape are tried, before another shape is.
 const TRIES: usize = 20;
@@ -70,23 +68,12 @@ fn attempt(random: &mut Random, rules: &[Rule], of_predecessor: bool) -> Option<
     }
     let (number, covered) = wanted.swap_remove(random.below(wanted.len()));
     let (member, images) = (0..TRIES).find_map(|_| breaking(random, &covered, rules))?;
-    members.push(member);
-    let cover = |other: usize| match other == number {
-        true => Cover {
-            member: CHOSEN,
-            images: images.clone(),
-        },
-        false => Cover {
-            member: ANYTHING,
-            images: Vec::new(),
-        },
+    let chosen = Cover {
+        member: members.len(),
+        images,
     };
-    let count = owed(&job, members.iter()).count();
-    let covers = (0..count).map(cover).collect();
-    Some(Pair {
-        job: job.bytes(),
-        certificate: Certificate { members, covers }.bytes(),
-    })
+    members.push(member);
+    Some(pair_with(&job, members, number, chosen))
 }
 
 fn random_job(random: &mut Random, variables: usize) -> Job {

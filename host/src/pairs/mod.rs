@@ -7,6 +7,9 @@ mod damage;
 mod near;
 
 use crate::random::Random;
+use crate::reference::certificate::{Certificate, Cover};
+use crate::reference::cover::owed;
+use crate::reference::job::{Job, Located};
 use accepted::accepted;
 use broken::broken;
 use damage::damaged;
@@ -17,6 +20,21 @@ use near::near;
 pub struct Pair {
     pub job: Vec<u8>,
     pub certificate: Vec<u8>,
+}
+
+/// The pair in which the first member, which has no cells, covers all but what one cover, by its
+/// number, is to cover.
+pub fn pair_with(job: &Job, members: Vec<Located>, number: usize, cover: Cover) -> Pair {
+    let of_first = Cover {
+        member: 0,
+        images: Vec::new(),
+    };
+    let mut covers = vec![of_first; owed(job, members.iter()).count()];
+    covers[number] = cover;
+    Pair {
+        job: job.bytes(),
+        certificate: Certificate { members, covers }.bytes(),
+    }
 }
 
 /// How many damaged pairs are made of each accepted one.
