@@ -1,7 +1,7 @@
 //! The proved checker, for the tools that a person uses.
 
 use crate::library;
-use crate::verdict::{Counts, Refusal, Verdict};
+use crate::verdict::{Broken, Counts, Refusal, Verdict};
 
 /// The verdict on two buffers.
 pub fn check(job: &[u8], certificate: &[u8]) -> Verdict {
@@ -15,6 +15,7 @@ pub fn check(job: &[u8], certificate: &[u8]) -> Verdict {
         number => Verdict::Refused(Refusal {
             number,
             place: out[0] as usize,
+            broken: Broken::of_numbers(out[1], out[2]),
         }),
     }
 }
@@ -31,7 +32,7 @@ mod tests {
         let accepted = check(&JOB, &[1, 1, 1, 0, 1, 0]);
         assert_eq!(accepted.to_string(), "accepted bads 1 members 1 covers 1");
         let refused = check(&JOB, &[1, 1, 1, 0, 2, 0]);
-        assert_eq!(refused.to_string(), "refused 9 at 5");
+        assert_eq!(refused.to_string(), "refused 9 at 5 rule 3 of 1");
         assert_eq!(check(&[], &[]).to_string(), "refused 1 at 0");
     }
 }

@@ -15,6 +15,12 @@ pub fn shape(shape: &Shape, variables: &[String]) -> Vec<String> {
     lines(shape, &numbers, variables)
 }
 
+/// Draws a shape in the same way with its cells numbered as in files, from 0.
+pub fn shape_as_in_files(shape: &Shape, variables: &[String]) -> Vec<String> {
+    let numbers: Vec<usize> = (0..shape.cells()).collect();
+    lines(shape, &numbers, variables)
+}
+
 /// Draws a heap in the same way; here an arrow is one link, and a cell's number is its own.
 pub fn heap(heap: &Heap, variables: &[String]) -> Vec<String> {
     let numbers: Vec<usize> = heap.links.keys().map(|cell| cell + 1).collect();

@@ -15,6 +15,7 @@ pub mod listings;
 pub mod pairs;
 pub mod random;
 pub mod reference;
+pub mod refused_cover;
 pub mod report;
 pub mod routine;
 pub mod search;

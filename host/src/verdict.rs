@@ -2,11 +2,81 @@
 
 use std::fmt;
 
-/// A refusal's number and its place.
+/// What a cover can break, by number, in the order in which it is tried.
+#[derive(Clone, Copy, Debug, PartialEq, Eq, PartialOrd, Ord)]
+#[repr(u8)]
+pub enum Rule {
+    /// The member has another state.
+    State = 1,
+    /// An image is used twice.
+    Image = 2,
+    /// A variable stands elsewhere.
+    Variable = 3,
+    /// A link misses.
+    Link = 4,
+    /// Two paths share a cell.
+    Path = 5,
+}
+
+impl Rule {
+    pub const ALL: [Rule; 5] = [
+        Rule::State,
+        Rule::Image,
+        Rule::Variable,
+        Rule::Link,
+        Rule::Path,
+    ];
+}
+
+/// The first rule that a cover breaks, and at what.
+#[derive(Clone, Copy, Debug, PartialEq, Eq)]
+pub struct Broken {
+    pub rule: Rule,
+    /// The lowest cell, from 0, or variable, from 1; of two cells that share a path the higher one;
+    /// 0 for the state.
+    pub name: u8,
+}
+
+impl Broken {
+    /// What the numbers of a rule and a name tell; nothing where there is no such rule or name.
+    pub fn of_numbers(rule: u64, name: u64) -> Option<Broken> {
+        let rule = Rule::ALL.into_iter().find(|&known| known as u64 == rule)?;
+        let name = u8::try_from(name).ok()?;
+        Some(Broken { rule, name })
+    }
+
+    /// The numbers of the rule and the name.
+    pub fn numbers(self) -> [u64; 2] {
+        [self.rule as u64, self.name.into()]
+    }
+}
+
+/// A refusal's number and its place; for 9, a cover that doesn't hold, with what it breaks.
 #[derive(Clone, Copy, Debug, PartialEq, Eq)]
 pub struct Refusal {
     pub number: u32,
     pub place: usize,
+    pub broken: Option<Broken>,
+}
+
+impl Refusal {
+    /// Any but 9.
+    pub fn at(number: u32, place: usize) -> Refusal {
+        Refusal {
+            number,
+            place,
+            broken: None,
+        }
+    }
+
+    /// 9, for the cover at a place.
+    pub fn of_cover(place: usize, broken: Broken) -> Refusal {
+        Refusal {
+            number: 9,
+            place,
+            broken: Some(broken),
+        }
+    }
 }
 
 /// How many forbidden shapes, members and covers an accepted pair has.
@@ -53,7 +123,17 @@ impl fmt::Display for Verdict {
                 members,
                 covers,
             }) => write!(f, "accepted bads {bads} members {members} covers {covers}"),
-            Verdict::Refused(Refusal { number, place }) => write!(f, "refused {number} at {place}"),
+            Verdict::Refused(refusal) => refusal.fmt(f),
+        }
+    }
+}
+
+impl fmt::Display for Refusal {
+    fn fmt(&self, f: &mut fmt::Formatter) -> fmt::Result {
+        write!(f, "refused {} at {}", self.number, self.place)?;
+        match self.broken {
+            Some(Broken { rule, name }) => write!(f, " rule {} of {name}", rule as u8),
+            None => Ok(()),
         }
     }
 }
@@ -71,10 +151,24 @@ mod tests {
         };
         let accepted = Verdict::Accepted(counts);
         assert_eq!(accepted.to_string(), "accepted bads 1 members 1 covers 1");
-        let refused = Verdict::Refused(Refusal {
-            number: 8,
-            place: 5,
-        });
+        let refused = Verdict::Refused(Refusal::at(8, 5));
         assert_eq!(refused.to_string(), "refused 8 at 5");
+        let elsewhere = Broken {
+            rule: Rule::Variable,
+            name: 1,
+        };
+        let refused = Verdict::Refused(Refusal::of_cover(5, elsewhere));
+        assert_eq!(refused.to_string(), "refused 9 at 5 rule 3 of 1");
+    }
+
+    #[test]
+    fn rules_are_numbered_from_1_to_5() {
+        for rule in 1..=5 {
+            let broken = Broken::of_numbers(rule, 13).expect("there is such a rule");
+            assert_eq!(broken.numbers(), [rule, 13]);
+        }
+        for (rule, name) in [(0, 0), (6, 0), (259, 0), (3, 256)] {
+            assert_eq!(Broken::of_numbers(rule, name), None);
+        }
     }
 }

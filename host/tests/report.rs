@@ -3,8 +3,13 @@
 use std::fs;
 use std::path::{Path, PathBuf};
 use std::process::Command;
+use std::time::Duration;
 
 use vorruda_host::corpus::{self, Expected};
+use vorruda_host::judge::{Ending, Judged};
+use vorruda_host::reference::checker::check;
+use vorruda_host::report::routine_page;
+use vorruda_host::search::{search, Outcome};
 
 /// Runs the command, and gives the folder of its pages.
 fn report(name: &str, arguments: &[&str]) -> PathBuf {
@@ -93,4 +98,31 @@ fn the_page_of_a_wrong_routine() {
     }
     assert_eq!(page.matches("<li").count(), 19);
     assert_eq!(page.matches("<path class=\"line bad\"").count(), 1);
+}
+
+/// Where the search makes a wrong certificate, the page says what is wrong with it.
+#[test]
+fn the_page_of_a_refused_certificate() {
+    let routine = corpus::find("reverse").unwrap().routine;
+    let Outcome::Certified(mut certificate) = search(&routine.job) else {
+        panic!("no certificate");
+    };
+    let cover = certificate
+        .covers
+        .iter_mut()
+        .find(|cover| cover.images.len() > 1);
+    cover.expect("a member has two cells").images.fill(0);
+    let verdict = check(&routine.job.bytes(), &certificate.bytes());
+    let judged = Judged {
+        ending: Ending::Certified(certificate, verdict),
+        time: Duration::ZERO,
+    };
+    let page = routine_page("reverse", &routine, &judged);
+    assert_stands_alone("reverse", &page);
+    let said = format!(
+        "<h2>The certificate is refused</h2>\n<p>{verdict}: Two cells have the image 0: cells 0 and \
+         1.</p>\n</section>\n<pre>\nTo be covered at line "
+    );
+    assert!(verdict.to_string().ends_with(" rule 2 of 0"), "{verdict}");
+    assert!(page.contains(&said), "{page}");
 }

@@ -19,10 +19,10 @@ fn tried(arguments: &[&str]) -> (i32, String) {
     (status, String::from_utf8(text).unwrap())
 }
 
-/// Writes a routine of one's own, and gives its path.
-fn file(name: &str, text: &str) -> PathBuf {
+/// Writes a file of one's own, and gives its path.
+fn file(name: &str, content: impl AsRef<[u8]>) -> PathBuf {
     let path = PathBuf::from(env!("CARGO_TARGET_TMPDIR")).join(name);
-    fs::write(&path, text).unwrap();
+    fs::write(&path, content).unwrap();
     path
 }
 
@@ -155,12 +155,83 @@ fn a_dead_end_is_a_warning() {
 
 #[test]
 fn a_mistake_names_its_place() {
-    let path = file(
-        "mistake.routine",
-        &DEAD_END.replace("new(x) ", "x := x.nxt"),
-    );
+    let path = file("mistake.routine", DEAD_END.replace("new(x) ", "x := x.nxt"));
     let (status, text) = tried(&[path.to_str().unwrap()]);
     assert_eq!(status, 2, "{text}");
     let mistake = ": line 4, column 12: `x.nxt`: did you mean `x.next`?\n";
     assert!(text.ends_with(mistake), "{text}");
+}
+
+/// State 0, new of variable 1, state 1; forbidden there: variable 1 at #. The certificate's member is
+/// that shape, or one with the variable at *.
+const JOB: [u8; 14] = [1, 1, 2, 0, 1, 0, 6, 1, 0, 1, 1, 1, 0, 1];
+const HOLDS: [u8; 6] = [1, 1, 1, 0, 1, 0];
+const ELSEWHERE: [u8; 6] = [1, 1, 1, 0, 2, 0];
+
+/// The exit status and what is printed for files with these bytes.
+fn tried_pair(name: &str, job: &[u8], certificate: &[u8]) -> (i32, String) {
+    let job = file(&format!("{name}_job.bin"), job);
+    let certificate = file(&format!("{name}_cert.bin"), certificate);
+    tried(&[job.to_str().unwrap(), certificate.to_str().unwrap()])
+}
+
+#[test]
+fn a_pair_of_ones_own() {
+    let accepted = "accepted bads 1 members 1 covers 1\n".to_string();
+    assert_eq!(tried_pair("holds", &JOB, &HOLDS), (0, accepted));
+    let elsewhere = "\
+refused 9 at 5 rule 3 of 1
+v1 stands elsewhere: it is to stand at *, but stands at # in the covered shape.
+
+To be covered at state 1, since `shape 0` is forbidden (cells from 0, -> is a link or a path):
+       v1 at #
+By member 0, at state 1:
+       v1 at *
+";
+    let refused = tried_pair("elsewhere", &JOB, &ELSEWHERE);
+    assert_eq!(refused, (1, elsewhere.to_string()));
+}
+
+#[test]
+fn a_pair_that_does_not_read() {
+    let cut = tried_pair("cut", &JOB[..13], &HOLDS);
+    assert_eq!(cut, (1, "refused 3 at 13\n".to_string()));
+    let empty = tried_pair("empty", &JOB, &[]);
+    assert_eq!(empty, (1, "refused 2 at 0\n".to_string()));
+    let (status, text) = tried(&["reverse", "missing.bin"]);
+    assert_eq!(status, 2, "{text}");
+    assert!(text.starts_with("missing.bin: "), "{text}");
+    let (status, text) = tried(&["job.bin"]);
+    assert_eq!(status, 2, "{text}");
+    assert!(text.starts_with("usage: "), "{text}");
+}
+
+/// The names are the routine's.
+#[test]
+fn a_certificate_of_ones_own() {
+    let routine = file("own.routine", DEAD_END);
+    let folder = PathBuf::from(env!("CARGO_TARGET_TMPDIR")).join("own");
+    fs::create_dir_all(&folder).unwrap();
+    let (routine, folder) = (routine.to_str().unwrap(), folder.to_str().unwrap());
+    let (status, text) = tried(&[routine, folder]);
+    assert_eq!(status, 0, "{text}");
+    let certificate = format!("{folder}/cert.bin");
+    assert_eq!(tried(&[routine, &certificate]), (0, text));
+
+    let mut bytes = fs::read(&certificate).unwrap();
+    assert_eq!(bytes, HOLDS);
+    bytes[2] = 0;
+    fs::write(&certificate, bytes).unwrap();
+    let (status, text) = tried(&[routine, &certificate]);
+    assert_eq!(status, 1, "{text}");
+    let refused = "
+refused 9 at 5 rule 1 of 0
+The member is at another state: it is to be at made, but is at begin.
+
+To be covered at made, since line 7 forbids `x at #` (cells from 0, -> is a link or a path):
+       x at #
+By member 0, at begin:
+       x at #
+";
+    assert!(text.ends_with(refused), "{text}");
 }

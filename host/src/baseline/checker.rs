@@ -1,6 +1,6 @@
 //! The verdict on a job and a certificate, fast.
 
-use super::embedding::{passed, variables_agree, ENDS, NO_IMAGES};
+use super::embedding::{broken, passed, variables_agree, ENDS, NO_IMAGES};
 use super::job::{Entry, Job};
 use super::predecessor::each_predecessor;
 use super::reader::{Reader, Stopped};
@@ -32,8 +32,10 @@ pub fn verdict<S: Entry>(
         check_length(job, 1)?;
         check_length(certificate, 2)?;
         let mut reader = Reader::new(job, 3, 4);
-        let job = Job::read(&mut reader).map_err(|Stopped| reader.refusal)?;
-        let (members, covers) = check(&job, certificate)?;
+        // The job stays where it is read to.
+        let job = Job::read(&mut reader);
+        let job = job.as_ref().map_err(|&Stopped| reader.refusal)?;
+        let (members, covers) = check(job, certificate)?;
         Ok(Counts {
             bads: job.forbidden.len() as u64,
             members,
@@ -46,7 +48,7 @@ pub fn verdict<S: Entry>(
 fn check_length(bytes: &[u8], number: u32) -> Result<(), Refusal> {
     match bytes.len() {
         1..=MOST_BYTES => Ok(()),
-        _ => Err(Refusal { number, place: 0 }),
+        _ => Err(Refusal::at(number, 0)),
     }
 }
 
@@ -131,9 +133,10 @@ impl<'a> Covers<'a> {
             && variables_agree(&member.shape, covered, &images, self.variables)
             && passed(&member.shape, covered, &images, marks).is_some();
         if holds {
-            Ok(())
-        } else {
-            self.reader.refuse(9, place)
+            return Ok(());
         }
+        let broken = broken(member, state, covered, &images, self.variables);
+        self.reader.refusal = Refusal::of_cover(place, broken);
+        Err(Stopped)
     }
 }

@@ -1,6 +1,9 @@
-//! The parts of the test of one cover.
+//! The parts of the test of one cover, and what it breaks where it fails.
 
-use super::shape::{Shape, CELL, CELLS, DANGLING, NOWHERE, NULL};
+use std::ops::Range;
+
+use super::shape::{Located, Shape, CELL, CELLS, DANGLING, NOWHERE, NULL};
+use crate::verdict::{Broken, Rule};
 
 /// A map from codes to codes: # to #, * to *, cells to their images.
 pub type Images = [u8; CELL as usize + CELLS];
@@ -22,16 +25,35 @@ pub fn variables_agree(member: &Shape, covered: &Shape, images: &Images, variabl
     let here = &member.variables[1..=variables];
     let there = &covered.variables[1..=variables];
     let mut pairs = here.iter().zip(there);
-    pairs.all(|(&here, &there)| here == NOWHERE || images[usize::from(here)] == there)
+    pairs.all(|(&here, &there)| agrees(here, there, images))
+}
+
+/// Whether a variable that stands at a place, if any, stands at the image.
+#[inline(always)]
+fn agrees(here: u8, there: u8, images: &Images) -> bool {
+    here == NOWHERE || images[usize::from(here)] == there
 }
 
 /// The cells strictly between on the paths of the links whose ends have images, a bit for each;
 /// nothing where a path misses or two meet. The marks are the images and [`ENDS`].
 #[inline(always)]
 pub fn passed(member: &Shape, covered: &Shape, images: &Images, marks: u32) -> Option<u32> {
+    passed_from(0..member.cells.into(), member, covered, images, marks)
+}
+
+/// The same for the links of some cells.
+#[inline(always)]
+fn passed_from(
+    cells: Range<usize>,
+    member: &Shape,
+    covered: &Shape,
+    images: &Images,
+    marks: u32,
+) -> Option<u32> {
     let mut passed = 0;
-    for (cell, &link) in member.links[..usize::from(member.cells)].iter().enumerate() {
-        let source = images[usize::from(CELL) + cell];
+    let first = usize::from(CELL) + cells.start;
+    for (cell, &link) in member.links[cells].iter().enumerate() {
+        let source = images[first + cell];
         let target = images[usize::from(link)];
         if source == NOWHERE || target == NOWHERE {
             continue;
@@ -50,4 +72,51 @@ pub fn passed(member: &Shape, covered: &Shape, images: &Images, marks: u32) -> O
         }
     }
     Some(passed)
+}
+
+/// The first rule that is broken by a cover which doesn't hold, at the lowest cell or variable.
+#[cold]
+#[inline(never)]
+pub fn broken(
+    member: &Located,
+    state: u8,
+    covered: &Shape,
+    images: &Images,
+    variables: usize,
+) -> Broken {
+    let Located { state: own, shape } = member;
+    let at = |rule, name: usize| Broken {
+        rule,
+        name: name as u8,
+    };
+    if *own != state {
+        return at(Rule::State, 0);
+    }
+    let cells = usize::from(shape.cells);
+    let sources = &images[usize::from(CELL)..][..cells];
+    let (marks, twice) = sources.iter().fold((ENDS, 0), |(marks, twice), image| {
+        (marks | 1 << image, twice | marks & 1 << image)
+    });
+    if let Some(cell) = sources.iter().position(|image| twice >> image & 1 == 1) {
+        return at(Rule::Image, cell);
+    }
+    let is_elsewhere = |&x: &usize| !agrees(shape.variables[x], covered.variables[x], images);
+    if let Some(variable) = (1..=variables).find(is_elsewhere) {
+        return at(Rule::Variable, variable);
+    }
+    let mut passed = 0;
+    let mut shared = None;
+    for cell in 0..cells {
+        let Some(path) = passed_from(cell..cell + 1, shape, covered, images, marks) else {
+            return at(Rule::Link, cell);
+        };
+        if passed & path != 0 {
+            shared = shared.or(Some(cell));
+        }
+        passed |= path;
+    }
+    at(
+        Rule::Path,
+        shared.expect("a cover that doesn't hold breaks a rule"),
+    )
 }

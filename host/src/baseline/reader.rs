@@ -26,10 +26,7 @@ impl<'a> Reader<'a> {
             place: 0,
             unreadable,
             out_of_range,
-            refusal: Refusal {
-                number: unreadable,
-                place: 0,
-            },
+            refusal: Refusal::at(unreadable, 0),
         }
     }
 
@@ -40,7 +37,7 @@ impl<'a> Reader<'a> {
 
     #[cold]
     pub fn refuse<T>(&mut self, number: u32, place: usize) -> Result<T, Stopped> {
-        self.refusal = Refusal { number, place };
+        self.refusal = Refusal::at(number, place);
         Err(Stopped)
     }
 

@@ -23,6 +23,8 @@ pub fn print(suite: &mut Suite, calls: &[Cost]) {
     growth(&suite.in_covers);
     println!("\n### Small pairs, and refusals\n");
     refusals(&suite.refused);
+    println!("\n### A cover that breaks a rule\n");
+    refusals(&suite.broken);
     println!("\n### Every kind, with its operands standing in every way: the largest ratios\n");
     largest(&suite.sweep);
     println!("\n### Random pairs, accepted and damaged: the largest ratios\n");

@@ -4,7 +4,7 @@ use std::fs;
 use std::io;
 use std::path::Path;
 
-use super::{growth, refused, Cost};
+use super::{broken, growth, refused, Cost};
 use crate::corpus;
 use crate::extremes::extremes;
 use crate::pairs::{Pair, Pairs};
@@ -23,6 +23,7 @@ pub struct Suite {
     pub corpus: Vec<Case>,
     pub extremes: Vec<Case>,
     pub refused: Vec<Case>,
+    pub broken: Vec<Case>,
     pub in_members: Vec<Case>,
     pub in_covers: Vec<Case>,
     pub sweep: Vec<Case>,
@@ -42,6 +43,7 @@ impl Suite {
             corpus: named(corpus::certified()?),
             extremes: named(extremes()),
             refused: named(refused::pairs()),
+            broken: named(broken::pairs()),
             in_members: numbered(growth::in_members()),
             in_covers: numbered(growth::in_covers()),
             sweep: named(sweep::pairs(VISITS)),
@@ -55,6 +57,7 @@ impl Suite {
             &mut self.corpus,
             &mut self.extremes,
             &mut self.refused,
+            &mut self.broken,
             &mut self.in_members,
             &mut self.in_covers,
             &mut self.sweep,

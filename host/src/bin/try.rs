@@ -1,8 +1,10 @@
 //! From the text of a routine to a verdict: translates, searches for a certificate and checks it.
 //!
 //! `try ROUTINE [FOLDER]`: a file, or the name of a routine of the corpus. With a folder, job.bin and
-//! cert.bin are written there. The exit status is 0 where the certificate is accepted, 1 where there
-//! is none, 2 for a mistake in the file. `try` alone lists the routines of the corpus.
+//! cert.bin are written there. `try ROUTINE CERT.bin` and `try JOB.bin CERT.bin` check a certificate
+//! of one's own and tell what a cover breaks that doesn't hold. The exit status is 0 where the
+//! certificate is accepted, 1 where there is none or it is refused, 2 for a mistake in the file.
+//! `try` alone lists the routines of the corpus.
 
 use std::fmt::Write as _;
 use std::io::{self, Write as _};
@@ -10,14 +12,19 @@ use std::path::Path;
 use std::process::ExitCode;
 use std::{env, fs};
 
+use vorruda_host::check::check;
 use vorruda_host::corpus;
 use vorruda_host::draw;
 use vorruda_host::judge::{judge, Ending};
 use vorruda_host::reference::certificate::Certificate;
+use vorruda_host::reference::job::Job;
+use vorruda_host::refused_cover::RefusedCover;
 use vorruda_host::routine::Routine;
 use vorruda_host::search::run::Run;
 use vorruda_host::text::counted;
 use vorruda_host::verdict::Verdict;
+
+const USAGE: &str = "usage: try [ROUTINE [FOLDER]], try ROUTINE CERT.bin or try JOB.bin CERT.bin";
 
 /// What is printed, and the exit status.
 type Answer = (String, ExitCode);
@@ -26,9 +33,10 @@ fn main() -> ExitCode {
     let arguments: Vec<String> = env::args().skip(1).collect();
     let answer = match &arguments[..] {
         [] => list(),
-        [name] => try_one(name, None),
-        [name, folder] => try_one(name, Some(Path::new(folder))),
-        _ => Err("usage: try [ROUTINE [FOLDER]]".to_string()),
+        [name] if !is_bytes(name) => try_one(name, None),
+        [name, certificate] if is_bytes(certificate) => try_certificate(name, certificate),
+        [name, folder] if !is_bytes(name) => try_one(name, Some(Path::new(folder))),
+        _ => Err(USAGE.to_string()),
     };
     match answer {
         Ok((text, status)) => {
@@ -58,22 +66,80 @@ fn try_one(name: &str, folder: Option<&Path>) -> Result<Answer, String> {
     if let (Some(folder), Ending::Certified(certificate, _)) = (folder, &ending) {
         write(&routine, certificate, folder)?;
     }
-    let status = match ending {
-        Ending::Certified(_, Verdict::Accepted(_)) => ExitCode::SUCCESS,
+    let status = match &ending {
+        Ending::Certified(_, verdict) => status_of(verdict),
         _ => ExitCode::FAILURE,
     };
+    let mut text = heading(name, &routine);
+    tell(&mut text, &routine, &ending).expect("a string takes all");
+    Ok((text, status))
+}
+
+/// Whether a file is to be taken as the bytes of a job or a certificate.
+fn is_bytes(name: &str) -> bool {
+    Path::new(name).extension().is_some_and(|end| end == "bin")
+}
+
+/// The verdict on a certificate of one's own, for a routine or for a job of one's own.
+fn try_certificate(name: &str, certificate: &str) -> Result<Answer, String> {
+    let read = |file: &str| fs::read(file).map_err(|error| format!("{file}: {error}"));
+    let mut text = String::new();
+    let (job, routine) = match is_bytes(name) {
+        true => {
+            let job = read(name)?;
+            let routine = Job::read(&job).ok().map(Routine::of_job);
+            (job, routine)
+        }
+        false => {
+            let routine = corpus::find(name)?.routine;
+            text = heading(name, &routine);
+            (routine.job.bytes(), Some(routine))
+        }
+    };
+    let certificate = read(certificate)?;
+    let verdict = check(&job, &certificate);
+    tell_verdict(&mut text, routine.as_ref(), &certificate, &verdict).expect("a string takes all");
+    Ok((text, status_of(&verdict)))
+}
+
+fn status_of(verdict: &Verdict) -> ExitCode {
+    match verdict {
+        Verdict::Accepted(_) => ExitCode::SUCCESS,
+        Verdict::Refused(_) => ExitCode::FAILURE,
+    }
+}
+
+/// A routine's title, and what may be misspelt in it.
+fn heading(name: &str, routine: &Routine) -> String {
     let mut text = format!("{name}: {}\n", routine.title);
     for warning in &routine.warnings {
         text += &format!("Warning: {warning}\n");
     }
-    tell(&mut text, &routine, &ending).expect("a string takes all");
-    Ok((text, status))
+    text
+}
+
+/// Tells a verdict, and what a cover breaks that doesn't hold. There is no routine where the job can't
+/// be read.
+fn tell_verdict(
+    text: &mut String,
+    routine: Option<&Routine>,
+    certificate: &[u8],
+    verdict: &Verdict,
+) -> std::fmt::Result {
+    writeln!(text, "{verdict}")?;
+    let refused = routine.and_then(|routine| RefusedCover::of(routine, certificate, verdict));
+    if let Some(cover) = refused {
+        writeln!(text, "{}\n\n{}", cover.how(), cover.drawn().join("\n"))?;
+    }
+    Ok(())
 }
 
 /// Tells how a routine ends, and why.
 fn tell(text: &mut String, routine: &Routine, ending: &Ending) -> std::fmt::Result {
     match ending {
-        Ending::Certified(_, verdict) => writeln!(text, "{verdict}"),
+        Ending::Certified(certificate, verdict) => {
+            tell_verdict(text, Some(routine), &certificate.bytes(), verdict)
+        }
         Ending::Wrong(run) => tell_run(text, routine, run),
         Ending::Beyond(chain, bound) => {
             writeln!(

@@ -4,12 +4,14 @@ use super::{Tally, UNTOUCHED};
 use crate::corpus;
 use crate::extremes::extremes;
 use crate::library;
-use crate::pairs::{damaged_copies, near_pairs, Pair, Pairs};
+use crate::pairs::{broken_pairs, damaged_copies, near_pairs, Pair, Pairs};
 use crate::reference::checker;
+use crate::reference::cover::{cover_at, Reason};
+use crate::reference::job::Job;
 use crate::sweep;
-use crate::verdict::{Check, Verdict};
+use crate::verdict::{Broken, Check, Verdict};
 
-const OUTCOMES: [&str; 14] = [
+const OUTCOMES: [&str; 23] = [
     "accepted, up to 5 covers",
     "accepted, up to 50 covers",
     "accepted, up to 500 covers",
@@ -22,7 +24,16 @@ const OUTCOMES: [&str; 14] = [
     "refused  6",
     "refused  7",
     "refused  8",
-    "refused  9",
+    "refused  9, rule 1, of a forbidden shape",
+    "refused  9, rule 1, of a predecessor",
+    "refused  9, rule 2, of a forbidden shape",
+    "refused  9, rule 2, of a predecessor",
+    "refused  9, rule 3, of a forbidden shape",
+    "refused  9, rule 3, of a predecessor",
+    "refused  9, rule 4, of a forbidden shape",
+    "refused  9, rule 4, of a predecessor",
+    "refused  9, rule 5, of a forbidden shape",
+    "refused  9, rule 5, of a predecessor",
     "refused 10",
 ];
 
@@ -40,13 +51,14 @@ pub fn compare(
     let mut calls = Tally::new("vorruda_check and vorruda_verdict", &OUTCOMES);
     for (Pair { job, certificate }, out_len) in pairs.zip(OUT_LENGTHS.into_iter().cycle()) {
         let expected = checker::check(&job, &certificate);
+        let outcome = outcome(&job, &certificate, &expected);
         let words = || format!("job {job:?}\n  certificate {certificate:?}");
         for ((_, check), tally) in checkers.iter().zip(&mut tallies) {
             let got = check(&job, &certificate);
-            tally.add(outcome(&expected), &expected, &got, words);
+            tally.add(&outcome, &expected, &got, words);
         }
         calls.add(
-            outcome(&expected),
+            &outcome,
             &expected_answers(&expected, out_len),
             &answers(&job, &certificate, out_len),
             || format!("out_len {out_len}, {}", words()),
@@ -71,7 +83,10 @@ fn expected_answers(verdict: &Verdict, out_len: usize) -> Answers {
     if out_len >= 3 {
         let results = match verdict {
             Verdict::Accepted(counts) => [counts.bads, counts.members, counts.covers],
-            Verdict::Refused(refusal) => [refusal.place as u64, 0, 0],
+            Verdict::Refused(refusal) => {
+                let [rule, name] = refusal.broken.map_or([0, 0], Broken::numbers);
+                [refusal.place as u64, rule, name]
+            }
         };
         out[..3].copy_from_slice(&results);
     }
@@ -81,8 +96,9 @@ fn expected_answers(verdict: &Verdict, out_len: usize) -> Answers {
 /// How many damaged copies of each real certificate are tried.
 const COPIES: usize = 60;
 
-/// Random pairs, one in five of them with covers that hold or nearly do; then the corpus with
-/// damaged copies, every kind on large members, and the extremes.
+/// Random pairs, one in five of them with covers that hold or nearly do, and one in five with a cover
+/// that breaks chosen rules; then the corpus with damaged copies, every kind on large members, and
+/// the extremes.
 pub fn pairs(seed: u64, random: usize) -> Result<impl Iterator<Item = Pair>, String> {
     let real = corpus::certified()?.into_iter().map(|(_, pair)| pair);
     let real = real.flat_map(move |pair| {
@@ -91,19 +107,41 @@ pub fn pairs(seed: u64, random: usize) -> Result<impl Iterator<Item = Pair>, Str
     });
     let kinds = sweep::pairs(2).into_iter().map(|(_, pair)| pair);
     let extremes = extremes().into_iter().map(|(_, pair)| pair);
-    let near = near_pairs(seed).take(random / 5);
-    let random = Pairs::new(seed).take(random - random / 5).chain(near);
+    let fifth = random / 5;
+    let near = near_pairs(seed).take(fifth);
+    let broken = broken_pairs(seed).take(fifth);
+    let random = Pairs::new(seed).take(random - 2 * fifth);
+    let random = random.chain(near).chain(broken);
     Ok(random.chain(real).chain(kinds).chain(extremes))
 }
 
-fn outcome(verdict: &Verdict) -> &'static str {
+fn outcome(job: &[u8], certificate: &[u8], verdict: &Verdict) -> String {
     match verdict {
-        Verdict::Accepted(counts) => match counts.covers {
-            0..=5 => OUTCOMES[0],
-            6..=50 => OUTCOMES[1],
-            51..=500 => OUTCOMES[2],
-            _ => OUTCOMES[3],
+        Verdict::Accepted(counts) => {
+            let most = match counts.covers {
+                0..=5 => "5",
+                6..=50 => "50",
+                51..=500 => "500",
+                _ => "65,000",
+            };
+            format!("accepted, up to {most} covers")
+        }
+        Verdict::Refused(refusal) => match refusal.broken {
+            None => format!("refused {:>2}", refusal.number),
+            Some(Broken { rule, .. }) => {
+                let covered = covered_words(job, certificate, refusal.place);
+                format!("refused  9, rule {}, of a {covered}", rule as u8)
+            }
         },
-        Verdict::Refused(refusal) => OUTCOMES[3 + refusal.number as usize],
+    }
+}
+
+/// What the cover at a place is to cover.
+fn covered_words(job: &[u8], certificate: &[u8], place: usize) -> &'static str {
+    let job = Job::read(job).expect("the job of a cover that was judged");
+    let cover = cover_at(&job, certificate, place).expect("a cover is refused at its place");
+    match cover.owed.reason {
+        Reason::Forbidden(_) => "forbidden shape",
+        Reason::Before { .. } => "predecessor",
     }
 }

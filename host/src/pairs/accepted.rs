@@ -7,7 +7,7 @@ use crate::reference::checker::MOST_BYTES;
 use crate::reference::job::{
     self, Job, Transition, MOST_FORBIDDEN, MOST_STATES, MOST_TRANSITIONS, MOST_VARIABLES,
 };
-use crate::reference::operation::{operation, KINDS};
+use crate::reference::operation::{operation, Operation, KINDS};
 use crate::reference::shape as reference;
 use crate::search::before::{each_before, forbidden};
 use crate::search::covers::certificate_of;
@@ -113,15 +113,19 @@ fn random_transition(
 ) -> Transition {
     let from = random.below(left) as u64;
     let to = random.below(states) as u64;
+    Transition {
+        from,
+        operation: random_operation(random, variables),
+        to,
+    }
+}
+
+pub fn random_operation(random: &mut Random, variables: usize) -> Operation {
     loop {
         let kind = 1 + random.below(*KINDS.end() as usize) as u64;
         let (a, b) = (random.below(variables + 1), random.below(variables + 1));
         if let Some(operation) = operation(kind, a as u64, b as u64, variables as u64) {
-            return Transition {
-                from,
-                operation,
-                to,
-            };
+            return operation;
         }
     }
 }

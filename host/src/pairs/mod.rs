@@ -1,11 +1,17 @@
 //! Pairs of a job and a certificate to try checkers on: accepted ones, and the same with damage.
 
 mod accepted;
+mod broken;
+mod codes;
 mod damage;
 mod near;
 
 use crate::random::Random;
+use crate::reference::certificate::{Certificate, Cover};
+use crate::reference::cover::owed;
+use crate::reference::job::{Job, Located};
 use accepted::accepted;
+use broken::broken;
 use damage::damaged;
 use near::near;
 
@@ -14,6 +20,21 @@ use near::near;
 pub struct Pair {
     pub job: Vec<u8>,
     pub certificate: Vec<u8>,
+}
+
+/// The pair in which the first member, which has no cells, covers all but what one cover, by its
+/// number, is to cover.
+pub fn pair_with(job: &Job, members: Vec<Located>, number: usize, cover: Cover) -> Pair {
+    let of_first = Cover {
+        member: 0,
+        images: Vec::new(),
+    };
+    let mut covers = vec![of_first; owed(job, members.iter()).count()];
+    covers[number] = cover;
+    Pair {
+        job: job.bytes(),
+        certificate: Certificate { members, covers }.bytes(),
+    }
 }
 
 /// How many damaged pairs are made of each accepted one.
@@ -67,4 +88,10 @@ pub fn damaged_copies(pair: &Pair, seed: u64) -> impl Iterator<Item = Pair> + '_
 pub fn near_pairs(seed: u64) -> impl Iterator<Item = Pair> {
     let mut random = Random::new(seed);
     std::iter::repeat_with(move || near(&mut random))
+}
+
+/// Endless pairs in which one cover breaks every choice of rules in turn.
+pub fn broken_pairs(seed: u64) -> impl Iterator<Item = Pair> {
+    let mut random = Random::new(seed);
+    (0..).map(move |turn| broken(&mut random, turn))
 }

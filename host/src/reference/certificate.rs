@@ -2,9 +2,7 @@
 
 use super::job::{Job, Located, VERSION};
 use super::number;
-use super::predecessor::predecessors;
 use super::reader::Reader;
-use super::shape::Shape;
 use crate::verdict::Refusal;
 
 pub const MOST_MEMBERS: u64 = 512;
@@ -52,30 +50,4 @@ pub fn read_members(reader: &mut Reader, job: &Job) -> Result<Vec<MemberRead>, R
         })
     };
     (0..count).map(|_| member()).collect()
-}
-
-/// Reads one cover of a shape.
-pub fn read_cover(
-    reader: &mut Reader,
-    members: &[MemberRead],
-    covered: &Shape,
-) -> Result<Cover, Refusal> {
-    let member = reader.number(0..members.len() as u64)? as usize;
-    let images = (0..members[member].located.shape.cells())
-        .map(|_| Ok(reader.number(0..covered.cells() as u64)? as usize))
-        .collect::<Result<_, _>>()?;
-    Ok(Cover { member, images })
-}
-
-/// What has to be covered for a member: for each transition into its state, in the job's order,
-/// each predecessor, at the transition's from state.
-pub fn covered_for<'a>(job: &'a Job, member: &'a Located) -> impl Iterator<Item = Located> + 'a {
-    let into_its_state = job.transitions.iter().filter(|t| t.to == member.state);
-    into_its_state.flat_map(|transition| {
-        let shapes = predecessors(&member.shape, transition.operation);
-        shapes.into_iter().map(|shape| Located {
-            state: transition.from,
-            shape,
-        })
-    })
 }

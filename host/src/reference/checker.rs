@@ -1,9 +1,9 @@
 //! The verdict on a job and a certificate.
 
-use super::certificate::{covered_for, read_cover, read_members, MemberRead};
-use super::embedding::embeds;
+use super::certificate::{read_members, MemberRead};
+use super::cover::read_covers;
 use super::heap::Place;
-use super::job::{Job, Located};
+use super::job::Job;
 use super::reader::Reader;
 use super::shape::Shape;
 use crate::verdict::{Counts, Refusal, Verdict};
@@ -23,15 +23,12 @@ fn accept(job: &[u8], certificate: &[u8]) -> Result<Counts, Refusal> {
     let members = read_members(&mut reader, &job)?;
     check_start(&job, &members)?;
     let mut covers = 0;
-    for bad in &job.forbidden {
-        check_cover(&mut reader, &members, bad)?;
-        covers += 1;
-    }
-    for member in &members {
-        for covered in covered_for(&job, &member.located) {
-            check_cover(&mut reader, &members, &covered)?;
-            covers += 1;
+    for cover in read_covers(&mut reader, &job, &members) {
+        let cover = cover?;
+        if let Some(broken) = cover.broken() {
+            return Err(Refusal::of_cover(cover.place, broken));
         }
+        covers += 1;
     }
     reader.end(10)?;
     Ok(Counts {
@@ -44,7 +41,7 @@ fn accept(job: &[u8], certificate: &[u8]) -> Result<Counts, Refusal> {
 pub fn check_length(bytes: &[u8], number: u32) -> Result<(), Refusal> {
     match bytes.len() {
         1..=MOST_BYTES => Ok(()),
-        _ => Err(Refusal { number, place: 0 }),
+        _ => Err(Refusal::at(number, 0)),
     }
 }
 
@@ -54,10 +51,7 @@ fn check_start(job: &Job, members: &[MemberRead]) -> Result<(), Refusal> {
         member.located.state == job.start && empty_heap_satisfies(&member.located.shape)
     };
     match members.iter().find(satisfied) {
-        Some(member) => Err(Refusal {
-            number: 8,
-            place: member.place,
-        }),
+        Some(member) => Err(Refusal::at(8, member.place)),
         None => Ok(()),
     }
 }
@@ -66,25 +60,10 @@ pub fn empty_heap_satisfies(shape: &Shape) -> bool {
     shape.cells() == 0 && !shape.variables.contains(&Some(Place::Null))
 }
 
-/// Reads a cover and tests that it holds for the covered shape.
-fn check_cover(
-    reader: &mut Reader,
-    members: &[MemberRead],
-    covered: &Located,
-) -> Result<(), Refusal> {
-    let place = reader.place;
-    let cover = read_cover(reader, members, &covered.shape)?;
-    let member = &members[cover.member].located;
-    if member.state == covered.state && embeds(&member.shape, &covered.shape, &cover.images) {
-        Ok(())
-    } else {
-        Err(Refusal { number: 9, place })
-    }
-}
-
 #[cfg(test)]
 mod tests {
     use super::*;
+    use crate::verdict::Broken;
 
     /// State 0, new of variable 1, state 1; forbidden there: variable 1 at #.
     const JOB: [u8; 14] = [1, 1, 2, 0, 1, 0, 6, 1, 0, 1, 1, 1, 0, 1];
@@ -101,7 +80,13 @@ mod tests {
     }
 
     fn refused(number: u32, place: usize) -> Verdict {
-        Verdict::Refused(Refusal { number, place })
+        Verdict::Refused(Refusal::at(number, place))
+    }
+
+    /// 9 at a place, with the number of the rule and its name.
+    fn not_covered(place: usize, rule: u64, name: u64) -> Verdict {
+        let broken = Broken::of_numbers(rule, name).expect("there is such a rule");
+        Verdict::Refused(Refusal::of_cover(place, broken))
     }
 
     /// The job with its byte at `at` replaced.
@@ -114,7 +99,7 @@ mod tests {
     #[test]
     fn documented_pairs() {
         assert_eq!(check(&JOB, &[1, 1, 1, 0, 1, 0]), accepted(1, 1, 1));
-        assert_eq!(check(&JOB, &[1, 1, 1, 0, 2, 0]), refused(9, 5));
+        assert_eq!(check(&JOB, &[1, 1, 1, 0, 2, 0]), not_covered(5, 3, 1));
         assert_eq!(check(&ASSIGNED, &[1, 1, 1, 0, 1, 0]), refused(6, 6));
         let with_start_member = [1, 2, 1, 0, 1, 0, 0, 0, 0];
         assert_eq!(check(&ASSIGNED, &with_start_member), refused(8, 5));
@@ -181,7 +166,7 @@ mod tests {
         assert_eq!(check(&JOB, &[1, 1, 1, 0, 1]), refused(6, 5));
         assert_eq!(check(&JOB, &[1, 1, 1, 0, 1, 1]), refused(7, 5));
         assert_eq!(check(&JOB, &[1, 1, 1, 0, 1, 0, 0]), refused(10, 6));
-        assert_eq!(check(&JOB, &[1, 1, 0, 0, 1, 0]), refused(9, 5));
+        assert_eq!(check(&JOB, &[1, 1, 0, 0, 1, 0]), not_covered(5, 1, 0));
     }
 
     #[test]

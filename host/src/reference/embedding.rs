@@ -1,13 +1,17 @@
-//! When a shape embeds in another by given images of its cells.
+//! When a shape embeds in another by given images of its cells, and what keeps it from that.
 
 use super::heap::Place;
 use super::shape::Shape;
+use crate::verdict::{Broken, Rule};
 
 /// Whether the images, one for each cell of `shape`, make it embed in `other`.
 pub fn embeds(shape: &Shape, other: &Shape, images: &[usize]) -> bool {
-    all_different(images)
-        && variables_agree(shape, other, images)
-        && paths(shape, other, images).is_some_and(|paths| all_different(&paths.concat()))
+    let map = Map {
+        shape,
+        other,
+        images,
+    };
+    map.broken().is_none()
 }
 
 /// Whether some images make `shape` embed in `other`.
@@ -27,48 +31,110 @@ fn extends(shape: &Shape, other: &Shape, images: &mut Vec<usize>) -> bool {
     })
 }
 
-fn all_different(cells: &[usize]) -> bool {
-    (1..cells.len()).all(|i| !cells[..i].contains(&cells[i]))
+/// A shape, another one, and an image in it for each of the shape's cells.
+#[derive(Clone, Copy)]
+pub struct Map<'a> {
+    pub shape: &'a Shape,
+    pub other: &'a Shape,
+    pub images: &'a [usize],
 }
 
-/// Cells go to their images, # to # and * to *.
-fn image(place: Place, images: &[usize]) -> Place {
-    match place {
-        Place::Cell(cell) => Place::Cell(images[cell]),
-        other => other,
+/// What is met by following links from an image.
+#[derive(Clone, Debug, PartialEq, Eq)]
+pub struct Path {
+    /// The cells ahead of the end.
+    pub between: Vec<usize>,
+    /// The first image, # or *; nothing where a link stands nowhere or leads round for ever.
+    pub end: Option<Place>,
+}
+
+impl Map<'_> {
+    /// The first rule that is broken, at the lowest cell or variable.
+    pub fn broken(&self) -> Option<Broken> {
+        Rule::ALL.into_iter().find_map(|rule| {
+            let name = self.lowest(rule)? as u8;
+            Some(Broken { rule, name })
+        })
     }
-}
 
-fn variables_agree(shape: &Shape, other: &Shape, images: &[usize]) -> bool {
-    let mut pairs = shape.variables.iter().zip(&other.variables);
-    pairs.all(|(here, there)| match here {
-        Some(place) => *there == Some(image(*place, images)),
-        None => true,
-    })
-}
-
-/// For each link of `shape` the cells strictly between on its path; nothing where a path misses.
-fn paths(shape: &Shape, other: &Shape, images: &[usize]) -> Option<Vec<Vec<usize>>> {
-    let links = (0..shape.cells()).filter_map(|cell| Some((cell, shape.links[cell]?)));
-    links
-        .map(|(cell, end)| path(other, images, images[cell], image(end, images)))
-        .collect()
-}
-
-/// Follows links from a cell to the first image, # or * met; if that is `end`, the cells between.
-fn path(other: &Shape, images: &[usize], from: usize, end: Place) -> Option<Vec<usize>> {
-    let mut between = Vec::new();
-    let mut here = from;
-    while between.len() <= other.cells() {
-        match other.links[here]? {
-            Place::Cell(cell) if !images.contains(&cell) => {
-                between.push(cell);
-                here = cell;
-            }
-            met => return (met == end).then_some(between),
+    /// The lowest cell or variable at which a rule is broken, whatever the others say. The rule of
+    /// states isn't one of maps.
+    pub fn lowest(&self, rule: Rule) -> Option<usize> {
+        let mut cells = 0..self.shape.cells();
+        let mut variables = 1..=self.shape.variables.len();
+        match rule {
+            Rule::State => None,
+            Rule::Image => cells.find(|&cell| self.twin(cell).is_some()),
+            Rule::Variable => variables.find(|&variable| self.is_elsewhere(variable)),
+            Rule::Link => cells.find(|&cell| self.misses(cell)),
+            Rule::Path => cells.find(|&cell| self.shared(cell).is_some()),
         }
     }
-    None
+
+    /// Another cell with the same image, the lowest.
+    pub fn twin(&self, cell: usize) -> Option<usize> {
+        let is_twin = |&other: &usize| other != cell && self.images[other] == self.images[cell];
+        (0..self.shape.cells()).find(is_twin)
+    }
+
+    fn is_elsewhere(&self, variable: usize) -> bool {
+        match self.shape.place(variable) {
+            Some(place) => self.other.place(variable) != Some(self.image(place)),
+            None => false,
+        }
+    }
+
+    fn misses(&self, cell: usize) -> bool {
+        match self.shape.links[cell] {
+            Some(place) => self.path(cell).end != Some(self.image(place)),
+            None => false,
+        }
+    }
+
+    /// Cells go to their images, # to # and * to *.
+    pub fn image(&self, place: Place) -> Place {
+        match place {
+            Place::Cell(cell) => Place::Cell(self.images[cell]),
+            other => other,
+        }
+    }
+
+    /// Follows links from the image of a cell, at least one step.
+    pub fn path(&self, cell: usize) -> Path {
+        let mut between = Vec::new();
+        let mut met = self.other.links[self.images[cell]];
+        while let Some(Place::Cell(next)) = met {
+            if self.images.contains(&next) {
+                break;
+            }
+            if between.contains(&next) {
+                met = None;
+                break;
+            }
+            between.push(next);
+            met = self.other.links[next];
+        }
+        Path { between, end: met }
+    }
+
+    /// The lowest of the cells below a cell with whose path its own shares a cell, and the first such
+    /// cell.
+    pub fn shared(&self, cell: usize) -> Option<(usize, usize)> {
+        let between = self.between(cell);
+        (0..cell).find_map(|lower| {
+            let other = self.between(lower);
+            let shared = between.iter().find(|passed| other.contains(passed));
+            shared.map(|&passed| (lower, passed))
+        })
+    }
+
+    /// The cells strictly between on the path of a cell's link; none without a link.
+    fn between(&self, cell: usize) -> Vec<usize> {
+        match self.shape.links[cell] {
+            Some(_) => self.path(cell).between,
+            None => Vec::new(),
+        }
+    }
 }
 
 #[cfg(test)]
@@ -80,11 +146,33 @@ mod tests {
         Shape::of_codes(&[0], &[5, 5, 6, 0])
     }
 
+    /// The number of the first rule that is broken, and its name.
+    fn broken(shape: &Shape, other: &Shape, images: &[usize]) -> Option<(u8, u8)> {
+        let map = Map {
+            shape,
+            other,
+            images,
+        };
+        map.broken().map(|broken| (broken.rule as u8, broken.name))
+    }
+
     #[test]
     fn paths_may_not_share_a_cell() {
         let two_links = Shape::of_codes(&[0], &[5, 5, 0]);
-        assert!(!embeds(&two_links, &meeting(), &[0, 1, 3]));
+        assert_eq!(broken(&two_links, &meeting(), &[0, 1, 3]), Some((5, 1)));
         assert!(embeds(&two_links, &meeting(), &[0, 1, 2]));
+    }
+
+    #[test]
+    fn of_two_that_share_a_path_the_higher_is_named_and_the_lowest_such() {
+        // Cells 1, 2 and 4 go through cell 5; 0 and 3 go through cell 6.
+        let other = Shape::of_codes(&[0], &[9, 8, 8, 9, 8, 1, 2]);
+        let shape = Shape::of_codes(&[0], &[2, 1, 1, 2, 1]);
+        assert_eq!(broken(&shape, &other, &[0, 1, 2, 3, 4]), Some((5, 2)));
+        assert_eq!(broken(&shape, &other, &[0, 1, 5, 3, 4]), Some((4, 1)));
+        assert_eq!(broken(&shape, &other, &[3, 1, 5, 0, 6]), Some((4, 0)));
+        let apart = Shape::of_codes(&[0], &[2, 1, 0, 2, 0]);
+        assert_eq!(broken(&apart, &other, &[0, 1, 2, 3, 4]), Some((5, 3)));
     }
 
     #[test]
@@ -92,21 +180,60 @@ mod tests {
         let one_link = Shape::of_codes(&[0], &[4, 0]);
         assert!(embeds(&one_link, &meeting(), &[0, 3]));
         assert!(embeds(&one_link, &meeting(), &[2, 3]));
-        assert!(!embeds(&one_link, &meeting(), &[3, 0]));
+        assert_eq!(broken(&one_link, &meeting(), &[3, 0]), Some((4, 0)));
     }
 
     #[test]
     fn images_differ_and_variables_stand_at_them() {
         let two_cells = Shape::of_codes(&[0], &[0, 0]);
         assert!(embeds(&two_cells, &meeting(), &[3, 1]));
-        assert!(!embeds(&two_cells, &meeting(), &[3, 3]));
+        assert_eq!(broken(&two_cells, &meeting(), &[3, 3]), Some((2, 0)));
 
         let named = Shape::of_codes(&[3], &[0]);
         let other = Shape::of_codes(&[4], &[0, 0]);
         assert!(embeds(&named, &other, &[1]));
-        assert!(!embeds(&named, &other, &[0]));
-        assert!(!embeds(&named, &Shape::of_codes(&[0], &[0]), &[0]));
+        assert_eq!(broken(&named, &other, &[0]), Some((3, 1)));
+        let nowhere = Shape::of_codes(&[0], &[0]);
+        assert_eq!(broken(&named, &nowhere, &[0]), Some((3, 1)));
         assert!(embeds(&Shape::of_codes(&[0], &[]), &other, &[]));
+    }
+
+    #[test]
+    fn the_lowest_cell_with_an_image_of_another_is_named() {
+        let cells = |count| Shape::of_codes(&[0], &vec![0; count]);
+        assert_eq!(broken(&cells(4), &cells(8), &[5, 7, 7, 5]), Some((2, 0)));
+        assert_eq!(broken(&cells(4), &cells(8), &[1, 7, 7, 5]), Some((2, 1)));
+        assert_eq!(broken(&cells(4), &cells(8), &[1, 2, 7, 7]), Some((2, 2)));
+    }
+
+    #[test]
+    fn the_lowest_variable_elsewhere_is_named() {
+        let here = Shape::of_codes(&[0, 1, 2, 3], &[0]);
+        let elsewhere = |codes: &[u64; 4]| broken(&here, &Shape::of_codes(codes, &[0]), &[0]);
+        assert_eq!(elsewhere(&[2, 1, 2, 3]), None);
+        assert_eq!(elsewhere(&[2, 1, 2, 0]), Some((3, 4)));
+        assert_eq!(elsewhere(&[2, 1, 1, 0]), Some((3, 3)));
+        assert_eq!(elsewhere(&[2, 0, 1, 0]), Some((3, 2)));
+    }
+
+    /// Cells 0 and 1 meet at 4, the link of 2 misses and variable 2 stands elsewhere; then 1 and 3
+    /// have one image too.
+    #[test]
+    fn the_first_rule_counts_over_all_cells() {
+        let other = Shape::of_codes(&[0, 2], &[7, 7, 1, 0, 1]);
+        let links = [1, 1, 2, 0];
+        let at = |variables: &[u64], images: &[usize]| {
+            broken(&Shape::of_codes(variables, &links), &other, images)
+        };
+        assert_eq!(at(&[0, 1], &[0, 1, 2, 1]), Some((2, 1)));
+        assert_eq!(at(&[0, 1], &[0, 1, 2, 3]), Some((3, 2)));
+        assert_eq!(at(&[0, 2], &[0, 1, 2, 3]), Some((4, 2)));
+        assert_eq!(at(&[0, 2], &[0, 1, 4, 3]), Some((4, 0)));
+        let holds_but_for_a_path = Shape::of_codes(&[0, 2], &[1, 1, 1, 0]);
+        assert_eq!(
+            broken(&holds_but_for_a_path, &other, &[0, 1, 2, 3]),
+            Some((5, 1))
+        );
     }
 
     #[test]
@@ -114,9 +241,10 @@ mod tests {
         let chain = Shape::of_codes(&[0], &[4, 5, 1]);
         let to_null = Shape::of_codes(&[0], &[1]);
         assert!(embeds(&to_null, &chain, &[0]));
-        assert!(!embeds(&Shape::of_codes(&[0], &[2]), &chain, &[0]));
+        let to_dangling = Shape::of_codes(&[0], &[2]);
+        assert_eq!(broken(&to_dangling, &chain, &[0]), Some((4, 0)));
         let jumps = Shape::of_codes(&[0], &[5, 0, 0]);
-        assert!(!embeds(&jumps, &chain, &[0, 1, 2]));
+        assert_eq!(broken(&jumps, &chain, &[0, 1, 2]), Some((4, 0)));
         assert!(embeds(&jumps, &chain, &[0, 2, 1]));
     }
 
@@ -126,7 +254,7 @@ mod tests {
         let three = Shape::of_codes(&[0], &[4, 5, 3]);
         assert!(embeds(&ring, &three, &[1]));
         let entered = Shape::of_codes(&[0], &[4, 4]);
-        assert!(!embeds(&ring, &entered, &[0]));
+        assert_eq!(broken(&ring, &entered, &[0]), Some((4, 0)));
         assert!(embeds(
             &entered,
             &Shape::of_codes(&[0], &[4, 5, 4]),

@@ -2,6 +2,7 @@
 
 pub mod certificate;
 pub mod checker;
+pub mod cover;
 pub mod embedding;
 pub mod heap;
 pub mod job;

@@ -36,7 +36,7 @@ impl<'a> Reader<'a> {
     /// The next number, which is in a range.
     pub fn number(&mut self, range: impl RangeBounds<u64>) -> Result<u64, Refusal> {
         let place = self.place;
-        let refused = |number| Refusal { number, place };
+        let refused = |number| Refusal::at(number, place);
         let (number, next) = number::read(self.bytes, place).ok_or(refused(self.unreadable))?;
         if !range.contains(&number) {
             return Err(refused(self.out_of_range));
@@ -57,7 +57,7 @@ impl<'a> Reader<'a> {
     /// Nothing may be left; else this refusal falls at the first byte left.
     pub fn end(&self, number: u32) -> Result<(), Refusal> {
         match self.place {
-            place if place < self.bytes.len() => Err(Refusal { number, place }),
+            place if place < self.bytes.len() => Err(Refusal::at(number, place)),
             _ => Ok(()),
         }
     }

@@ -7,7 +7,9 @@ use super::html::{escape, page};
 use super::{explain, graph};
 use crate::draw;
 use crate::judge::{Ending, Judged};
+use crate::reference::certificate::Certificate;
 use crate::reference::heap::Heap;
+use crate::refused_cover::RefusedCover;
 use crate::routine::{Origin, Routine};
 use crate::search::chain::Chain;
 use crate::search::run::Run;
@@ -40,8 +42,8 @@ pub fn routine_page(name: &str, routine: &Routine, judged: &Judged) -> String {
         );
     }
     let run: &[usize] = match &judged.ending {
-        Ending::Certified(_, verdict) => {
-            body += &certified(verdict);
+        Ending::Certified(certificate, verdict) => {
+            body += &certified(routine, certificate, verdict);
             &[]
         }
         Ending::Wrong(run) => {
@@ -89,15 +91,23 @@ fn banner(class: &str, heading: &str, text: &str) -> String {
     )
 }
 
-fn certified(verdict: &Verdict) -> String {
-    match verdict {
-        Verdict::Accepted(_) => banner(
+fn certified(routine: &Routine, certificate: &Certificate, verdict: &Verdict) -> String {
+    if let Verdict::Accepted(_) = verdict {
+        return banner(
             "good",
             "Certified",
             "No run of this routine, on lists of any length, meets what is forbidden below. The \
              proved checker has accepted the certificate.",
-        ),
-        Verdict::Refused(_) => banner("bad", "The certificate is refused", &verdict.to_string()),
+        );
+    }
+    let refused = |how: &str| banner("bad", "The certificate is refused", how);
+    match RefusedCover::of(routine, &certificate.bytes(), verdict) {
+        Some(cover) => {
+            let how = format!("{verdict}: {}", cover.how());
+            let drawn = escape(&cover.drawn().join("\n"));
+            format!("{}<pre>\n{drawn}\n</pre>\n", refused(&how))
+        }
+        None => refused(&verdict.to_string()),
     }
 }
 

@@ -59,6 +59,7 @@ pub use mistake::Mistake;
 pub use parse::{parse, parse_listing};
 
 use std::fmt;
+use std::ops::RangeInclusive;
 
 use crate::reference::job::Job;
 use crate::reference::operation::{Operation, ASSIGN, DELETE, DIFFERENT, EQUAL, LOAD, NEW, STORE};
@@ -99,6 +100,26 @@ impl fmt::Display for Origin {
 }
 
 impl Routine {
+    /// A job as it is, with numbers for names.
+    pub fn of_job(job: Job) -> Routine {
+        let numbered = |of: &str, numbers: RangeInclusive<u64>| -> Vec<String> {
+            numbers.map(|number| format!("{of}{number}")).collect()
+        };
+        let origin = |number| Origin {
+            line: None,
+            text: format!("shape {number}"),
+        };
+        Routine {
+            title: "A job without names.".to_string(),
+            variables: numbered("v", 1..=job.variables),
+            states: numbered("state ", 0..=job.states - 1),
+            statements: Vec::new(),
+            origins: (0..job.forbidden.len()).map(origin).collect(),
+            warnings: Vec::new(),
+            job,
+        }
+    }
+
     /// The name of an operand.
     pub fn operand(&self, operand: usize) -> &str {
         match operand {

@@ -1,0 +1,117 @@
+//! Shapes as codes of places, and the parts of them that embed.
+
+use crate::random::Random;
+use crate::reference::job::Located;
+use crate::reference::shape::Shape;
+
+/// The code of cell 0.
+const CELL: u64 = 3;
+
+/// A shape as codes of places.
+pub struct Codes {
+    pub variables: Vec<u64>,
+    pub links: Vec<u64>,
+}
+
+impl Codes {
+    /// Most links are to cells, so that paths are long and many meet.
+    pub fn random(random: &mut Random, variables: usize, cells: usize) -> Codes {
+        let mut place = || match random.below(8) {
+            0 => random.below(3) as u64,
+            _ => random.below(CELL as usize + cells) as u64,
+        };
+        Codes {
+            variables: (0..variables).map(|_| place()).collect(),
+            links: (0..cells).map(|_| place()).collect(),
+        }
+    }
+
+    pub fn of(shape: &Shape) -> Codes {
+        let numbers = shape.numbers();
+        let (variables, links) = numbers[1..].split_at(shape.variables.len());
+        Codes {
+            variables: variables.to_vec(),
+            links: links.to_vec(),
+        }
+    }
+
+    /// The shape of the images and the paths between them; some places are left out. It embeds by
+    /// these images unless one is used twice or two paths meet.
+    pub fn part(&self, random: &mut Random, images: &[usize]) -> Codes {
+        let mut sometimes = |place: u64| if random.once_in(5) { 0 } else { place };
+        Codes {
+            variables: self
+                .variables
+                .iter()
+                .map(|&place| sometimes(preimage(place, images).unwrap_or(0)))
+                .collect(),
+            links: images
+                .iter()
+                .map(|&cell| sometimes(self.first_met(cell, images)))
+                .collect(),
+        }
+    }
+
+    /// What following links from a cell meets first, as a place of the part; nowhere if nothing.
+    fn first_met(&self, cell: usize, images: &[usize]) -> u64 {
+        let mut place = self.links[cell];
+        for _ in 0..self.links.len() {
+            match preimage(place, images) {
+                Some(met) => return met,
+                None => place = self.links[(place - CELL) as usize],
+            }
+        }
+        0
+    }
+
+    /// Puts a variable to any place.
+    pub fn change_variable(&mut self, random: &mut Random) {
+        let variable = some_index(random, self.variables.len());
+        self.variables[variable] = self.any_place(random);
+    }
+
+    /// Puts the link of a cell to any place, if there are cells.
+    pub fn change_link(&mut self, random: &mut Random) {
+        if !self.links.is_empty() {
+            let cell = some_index(random, self.links.len());
+            self.links[cell] = self.any_place(random);
+        }
+    }
+
+    fn any_place(&self, random: &mut Random) -> u64 {
+        random.below(CELL as usize + self.links.len()) as u64
+    }
+
+    pub fn located(&self, state: u64) -> Located {
+        Located {
+            state,
+            shape: Shape::of_codes(&self.variables, &self.links),
+        }
+    }
+}
+
+/// So many of a shape's cells, in any order.
+pub fn some_cells(random: &mut Random, cells: usize, count: usize) -> Vec<usize> {
+    let mut left: Vec<usize> = (0..cells).collect();
+    (0..count)
+        .map(|_| left.swap_remove(random.below(left.len())))
+        .collect()
+}
+
+/// The first of so many, the last or any.
+pub fn some_index(random: &mut Random, count: usize) -> usize {
+    let any = random.below(count);
+    random.pick(&[0, count - 1, any])
+}
+
+/// The place whose image a place is: nowhere, # and * are their own; nothing for other cells.
+fn preimage(place: u64, images: &[usize]) -> Option<u64> {
+    match place {
+        0..CELL => Some(place),
+        cell => {
+            let image = (cell - CELL) as usize;
+            let number = images.iter().position(|&other| other == image)?;
+            Some(CELL + number as u64)
+        }
+    }
+}

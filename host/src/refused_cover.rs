@@ -1,0 +1,322 @@
+//! A cover that doesn't hold, in words: which rule it breaks and how, and the two shapes. Cells are
+//! numbered from 0, as in the verdict.
+
+use crate::draw;
+use crate::reference::cover::{cover_at, CoverRead, Reason};
+use crate::reference::heap::Place;
+use crate::reference::job::Located;
+use crate::routine::Routine;
+use crate::verdict::{Broken, Refusal, Rule, Verdict};
+
+/// The refused cover of a certificate for a routine.
+pub struct RefusedCover<'a> {
+    routine: &'a Routine,
+    cover: CoverRead,
+    broken: Broken,
+}
+
+impl<'a> RefusedCover<'a> {
+    /// The cover that a verdict on the routine's job and these bytes refuses; nothing where it says
+    /// something else.
+    pub fn of(
+        routine: &'a Routine,
+        certificate: &[u8],
+        verdict: &Verdict,
+    ) -> Option<RefusedCover<'a>> {
+        match *verdict {
+            Verdict::Refused(Refusal {
+                place,
+                broken: Some(broken),
+                ..
+            }) => Some(RefusedCover {
+                routine,
+                cover: cover_at(&routine.job, certificate, place)?,
+                broken,
+            }),
+            _ => None,
+        }
+    }
+
+    /// How the rule is broken, in a sentence.
+    pub fn how(&self) -> String {
+        let (map, name) = (self.cover.map(), usize::from(self.broken.name));
+        match self.broken.rule {
+            Rule::State => format!(
+                "The member is at another state: it is to be at {}, but is at {}.",
+                self.state(&self.cover.owed.covered),
+                self.state(&self.cover.member),
+            ),
+            Rule::Image => {
+                let twin = map.twin(name).expect("another cell has the image");
+                let image = map.images[name];
+                format!("Two cells have the image {image}: cells {name} and {twin}.")
+            }
+            Rule::Variable => format!(
+                "{} stands elsewhere: it is to stand {}, but stands {} in the covered shape.",
+                self.routine.operand(name),
+                self.image(map.shape.place(name)),
+                standing(map.other.place(name)),
+            ),
+            Rule::Link => {
+                let end = match map.path(name).end {
+                    Some(end) => format!("ends {}", standing(Some(end))),
+                    None => "meets no image, # or *".to_string(),
+                };
+                format!(
+                    "The link of cell {name} misses: its path is to end {}, but {end}.",
+                    self.image(map.shape.links[name]),
+                )
+            }
+            Rule::Path => {
+                let (lower, shared) = map.shared(name).expect("a lower cell's path meets it");
+                format!(
+                    "The paths of cells {lower} and {name} share cell {shared} of the covered shape."
+                )
+            }
+        }
+    }
+
+    /// The covered shape and the member, drawn.
+    pub fn drawn(&self) -> Vec<String> {
+        let (cover, covered) = (&self.cover.cover, &self.cover.owed.covered);
+        let images: Vec<String> = cover.images.iter().map(usize::to_string).collect();
+        let images = match images.is_empty() {
+            true => String::new(),
+            false => format!(", with the images {}", images.join(" ")),
+        };
+        let mut lines = vec![format!(
+            "To be covered at {}, since {} (cells from 0, -> is a link or a path):",
+            self.state(covered),
+            self.reason(),
+        )];
+        lines.extend(self.shape(covered));
+        lines.push(format!(
+            "By member {}, at {}{images}:",
+            cover.member,
+            self.state(&self.cover.member),
+        ));
+        lines.extend(self.shape(&self.cover.member));
+        lines
+    }
+
+    fn state(&self, located: &Located) -> &str {
+        &self.routine.states[located.state as usize]
+    }
+
+    fn reason(&self) -> String {
+        match self.cover.owed.reason {
+            Reason::Forbidden(number) => self.routine.origins[number].to_string(),
+            Reason::Before { member, transition } => {
+                let operation = self.routine.operation(transition);
+                format!("`{operation}` leads from there to member {member}")
+            }
+        }
+    }
+
+    fn shape(&self, located: &Located) -> Vec<String> {
+        let lines = draw::shape_as_in_files(&located.shape, &self.routine.variables);
+        lines.iter().map(|line| format!("       {line}")).collect()
+    }
+
+    /// The image of a place of the member.
+    fn image(&self, place: Option<Place>) -> String {
+        let image = place.map(|place| self.cover.map().image(place));
+        match place {
+            Some(Place::Cell(cell)) => format!("{}, the image of cell {cell}", standing(image)),
+            _ => standing(image),
+        }
+    }
+}
+
+fn standing(place: Option<Place>) -> String {
+    match place {
+        None => "nowhere".to_string(),
+        Some(Place::Null) => "at #".to_string(),
+        Some(Place::Dangling) => "at *".to_string(),
+        Some(Place::Cell(cell)) => format!("at cell {cell}"),
+    }
+}
+
+#[cfg(test)]
+mod tests {
+    use super::*;
+    use crate::pairs::{broken_pairs, Pair};
+    use crate::reference::certificate::{Certificate, Cover};
+    use crate::reference::checker::check;
+    use crate::reference::job::Job;
+    use crate::reference::shape::Shape;
+    use crate::routine::parse;
+
+    /// c and e are linked to d, f to a ring.
+    const ROUTINE: &str = "\
+-- Makes a cell.
+variables x y
+start begin
+begin new(x)      -> made
+made  y := x.next -> made
+forbidden
+made  x at c, c -> d, d -> #, e -> d, f -> g, g -> g
+";
+
+    /// Asserts how the verdict ends and what is said, where a shape at a state is to cover the
+    /// forbidden one.
+    fn assert_said(state: u64, shape: Shape, images: &[usize], rule: &str, how: &str) {
+        let routine = parse(ROUTINE).unwrap();
+        let certificate = Certificate {
+            members: vec![Located { state, shape }],
+            covers: vec![Cover {
+                member: 0,
+                images: images.to_vec(),
+            }],
+        };
+        let bytes = certificate.bytes();
+        let verdict = check(&routine.job.bytes(), &bytes);
+        assert!(verdict.to_string().ends_with(rule), "{verdict}: {rule}");
+        let refused = RefusedCover::of(&routine, &bytes, &verdict);
+        assert_eq!(refused.expect("a cover is refused").how(), how);
+    }
+
+    #[test]
+    fn a_member_at_another_state() {
+        assert_said(
+            0,
+            Shape::of_codes(&[1, 0], &[]),
+            &[],
+            "rule 1 of 0",
+            "The member is at another state: it is to be at made, but is at begin.",
+        );
+    }
+
+    #[test]
+    fn an_image_used_twice() {
+        assert_said(
+            1,
+            Shape::of_codes(&[0, 0], &[0, 0, 0, 0]),
+            &[4, 1, 3, 1],
+            "rule 2 of 1",
+            "Two cells have the image 1: cells 1 and 3.",
+        );
+    }
+
+    #[test]
+    fn a_variable_elsewhere() {
+        assert_said(
+            1,
+            Shape::of_codes(&[0, 2], &[]),
+            &[],
+            "rule 3 of 2",
+            "y stands elsewhere: it is to stand at *, but stands nowhere in the covered shape.",
+        );
+        assert_said(
+            1,
+            Shape::of_codes(&[4, 0], &[0, 0]),
+            &[0, 3],
+            "rule 3 of 1",
+            "x stands elsewhere: it is to stand at cell 3, the image of cell 1, but stands at cell \
+             0 in the covered shape.",
+        );
+    }
+
+    #[test]
+    fn a_link_that_misses() {
+        assert_said(
+            1,
+            Shape::of_codes(&[0, 0], &[2]),
+            &[0],
+            "rule 4 of 0",
+            "The link of cell 0 misses: its path is to end at *, but ends at #.",
+        );
+        assert_said(
+            1,
+            Shape::of_codes(&[0, 0], &[0, 1, 0]),
+            &[4, 2, 1],
+            "rule 4 of 1",
+            "The link of cell 1 misses: its path is to end at #, but ends at cell 1.",
+        );
+        assert_said(
+            1,
+            Shape::of_codes(&[0, 0], &[5, 0, 0]),
+            &[2, 3, 0],
+            "rule 4 of 0",
+            "The link of cell 0 misses: its path is to end at cell 0, the image of cell 2, but ends \
+             at #.",
+        );
+        assert_said(
+            1,
+            Shape::of_codes(&[0, 0], &[1]),
+            &[3],
+            "rule 4 of 0",
+            "The link of cell 0 misses: its path is to end at #, but meets no image, # or *.",
+        );
+    }
+
+    #[test]
+    fn a_shared_path() {
+        assert_said(
+            1,
+            Shape::of_codes(&[0, 0], &[1, 0, 1]),
+            &[2, 3, 0],
+            "rule 5 of 2",
+            "The paths of cells 0 and 2 share cell 1 of the covered shape.",
+        );
+    }
+
+    /// The forbidden shape is covered, its predecessor isn't.
+    #[test]
+    fn the_two_shapes_are_drawn() {
+        let routine = parse(ROUTINE).unwrap();
+        let part = Located {
+            state: 1,
+            shape: Shape::of_codes(&[4, 0], &[0, 1]),
+        };
+        let members = vec![routine.job.forbidden[0].clone(), part];
+        let covers = vec![
+            Cover {
+                member: 0,
+                images: (0..5).collect(),
+            },
+            Cover {
+                member: 1,
+                images: vec![1, 0],
+            },
+        ];
+        let bytes = Certificate { members, covers }.bytes();
+        let verdict = check(&routine.job.bytes(), &bytes);
+        let refused = RefusedCover::of(&routine, &bytes, &verdict).expect("a cover is refused");
+        let expected = "
+To be covered at made, since `y := x.next` leads from there to member 0 (cells from 0, -> is a link \
+or a path):
+       [0 x] -> [1] -> #
+       [2] -> [1]
+       [3] -> [4] -> back to [4]
+By member 1, at made, with the images 1 0:
+       [0]
+       [1 x] -> #";
+        assert_eq!(format!("\n{}", refused.drawn().join("\n")), expected);
+    }
+
+    /// Whatever is broken, the sentence of its rule is said of it.
+    #[test]
+    fn all_that_is_broken_has_words() {
+        let mut said = [0; 5];
+        for Pair { job, certificate } in broken_pairs(0x16_5eed).take(1_000) {
+            let verdict = check(&job, &certificate);
+            let routine = Routine::of_job(Job::read(&job).unwrap());
+            if let Some(refused) = RefusedCover::of(&routine, &certificate, &verdict) {
+                let rule = refused.broken.rule as usize;
+                let words = [
+                    "another state",
+                    "have the image",
+                    "elsewhere",
+                    "misses",
+                    "share",
+                ];
+                let how = refused.how();
+                assert!(how.contains(words[rule - 1]), "{verdict}: {how}");
+                assert!(refused.drawn().len() >= 4, "{verdict}");
+                said[rule - 1] += 1;
+            }
+        }
+        assert!(said.iter().all(|&count| count > 100), "{said:?}");
+    }
+}
