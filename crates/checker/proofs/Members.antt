@@ -6,7 +6,7 @@ use native.Mathlib.Omega.{arith}
 use lib.ListN.{length, getD}
 use Rattle.run.specs.Run.{Located}
 use Rattle.layout.specs.Entries.{locatedAt, membersAt, Table}
-use Rattle.covering.specs.Members.{memberAt, membersFrom}
+use Rattle.layout.specs.Members.{memberAt, membersFrom}
 use Rattle.layout.proofs.Whole.{is-whole}
 
 same-on : (f g : ℕ → Located) (xs : List ℕ) → ((i : ℕ) → i < length xs → f (getD xs i 0) ≡ g (getD xs i 0)) → map f xs ≡ map g xs

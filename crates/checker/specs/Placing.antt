@@ -5,7 +5,7 @@ use Prim.Native.Nat.{ℕ, suc}
 use lib.Dec.{eqb}
 use Rattle.shape.specs.Shape.{Shape}
 use Rattle.format.specs.Parser.{Parsed}
-use Rattle.covering.specs.Members.{membersFrom}
+use Rattle.layout.specs.Members.{membersFrom}
 use Rattle.transitions.specs.declared.Transition.{Transition}
 use Rattle.checker.specs.Checking.{checkAll, located}
 use Rattle.checker.specs.declared.checked.Position.{Position}

@@ -21,7 +21,7 @@ ghost use Rattle.backward.specs.Predecessors.{predecessors};
 ghost use Rattle.cover.specs.Cover.{owed};
 ghost use Rattle.checker.specs.Jobs.{toState, fileIn, owedBy};
 ghost use Rattle.checker.specs.Checking.{checkAll, checkedOf, Within, ChecksAll, Checks};
-ghost use Rattle.covering.specs.Members.{membersFrom};
+ghost use Rattle.layout.specs.Members.{membersFrom};
 ghost use Rattle.kinds.specs.Kinds.{allowed};
 ghost use Rattle.layout.specs.ShapeArray.{cellCount, shapeIn, ShapeArray};
 ghost use Rattle.layout.specs.Entries.{locatedAt, entriesAt, EntriesIn, membersAt, Table};

@@ -15,7 +15,7 @@ ghost use Rattle.lists.specs.Range.{range};
 ghost use Rattle.heap.specs.Operation.{new, delete};
 ghost use Rattle.backward.specs.Predecessors.{predecessors};
 ghost use Rattle.checker.specs.Checking.{Within, Checks};
-ghost use Rattle.covering.specs.Members.{membersFrom};
+ghost use Rattle.layout.specs.Members.{membersFrom};
 ghost use Rattle.layout.specs.ShapeArray.{cellCount, shapeIn, ShapeArray};
 ghost use Rattle.shapes.specs.Without.{without};
 

@@ -7,7 +7,7 @@ use verdict::Reached;
 ghost use mathlib.Core.List.{[], _∷_};
 ghost use Rattle.checker.specs.Checking.{Within, Checks};
 ghost use Rattle.layout.specs.ShapeArray.{shapeIn};
-ghost use Rattle.covering.specs.Members.{membersFrom};
+ghost use Rattle.layout.specs.Members.{membersFrom};
 
 // Checks the cover of a shape and counts it, by the exact test.
 pub(crate) fn check_cover(

@@ -19,13 +19,14 @@ use Rattle.layout.specs.Entries.{locatedAt, Whole}
 use Rattle.layout.specs.ShapeArray.{shapeIn}
 use Rattle.layout.proofs.Whole.{is-whole}
 use Rattle.covering.specs.Answer.{brokenOf}
-use Rattle.covering.specs.Images.{imagesIn}
-use Rattle.covering.specs.Members.{membersFrom}
+use Rattle.coverreader.specs.Images.{imagesIn}
+use Rattle.layout.specs.Members.{membersFrom}
 use Rattle.covering.specs.Quick.{ImagesEmbed}
-use Rattle.covering.specs.Reading.{withoutMember, cellsAt, coverOf, CoverIs}
-use Rattle.covering.specs.declared.reading.CoverRead.{CoverRead}
-use Rattle.covering.specs.declared.reading.CoverRead.the-variants.{Taken, Refused}
-use Rattle.covering.proofs.Covers.{cover-taken}
+use Rattle.coverreader.specs.Reading.{cellsAt, coverOf, CoverIs}
+use Rattle.covering.specs.Answer.{withoutMember}
+use Rattle.coverreader.specs.declared.CoverRead.{CoverRead}
+use Rattle.coverreader.specs.declared.CoverRead.the-variants.{Taken, Refused}
+use Rattle.coverreader.proofs.Covers.{cover-taken}
 
 module _ (cert : List ℕ) (variables : ℕ) (starts : List ℕ) (at state : ℕ) (byte : state < 256) (shape : Shape) (n : ℕ) (cells : size shape ≡ n)
     (codes : List ℕ) (r : CoverRead) (k : CoverIs cert variables starts at n r codes) where
@@ -61,6 +62,6 @@ quick-embedding cert variables starts at state byte s m first e b w here count c
     let end = first + count in
     let shape = shapeIn variables s in
     let whole = is-whole cert variables (getD starts m 0) w in
-    let read = cover-taken cert variables starts at (size shape) (i .codes) m first e b whole count cells (At end) (i .read) end refl in
+    let read = cover-taken cert variables starts at (size shape) m first e b whole count cells (At end) (i .codes) (i .read) end refl in
     let holding = rw cells at (i .holds (record { state = state; shape = shape }) refl (sym here)) in
     sym (take-holding cert variables starts at state byte shape (size shape) refl (i .codes) (Taken m end) read m end refl (sym holding))

@@ -1,39 +1,25 @@
--- Images in an array.
+-- The map of places that an array of images makes.
 use mathlib.Core.Bool.{true, cond}
-use mathlib.Core.List.{List, [], _∷_, map}
+use mathlib.Core.List.{List}
 use mathlib.Core.Path.{_≡_, refl, sym, ap, _∙_}
-use Prim.Native.Nat.{ℕ, zero, suc, _+_, _-_, _≤_, _<_}
+use Prim.Native.Nat.{ℕ, zero, suc, _+_, _≤_, _<_}
 use native.Mathlib.Decide.{decLt}
 use native.Mathlib.Omega.{arith}
 use borrow.Author.Tests.{lt-ltb, le-ltb}
 use lib.Dec.{ltb}
-use lib.ListN.{length, getD, take, drop, length-map, length-take, length-drop, replicate, getD-replicate, List·getD-eq-default}
-use lib.Seq.{getD-take, getD-drop}
+use lib.ListN.{getD, List·getD-eq-default}
 use Rattle.lists.proofs.Reflect.{is-true}
 use Rattle.heap.specs.Place.{cell}
 use Rattle.cover.specs.Test.{imageMap, stops}
 use Rattle.cover.proofs.Paths.{r-stops}
-use Rattle.covering.specs.Images.{imagesIn, ImageCodes, imageIn}
-
-getD-sub : (l : List ℕ) (i : ℕ) → getD (map (λ p. p - 3) l) i 0 ≡ getD l i 0 - 3
-getD-sub [] i = refl
-getD-sub (x ∷ xs) zero = refl
-getD-sub (x ∷ xs) (suc i) = getD-sub xs i
+use Rattle.coverreader.specs.Images.{imagesIn, ImageCodes}
+use Rattle.coverreader.proofs.Images.{images-length, image-at}
+use Rattle.covering.specs.Images.{imageIn}
 
 module _ (count n : ℕ) (codes : List ℕ) (m : ImageCodes count n codes) where
-  pub images-length : length (imagesIn count codes) ≡ count
-  images-length = simp (length-map, length-take, length-drop) (omega (arith, m .room, m .few))
-
-  pub image-at : (i : ℕ) → i < count → cell (getD (imagesIn count codes) i 0) ≡ getD codes (i + 3) 0
-  image-at i b =
-      let e : getD (imagesIn count codes) i 0 ≡ getD codes (3 + i) 0 - 3 =
-      getD-sub (take count (drop 3 codes)) i ∙ ap (λ (p : ℕ). p - 3) (getD-take count (drop 3 codes) i 0 b ∙ getD-drop 3 codes i 0) in
-      let z : 3 + i ≡ i + 3 = omega arith in
-      omega (arith, rw z at e, m .low i b)
-
   -- a cell without an image
   no-image : (i : ℕ) → count ≤ i → cell (getD (imagesIn count codes) i 0) ≡ cell 0
-  no-image i b = ap cell (List·getD-eq-default (imagesIn count codes) 0 (omega (arith, images-length)))
+  no-image i b = ap cell (List·getD-eq-default (imagesIn count codes) 0 (omega (arith, images-length count n codes m)))
 
   -- the array is the map of places
   pub image-of : (p : ℕ) → imageIn codes p ≡ imageMap (imagesIn count codes) p
@@ -47,7 +33,7 @@ module _ (count n : ℕ) (codes : List ℕ) (m : ImageCodes count n codes) where
       swap = omega arith
 
       go : Dec (i < 12) → Dec (i < count) → cond (ltb (cell i) 15) (getD codes (cell i) 0) (cell 0) ≡ cell (getD (imagesIn count codes) i 0)
-      go (yes b) (yes c) = rw (lt-ltb (cell i) 15 (omega arith)) (rw swap at (sym (image-at i c)))
+      go (yes b) (yes c) = rw (lt-ltb (cell i) 15 (omega arith)) (rw swap at (sym (image-at count n codes m i c)))
       go (yes b) (no c) = rw (lt-ltb (cell i) 15 (omega arith)) ((rw swap at (m .rest i (omega arith) b)) ∙ sym (no-image i (omega arith)))
       go (no b) c = rw (le-ltb (cell i) 15 (omega arith)) (sym (no-image i (omega (arith, m .few))))
 
@@ -61,7 +47,7 @@ module _ (count n : ℕ) (codes : List ℕ) (m : ImageCodes count n codes) where
       go (suc (suc zero)) b = refl
       go (suc (suc (suc i))) b =
           is-true (stops (imagesIn count codes) (cell (getD (imagesIn count codes) i 0)))
-          (r-stops (imagesIn count codes) (cell (getD (imagesIn count codes) i 0)) .tests (λ _. (i, omega (arith, images-length), refl)))
+          (r-stops (imagesIn count codes) (cell (getD (imagesIn count codes) i 0)) .tests (λ _. (i, omega (arith, images-length count n codes m), refl)))
 
 pub image-read : (codes : List ℕ) (p : ℕ) → p < 15 → imageIn codes p ≡ getD codes p 0
 unfolding imageIn
@@ -70,19 +56,3 @@ image-read codes p b = rw (lt-ltb p 15 b) refl
 pub image-past : (codes : List ℕ) (p : ℕ) → 15 ≤ p → imageIn codes p ≡ cell 0
 unfolding imageIn
 image-past codes p b = rw (le-ltb p 15 b) refl
-
-pub images-none : (n : ℕ) → ImageCodes 0 n (0 ∷ 1 ∷ 2 ∷ replicate 12 3)
-images-none n =
-    record {
-      room = refl;
-      few = omega arith;
-      nowhere-fixed = refl;
-      null-fixed = refl;
-      dangling-fixed = refl;
-      low = λ i b. absurd (omega arith);
-      high = λ i b. absurd (omega arith);
-      rest = λ i _ b. swap i (getD-replicate 12 i 3 0 b);
-    }
-  where
-    swap : (i : ℕ) → getD {A = ℕ} (replicate 12 3) i 0 ≡ 3 → getD {A = ℕ} (0 ∷ 1 ∷ 2 ∷ replicate 12 3) (i + 3) 0 ≡ 3
-    swap i e = let z : i + 3 ≡ cell i = omega arith in rw z e

@@ -9,8 +9,5 @@ pub mod Paths
 pub mod Links
 pub mod Variables
 pub mod Whole
-pub mod Elements
-pub mod ReadImages
-pub mod Covers
 pub mod CoverCases
 pub mod ReadAndMark

@@ -18,9 +18,11 @@ use Rattle.heap.specs.Place.{nowhere, cell}
 use Rattle.shape.specs.Shape.{Shape, linkAt, size}
 use Rattle.cover.specs.Test.{imageMap, stops, linkMeets, betweenBelow}
 use Rattle.cover.proofs.Paths.{r-stops}
-use Rattle.covering.specs.Images.{imagesIn, imageIn, pathFits}
+use Rattle.coverreader.specs.Images.{imagesIn}
+use Rattle.covering.specs.Images.{imageIn, pathFits}
 use Rattle.covering.specs.Marks.{Marks, Walking, endFrom, Followed, Linking}
-use Rattle.covering.proofs.Images.{images-length, image-at, image-of}
+use Rattle.coverreader.proofs.Images.{images-length, image-at}
+use Rattle.covering.proofs.Images.{image-of}
 use Rattle.covering.proofs.Paths.{path-none, link-none, link-some, below-none, path-good, path-bad}
 
 module _ (member covered : Shape) (cert : List ℕ) (first count : ℕ) (codes marks₀ : List ℕ) (n : ℕ) (s : List ℕ)

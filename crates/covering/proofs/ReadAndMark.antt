@@ -15,11 +15,12 @@ use Rattle.cover.specs.Test.{coverAnswer}
 use Rattle.layout.specs.Entries.{locatedAt, Whole}
 use Rattle.layout.specs.ShapeArray.{shapeIn}
 use Rattle.covering.specs.Answer.{Tested}
-use Rattle.covering.specs.Images.{imagesIn, ImageCodes, varFitsIn, pathFits}
+use Rattle.coverreader.specs.Images.{imagesIn, ImageCodes}
+use Rattle.covering.specs.Images.{varFitsIn, pathFits}
 use Rattle.covering.specs.Marks.{Marks, Linking}
 use Rattle.covering.specs.Quick.{ImagesMarked, ImagesEmbed}
 use Rattle.covering.proofs.Marking.{Marking, marking-none, marking-once, marking-more}
-use Rattle.covering.proofs.ReadImages.{images-snoc, Reading, reading-none, reading-all, reading-more}
+use Rattle.coverreader.proofs.ReadImages.{images-snoc, Reading, reading-none, reading-all, reading-more}
 use Rattle.covering.proofs.Whole.{linking-read, answer-whole}
 
 module _ (cert : List ℕ) (first n count : ℕ) where

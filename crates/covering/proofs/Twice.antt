@@ -10,8 +10,9 @@ use lib.Dec.{eqb}
 use lib.ListN.{length, getD}
 use Rattle.lists.specs.Test.{allFrom}
 use Rattle.lists.proofs.Test.{all-passed, all-failed, all-done}
-use Rattle.covering.specs.Images.{imagesIn, ImageCodes, onceAt}
-use Rattle.covering.proofs.Images.{images-length, image-at}
+use Rattle.coverreader.specs.Images.{imagesIn, ImageCodes}
+use Rattle.covering.specs.Images.{onceAt}
+use Rattle.coverreader.proofs.Images.{images-length, image-at}
 
 module _ (count : ℕ) (codes : List ℕ) (m : ImageCodes count 25 codes) (i : ℕ) (b : i < count) where
   abbrev images : List ℕ

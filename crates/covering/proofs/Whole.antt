@@ -22,9 +22,11 @@ use Rattle.cover.specs.Test.{imageMap, imageOnce, varFits, linkMeets, pathUnsha
 use Rattle.layout.specs.ShapeArray.{cellCount, linksIn, shapeIn}
 use Rattle.layout.specs.Entries.{locatedAt}
 use Rattle.covering.specs.Answer.{Tested, pathsAnswer}
-use Rattle.covering.specs.Images.{imagesIn, ImageCodes, imageIn, onceAt, once, varFitsIn, pathFits}
+use Rattle.coverreader.specs.Images.{imagesIn, ImageCodes}
+use Rattle.covering.specs.Images.{imageIn, onceAt, once, varFitsIn, pathFits}
 use Rattle.covering.specs.Marks.{Marks, LinksIn, Linking}
-use Rattle.covering.proofs.Images.{images-length, image-of}
+use Rattle.coverreader.proofs.Images.{images-length}
+use Rattle.covering.proofs.Images.{image-of}
 
 module _ (cert : List ℕ) (variables start : ℕ) (codes : List ℕ) (n : ℕ) (s : List ℕ) (t : Tested cert variables start codes n s) where
   -- ---- the covered shape

@@ -8,8 +8,12 @@ use Rattle.shape.specs.Shape.{Shape, size}
 use Rattle.cover.specs.Test.{linkMeets, pathUnshared, Answer, holds, broken, orElse}
 use Rattle.layout.specs.Entries.{Whole}
 use Rattle.layout.specs.ShapeArray.{shapeIn}
+use Rattle.coverreader.specs.declared.CoverRead.{CoverRead}
+use Rattle.coverreader.specs.declared.CoverRead.the-variants.{Taken, Refused as NotRead}
 use Rattle.verdict.specs.declared.Broken.{Broken}
-use Rattle.covering.specs.Images.{ImageCodes}
+use Rattle.verdict.specs.declared.Reached.{Reached}
+use Rattle.verdict.specs.declared.Reached.the-variants.{At, Refused}
+use Rattle.coverreader.specs.Images.{ImageCodes}
 use Rattle.covering.specs.declared.rules.Answer.{Answer as Told}
 use Rattle.covering.specs.declared.rules.Answer.the-variants.{Holds, Breaks}
 
@@ -19,6 +23,11 @@ brokenOf b = broken (b .rule) (b .name)
 abbrev pub answerOf : Told → Answer
 answerOf Holds = holds
 answerOf (Breaks b) = brokenOf b
+
+-- where the reading of a cover ended
+abbrev pub withoutMember : CoverRead → Reached
+withoutMember (Taken m next) = At next
+withoutMember (NotRead r place) = Refused r place
 
 -- a member stands whole at a place, a shape of n cells is in an array, and the member's cells have images in it
 pub record Tested (cert : List ℕ) (variables start : ℕ) (codes : List ℕ) (n : ℕ) (s : List ℕ) : Type 0 where

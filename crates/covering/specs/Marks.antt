@@ -11,7 +11,7 @@ use Rattle.heap.specs.Codes.{linkIn}
 use Rattle.heap.specs.Place.{nowhere, cell}
 use Rattle.shape.specs.Shape.{Shape, size}
 use Rattle.cover.specs.Test.{stops, walkEnd, walked}
-use Rattle.covering.specs.Images.{imagesIn, ImageCodes}
+use Rattle.coverreader.specs.Images.{imagesIn, ImageCodes}
 
 -- the mark of a place at which a path ends or not, and that no path has used or one has: 0 is free, 1 a stop, 2 used
 abbrev pub mark : Bool → Bool → ℕ

@@ -9,9 +9,10 @@ use Rattle.cover.specs.Test.{Answer, coverAnswer}
 use Rattle.verdict.specs.declared.Reached.the-variants.{At}
 use Rattle.layout.specs.Entries.{locatedAt}
 use Rattle.layout.specs.ShapeArray.{shapeIn}
-use Rattle.covering.specs.Images.{imagesIn, once}
+use Rattle.coverreader.specs.Images.{imagesIn}
+use Rattle.covering.specs.Images.{once}
 use Rattle.covering.specs.Marks.{Marks}
-use Rattle.covering.specs.Reading.{ImagesRead}
+use Rattle.coverreader.specs.Reading.{ImagesRead}
 
 -- so many images of one byte are read from a place on into an array; they differ, and are marked
 pub record ImagesMarked (cert : List ℕ) (first n count : ℕ) (codes marks : List ℕ) : Type 0 where

@@ -6,8 +6,8 @@ ghost use Prim.Native.Nat.{ℕ, _+_, _≤_, _<_};
 ghost use lib.ListN.{length, replicate};
 ghost use Rattle.lists.specs.Test.{lowest, numberOr};
 ghost use Rattle.shape.specs.Shape.{Shape};
-ghost use Rattle.layout.specs.ShapeArray.{linksIn};
-ghost use Rattle.covering.specs.Images.{imagesIn, ImageCodes, imageIn, once, varFitsIn, pathFits};
+ghost use Rattle.coverreader.specs.Images.{imagesIn, ImageCodes};
+ghost use Rattle.covering.specs.Images.{imageIn, once, varFitsIn, pathFits};
 ghost use Rattle.covering.specs.Marks.{markIn, Marks, Walking, Followed, Linking};
 
 // Marks by the code of a place: where a path may pass, where it ends, where one has passed.
@@ -17,27 +17,11 @@ pub(crate) const STOP: u8 = 1;
 
 const USED: u8 = 2;
 
-// No image is read yet: nowhere, # and * are their own images, and every cell's is cell 0.
-pub(crate) const NO_IMAGES: [u8; 15] = [0, 1, 2, 3, 3, 3, 3, 3, 3, 3, 3, 3, 3, 3, 3];
-
 // A byte as a place or an index.
 pub(crate) fn wide(byte: u8) -> usize
     ensures { λ r. ⌜ (r ≡ byte) × (r < 256) ⌝ }
 {
     byte as usize
-}
-
-// How many cells the shape in an array has: no more than there are slots from the first link on.
-pub(crate) fn cells_held(s: &[u8; 28]) -> usize
-    ensures { λ r. ⌜ (length (now (s .entry)) ≡ 28) × (r ≤ 25) × (r ≡ length (linksIn (now (s .entry)))) ⌝ }
-{
-    let all = &s[..];
-    let n = wide(s[0]);
-    let most = all.len() - 3;
-    if most < n {
-        return most;
-    }
-    n
 }
 
 // The image of a place; that of a cell which the member lacks is cell 0.

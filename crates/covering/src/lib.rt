@@ -1,12 +1,11 @@
-// One cover: reading it, and testing that its images are an embedding.
-use crate::fitting::NO_IMAGES;
-use crate::fitting::cells_held;
+// One cover, read and tested.
 use crate::fitting::wide;
 use crate::quick::images_embed;
-use crate::reading::CoverRead;
-use crate::reading::read_cover;
 use crate::rules::Answer;
 use crate::rules::cover_answer;
+use coverreader::CoverRead;
+use coverreader::read_cover;
+use layout::cells_held;
 use number::Read;
 use number::read_number;
 use verdict::Reached;
@@ -17,12 +16,11 @@ ghost use Rattle.format.specs.Certificate.{readCover};
 ghost use Rattle.format.specs.Parser.{parsed, certificateBuffer};
 ghost use Rattle.verdict.specs.Verdict.{reachedOf};
 ghost use Rattle.layout.specs.ShapeArray.{shapeIn};
-ghost use Rattle.covering.specs.Members.{membersFrom};
-ghost use Rattle.covering.specs.Reading.{withoutMember};
+ghost use Rattle.layout.specs.Members.{membersFrom};
+ghost use Rattle.covering.specs.Answer.{withoutMember};
 
 mod fitting;
 mod quick;
-mod reading;
 mod rules;
 
 // The place after a cover, or its refusal.
@@ -46,14 +44,14 @@ pub fn exact_cover(
 ) -> Reached
     ensures { λ r. ⌜ reachedOf r ≡ readCover (certificateBuffer (now (cert .entry))) (membersFrom (now (cert .entry)) variables (now (starts .entry))) (record { state = state; shape = shapeIn variables (now (s .entry)) }) at ⌝ }
 {
-    let mut images = NO_IMAGES;
-    let cells = cells_held(s);
-    let r = read_cover(cert, starts, variables, at, cells, &mut images);
+    let reading = read_cover(cert, starts, variables, at, s);
+    let r = reading.answer;
     let CoverRead::Taken(m, next) = r else {
         return refused(r);
     };
     let start = starts[m] as usize;
-    let answer = cover_answer(cert, start, variables, state, &images, cells, s);
+    let images = reading.images;
+    let answer = cover_answer(cert, start, variables, state, &images, cells_held(s), s);
     match answer {
         Answer::Holds => Reached::At(next),
         Answer::Breaks(broken) => Reached::Refused(Refusal::CoverFails(broken), at),

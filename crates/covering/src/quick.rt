@@ -1,10 +1,10 @@
 // A quick test that images embed a member in a shape. It takes images of one byte only, and marks each of them as it is read.
 use crate::fitting::FREE;
-use crate::fitting::NO_IMAGES;
 use crate::fitting::STOP;
-use crate::fitting::cells_held;
 use crate::fitting::walk;
 use crate::fitting::wide;
+use coverreader::NO_IMAGES;
+use layout::cells_held;
 ghost use mathlib.Core.Bool.{true};
 ghost use mathlib.Core.Option.{none};
 ghost use mathlib.Core.Path.{_≡_};
@@ -13,7 +13,8 @@ ghost use lib.ListN.{length, getD, replicate};
 ghost use Rattle.lists.specs.Test.{lowest};
 ghost use Rattle.shape.specs.Shape.{Shape};
 ghost use Rattle.layout.specs.Entries.{Whole};
-ghost use Rattle.covering.specs.Images.{imagesIn, ImageCodes, varFitsIn, pathFits};
+ghost use Rattle.coverreader.specs.Images.{imagesIn, ImageCodes};
+ghost use Rattle.covering.specs.Images.{varFitsIn, pathFits};
 ghost use Rattle.covering.specs.Marks.{Linking};
 ghost use Rattle.covering.specs.Quick.{ImagesMarked, ImagesEmbed};
 

@@ -24,7 +24,8 @@ ghost use Rattle.cover.specs.Test.{linkMeets, coverAnswer};
 ghost use Rattle.layout.specs.Entries.{locatedAt, Whole};
 ghost use Rattle.layout.specs.ShapeArray.{shapeIn};
 ghost use Rattle.covering.specs.Answer.{brokenOf, answerOf, Tested, pathsAnswer};
-ghost use Rattle.covering.specs.Images.{imagesIn, ImageCodes, once, onceAt, pathFits};
+ghost use Rattle.coverreader.specs.Images.{imagesIn, ImageCodes};
+ghost use Rattle.covering.specs.Images.{once, onceAt, pathFits};
 ghost use Rattle.covering.specs.Marks.{Walking, endFrom, Linking};
 
 // What the test of a cover says: it holds, or which rule is broken first.

@@ -2,3 +2,4 @@ pub mod ShapeArray
 pub mod Entries
 pub mod Transitions
 pub mod Loading
+pub mod Members

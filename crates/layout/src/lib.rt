@@ -5,6 +5,7 @@ ghost use Prim.Native.Nat.{_+_, _≤_};
 ghost use lib.ListN.{length, drop};
 ghost use lib.Seq.{paste};
 ghost use Rattle.layout.specs.Entries.{isWhole};
+ghost use Rattle.layout.specs.ShapeArray.{linksIn};
 ghost use Rattle.layout.specs.Loading.{mostInside, loadedCodes, loadedShape};
 
 // Whether an entry of at most 12 cells stands whole at a place, and an array has room for its variables.
@@ -91,4 +92,17 @@ pub fn load_shape(bytes: &[u8], at: usize, variables: usize, s: &mut [u8; 28])
     load_codes(bytes, variables, at + 2 + variables, n as usize, s);
     s[17] = null.code;
     s[0] = n;
+}
+
+// How many cells the shape in an array has: no more than there are slots from the first link on.
+pub fn cells_held(s: &[u8; 28]) -> usize
+    ensures { λ r. ⌜ (length (now (s .entry)) ≡ 28) × (r ≤ 25) × (r ≡ length (linksIn (now (s .entry)))) ⌝ }
+{
+    let all = &s[..];
+    let n = all[0] as usize;
+    let most = all.len() - 3;
+    if most < n {
+        return most;
+    }
+    n
 }

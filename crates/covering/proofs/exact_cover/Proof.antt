@@ -1,21 +1,16 @@
 -- Each return is the case of `readCover` that the tests before it leave.
 use Prim.Native.Nat.{_<_}
-use mathlib.Core.Path.{_∙_, sym, ap}
+use mathlib.Core.Path.{_∙_, refl, sym, ap}
 use native.Mathlib.Omega.{arith}
 use borrow.Author.Needs.{needs}
-use borrow.Author.Tests.{not-true, not-false}
 use Rattle.layout.specs.ShapeArray.{shapeIn}
 use Rattle.covering.specs.Answer.{answerOf}
-use Rattle.covering.proofs.Images.{images-none}
 use Rattle.covering.proofs.CoverCases.{take-refused, take-broken, take-holding}
 use Rattle.covering.proofs.exact_cover.Statement.{statement}
 use Rattle.covering.proofs.exact_cover.Tie as tie
 
-cells-held-requires : tie.Need-cells-held-requires
-cells-held-requires c κs = search needs
-
 read-cover-requires : tie.Need-read-cover-requires
-read-cover-requires c κs = (images-none _, c .before .cells-held .ensures .1)
+read-cover-requires c κs = search needs
 
 enum-known-r : tie.Need-enum-known-r
 enum-known-r c = search needs
@@ -28,11 +23,9 @@ refused-requires c κs = search needs
 
 returns : tie.Need-returns
 returns c =
-    let a = c .before .before .before .before .before .before .before .before .args in
-    let h = c .before .before .before .before .before .cells-held .ensures in
-    let shape = shapeIn (a .variables) (a .s .now) in
-    let byte : a .state < 256 = omega (arith, c .before .before .before .before .before .before .before .before .fits .state) in
-    take-refused _ _ _ _ _ byte shape _ (sym (h .2)) _ _ (c .before .before .before .read-cover .ensures) _ _ _ (c .refused .ensures) (c .before .enum-told .given .1)
+    let a = c .before .before .before .before .before .before .args in
+    let byte : a .state < 256 = omega (arith, c .before .before .before .before .before .before .fits .state) in
+    take-refused _ _ _ _ _ byte (shapeIn (a .variables) (a .s .now)) _ refl _ _ (c .before .before .before .read-cover .ensures) _ _ _ (c .refused .ensures) (c .before .enum-told .given .1)
 
 mul-start : tie.Need-mul-start
 mul-start c = let b = c .before .before .before .read-cover .ensures .member _ _ (c .before .r .given .1) in search needs
@@ -43,38 +36,38 @@ shared-slice-read-start c = c .before .before .before .before .read-cover .ensur
 cast-start : tie.Need-cast-start
 cast-start c = omega (arith, c .shared-slice-known3 .given (c .before .before .r .given .0 .0))
 
+cells-held-requires : tie.Need-cells-held-requires
+cells-held-requires c κs = search needs
+
 cover-answer-requires : tie.Need-cover-answer-requires
 cover-answer-requires c κs =
-    let h = c .before .before .before .before .before .before .before .cells-held .ensures in
-    let k = c .before .before .before .before .before .read-cover .ensures in
-    let e = c .before .before .before .r .given .1 in
-    record { whole = k .whole _ _ e; room = h .0; held = sym (h .2); images = k .images _ _ e }
+    let k = c .before .before .before .before .before .before .before .read-cover .ensures in
+    let e = c .before .before .before .before .before .r .given .1 in
+    let h = c .cells-held .ensures in
+    record { whole = k .whole _ _ e; room = h .0; held = sym (h .2); images = rw (h .2) (k .images _ _ e) }
 
 enum-told-2 : tie.Need-enum-told-2
 enum-told-2 c = search needs
 
+enum-known-answer : tie.Need-enum-known-answer
+enum-known-answer c = search needs
+
 returns-2 : tie.Need-returns-2
 returns-2 c =
     let a = c .before .before .before .before .before .before .before .before .before .before .before .before .before .args in
-    let h = c .before .before .before .before .before .before .before .before .before .before .cells-held .ensures in
     let byte : a .state < 256 = omega (arith, c .before .before .before .before .before .before .before .before .before .before .before .before .before .fits .state) in
-    take-holding _ _ _ _ _ byte (shapeIn (a .variables) (a .s .now)) _ (sym (h .2)) _ _ (c .before .before .before .before .before .before .before .before .read-cover .ensures) _ _ (c .before .before .before .before .before .before .r .given .1) (sym (ap answerOf (c .enum-told2 .given .1)) ∙ c .before .before .cover-answer .ensures)
-
-enum-known-answer : tie.Need-enum-known-answer
-enum-known-answer c = search needs
+    take-holding _ _ _ _ _ byte (shapeIn (a .variables) (a .s .now)) _ refl _ _ (c .before .before .before .before .before .before .before .before .before .before .read-cover .ensures) _ _ (c .before .before .before .before .before .before .before .before .r .given .1) (sym (ap answerOf (c .enum-told2 .given .1)) ∙ c .before .before .cover-answer .ensures)
 
 returns-3 : tie.Need-returns-3
 returns-3 c =
     let a = c .before .before .before .before .before .before .before .before .before .before .before .before .before .before .args in
-    let h = c .before .before .before .before .before .before .before .before .before .before .before .cells-held .ensures in
     let byte : a .state < 256 = omega (arith, c .before .before .before .before .before .before .before .before .before .before .before .before .before .before .fits .state) in
-    take-broken _ _ _ _ _ byte (shapeIn (a .variables) (a .s .now)) _ (sym (h .2)) _ _ (c .before .before .before .before .before .before .before .before .before .read-cover .ensures) _ _ (c .before .before .before .before .before .before .before .r .given .1) _ (sym (ap answerOf (c .before .answer .given .1)) ∙ c .before .before .before .cover-answer .ensures)
+    take-broken _ _ _ _ _ byte (shapeIn (a .variables) (a .s .now)) _ refl _ _ (c .before .before .before .before .before .before .before .before .before .before .before .read-cover .ensures) _ _ (c .before .before .before .before .before .before .before .before .before .r .given .1) _ (sym (ap answerOf (c .before .answer .given .1)) ∙ c .before .before .before .cover-answer .ensures)
 
 pub exact-cover-spec : {M : Type 1} → statement M
 exact-cover-spec =
     tie.close
     (tie.spec
-    cells-held-requires
     read-cover-requires
     enum-known-r
     enum-told
@@ -83,6 +76,7 @@ exact-cover-spec =
     mul-start
     shared-slice-read-start
     cast-start
+    cells-held-requires
     cover-answer-requires
     enum-told-2
     enum-known-answer

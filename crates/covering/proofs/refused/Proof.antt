@@ -1,6 +1,6 @@
 -- By what was read.
 use mathlib.Core.Path.{ap, sym}
-use Rattle.covering.specs.Reading.{withoutMember}
+use Rattle.covering.specs.Answer.{withoutMember}
 use borrow.Author.Needs.{needs}
 use Rattle.covering.proofs.refused.Statement.{statement}
 use Rattle.covering.proofs.refused.Tie as tie

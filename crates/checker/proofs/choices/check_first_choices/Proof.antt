@@ -5,7 +5,7 @@ use mathlib.Core.Path.{_≡_, _∙_, sym}
 use Prim.Native.Nat.{_+_, _-_, _<_}
 use native.Mathlib.Omega.{arith}
 use Rattle.layout.specs.ShapeArray.{cellCount, linksIn}
-use Rattle.covering.specs.Members.{membersFrom}
+use Rattle.layout.specs.Members.{membersFrom}
 use Rattle.placing.specs.Chosen.{firstOf}
 use Rattle.placing.specs.Wanted.{fitsIn}
 use Rattle.placing.proofs.Ranges.{Covers, step-most}

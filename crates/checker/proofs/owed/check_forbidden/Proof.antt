@@ -5,7 +5,7 @@ use native.Mathlib.Omega.{arith}
 use mathlib.Core.List.{[], _∷_}
 use Rattle.layout.specs.ShapeArray.{cellCount}
 use Rattle.layout.specs.Entries.{EntryInRange, entryEnd, locatedAt, entriesAt, EntriesIn}
-use Rattle.covering.specs.Members.{membersFrom}
+use Rattle.layout.specs.Members.{membersFrom}
 use Rattle.checker.specs.Checking.{ChecksAll}
 use Rattle.checker.proofs.Lists.{entries-next, entry-next, entries-end}
 use Rattle.layout.proofs.Loaded.{Loaded, loaded}

@@ -3,7 +3,7 @@ use Prim.Native.Nat.{_-_}
 use native.Mathlib.Omega.{arith}
 use lib.ListN.{getD}
 use Rattle.layout.specs.Entries.{locatedAt}
-use Rattle.covering.specs.Members.{membersFrom}
+use Rattle.layout.specs.Members.{membersFrom}
 use Rattle.transitions.proofs.Linked.{linked-head}
 use Rattle.checker.proofs.Into.{before}
 use Rattle.layout.proofs.Loaded.{Loaded, loaded}

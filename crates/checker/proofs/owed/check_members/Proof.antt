@@ -8,7 +8,7 @@ use lib.Seq.{drop-cons}
 use mathlib.Core.List.{List, _∷_}
 use Rattle.lists.specs.List.{concatMap}
 use Rattle.layout.specs.Entries.{locatedAt, membersAt}
-use Rattle.covering.specs.Members.{membersFrom}
+use Rattle.layout.specs.Members.{membersFrom}
 use Rattle.checker.specs.Jobs.{owedBy}
 use Rattle.checker.proofs.Checking.{Progress, begin, advance, halt, finish}
 use borrow.Author.Needs.{needs}

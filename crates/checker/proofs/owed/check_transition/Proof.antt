@@ -7,7 +7,7 @@ use Rattle.heap.specs.Operation.{kindOf}
 use Rattle.backward.specs.Predecessors.{predecessors}
 use Rattle.kinds.proofs.Rows.{row-of, known}
 use Rattle.layout.specs.ShapeArray.{shapeIn}
-use Rattle.covering.specs.Members.{membersFrom}
+use Rattle.layout.specs.Members.{membersFrom}
 use Rattle.layout.specs.Transitions.{opOf}
 use Rattle.placing.specs.Retained.{firsts}
 use Rattle.shapes.specs.Operands.{working, Working}

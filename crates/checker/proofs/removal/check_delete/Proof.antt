@@ -3,7 +3,7 @@ use native.Mathlib.Omega.{arith}
 use Rattle.heap.specs.Operation.{delete}
 use Rattle.backward.specs.Predecessors.{predecessors}
 use Rattle.layout.specs.ShapeArray.{shapeIn}
-use Rattle.covering.specs.Members.{membersFrom}
+use Rattle.layout.specs.Members.{membersFrom}
 use Rattle.shapes.proofs.Free.{restored-one}
 use Rattle.shapes.proofs.Restore.{delete-none}
 use Rattle.checker.proofs.Checks.{check-none, check-same}

@@ -8,7 +8,7 @@ use Rattle.lists.specs.Range.{range}
 use Rattle.heap.specs.Operation.{new}
 use Rattle.backward.specs.Predecessors.{predecessors}
 use Rattle.layout.specs.ShapeArray.{cellCount, operandAt, shapeIn}
-use Rattle.covering.specs.Members.{membersFrom}
+use Rattle.layout.specs.Members.{membersFrom}
 use Rattle.shapes.specs.Change.{setOperand}
 use Rattle.shapes.specs.Without.{without}
 use Rattle.shapes.proofs.Remove.{new-nowhere, new-none, new-cell}

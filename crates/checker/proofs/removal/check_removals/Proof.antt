@@ -4,7 +4,7 @@ use mathlib.Core.Path.{_≡_, refl}
 use Prim.Native.Nat.{_-_, _<_}
 use native.Mathlib.Omega.{arith}
 use Rattle.layout.specs.ShapeArray.{cellCount, shapeIn}
-use Rattle.covering.specs.Members.{membersFrom}
+use Rattle.layout.specs.Members.{membersFrom}
 use Rattle.placing.specs.Wanted.{oneByOne}
 use Rattle.placing.proofs.Ranges.{covers-stretch}
 use Rattle.shapes.specs.Without.{without}

@@ -1,7 +1,7 @@
 -- What the exact test answers, with one cover more counted.
 use mathlib.Core.Path.{ap, _∙_, sym}
 use Rattle.layout.specs.ShapeArray.{shapeIn}
-use Rattle.covering.specs.Members.{membersFrom}
+use Rattle.layout.specs.Members.{membersFrom}
 use Rattle.verdict.specs.Verdict.{reachedOf}
 use Rattle.checker.specs.Checking.{located}
 use Rattle.checker.proofs.Checks.{one-taken, one-refused, within-next}

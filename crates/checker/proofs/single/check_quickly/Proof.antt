@@ -1,7 +1,7 @@
 -- Where the quick test gives a place the exact one does too; else the exact one decides.
 use mathlib.Core.Path.{sym}
 use Rattle.layout.specs.ShapeArray.{shapeIn}
-use Rattle.covering.specs.Members.{membersFrom}
+use Rattle.layout.specs.Members.{membersFrom}
 use Rattle.checker.specs.Checking.{located}
 use Rattle.checker.proofs.Checks.{one-taken, within-next}
 use borrow.Author.Needs.{needs}

@@ -3,8 +3,8 @@ use Prim.Native.Nat.{ℕ, _-_, _≤_}
 use lib.ListN.{take}
 use mathlib.Core.Path.{_≡_, sym}
 use native.Mathlib.Omega.{arith}
-use Rattle.covering.specs.Images.{imagesIn}
-use Rattle.covering.proofs.Images.{images-length, image-at}
+use Rattle.coverreader.specs.Images.{imagesIn}
+use Rattle.coverreader.proofs.Images.{images-length, image-at}
 use Rattle.covering.proofs.Marks.{marks-none}
 use Rattle.covering.proofs.Marking.{Marking, marking-none, marking-once, mark-next, mark-twice, mark-all}
 use borrow.Author.Needs.{needs}

@@ -4,7 +4,7 @@ use mathlib.Core.Path.{_≡_, refl, sym}
 use native.Mathlib.Omega.{arith}
 use borrow.Author.Needs.{needs}
 use borrow.Author.Tests.{not-false}
-use Rattle.covering.proofs.Images.{images-none}
+use Rattle.coverreader.proofs.Images.{images-none}
 use Rattle.covering.proofs.ReadAndMark.{taken-linking, taken-embed}
 use Rattle.covering.proofs.quick.images_embed.Statement.{statement}
 use Rattle.covering.proofs.quick.images_embed.Tie as tie

@@ -2,7 +2,7 @@
 use Prim.Native.Nat.{_-_, _<_}
 use mathlib.Core.Logic.{⊎-elim}
 use native.Mathlib.Omega.{arith}
-use Rattle.covering.specs.Images.{ImageCodes}
+use Rattle.coverreader.specs.Images.{ImageCodes}
 use Rattle.covering.proofs.Twice.{Differing, differ-none, differ-all, differ-itself, differ-more, differ-not}
 use borrow.Author.Needs.{needs}
 use Rattle.covering.proofs.rules.image_once.Statement.{statement}

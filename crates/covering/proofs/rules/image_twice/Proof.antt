@@ -4,7 +4,8 @@ use mathlib.Core.Path.{sym, ap, _∙_}
 use native.Mathlib.Omega.{arith}
 use Rattle.lists.specs.Test.{numberOr}
 use Rattle.lists.proofs.Lowest.{Passing, pass-none, pass-more, pass-failed, pass-all}
-use Rattle.covering.specs.Images.{imagesIn, onceAt}
+use Rattle.coverreader.specs.Images.{imagesIn}
+use Rattle.covering.specs.Images.{onceAt}
 use borrow.Author.Tests.{not-true, not-false}
 use borrow.Author.Needs.{needs}
 use Rattle.covering.proofs.rules.image_twice.Statement.{statement}

@@ -8,7 +8,7 @@ use Rattle.lists.specs.Test.{numberOr}
 use Rattle.lists.proofs.Lowest.{Passing, pass-none, pass-all}
 use Rattle.shape.specs.Shape.{Shape}
 use Rattle.cover.specs.Test.{linkMeets}
-use Rattle.covering.specs.Images.{imagesIn}
+use Rattle.coverreader.specs.Images.{imagesIn}
 use Rattle.covering.specs.Marks.{Linking}
 use Rattle.covering.proofs.Links.{walk-from, meet-skip, meet-more, meet-not}
 use borrow.Author.Needs.{needs}

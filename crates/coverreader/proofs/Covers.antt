@@ -20,19 +20,20 @@ use Rattle.verdict.specs.declared.Reached.the-variants.{At, Refused}
 use Rattle.verdict.specs.declared.Refusal.{Refusal}
 use Rattle.verdict.specs.declared.Refusal.the-variants.{CertificateUnreadable, CertificateRange, CoverFails}
 use Rattle.layout.specs.Entries.{locatedAt, isWhole}
-use Rattle.covering.proofs.ReadImages.{read-unreadable}
-use Rattle.covering.specs.Members.{memberAt, membersFrom}
-use Rattle.covering.specs.Reading.{ImagesRead, CoverIs}
-use Rattle.covering.specs.declared.reading.CoverRead.{CoverRead}
-use Rattle.covering.specs.declared.reading.CoverRead.the-variants.{Taken, Refused as NotRead}
+use Rattle.coverreader.proofs.ReadImages.{read-unreadable}
+use Rattle.coverreader.specs.Images.{noImages}
+use Rattle.layout.specs.Members.{memberAt, membersFrom}
+use Rattle.coverreader.specs.Reading.{ImagesRead, CoverIs}
+use Rattle.coverreader.specs.declared.CoverRead.{CoverRead}
+use Rattle.coverreader.specs.declared.CoverRead.the-variants.{Taken, Refused as NotRead}
 use Rattle.layout.proofs.Whole.{whole}
-use Rattle.covering.proofs.Elements.{element, no-element}
+use Rattle.coverreader.proofs.Elements.{element, no-element}
 
-module _ (cert : List ℕ) (variables : ℕ) (starts : List ℕ) (at n : ℕ) (codes : List ℕ) where
-  abbrev Is : CoverRead → Type 0
-  Is r = CoverIs cert variables starts at n r codes
+module _ (cert : List ℕ) (variables : ℕ) (starts : List ℕ) (at n : ℕ) where
+  abbrev Is : CoverRead → List ℕ → Type 0
+  Is r codes = CoverIs cert variables starts at n r codes
 
-  pub cover-unreadable : (place : ℕ) → numberAt cert at ≡ Unreadable place → Is (NotRead CertificateUnreadable at)
+  pub cover-unreadable : (place : ℕ) → numberAt cert at ≡ Unreadable place → Is (NotRead CertificateUnreadable at) noImages
   unfolding readCover
   cover-unreadable place e =
       record {
@@ -40,10 +41,11 @@ module _ (cert : List ℕ) (variables : ℕ) (starts : List ℕ) (at n : ℕ) (c
         member = λ m next y. let x : _≡_ {A = ℕ} 0 1 = cc in absurd (omega arith);
         whole = λ m next y. let x : _≡_ {A = ℕ} 0 1 = cc in absurd (omega arith);
         images = λ m next y. let x : _≡_ {A = ℕ} 0 1 = cc in absurd (omega arith);
+        none = λ _ _ _. refl;
       }
 
   module _ (m next : ℕ) (e : numberAt cert at ≡ Number m next) where
-    pub cover-outside : length starts ≤ m → Is (NotRead CertificateRange at)
+    pub cover-outside : length starts ≤ m → Is (NotRead CertificateRange at) noImages
     unfolding readCover
     cover-outside b =
         record {
@@ -53,6 +55,7 @@ module _ (cert : List ℕ) (variables : ℕ) (starts : List ℕ) (at n : ℕ) (c
           member = λ m next y. let x : _≡_ {A = ℕ} 0 1 = cc in absurd (omega arith);
           whole = λ m next y. let x : _≡_ {A = ℕ} 0 1 = cc in absurd (omega arith);
           images = λ m next y. let x : _≡_ {A = ℕ} 0 1 = cc in absurd (omega arith);
+          none = λ _ _ _. refl;
         }
 
     module _ (b : m < length starts) where
@@ -62,7 +65,7 @@ module _ (cert : List ℕ) (variables : ℕ) (starts : List ℕ) (at n : ℕ) (c
       member-some : getElem? (membersFrom cert variables starts) m ≡ some (memberAt cert variables start)
       member-some = element (memberAt cert variables) starts m b
 
-      pub cover-absent : isWhole cert variables start ≡ false → Is (NotRead (CoverFails (record { rule = 1; name = 0 })) at)
+      pub cover-absent : isWhole cert variables start ≡ false → Is (NotRead (CoverFails (record { rule = 1; name = 0 })) at) noImages
       unfolding readCover many lowest
       cover-absent o =
           record {
@@ -76,9 +79,10 @@ module _ (cert : List ℕ) (variables : ℕ) (starts : List ℕ) (at n : ℕ) (c
             member = λ m next y. let x : _≡_ {A = ℕ} 0 1 = cc in absurd (omega arith);
             whole = λ m next y. let x : _≡_ {A = ℕ} 0 1 = cc in absurd (omega arith);
             images = λ m next y. let x : _≡_ {A = ℕ} 0 1 = cc in absurd (omega arith);
+            none = λ _ _ _. refl;
           }
 
-      module _ (w : isWhole cert variables start ≡ true) (count : ℕ) (size-is : count ≡ getD cert (start + 1) 0) (q : Reached)
+      module _ (w : isWhole cert variables start ≡ true) (count : ℕ) (size-is : count ≡ getD cert (start + 1) 0) (q : Reached) (codes : List ℕ)
           (i : ImagesRead cert next n count q codes) where
         member-is : getElem? (membersFrom cert variables starts) m ≡ some (locatedAt cert variables start)
         member-is = rw w at member-some
@@ -89,7 +93,7 @@ module _ (cert : List ℕ) (variables : ℕ) (starts : List ℕ) (at n : ℕ) (c
             (length-take-le (getD cert (start + 1) 0) (drop (start + 2 + variables) cert)
             (omega (arith, length-drop (start + 2 + variables) cert, whole cert variables start w .inside)))
 
-        pub cover-refused : (r : Refusal) (place : ℕ) → q ≡ Refused r place → Is (NotRead r place)
+        pub cover-refused : (r : Refusal) (place : ℕ) → q ≡ Refused r place → Is (NotRead r place) noImages
         unfolding readCover
         cover-refused r place y =
             record {
@@ -104,9 +108,10 @@ module _ (cert : List ℕ) (variables : ℕ) (starts : List ℕ) (at n : ℕ) (c
               member = λ m next y. let x : _≡_ {A = ℕ} 0 1 = cc in absurd (omega arith);
               whole = λ m next y. let x : _≡_ {A = ℕ} 0 1 = cc in absurd (omega arith);
               images = λ m next y. let x : _≡_ {A = ℕ} 0 1 = cc in absurd (omega arith);
+              none = λ _ _ _. refl;
             }
 
-        pub cover-taken : (end : ℕ) → q ≡ At end → Is (Taken m end)
+        pub cover-taken : (end : ℕ) → q ≡ At end → Is (Taken m end) codes
         unfolding readCover
         cover-taken end y =
             record {
@@ -122,4 +127,5 @@ module _ (cert : List ℕ) (variables : ℕ) (starts : List ℕ) (at n : ℕ) (c
               member = λ m′ next′ y. let x : m ≡ m′ = cc in omega arith;
               whole = λ m′ next′ y. let x : m ≡ m′ = cc in rw (← x) (whole cert variables start w);
               images = λ m′ next′ z. let x : m ≡ m′ = cc in rw (← x, ← size-is) (i .images end y);
+              none = λ _ _ z. let x : _≡_ {A = ℕ} 0 1 = cc in absurd (omega arith);
             }

@@ -2,10 +2,10 @@
 use Prim.Native.Nat.{ℕ, _-_}
 use mathlib.Core.Path.{_≡_, _∙_, sym}
 use native.Mathlib.Omega.{arith}
-use Rattle.covering.proofs.ReadImages.{Reading, reading-none, reading-all, reading-unreadable, reading-outside, reading-more}
+use Rattle.coverreader.proofs.ReadImages.{Reading, reading-none, reading-all, reading-unreadable, reading-outside, reading-more}
 use borrow.Author.Needs.{needs}
-use Rattle.covering.proofs.reading.read_images.Statement.{statement}
-use Rattle.covering.proofs.reading.read_images.Tie as tie
+use Rattle.coverreader.proofs.read_images.Statement.{statement}
+use Rattle.coverreader.proofs.read_images.Tie as tie
 
 abbrev Inv-loop : tie.InvT-loop
 Inv-loop cert first n count images₀ at₀ i₀ images at i = Reading cert first n count images at i

@@ -14,7 +14,7 @@ use Rattle.number.specs.Number.{numberAt}
 use Rattle.number.specs.declared.Read.the-variants.{Number, Unreadable}
 use Rattle.format.specs.Parser.{Reason, refusal, Parsed, parsed, fault, Parser, onward, return, many, certificateBuffer, within, such, meant, readAs, ranged}
 use Rattle.format.proofs.Parsing.{read-outside, read-complete}
-use Rattle.covering.specs.Images.{imagesIn, ImageCodes}
+use Rattle.coverreader.specs.Images.{imagesIn, ImageCodes}
 
 -- ---- one number
 

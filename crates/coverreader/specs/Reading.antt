@@ -10,13 +10,14 @@ use Rattle.cover.specs.Test.{coverAnswer}
 use Rattle.format.specs.Certificate.{judge, readCover}
 use Rattle.format.specs.Parser.{Parsed, parsed, fault, many, ranged, certificateBuffer}
 use Rattle.verdict.specs.Verdict.{reasonOf}
+use Rattle.verdict.specs.declared.Refusal.{Refusal}
 use Rattle.verdict.specs.declared.Reached.{Reached}
 use Rattle.verdict.specs.declared.Reached.the-variants.{At, Refused}
 use Rattle.layout.specs.Entries.{locatedAt, Whole}
-use Rattle.covering.specs.Images.{imagesIn, ImageCodes}
-use Rattle.covering.specs.Members.{membersFrom}
-use Rattle.covering.specs.declared.reading.CoverRead.{CoverRead}
-use Rattle.covering.specs.declared.reading.CoverRead.the-variants.{Taken, Refused as NotRead}
+use Rattle.layout.specs.Members.{membersFrom}
+use Rattle.coverreader.specs.Images.{imagesIn, ImageCodes, noImages}
+use Rattle.coverreader.specs.declared.CoverRead.{CoverRead}
+use Rattle.coverreader.specs.declared.CoverRead.the-variants.{Taken, Refused as NotRead}
 
 -- a place reached with images beside, as the answer of a parser
 abbrev pub imagesOf : Reached → List ℕ → Parsed (List ℕ)
@@ -27,11 +28,6 @@ imagesOf (Refused r place) images = fault (reasonOf r) place
 pub record ImagesRead (cert : List ℕ) (first n count : ℕ) (r : Reached) (codes : List ℕ) : Type 0 where
   pub reads : imagesOf r (imagesIn count codes) ≡ many count (ranged (certificateBuffer cert) 0 n) first
   pub images : (next : ℕ) → r ≡ At next → ImageCodes count n codes
-
--- where the reading of a cover ended
-abbrev pub withoutMember : CoverRead → Reached
-withoutMember (Taken m next) = At next
-withoutMember (NotRead r place) = Refused r place
 
 module _ (cert : List ℕ) (variables : ℕ) (starts : List ℕ) where
   -- how many cells member m has
@@ -51,3 +47,4 @@ module _ (cert : List ℕ) (variables : ℕ) (starts : List ℕ) where
     pub member : (m next : ℕ) → r ≡ Taken m next → m < length starts
     pub whole : (m next : ℕ) → r ≡ Taken m next → Whole cert variables (getD starts m 0)
     pub images : (m next : ℕ) → r ≡ Taken m next → ImageCodes (cellsAt m) n codes
+    pub none : (why : Refusal) (place : ℕ) → r ≡ NotRead why place → codes ≡ noImages

@@ -1,0 +1,120 @@
+-- Each return is the case of `readCover` that the reading so far leaves.
+use Prim.Native.Nat.{_+_}
+use mathlib.Core.Path.{_∙_, refl, sym}
+use native.Mathlib.Omega.{arith}
+use lib.ListN.{getD}
+use borrow.Author.Tests.{not-true, not-false}
+use Rattle.layout.specs.Entries.{Whole}
+use Rattle.layout.proofs.Whole.{whole}
+use Rattle.coverreader.proofs.Covers.{cover-unreadable, cover-outside, cover-absent, cover-refused, cover-taken}
+use Rattle.coverreader.proofs.Images.{images-none}
+use borrow.Author.Needs.{needs}
+use Rattle.coverreader.proofs.read_cover.Statement.{statement}
+use Rattle.coverreader.proofs.read_cover.Tie as tie
+
+read-number-requires : tie.Need-read-number-requires
+read-number-requires c κs = search needs
+
+enum-known-r : tie.Need-enum-known-r
+enum-known-r c = search needs
+
+enum-told : tie.Need-enum-told
+enum-told c = search needs
+
+not-read-requires : tie.Need-not-read-requires
+not-read-requires c κs = search needs
+
+returns : tie.Need-returns
+returns c = rw (c .not-read .ensures) (cover-unreadable _ _ _ _ _ _ (sym (c .before .before .before .read-number .ensures) ∙ c .before .enum-told .given .1))
+
+not-read-requires-2 : tie.Need-not-read-requires-2
+not-read-requires-2 c κs = search needs
+
+returns-2 : tie.Need-returns-2
+returns-2 c = rw (c .not-read2 .ensures) (cover-outside _ _ _ _ _ _ _ (sym (c .before .before .before .before .before .read-number .ensures) ∙ c .before .before .before .r .given .1) (c .before .if1 .taken))
+
+mul-start : tie.Need-mul-start
+mul-start c = search needs
+
+shared-slice-read-start : tie.Need-shared-slice-read-start
+shared-slice-read-start c = search needs
+
+cast-start : tie.Need-cast-start
+cast-start c = omega (arith, c .shared-slice-known3 .given (c .before .before .before .r .given .0 .0))
+
+is-whole-requires : tie.Need-is-whole-requires
+is-whole-requires c κs = search needs
+
+not-read-requires-3 : tie.Need-not-read-requires-3
+not-read-requires-3 c κs = search needs
+
+returns-3 : tie.Need-returns-3
+returns-3 c =
+    rw (c .not-read3 .ensures)
+    (cover-absent _ _ _ _ _ _ _ (sym (c .before .before .before .before .before .before .before .before .read-number .ensures) ∙ c .before .before .before .before .before .before .r .given .1) (omega arith) (sym (c .before .before .is-whole .ensures) ∙ not-true _ (c .before .if2 .taken)))
+
+cells-held-requires : tie.Need-cells-held-requires
+cells-held-requires c κs = search needs
+
+-- the member stands whole
+stands : (c : tie.Else2) → Whole (c .before .before .before .before .before .before .before .before .before .before .args .cert .now) (c .before .before .before .before .before .before .before .before .before .before .args .variables) (getD (c .before .before .before .before .before .before .before .before .before .before .args .starts .now) (c .before .before .before .before .before .r .given .0 .0) 0)
+stands c = whole _ _ _ (sym (c .before .is-whole .ensures) ∙ not-false _ (c .if2 .left))
+
+add-read-images : tie.Need-add-read-images
+add-read-images c = omega (arith, stands (c .before) .inside)
+
+shared-slice-read-read-images : tie.Need-shared-slice-read-read-images
+shared-slice-read-read-images c = omega (arith, stands (c .before .before) .inside)
+
+cast-read-images : tie.Need-cast-read-images
+cast-read-images c = omega (arith, c .shared-slice-known4 .given (getD (c .before .before .before .before .before .before .before .before .before .before .before .before .args .starts .now) (c .before .before .before .before .before .before .before .r .given .0 .0) 0 + 1))
+
+read-images-requires : tie.Need-read-images-requires
+read-images-requires c κs = (images-none _, stands (c .before .before .before) .cells, c .before .before .cells-held .ensures .1)
+
+enum-known-r-2 : tie.Need-enum-known-r-2
+enum-known-r-2 c = search needs
+
+enum-known-r-3 : tie.Need-enum-known-r-3
+enum-known-r-3 c = search needs
+
+not-read-requires-4 : tie.Need-not-read-requires-4
+not-read-requires-4 c κs = search needs
+
+returns-4 : tie.Need-returns-4
+returns-4 c =
+    rw (← c .before .before .before .before .before .before .cells-held .ensures .2)
+    (cover-taken _ _ _ _ _ _ _ (sym (c .before .before .before .before .before .before .before .before .before .before .before .before .before .before .read-number .ensures) ∙ c .before .before .before .before .before .before .before .before .before .before .before .before .r .given .1) (omega arith) (sym (c .before .before .before .before .before .before .before .before .is-whole .ensures) ∙ not-false _ (c .before .before .before .before .before .before .before .if2 .left)) _ refl _ _ (c .before .before .before .read-images .ensures) _ (c .before .r2 .given .1))
+
+returns-5 : tie.Need-returns-5
+returns-5 c =
+    rw (c .not-read4 .ensures, ← c .before .before .before .before .before .before .before .cells-held .ensures .2)
+    (cover-refused _ _ _ _ _ _ _ (sym (c .before .before .before .before .before .before .before .before .before .before .before .before .before .before .before .read-number .ensures) ∙ c .before .before .before .before .before .before .before .before .before .before .before .before .before .r .given .1) (omega arith) (sym (c .before .before .before .before .before .before .before .before .before .is-whole .ensures) ∙ not-false _ (c .before .before .before .before .before .before .before .before .if2 .left)) _ refl _ _ (c .before .before .before .before .read-images .ensures) _ _ (c .before .before .r3 .given .1))
+
+pub read-cover-spec : {M : Type 1} → statement M
+read-cover-spec =
+    tie.close
+    (tie.spec
+    read-number-requires
+    enum-known-r
+    enum-told
+    not-read-requires
+    returns
+    not-read-requires-2
+    returns-2
+    mul-start
+    shared-slice-read-start
+    cast-start
+    is-whole-requires
+    not-read-requires-3
+    returns-3
+    cells-held-requires
+    add-read-images
+    shared-slice-read-read-images
+    cast-read-images
+    read-images-requires
+    enum-known-r-2
+    enum-known-r-3
+    not-read-requires-4
+    returns-4
+    returns-5)
