@@ -3,11 +3,9 @@ use crate::checked::Checked;
 use crate::checked::Position;
 use crate::choices::check_first_choices;
 use crate::choices::with_helper;
-use crate::removal::check_delete;
-use crate::removal::check_new;
+use crate::removal::check_cells;
 use crate::single::check_cover;
-use kinds::DELETE;
-use kinds::NEW;
+use kinds::STORE;
 use layout::load_shape;
 use reader::Header;
 use transitions::index_transitions;
@@ -74,11 +72,8 @@ fn check_transition(
     ensures { λ r. ⌜ Checks (now (cert .entry)) (membersFrom (now (cert .entry)) variables (now (starts .entry))) (transitionAt (now (job .entry)) at .from) (predecessors (transitionAt (now (job .entry)) at .op) (shapeIn variables (now (s .entry)))) t r ⌝ }
 {
     let by = transition_at(job, at);
-    if by.kind == DELETE {
-        return check_delete(cert, starts, variables, by, s, t);
-    }
-    if by.kind == NEW {
-        return check_new(cert, starts, variables, by, s, t);
+    if STORE < by.kind {
+        return check_cells(cert, starts, variables, by, s, t);
     }
     let placed = with_helper(variables, by);
     check_first_choices(cert, starts, variables, placed, s, t)
