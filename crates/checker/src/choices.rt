@@ -30,7 +30,7 @@ pub(crate) fn undo_choice(variables: usize, by: Transition, operand: u8, s: &mut
     ensures { λ r. ⌜ HoldsShape variables (now (s .exit)) (changed variables (by .kind) (by .a) (by .b) (put operand (shapeUnder variables (by .b) (now (s .entry))) k)) ⌝ }
 {
     place_operand(s, operand, k);
-    undo(variables, by, s);
+    undo(variables, by.kind, by.a, by.b, s);
 }
 
 // Covers of the predecessors where at most one variable is still to be placed.
