@@ -68,11 +68,11 @@ pub fn transition_named(job: &[u8], first: usize, k: u16) -> Transition
     if k == 0 {
         return no_transition();
     }
-    let offset = 5 * (k - 1) as usize;
-    if !are_there(job, first, offset + 5) {
+    let upto = 5 * k as usize;
+    if !are_there(job, first, upto) {
         return no_transition();
     }
-    read_transition(job, first + offset)
+    read_transition(job, first + upto - 5)
 }
 
 // Puts the transitions from a place on in front of those of the index, last to first. A state that has no slot has no transitions.
