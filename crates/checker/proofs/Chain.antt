@@ -53,6 +53,10 @@ module _ {job : List ℕ} {h : Header} {cert : List ℕ} {ms : List Located} {m 
     first : FirstInto (transitionIn job h) m (h .transitions - c .passed) (c .passed) (k - 1)
     first = some-into (transitionIn job h) m (h .transitions - c .passed) (c .passed) (k - 1) (sym (c .named) ∙ omega arith)
 
+    -- the slot of the index that names the next
+    slot : 64 + (k - 1) ≡ 63 + k
+    slot = omega arith
+
     pub chain-below : k - 1 < h .transitions
     chain-below = omega (arith, first .below, c .inside)
 
@@ -66,8 +70,9 @@ module _ {job : List ℕ} {h : Header} {cert : List ℕ} {ms : List Located} {m 
       chain-halt e = halt here rest left taken e
 
       pub chain-more : (index : List ℕ) → Follows (toState job h) (h .transitions) 0 index → {u : Position} → g ≡ Upto u
-          → Chain job h cert ms m from (getD index (64 + (k - 1)) 0) u
+          → Chain job h cert ms m from (getD index (63 + k) 0) u
       chain-more index follows e =
+          rw (← slot)
           record {
             passed = suc (k - 1);
             inside = chain-below;
@@ -75,9 +80,9 @@ module _ {job : List ℕ} {h : Header} {cert : List ℕ} {ms : List Located} {m 
             progress = advance here rest left taken e;
           }
 
-    pub chain-less : (index : List ℕ) → Follows (toState job h) (h .transitions) 0 index → leftFrom (h .transitions) (getD index (64 + (k - 1)) 0) < leftFrom (h .transitions) k
+    pub chain-less : (index : List ℕ) → Follows (toState job h) (h .transitions) 0 index → leftFrom (h .transitions) (getD index (63 + k) 0) < leftFrom (h .transitions) k
     chain-less index follows =
-        rw (left-from (h .transitions) k some) (by-next (getD index (64 + (k - 1)) 0) (follows (k - 1) (omega arith) chain-below))
+        rw (left-from (h .transitions) k some, ← slot) (by-next (getD index (64 + (k - 1)) 0) (follows (k - 1) (omega arith) chain-below))
       where
         by-next : (next : ℕ) → next ≡ nextInto (toState job h) (toState job h (k - 1)) (h .transitions - suc (k - 1)) (suc (k - 1))
             → leftFrom (h .transitions) next < h .transitions - (k - 1)

@@ -1,4 +1,4 @@
--- An operation of kinds 1 to 5 that the table of kinds allows, with the operand that plays b.
+-- An operation that the table of kinds allows; of kinds 1 to 5, with the operand that plays b.
 use mathlib.Core.Bool.{true, _||_}
 use mathlib.Core.List.{List}
 use mathlib.Core.Logic.{_≢_}
@@ -25,14 +25,12 @@ use Rattle.shapes.proofs.Undo.{working-more, working-same}
 use Rattle.checker.specs.Placing.{secondOperand}
 use Rattle.checker.proofs.Helper.{second-helper, second-itself}
 
-module _ (variables kind a b : ℕ) (most : kind ≤ 5) (allows : allowed variables kind a b ≡ true) where
-  least : 1 ≤ kind
-  least = known variables kind a b allows .0
-
-  within : (3 ≤ kind → 1 ≤ a) × (a ≤ variables) × (b ≤ variables)
+module _ (variables kind a b : ℕ) (allows : allowed variables kind a b ≡ true) where
+  pub operands-of : (3 ≤ kind → 1 ≤ a) × (a ≤ variables) × (b ≤ variables)
   unfolding mostB
-  within =
-      let (row, found) = is-kind kind least (omega arith) in
+  operands-of =
+      let (least, last) = known variables kind a b allows in
+      let (row, found) = is-kind kind least last in
       let r = row-of variables kind a b row found allows .0 in
       let most : mostB kind variables ≡ row .most-b variables = rw found refl in
       (λ h. omega (arith, r .least-a, some-a row found h), r .most-a, omega (arith, r .most-b, most-bound kind variables))
@@ -40,6 +38,13 @@ module _ (variables kind a b : ℕ) (most : kind ≤ 5) (allows : allowed variab
       -- from kind 3 on a is a variable
       some-a : (row : Kind) → kindOf kind ≡ some row → 3 ≤ kind → 1 ≤ row .least-a
       some-a row found h = r-or (r-lt kind 3) (r-le 1 (row .least-a)) .holds (tested (λ kind row. ltb kind 3 || leb 1 (row .least-a)) refl kind row found) (λ l. omega arith)
+
+module _ (variables kind a b : ℕ) (most : kind ≤ 5) (allows : allowed variables kind a b ≡ true) where
+  least : 1 ≤ kind
+  least = known variables kind a b allows .0
+
+  within : (3 ≤ kind → 1 ≤ a) × (a ≤ variables) × (b ≤ variables)
+  within = operands-of variables kind a b allows
 
   module _ (s : List ℕ) (room : variables ≤ 8) (cells : cellCount s ≤ 12) (array : ShapeArray variables s) where
     -- d plays b: the shape to work on, and that its choices are the predecessors

@@ -4,7 +4,6 @@ use kinds::STORE;
 use place::FIRST_CELL;
 use place::NOWHERE;
 use place::NULL;
-use transitions::Transition;
 ghost use mathlib.Core.Path.{_≡_};
 ghost use Prim.Native.Nat.{_+_, _≤_, _<_};
 ghost use Rattle.layout.specs.ShapeArray.{cellCount, operandAt};
@@ -45,30 +44,30 @@ pub(crate) fn place_operand(s: &mut [u8; 28], x: u8, k: u8)
 }
 
 // What the operation changes is put back, both operands being placed. Where b is above the variables it is the helper of kind 4.
-pub(crate) fn undo(variables: usize, by: Transition, s: &mut [u8; 28])
-    requires { ⌜ (by .a ≤ 9) × (by .b ≤ 9) × (operandAt (now s) (by .a) < 17) × (operandAt (now s) (by .b) < 17) ⌝ }
-    ensures { λ r. ⌜ now (s .exit) ≡ undoneIn variables (by .kind) (by .a) (by .b) (now (s .entry)) ⌝ }
+pub(crate) fn undo(variables: usize, kind: u8, a: u8, b: u8, s: &mut [u8; 28])
+    requires { ⌜ (a ≤ 9) × (b ≤ 9) × (operandAt (now s) a < 17) × (operandAt (now s) b < 17) ⌝ }
+    ensures { λ r. ⌜ now (s .exit) ≡ undoneIn variables kind a b (now (s .entry)) ⌝ }
 {
-    if by.kind < ASSIGN {
+    if kind < ASSIGN {
         return;
     }
-    let to = 17 + by.a as usize;
-    if by.kind == ASSIGN {
-        if by.a == by.b {
+    let to = 17 + a as usize;
+    if kind == ASSIGN {
+        if a == b {
             return;
         }
         s[to] = NOWHERE;
         return;
     }
     let x = s[to];
-    if by.kind == STORE {
+    if kind == STORE {
         s[x as usize] = NOWHERE;
         return;
     }
-    let from = 17 + by.b as usize;
+    let from = 17 + b as usize;
     let y = s[from];
     s[y as usize] = x;
-    if variables < by.b as usize {
+    if variables < b as usize {
         s[to] = y;
         s[from] = NOWHERE;
         return;

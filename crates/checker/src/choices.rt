@@ -6,10 +6,10 @@ use crate::checked::Position;
 use crate::single::check_quickly;
 use crate::wanted::is_wanted_in;
 use crate::wanted::last_operand;
+use crate::wanted::place_of;
 use crate::wanted::wanted_of_first;
 use crate::wanted::wanted_of_last;
 use kinds::LOAD;
-use place::Place;
 use place::both_nowhere;
 use placing::choices_of;
 use transitions::Transition;
@@ -30,7 +30,7 @@ pub(crate) fn undo_choice(variables: usize, by: Transition, operand: u8, s: &mut
     ensures { λ r. ⌜ HoldsShape variables (now (s .exit)) (changed variables (by .kind) (by .a) (by .b) (put operand (shapeUnder variables (by .b) (now (s .entry))) k)) ⌝ }
 {
     place_operand(s, operand, k);
-    undo(variables, by, s);
+    undo(variables, by.kind, by.a, by.b, s);
 }
 
 // Covers of the predecessors where at most one variable is still to be placed.
@@ -45,8 +45,8 @@ pub(crate) fn check_last_choices(
     requires { ⌜ (OneToPlace variables (by .kind) (by .a) (by .b) (now s)) × (Within (now cert) from) ⌝ }
     ensures { λ r. ⌜ checkedOf r ≡ checkShapes (now (cert .entry)) variables (now (starts .entry)) (by .from) (firsts variables (by .kind) (by .a) (by .b) (shapeUnder variables (by .b) (now (s .entry)))) from ⌝ }
 {
-    let operand = last_operand(by, s);
-    let wanted = wanted_of_last(by, s);
+    let operand = last_operand(by.a, by.b, s);
+    let wanted = wanted_of_last(by.kind, by.a, by.b, s);
     let c = choices_of(s[0], wanted);
     let mut t = from;
     let mut k = c.from;
@@ -67,18 +67,14 @@ pub(crate) fn check_last_choices(
 }
 
 // Places a by choice k, where both operands are nowhere.
-fn place_first(by: Transition, s: &mut [u8; 28], k: u8)
-    requires { ⌜ (by .a ≤ 9) × (by .b ≤ 9) × (cellCount (now s) ≤ 13) × (k < cellCount (now s) + (2 + cellCount (now s))) ⌝ }
-    ensures { λ r. ⌜ now (s .exit) ≡ firstPlacedIn (by .a) (by .b) (now (s .entry)) k ⌝ }
+fn place_first(a: u8, b: u8, s: &mut [u8; 28], k: u8)
+    requires { ⌜ (a ≤ 9) × (b ≤ 9) × (cellCount (now s) ≤ 13) × (k < cellCount (now s) + (2 + cellCount (now s))) ⌝ }
+    ensures { λ r. ⌜ now (s .exit) ≡ firstPlacedIn a b (now (s .entry)) k ⌝ }
 {
-    let x = Place {
-        code: s[17 + by.a as usize],
-    };
-    let y = Place {
-        code: s[17 + by.b as usize],
-    };
-    if both_nowhere(by.a == by.b, x, y) {
-        place_operand(s, by.a, k);
+    let x = place_of(s, a);
+    let y = place_of(s, b);
+    if both_nowhere(a == b, x, y) {
+        place_operand(s, a, k);
     }
 }
 
@@ -94,7 +90,7 @@ pub(crate) fn check_first_choices(
     requires { ⌜ (Working 12 variables (by .kind) (by .a) (by .b) (now s)) × (Within (now cert) from) ⌝ }
     ensures { λ r. ⌜ checkedOf r ≡ checkShapes (now (cert .entry)) variables (now (starts .entry)) (by .from) (firsts variables (by .kind) (by .a) (by .b) (shapeUnder variables (by .b) (now (s .entry)))) from ⌝ }
 {
-    let wanted = wanted_of_first(by, s);
+    let wanted = wanted_of_first(by.a, by.b, s);
     let c = choices_of(s[0], wanted);
     let mut t = from;
     let mut k = c.from;
@@ -103,7 +99,7 @@ pub(crate) fn check_first_choices(
         k += c.step;
         if is_wanted_in(s, wanted, j) {
             let mut v = *s;
-            place_first(by, &mut v, j);
+            place_first(by.a, by.b, &mut v, j);
             let g = check_last_choices(cert, starts, variables, by, &v, t);
             let Checked::Upto(u) = g else {
                 return g;

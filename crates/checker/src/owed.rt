@@ -3,20 +3,20 @@ use crate::checked::Checked;
 use crate::checked::Position;
 use crate::choices::check_first_choices;
 use crate::choices::with_helper;
-use crate::removal::check_delete;
-use crate::removal::check_new;
+use crate::removal::check_cells;
 use crate::single::check_cover;
-use kinds::DELETE;
-use kinds::NEW;
+use kinds::STORE;
 use layout::load_shape;
 use reader::Header;
+use transitions::Transition;
 use transitions::index_transitions;
-use transitions::transition_at;
+use transitions::transition_named;
 ghost use mathlib.Core.Bool.{true};
 ghost use mathlib.Core.Path.{_≡_};
 ghost use Prim.Native.Nat.{_+_, _≤_, _<_};
 ghost use lib.ListN.{length, getD};
 ghost use Rattle.lists.specs.List.{concatMap};
+ghost use Rattle.heap.specs.Operation.{kindOf};
 ghost use Rattle.backward.specs.Predecessors.{predecessors};
 ghost use Rattle.cover.specs.Cover.{owed};
 ghost use Rattle.checker.specs.Jobs.{toState, fileIn, owedBy};
@@ -25,7 +25,7 @@ ghost use Rattle.layout.specs.Members.{membersFrom};
 ghost use Rattle.kinds.specs.Kinds.{allowed};
 ghost use Rattle.layout.specs.ShapeArray.{cellCount, shapeIn, ShapeArray};
 ghost use Rattle.layout.specs.Entries.{locatedAt, entriesAt, EntriesIn, membersAt, Table};
-ghost use Rattle.layout.specs.Transitions.{transitionAt};
+ghost use Rattle.layout.specs.Transitions.{opOf};
 ghost use Rattle.transitions.specs.Index.{IndexedFrom};
 ghost use Rattle.reader.specs.Job.{JobRead};
 
@@ -60,25 +60,20 @@ pub(crate) fn check_forbidden(
     Checked::Upto(t)
 }
 
-// Covers of the predecessors of a shape by the transition at a place of the job.
+// Covers of the predecessors of a shape by a transition.
 fn check_transition(
-    job: &[u8],
-    at: usize,
     cert: &[u8],
     starts: &[u16],
     variables: usize,
+    by: Transition,
     s: &[u8; 28],
     t: Position,
 ) -> Checked
-    requires { ⌜ (at + 5 ≤ length (now job)) × (allowed variables (getD (now job) (at + 1) 0) (getD (now job) (at + 2) 0) (getD (now job) (at + 3) 0) ≡ true) × (variables ≤ 8) × (ShapeArray variables (now s)) × (cellCount (now s) ≤ 12) × (Within (now cert) t) ⌝ }
-    ensures { λ r. ⌜ Checks (now (cert .entry)) (membersFrom (now (cert .entry)) variables (now (starts .entry))) (transitionAt (now (job .entry)) at .from) (predecessors (transitionAt (now (job .entry)) at .op) (shapeIn variables (now (s .entry)))) t r ⌝ }
+    requires { ⌜ (allowed variables (by .kind) (by .a) (by .b) ≡ true) × (variables ≤ 8) × (ShapeArray variables (now s)) × (cellCount (now s) ≤ 12) × (Within (now cert) t) ⌝ }
+    ensures { λ r. ⌜ Checks (now (cert .entry)) (membersFrom (now (cert .entry)) variables (now (starts .entry))) (by .from) (predecessors (opOf (kindOf (by .kind)) (by .a) (by .b)) (shapeIn variables (now (s .entry)))) t r ⌝ }
 {
-    let by = transition_at(job, at);
-    if by.kind == DELETE {
-        return check_delete(cert, starts, variables, by, s, t);
-    }
-    if by.kind == NEW {
-        return check_new(cert, starts, variables, by, s, t);
+    if STORE < by.kind {
+        return check_cells(cert, starts, variables, by, s, t);
     }
     let placed = with_helper(variables, by);
     check_first_choices(cert, starts, variables, placed, s, t)
@@ -106,14 +101,13 @@ fn check_member(
     load_shape(cert, at, h.variables, &mut s);
     let mut t = from;
     while 0 < k {
-        let i = (k - 1) as usize;
-        let place = h.transitions_at + 5 * i;
-        let g = check_transition(job, place, cert, starts, h.variables, &s, t);
+        let by = transition_named(job, h.transitions_at, k);
+        let g = check_transition(cert, starts, h.variables, by, &s, t);
         let Checked::Upto(u) = g else {
             return g;
         };
         t = u;
-        k = index[64 + i];
+        k = index[63 + k as usize];
     }
     Checked::Upto(t)
 }

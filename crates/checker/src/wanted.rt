@@ -5,7 +5,6 @@ use placing::Wanted;
 use placing::is_wanted;
 use placing::wanted_first;
 use placing::wanted_last;
-use transitions::Transition;
 ghost use mathlib.Core.Path.{_≡_};
 ghost use Prim.Native.Nat.{_≤_};
 ghost use Rattle.layout.specs.ShapeArray.{cellCount, operandAt, linksIn};
@@ -14,7 +13,7 @@ ghost use Rattle.placing.specs.Wanted.{fitsIn};
 ghost use Rattle.shapes.specs.Operands.{wantedFirstIn, wantedLastIn, lastOperandIn};
 
 // Where an operand stands.
-fn place_of(s: &[u8; 28], operand: u8) -> Place
+pub(crate) fn place_of(s: &[u8; 28], operand: u8) -> Place
     requires { ⌜ operand ≤ 9 ⌝ }
     ensures { λ r. ⌜ r ≡ placeOf (operandAt (now (s .entry)) operand) ⌝ }
 {
@@ -24,37 +23,37 @@ fn place_of(s: &[u8; 28], operand: u8) -> Place
 }
 
 // What is wanted of the operand that is placed first.
-pub(crate) fn wanted_of_first(by: Transition, s: &[u8; 28]) -> Wanted
-    requires { ⌜ (by .a ≤ 9) × (by .b ≤ 9) ⌝ }
-    ensures { λ r. ⌜ r ≡ wantedFirstIn (by .a) (by .b) (now (s .entry)) ⌝ }
+pub(crate) fn wanted_of_first(a: u8, b: u8, s: &[u8; 28]) -> Wanted
+    requires { ⌜ (a ≤ 9) × (b ≤ 9) ⌝ }
+    ensures { λ r. ⌜ r ≡ wantedFirstIn a b (now (s .entry)) ⌝ }
 {
-    let x = place_of(s, by.a);
-    let y = place_of(s, by.b);
-    wanted_first(by.a == by.b, x, y)
+    let x = place_of(s, a);
+    let y = place_of(s, b);
+    wanted_first(a == b, x, y)
 }
 
 // What is wanted of the operand that is placed last.
-pub(crate) fn wanted_of_last(by: Transition, s: &[u8; 28]) -> Wanted
-    requires { ⌜ (by .a ≤ 9) × (by .b ≤ 9) × (cellCount (now s) ≤ 14) ⌝ }
-    ensures { λ r. ⌜ r ≡ wantedLastIn (by .kind) (by .a) (by .b) (now (s .entry)) ⌝ }
+pub(crate) fn wanted_of_last(kind: u8, a: u8, b: u8, s: &[u8; 28]) -> Wanted
+    requires { ⌜ (a ≤ 9) × (b ≤ 9) × (cellCount (now s) ≤ 14) ⌝ }
+    ensures { λ r. ⌜ r ≡ wantedLastIn kind a b (now (s .entry)) ⌝ }
 {
-    let x = place_of(s, by.a);
-    let y = place_of(s, by.b);
+    let x = place_of(s, a);
+    let y = place_of(s, b);
     let n = s[0] as usize;
     let all = &s[..];
-    wanted_last(by.kind, by.a == by.b, &all[3..3 + n], x, y)
+    wanted_last(kind, a == b, &all[3..3 + n], x, y)
 }
 
 // The operand that is placed last: a where it is nowhere, else b.
-pub(crate) fn last_operand(by: Transition, s: &[u8; 28]) -> u8
-    requires { ⌜ by .a ≤ 9 ⌝ }
-    ensures { λ r. ⌜ r ≡ lastOperandIn (by .a) (by .b) (now (s .entry)) ⌝ }
+pub(crate) fn last_operand(a: u8, b: u8, s: &[u8; 28]) -> u8
+    requires { ⌜ a ≤ 9 ⌝ }
+    ensures { λ r. ⌜ r ≡ lastOperandIn a b (now (s .entry)) ⌝ }
 {
-    let x = place_of(s, by.a);
+    let x = place_of(s, a);
     if x.code == NOWHERE {
-        return by.a;
+        return a;
     }
-    by.b
+    b
 }
 
 // Whether choice k is wanted.

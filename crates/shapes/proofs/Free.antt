@@ -94,17 +94,16 @@ module _ (variables : ℕ) (s : List ℕ) (k : ℕ) where
         let links : 3 + cellCount s - 3 ≡ cellCount s = omega arith in
         rw (code, vars, links) by-shape
 
-module _ (variables : ℕ) (s : List ℕ) (h : ShapeArray variables s) (k : ℕ) (is-cell : k < cellCount s) (r : Bool) (r-is : r ≡ isFreeCell variables s k) where
-  -- a cell that is not free gives nothing
-  pub without-none : r ≡ false → without (shapeIn variables s) k ≡ []
-  without-none e =
-      ap (λ (b : Bool). keep b (removeCell (cell k) (shapeIn variables s))) (by-shape variables s k (h .variables-fit) (h .cells-fit) is-cell ∙ sym r-is ∙ e)
-
-  -- one that is gives the shape in the array t
-  pub without-one : r ≡ true → (old t : List ℕ) → t ≡ cond r (arrayWithout s k) old → without (shapeIn variables s) k ≡ shapeIn variables t ∷ []
-  without-one e old t t-is =
-      let free = free-cell variables s k (sym r-is ∙ e) .free in
-      rw (t-is, e, holds-without variables s h k is-cell (passes (isFree (cell k) (shapeIn variables s)) free) .same, free) refl
+-- where it is passed, the shape in the array without the cell
+pub by-array : (variables : ℕ) (s : List ℕ) → ShapeArray variables s → (k : ℕ) → k < cellCount s
+    → keep (isFreeCell variables s k) (shapeIn variables (arrayWithout s k)) ≡ without (shapeIn variables s) k
+by-array variables s h k is-cell = go (isFreeCell variables s k) refl
+  where
+    go : (r : Bool) → isFreeCell variables s k ≡ r → keep r (shapeIn variables (arrayWithout s k)) ≡ without (shapeIn variables s) k
+    go false e = rw (by-shape variables s k (h .variables-fit) (h .cells-fit) is-cell, e) refl
+    go true e =
+        let free = free-cell variables s k e .free in
+        rw (holds-without variables s h k is-cell (passes (isFree (cell k) (shapeIn variables s)) free) .same, free) refl
 
 -- ---- the test for room
 
@@ -118,10 +117,3 @@ module _ (s : List ℕ) (a : ℕ) where
 
   pub room : cellCount s < 14 → a < 10 → hasRoom s a ≡ true
   room b c = is-true (hasRoom s a) (r-room .tests (b, c))
-
--- the predecessor by delete is the shape in the array t
-pub restored-one : (variables : ℕ) (s : List ℕ) → ShapeArray variables s → cellCount s ≤ 12 → (a : ℕ) → 1 ≤ a → a ≤ variables
-    → operandAt s a ≢ null → operandAt s a ≤ dangling → (old t : List ℕ) → t ≡ cond (hasRoom s a) (arrayRestored s a) old
-    → predecessors (delete a) (shapeIn variables s) ≡ shapeIn variables t ∷ []
-restored-one variables s h small a some most z b old t t-is =
-    rw (t-is, room s a (omega arith) (omega (arith, h .variables-fit))) (delete-some variables s h small a some most z b)

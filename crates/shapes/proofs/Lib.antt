@@ -7,3 +7,4 @@ pub mod New
 pub mod Remove
 pub mod Restore
 pub mod Free
+pub mod Before

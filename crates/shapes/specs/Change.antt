@@ -1,14 +1,17 @@
 -- A shape in an array (layout/specs/ShapeArray.antt), changed in place.
-use mathlib.Core.Bool.{Bool, _&&_, not, cond}
+use mathlib.Core.Bool.{Bool, _&&_, _||_, not, cond}
 use mathlib.Core.List.{List, map}
 use Prim.Native.Nat.{ℕ, suc, _+_, _-_}
 use lib.Dec.{eqb, ltb, leb}
 use lib.ListN.{getD, set}
+use Rattle.lists.specs.List.{keep}
 use Rattle.lists.specs.Range.{range}
-use Rattle.heap.specs.Place.{nowhere, null, cell}
+use Rattle.heap.specs.Place.{nowhere, null, dangling, cell}
+use Rattle.shape.specs.Shape.{Shape}
 use Rattle.backward.specs.Predecessors.{lower, forget}
 use Rattle.layout.specs.ShapeArray.{cellCount, operandAt, shapeIn}
 use Rattle.shapes.specs.Without.{isFree}
+use Rattle.shapes.specs.declared.Cells.{Cells}
 
 -- ---- one change
 
@@ -83,3 +86,34 @@ arrayForgotten s = map (slotForgotten s) (range 0 28)
 -- and in which a stands at a fresh cell without a link
 abbrev pub arrayRestored : List ℕ → ℕ → List ℕ
 arrayRestored s a = setOperand (addCell (arrayForgotten s) nowhere) a (cell (cellCount s))
+
+-- ---- kinds 6 and 7 by a cell: the one that was new, or is deleted. Cell n of a shape of n cells is one that the shape lacks.
+
+abbrev cellsFrom : ℕ → ℕ → Cells
+cellsFrom first end = record { first = first; end = end }
+
+-- the cells to try, where a stands at x in a shape of n cells
+unfoldable pub cellsAt : ℕ → ℕ → ℕ → Cells
+cellsAt kind n x =
+    cond (eqb kind 7) (cond (eqb x null || ltb dangling x) (cellsFrom 0 0) (cellsFrom n (suc n)))
+    (cond (eqb x nowhere) (cellsFrom 0 (suc n)) (cond (ltb x 3) (cellsFrom 0 0) (cellsFrom (x - 3) (suc (x - 3)))))
+
+abbrev pub cellsToTry : ℕ → ℕ → List ℕ → Cells
+cellsToTry kind a s = cellsAt kind (cellCount s) (operandAt s a)
+
+-- a is nowhere, if it has a slot
+unfoldable pub operandForgotten : List ℕ → ℕ → List ℕ
+operandForgotten s a = cond (ltb a 11) (setOperand s a nowhere) s
+
+-- there is a shape before, in which cell k was not there yet, or still was
+unfoldable pub isBefore : ℕ → ℕ → ℕ → List ℕ → ℕ → Bool
+isBefore variables kind a s k = cond (eqb kind 7) (hasRoom s a) (leb (cellCount s) k || isFreeCell variables (operandForgotten s a) k)
+
+-- its array
+unfoldable pub arrayBefore : ℕ → ℕ → List ℕ → ℕ → List ℕ
+arrayBefore kind a s k =
+    cond (eqb kind 7) (arrayRestored s a) (cond (leb (cellCount s) k) s (arrayWithout (operandForgotten s a) k))
+
+-- the shapes before, by a cell: one or none
+unfoldable pub before : ℕ → ℕ → ℕ → List ℕ → ℕ → List Shape
+before variables kind a s k = keep (isBefore variables kind a s k) (shapeIn variables (arrayBefore kind a s k))

@@ -1,4 +1,5 @@
 // Shapes in arrays (layout/specs/ShapeArray.antt), undone by kinds 6 (new) and 7 (delete). Numbers that do not fit an array change nothing.
+use kinds::DELETE;
 use place::DANGLING;
 use place::FIRST_CELL;
 use place::NOWHERE;
@@ -11,8 +12,8 @@ ghost use mathlib.Core.Path.{_≡_};
 ghost use Prim.Native.Nat.{_≤_, _<_};
 ghost use lib.ListN.{length};
 ghost use Rattle.backward.specs.Predecessors.{lower};
-ghost use Rattle.layout.specs.ShapeArray.{cellCount};
-ghost use Rattle.shapes.specs.Change.{isFreeCell, slotFrom, slotWithout, arrayWithout, hasRoom, slotForgotten, arrayForgotten, arrayRestored};
+ghost use Rattle.layout.specs.ShapeArray.{cellCount, operandAt};
+ghost use Rattle.shapes.specs.Change.{isFreeCell, slotFrom, slotWithout, arrayWithout, hasRoom, slotForgotten, arrayForgotten, arrayRestored, cellsToTry, operandForgotten, isBefore, arrayBefore};
 ghost use Rattle.shapes.specs.Without.{isFree};
 
 // Whether p is a cell, nothing stands at it and its link is nowhere or *.
@@ -106,7 +107,7 @@ fn take_out(s: &[u8; 28], k: u8, t: &mut [u8])
 }
 
 // Makes t the shape of s without its cell k, if that is free. Whether it is; without room for such a shape, it is not.
-pub fn remove_cell(variables: usize, s: &[u8; 28], k: u8, t: &mut [u8; 28]) -> bool
+fn remove_cell(variables: usize, s: &[u8; 28], k: u8, t: &mut [u8; 28]) -> bool
     ensures free { λ r. ⌜ r ≡ isFreeCell variables (now (s .entry)) k ⌝ }
     ensures shape { λ r. ⌜ now (t .exit) ≡ cond r (arrayWithout (now (s .entry)) k) (now (t .entry)) ⌝ }
 {
@@ -144,20 +145,109 @@ fn forget_dangling(s: &[u8; 28], t: &mut [u8])
     }
 }
 
-// Makes t the shape of s in which nothing stands at *, and a stands at a fresh cell without a link; without room for the cell or for a, t stays
-// as it is.
-pub fn restore_deleted(s: &[u8; 28], a: u8, t: &mut [u8; 28])
-    ensures { λ r. ⌜ now (t .exit) ≡ cond (hasRoom (now (s .entry)) a) (arrayRestored (now (s .entry)) a) (now (t .entry)) ⌝ }
+// Makes t the shape of s in which nothing stands at *, and a stands at a fresh cell without a link, if there is room for the cell and for a.
+// Whether there is.
+fn restore_deleted(s: &[u8; 28], a: u8, t: &mut [u8; 28]) -> bool
+    ensures room { λ r. ⌜ r ≡ hasRoom (now (s .entry)) a ⌝ }
+    ensures shape { λ r. ⌜ now (t .exit) ≡ cond r (arrayRestored (now (s .entry)) a) (now (t .entry)) ⌝ }
 {
     let n = s[0];
     if 14 <= n {
-        return;
+        return false;
     }
     if 10 <= a {
-        return;
+        return false;
     }
     forget_dangling(s, t);
     t[0] = n + 1;
     t[3 + n as usize] = NOWHERE;
     t[17 + a as usize] = FIRST_CELL + n;
+    true
+}
+
+// Where an operand stands; nowhere, where the array has no slot for it.
+fn operand_at(s: &[u8], a: u8) -> u8
+    ensures { λ r. ⌜ r ≡ operandAt (now (s .entry)) a ⌝ }
+{
+    let slot = 17 + a as usize;
+    if s.len() <= slot {
+        return NOWHERE;
+    }
+    s[slot]
+}
+
+// Puts an operand nowhere, if the array has a slot for it.
+fn forget_operand(s: &mut [u8; 28], a: u8)
+    ensures { λ r. ⌜ now (s .exit) ≡ operandForgotten (now (s .entry)) a ⌝ }
+{
+    if 10 < a {
+        return;
+    }
+    s[17 + a as usize] = NOWHERE;
+}
+
+// A byte as a number.
+fn wide(byte: u8) -> usize
+    ensures { λ r. ⌜ (r ≡ byte) × (r < 256) ⌝ }
+{
+    byte as usize
+}
+
+// Cells from one on, before another.
+pub struct Cells {
+    pub first: usize,
+    pub end: usize,
+}
+
+// The cells to try as the one that kind 6 added to the shape before, or that kind 7 took out; cell n is one that this shape lacks. For kind 6
+// a's cell, or any where a is nowhere; for kind 7 a fresh one, where a is nowhere or at *.
+pub fn cells_to_try(kind: u8, a: u8, s: &[u8; 28]) -> Cells
+    ensures { λ r. ⌜ r ≡ cellsToTry kind a (now (s .entry)) ⌝ }
+{
+    let n = wide(s[0]);
+    let x = operand_at(s, a);
+    if kind == DELETE {
+        if x == NULL {
+            return Cells { first: 0, end: 0 };
+        }
+        if DANGLING < x {
+            return Cells { first: 0, end: 0 };
+        }
+        return Cells {
+            first: n,
+            end: n + 1,
+        };
+    }
+    if x == NOWHERE {
+        return Cells {
+            first: 0,
+            end: n + 1,
+        };
+    }
+    if x < FIRST_CELL {
+        return Cells { first: 0, end: 0 };
+    }
+    let k = (x - FIRST_CELL) as usize;
+    Cells {
+        first: k,
+        end: k + 1,
+    }
+}
+
+// Makes t the shape before, by cell k, if there is one. Whether there is. By kind 7 a stands at a fresh cell; by any other kind, which is taken
+// for 6, cell k is not there, and a is nowhere.
+pub fn undo_cell(variables: usize, kind: u8, a: u8, k: usize, t: &mut [u8; 28]) -> bool
+    ensures is { λ r. ⌜ r ≡ isBefore variables kind a (now (t .entry)) k ⌝ }
+    ensures shape { λ r. ⌜ now (t .exit) ≡ cond r (arrayBefore kind a (now (t .entry)) k) (now (t .entry)) ⌝ }
+{
+    let mut s = *t;
+    if kind == DELETE {
+        return restore_deleted(&s, a, t);
+    }
+    let n = wide(s[0]);
+    if n <= k {
+        return true;
+    }
+    forget_operand(&mut s, a);
+    remove_cell(variables, &s, k as u8, t)
 }

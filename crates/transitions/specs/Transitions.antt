@@ -1,17 +1,26 @@
 -- Transitions by their bytes, and an index of them by the state that they lead to.
 use mathlib.Core.Bool.{Bool, _&&_, cond}
 use mathlib.Core.List.{List}
-use Prim.Native.Nat.{ℕ, zero, suc, _+_, _*_}
-use lib.Dec.{leb, ltb}
+use Prim.Native.Nat.{ℕ, zero, suc, _+_, _-_, _*_}
+use lib.Dec.{eqb, leb, ltb}
 use lib.ListN.{length, getD, set}
 use Rattle.transitions.specs.declared.Transition.{Transition}
 
--- the transition whose first byte is at a place; five zeros where its bytes are not all there
+-- the transition whose first byte is at a place
+abbrev pub transitionFrom : List ℕ → ℕ → Transition
+transitionFrom job at =
+    record { from = getD job at 0; kind = getD job (at + 1) 0; a = getD job (at + 2) 0; b = getD job (at + 3) 0; to = getD job (at + 4) 0 }
+
+abbrev pub zeros : Transition
+zeros = record { from = 0; kind = 0; a = 0; b = 0; to = 0 }
+
+-- the same; five zeros where its bytes are not all there
 unfoldable pub transitionBytes : List ℕ → ℕ → Transition
-transitionBytes job at =
-    cond (leb (at + 5) (length job))
-    (record { from = getD job at 0; kind = getD job (at + 1) 0; a = getD job (at + 2) 0; b = getD job (at + 3) 0; to = getD job (at + 4) 0 })
-    (record { from = 0; kind = 0; a = 0; b = 0; to = 0 })
+transitionBytes job at = cond (leb (at + 5) (length job)) (transitionFrom job at) zeros
+
+-- the transition that an index names by k, one more than its number, of those from a place on; five zeros for 0
+unfoldable pub transitionNamed : List ℕ → ℕ → ℕ → Transition
+transitionNamed job first k = cond (eqb k 0) zeros (transitionBytes job (first + 5 * (k - 1)))
 
 -- the state that the i-th transition leads to, of those from a place on
 abbrev pub toByte : List ℕ → ℕ → ℕ → ℕ

@@ -3,7 +3,7 @@ ghost use mathlib.Core.Path.{_≡_};
 ghost use Prim.Native.Nat.{_+_, _*_, _≤_};
 ghost use lib.Dec.{leb};
 ghost use lib.ListN.{length};
-ghost use Rattle.transitions.specs.Transitions.{transitionBytes, toByte, indexWith, indexed};
+ghost use Rattle.transitions.specs.Transitions.{zeros, transitionFrom, transitionBytes, transitionNamed, toByte, indexWith, indexed};
 
 // A transition by its bytes.
 pub struct Transition {
@@ -24,19 +24,24 @@ fn are_there(job: &[u8], at: usize, size: usize) -> bool
     size <= job.len() - at
 }
 
-// The transition at a place; five zeros where it is not whole.
-pub fn transition_at(job: &[u8], at: usize) -> Transition
-    ensures { λ r. ⌜ r ≡ transitionBytes (now (job .entry)) at ⌝ }
+// Five zeros.
+fn no_transition() -> Transition
+    ensures { λ r. ⌜ r ≡ zeros ⌝ }
 {
-    if !are_there(job, at, 5) {
-        return Transition {
-            from: 0,
-            kind: 0,
-            a: 0,
-            b: 0,
-            to: 0,
-        };
+    Transition {
+        from: 0,
+        kind: 0,
+        a: 0,
+        b: 0,
+        to: 0,
     }
+}
+
+// The transition whose first byte is at a place.
+fn read_transition(job: &[u8], at: usize) -> Transition
+    requires { ⌜ at + 5 ≤ length (now job) ⌝ }
+    ensures { λ r. ⌜ r ≡ transitionFrom (now (job .entry)) at ⌝ }
+{
     Transition {
         from: job[at],
         kind: job[at + 1],
@@ -44,6 +49,30 @@ pub fn transition_at(job: &[u8], at: usize) -> Transition
         b: job[at + 3],
         to: job[at + 4],
     }
+}
+
+// The transition at a place; five zeros where it is not whole.
+pub fn transition_at(job: &[u8], at: usize) -> Transition
+    ensures { λ r. ⌜ r ≡ transitionBytes (now (job .entry)) at ⌝ }
+{
+    if !are_there(job, at, 5) {
+        return no_transition();
+    }
+    read_transition(job, at)
+}
+
+// The transition that an index names by k, one more than its number, of those from a place on; five zeros for 0, or where it is not whole.
+pub fn transition_named(job: &[u8], first: usize, k: u16) -> Transition
+    ensures { λ r. ⌜ r ≡ transitionNamed (now (job .entry)) first k ⌝ }
+{
+    if k == 0 {
+        return no_transition();
+    }
+    let upto = 5 * k as usize;
+    if !are_there(job, first, upto) {
+        return no_transition();
+    }
+    read_transition(job, first + upto - 5)
 }
 
 // Puts the transitions from a place on in front of those of the index, last to first. A state that has no slot has no transitions.

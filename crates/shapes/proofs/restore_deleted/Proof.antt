@@ -1,5 +1,5 @@
 -- Without room the array stays; with room, what nothing stands at * in gets the fresh cell and a at it.
-use mathlib.Core.Path.{refl}
+use mathlib.Core.Path.{refl, sym}
 use native.Mathlib.Omega.{arith}
 use Rattle.shapes.proofs.Free.{no-room, room}
 use Rattle.shapes.proofs.Restore.{stored}
@@ -11,10 +11,10 @@ element-copy-out-n : tie.Need-element-copy-out-n
 element-copy-out-n c = search needs
 
 returns : tie.Need-returns
-returns c = let a = c .before .before .args in rw (no-room (a .s .now) (a .a) (λ h. omega arith)) refl
+returns c = let a = c .before .before .args in (sym (no-room (a .s .now) (a .a) (λ h. omega arith)), refl)
 
 returns-2 : tie.Need-returns-2
-returns-2 c = let a = c .before .before .before .args in rw (no-room (a .s .now) (a .a) (λ h. omega arith)) refl
+returns-2 c = let a = c .before .before .before .args in (sym (no-room (a .s .now) (a .a) (λ h. omega arith)), refl)
 
 forget-dangling-requires : tie.Need-forget-dangling-requires
 forget-dangling-requires c κs = search needs
@@ -46,7 +46,7 @@ element-write-t-3 c = search needs
 returns-3 : tie.Need-returns-3
 returns-3 c =
     let a = c .before .before .before .before .before .args in
-    rw (room (a .s .now) (a .a) (omega arith) (omega arith)) (stored (a .s .now) _ (a .a) (c .forget-dangling .ensures))
+    (sym (room (a .s .now) (a .a) (omega arith) (omega arith)), stored (a .s .now) _ (a .a) (c .forget-dangling .ensures))
 
 pub restore-deleted-spec : {M : Type 1} → statement M
 restore-deleted-spec =

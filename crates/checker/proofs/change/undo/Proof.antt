@@ -1,6 +1,5 @@
 -- By kind: what the operation changed is put back, in the array as in the shape.
 use mathlib.Core.Path.{refl}
-use native.Mathlib.Omega.{arith}
 use borrow.Author.Tests.{lt-ltb, le-ltb, eq-eqb, ne-eqb}
 use Rattle.shapes.specs.Change.{undoneIn}
 use borrow.Author.Needs.{needs}
@@ -9,24 +8,21 @@ use Rattle.checker.proofs.change.undo.Tie as tie
 
 returns : tie.Need-returns
 unfolding undoneIn
-returns c = let a = c .before .before .args in rw (lt-ltb (a .by .kind) 3 (omega arith)) refl
-
-cast-to : tie.Need-cast-to
-cast-to c = search needs
+returns c = let a = c .before .args in rw (lt-ltb (a .kind) 3 (c .if1 .taken)) refl
 
 add-to : tie.Need-add-to
 add-to c = search needs
 
 returns-2 : tie.Need-returns-2
 unfolding undoneIn
-returns-2 c = let a = c .before .before .before .before .before .before .before .args in rw (le-ltb (a .by .kind) 3 (omega arith), eq-eqb (a .by .kind) 3 (omega arith), eq-eqb (a .by .a) (a .by .b) (omega arith)) refl
+returns-2 c = let a = c .before .before .before .args in rw (le-ltb (a .kind) 3 (c .before .before .if1 .left), eq-eqb (a .kind) 3 (c .before .if2 .taken), eq-eqb (a .a) (a .b) (c .if3 .taken)) refl
 
 element-write-s : tie.Need-element-write-s
 element-write-s c = search needs
 
 returns-3 : tie.Need-returns-3
 unfolding undoneIn
-returns-3 c = let a = c .before .before .before .before .before .before .before .args in rw (le-ltb (a .by .kind) 3 (omega arith), eq-eqb (a .by .kind) 3 (omega arith), ne-eqb (a .by .a) (a .by .b) (c .if3 .left)) refl
+returns-3 c = let a = c .before .before .before .args in rw (le-ltb (a .kind) 3 (c .before .before .if1 .left), eq-eqb (a .kind) 3 (c .before .if2 .taken), ne-eqb (a .a) (a .b) (c .if3 .left)) refl
 
 element-copy-out-x : tie.Need-element-copy-out-x
 element-copy-out-x c = search needs
@@ -39,10 +35,7 @@ element-write-s-2 c = search needs
 
 returns-4 : tie.Need-returns-4
 unfolding undoneIn
-returns-4 c = let a = c .before .before .before .before .before .before .before .before .args in rw (le-ltb (a .by .kind) 3 (omega arith), ne-eqb (a .by .kind) 3 (omega arith), eq-eqb (a .by .kind) 5 (omega arith)) refl
-
-cast-from : tie.Need-cast-from
-cast-from c = search needs
+returns-4 c = let a = c .before .before .before .before .args in rw (le-ltb (a .kind) 3 (c .before .before .before .if1 .left), ne-eqb (a .kind) 3 (c .before .before .if2 .left), eq-eqb (a .kind) 5 (c .if4 .taken)) refl
 
 add-from : tie.Need-add-from
 add-from c = search needs
@@ -56,9 +49,6 @@ cast-s-2 c = search needs
 element-write-s-3 : tie.Need-element-write-s-3
 element-write-s-3 c = search needs
 
-cast-if5 : tie.Need-cast-if5
-cast-if5 c = search needs
-
 element-write-s-4 : tie.Need-element-write-s-4
 element-write-s-4 c = search needs
 
@@ -67,25 +57,20 @@ element-write-s-5 c = search needs
 
 returns-5 : tie.Need-returns-5
 unfolding undoneIn
-returns-5 c =
-    let a = c .before .before .before .before .before .before .before .before .before .before .before .before .args in
-    rw (le-ltb (a .by .kind) 3 (omega arith), ne-eqb (a .by .kind) 3 (c .before .before .before .before .before .before .before .if2 .left), ne-eqb (a .by .kind) 5 (c .before .before .before .before .if4 .left), lt-ltb (a .variables) (a .by .b) (omega arith)) refl
+returns-5 c = let a = c .before .before .before .before .before .before .args in rw (le-ltb (a .kind) 3 (c .before .before .before .before .before .if1 .left), ne-eqb (a .kind) 3 (c .before .before .before .before .if2 .left), ne-eqb (a .kind) 5 (c .before .before .if4 .left), lt-ltb (a .variables) (a .b) (c .if5 .taken)) refl
 
 element-write-s-6 : tie.Need-element-write-s-6
 element-write-s-6 c = search needs
 
 returns-6 : tie.Need-returns-6
 unfolding undoneIn
-returns-6 c =
-    let a = c .before .before .before .before .before .before .before .before .before .before .before .before .args in
-    rw (le-ltb (a .by .kind) 3 (omega arith), ne-eqb (a .by .kind) 3 (c .before .before .before .before .before .before .before .if2 .left), ne-eqb (a .by .kind) 5 (c .before .before .before .before .if4 .left), le-ltb (a .variables) (a .by .b) (omega arith)) refl
+returns-6 c = let a = c .before .before .before .before .before .before .args in rw (le-ltb (a .kind) 3 (c .before .before .before .before .before .if1 .left), ne-eqb (a .kind) 3 (c .before .before .before .before .if2 .left), ne-eqb (a .kind) 5 (c .before .before .if4 .left), le-ltb (a .variables) (a .b) (c .if5 .left)) refl
 
 pub undo-spec : {M : Type 1} → statement M
 undo-spec =
     tie.close
     (tie.spec
     returns
-    cast-to
     add-to
     returns-2
     element-write-s
@@ -94,12 +79,10 @@ undo-spec =
     cast-s
     element-write-s-2
     returns-4
-    cast-from
     add-from
     element-copy-out-y
     cast-s-2
     element-write-s-3
-    cast-if5
     element-write-s-4
     element-write-s-5
     returns-5

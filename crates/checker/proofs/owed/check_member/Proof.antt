@@ -1,16 +1,23 @@
 -- The loop along the index: the covers for the transitions into the member's state so far are checked.
-use Prim.Native.Nat.{_-_}
+use mathlib.Core.Path.{_≡_, _∙_}
+use Prim.Native.Nat.{ℕ, _+_, _-_, _*_, _≤_, _<_}
 use native.Mathlib.Omega.{arith}
 use lib.ListN.{getD}
+use mir.Syntax.{w64}
+use mir.Val.{Fits}
 use Rattle.layout.specs.Entries.{locatedAt}
 use Rattle.layout.specs.Members.{membersFrom}
+use Rattle.transitions.specs.Transitions.{transitionFrom}
+use Rattle.transitions.proofs.Bytes.{bytes-all, named-some}
 use Rattle.transitions.proofs.Linked.{linked-head}
 use Rattle.checker.proofs.Into.{before}
 use Rattle.layout.proofs.Loaded.{Loaded, loaded}
 use Rattle.checker.specs.Checking.{ChecksAll}
+use Rattle.reader.specs.Job.{TransitionIn}
 use Rattle.checker.specs.Jobs.{transitionIn, toState}
 use Rattle.checker.proofs.Chain.{leftFrom, Chain, chain-begin, chain-end, chain-below, chain-halt, chain-more, chain-less}
 use borrow.Author.Needs.{needs}
+use borrow.Author.Tests.{le-leb}
 use Rattle.checker.proofs.owed.check_member.Statement.{statement}
 use Rattle.checker.proofs.owed.check_member.Tie as tie
 
@@ -29,12 +36,54 @@ here c =
     let p = c .before .before .before .before .before .before .before .before .before .pre in
     loaded (a .cert .now) (a .h .variables) (getD (a .starts .now) (a .m) 0) _ (p .2 .entry (a .m) (p .3)) (p .2 .variables-most) (c .load-shape .ensures)
 
+-- the transition that k names is in the job
+there : (c : tie.In-loop Inv-loop μ-loop)
+    → let l = c .before in
+    let a = l .before .before .before .before .before .before .before .before .before .before .args in
+    TransitionIn (a .job .now) (a .h .variables) (a .h .states) (a .h .«transitions_at» + 5 * (l .loop .k - 1))
+there c =
+    let l = c .before in
+    l .before .before .before .before .before .before .before .before .before .before .pre .0 .transitions (l .loop .k - 1) (chain-below (l .loop .inv) (c .loop-test .taken))
+
+-- there are few names, so that a slot of the index fits
+few : (c : tie.In-loop Inv-loop μ-loop) → c .before .loop .k ≤ 256
+few c = let l = c .before in named _ _ (chain-below (l .loop .inv) (c .loop-test .taken)) (l .before .before .before .before .before .before .before .before .before .before .pre .0 .transitions-number)
+  where
+    named : (k count : ℕ) → k - 1 < count → count ≤ 256 → k ≤ 256
+    named k count b m = omega arith
+
+small : (n : ℕ) → n ≤ 640 → Fits w64 n
+small n h = record { fits = omega arith }
+
+under : (k : ℕ) → k ≤ 256 → k ≤ 640
+under k h = omega arith
+
+slot : (k : ℕ) → k ≤ 256 → 63 + k ≤ 640
+slot k h = omega arith
+
+twice : (k : ℕ) → k ≤ 256 → (63 + k) * 2 ≤ 640
+twice k h = omega arith
+
+inside : (k : ℕ) → k ≤ 256 → 63 + k < 320
+inside k h = omega arith
+
+-- it is its bytes
+bytes : (c : tie.After-transition-named Inv-loop μ-loop)
+    → let l = c .before .before in
+    let a = l .before .before .before .before .before .before .before .before .before .before .args in
+    c .transition-named .result ≡ transitionFrom (a .job .now) (a .h .«transitions_at» + 5 * (l .loop .k - 1))
+bytes c =
+    let l = c .before .before in
+    let a = l .before .before .before .before .before .before .before .before .before .before .args in
+    c .transition-named .ensures ∙ named-some (a .job .now) (a .h .«transitions_at») (l .loop .k) (c .before .loop-test .taken)
+    ∙ bytes-all (a .job .now) (a .h .«transitions_at» + 5 * (l .loop .k - 1)) (le-leb _ _ (there (c .before) .inside))
+
 -- the covers by the transition that k names
 taken : (c : tie.After-check-transition Inv-loop μ-loop)
     → let l = c .before .before .before .before in
     let a = l .before .before .before .before .before .before .before .before .before .before .args in
     ChecksAll (a .cert .now) (membersFrom (a .cert .now) (a .h .variables) (a .starts .now)) (before (locatedAt (a .cert .now) (a .h .variables) (getD (a .starts .now) (a .m) 0)) (transitionIn (a .job .now) (a .h) (l .loop .k - 1))) (l .loop .t) (c .check-transition .result)
-taken c = (rw (here (c .before .before .before .before .before) .shape) at (c .check-transition .ensures .0), c .check-transition .ensures .1)
+taken c = (rw (bytes (c .before .before), here (c .before .before .before .before .before) .shape) at (c .check-transition .ensures .0), c .check-transition .ensures .1)
 
 mul-at : tie.Need-mul-at Inv-loop μ-loop
 mul-at c = search needs
@@ -89,34 +138,15 @@ loop-holds c =
     let e = p .2 .entry (c .before .before .before .before .before .before .before .before .before .args .m) (p .3) in
     chain-begin (linked-head (toState (a .job .now) (a .h)) (a .h .transitions) (a .index .now) (p .1) ((locatedAt (a .cert .now) (a .h .variables) (getD (a .starts .now) (a .m) 0)) .state) (e .state)) (p .4)
 
-sub-i : tie.Need-sub-i Inv-loop μ-loop
-sub-i c = search needs
-
-cast-i : tie.Need-cast-i Inv-loop μ-loop
-cast-i c =
-    let l = c .before in
-    let b = chain-below (l .loop .inv) (omega arith) in
-    omega (arith, l .before .before .before .before .before .before .before .before .before .before .pre .0 .transitions-number)
-
-mul-place : tie.Need-mul-place Inv-loop μ-loop
-mul-place c =
-    let l = c .before in
-    let b = chain-below (l .loop .inv) (omega arith) in
-    omega (arith, l .before .before .before .before .before .before .before .before .before .before .pre .0 .transitions-number)
-
-add-place : tie.Need-add-place Inv-loop μ-loop
-add-place c =
-    let l = c .before .before in
-    let b = l .before .before .before .before .before .before .before .before .before .before .pre .0 .transitions (l .loop .k - 1) (chain-below (l .loop .inv) (omega arith)) in
-    omega arith
+transition-named-requires : tie.Need-transition-named-requires Inv-loop μ-loop
+transition-named-requires c κs = search needs
 
 check-transition-requires : tie.Need-check-transition-requires Inv-loop μ-loop
 check-transition-requires c κs =
     let l = c .before .before .before in
     let p = l .before .before .before .before .before .before .before .before .before .before .pre in
-    let b = p .0 .transitions (l .loop .k - 1) (chain-below (l .loop .inv) (omega arith)) in
     let o = here (l .before) in
-    (b .inside, b .operands, p .0 .variables .1, o .array, o .cells, l .loop .inv .progress .within)
+    (rw (bytes (c .before)) (there (c .before .before) .operands), p .0 .variables .1, o .array, o .cells, l .loop .inv .progress .within)
 
 enum-known-g : tie.Need-enum-known-g Inv-loop μ-loop
 enum-known-g c = search needs
@@ -127,39 +157,33 @@ enum-told c = search needs
 returns-2 : tie.Need-returns-2 Inv-loop μ-loop
 returns-2 c =
     let o = c .before .before in
-    chain-halt (o .before .before .before .before .loop .inv) (omega arith) (taken o) (c .enum-told .given .1)
+    chain-halt (o .before .before .before .before .loop .inv) (o .before .before .before .loop-test .taken) (taken o) (c .enum-told .given .1)
+
+cast-k-2 : tie.Need-cast-k-2 Inv-loop μ-loop
+cast-k-2 c = small _ (under _ (few (c .before .before .before .before .before .before)))
 
 add-k : tie.Need-add-k Inv-loop μ-loop
-add-k c =
-    let l = c .before .before .before .before .before .before .before in
-    let b = chain-below (l .loop .inv) (omega arith) in
-    omega (arith, l .before .before .before .before .before .before .before .before .before .before .pre .0 .transitions-number)
+add-k c = small _ (slot _ (few (c .before .before .before .before .before .before)))
 
 mul-k-2 : tie.Need-mul-k-2 Inv-loop μ-loop
-mul-k-2 c =
-    let l = c .before .before .before .before .before .before .before in
-    let b = chain-below (l .loop .inv) (omega arith) in
-    omega (arith, l .before .before .before .before .before .before .before .before .before .before .pre .0 .transitions-number)
+mul-k-2 c = small _ (twice _ (few (c .before .before .before .before .before .before)))
 
 element-copy-out-k-2 : tie.Need-element-copy-out-k-2 Inv-loop μ-loop
-element-copy-out-k-2 c =
-    let l = c .before .before .before .before .before .before .before in
-    let b = chain-below (l .loop .inv) (omega arith) in
-    omega (arith, l .before .before .before .before .before .before .before .before .before .before .pre .0 .transitions-number)
+element-copy-out-k-2 c = inside _ (few (c .before .before .before .before .before .before))
 
 loop-less : tie.Need-loop-less Inv-loop μ-loop
 loop-less c =
     let l = c .before .before .before .before .before .before .before .before in
-    chain-less (l .loop .inv) (omega arith) (l .before .before .before .before .before .before .before .before .before .before .args .index .now) (l .before .before .before .before .before .before .before .before .before .before .pre .1 .next)
+    chain-less (l .loop .inv) (c .before .before .before .before .before .before .before .loop-test .taken) (l .before .before .before .before .before .before .before .before .before .before .args .index .now) (l .before .before .before .before .before .before .before .before .before .before .pre .1 .next)
 
 loop-again : tie.Need-loop-again Inv-loop μ-loop
 loop-again c =
     let o = c .before .before .before .before in
     let l = o .before .before .before .before in
-    chain-more (l .loop .inv) (omega arith) (taken o) (l .before .before .before .before .before .before .before .before .before .before .args .index .now) (l .before .before .before .before .before .before .before .before .before .before .pre .1 .next) (c .before .before .g .given .1)
+    chain-more (l .loop .inv) (o .before .before .before .loop-test .taken) (taken o) (l .before .before .before .before .before .before .before .before .before .before .args .index .now) (l .before .before .before .before .before .before .before .before .before .before .pre .1 .next) (c .before .before .g .given .1)
 
 returns-3 : tie.Need-returns-3 Inv-loop μ-loop
-returns-3 c = chain-end (c .before .loop .inv) (omega arith)
+returns-3 c = chain-end (c .before .loop .inv) (c .loop-test .left)
 
 pub check-member-spec : {M : Type 1} → statement M
 check-member-spec =
@@ -177,14 +201,12 @@ check-member-spec =
     returns
     load-shape-requires
     loop-holds
-    sub-i
-    cast-i
-    mul-place
-    add-place
+    transition-named-requires
     check-transition-requires
     enum-known-g
     enum-told
     returns-2
+    cast-k-2
     add-k
     mul-k-2
     element-copy-out-k-2

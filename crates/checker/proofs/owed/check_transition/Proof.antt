@@ -1,108 +1,56 @@
 -- By kind: the covers checked are those of the shape's predecessors by the transition.
-use mathlib.Core.Path.{_≡_, refl, ap, _∙_}
-use Prim.Native.Nat.{_+_, _≤_}
+use mathlib.Core.Path.{_≡_, refl}
+use Prim.Native.Nat.{_≤_}
 use native.Mathlib.Omega.{arith}
-use lib.ListN.{getD}
 use Rattle.heap.specs.Operation.{kindOf}
 use Rattle.backward.specs.Predecessors.{predecessors}
-use Rattle.kinds.proofs.Rows.{row-of, known}
+use Rattle.kinds.proofs.Rows.{known}
 use Rattle.layout.specs.ShapeArray.{shapeIn}
 use Rattle.layout.specs.Members.{membersFrom}
 use Rattle.layout.specs.Transitions.{opOf}
 use Rattle.placing.specs.Retained.{firsts}
 use Rattle.shapes.specs.Operands.{working, Working}
-use Rattle.checker.proofs.Operands.{plays}
+use Rattle.checker.proofs.Operands.{operands-of, plays}
 use Rattle.checker.proofs.Checking.{stays}
-use Rattle.transitions.proofs.Bytes.{bytes-all}
 use borrow.Author.Needs.{needs}
-use borrow.Author.Tests.{le-leb}
 use Rattle.checker.proofs.owed.check_transition.Statement.{statement}
 use Rattle.checker.proofs.owed.check_transition.Tie as tie
 
-transition-at-requires : tie.Need-transition-at-requires
-transition-at-requires c κs = search needs
-
--- the transition is the bytes of the job
-bytes : (c : tie.After-transition-at)
-    → let a = c .before .before .before .before .args in
-    let job = a .job .now in
-    let by = c .transition-at .result in
-    (by .from ≡ getD job (a .at) 0) × (by .kind ≡ getD job (a .at + 1) 0) × (by .a ≡ getD job (a .at + 2) 0) × (by .b ≡ getD job (a .at + 3) 0)
-bytes c =
-    let a = c .before .before .before .before .args in
-    rw (c .transition-at .ensures ∙ bytes-all (a .job .now) (a .at) (le-leb _ _ (c .before .before .before .before .pre .0))) (refl, refl, refl, refl)
-
-check-delete-requires : tie.Need-check-delete-requires
-check-delete-requires c κs =
-    let a = c .before .before .before .before .before .before .args in
-    let p = c .before .before .before .before .before .before .pre in
-    let e = bytes (c .before .before) in
-    let is : getD (a .job .now) (a .at + 1) 0 ≡ 7 = omega (arith, e .1) in
-    let r = row-of (a .variables) _ _ _ _ (ap kindOf is) (p .1) .0 in
-    rw (e .2) (p .3, p .4, r .least-a, r .most-a, p .5)
+check-cells-requires : tie.Need-check-cells-requires
+check-cells-requires c κs =
+    let by = c .before .before .before .before .args .by in
+    let p = c .before .before .before .before .pre in
+    let (some, fits, none) = operands-of _ (by .kind) (by .a) (by .b) (p .0) in
+    (p .2, p .3, some (omega arith), fits, omega arith, known _ (by .kind) (by .a) (by .b) (p .0) .1, p .4)
 
 returns : tie.Need-returns
-returns c =
-    let a = c .before .before .before .before .before .before .before .args in
-    let e = bytes (c .before .before .before) in
-    let is : getD (a .job .now) (a .at + 1) 0 ≡ 7 = omega (arith, e .1) in
-    rw is (rw (e .0, e .2) at (c .check-delete .ensures))
-
-check-new-requires : tie.Need-check-new-requires
-check-new-requires c κs =
-    let a = c .before .before .before .before .before .before .before .before .args in
-    let p = c .before .before .before .before .before .before .before .before .pre in
-    let e = bytes (c .before .before .before .before) in
-    let is : getD (a .job .now) (a .at + 1) 0 ≡ 6 = omega (arith, e .1) in
-    let r = row-of (a .variables) _ _ _ _ (ap kindOf is) (p .1) .0 in
-    rw (e .2) (p .3, p .4, r .least-a, r .most-a, p .5)
-
-returns-2 : tie.Need-returns-2
-returns-2 c =
-    let a = c .before .before .before .before .before .before .before .before .before .args in
-    let e = bytes (c .before .before .before .before .before) in
-    let is : getD (a .job .now) (a .at + 1) 0 ≡ 6 = omega (arith, e .1) in
-    rw is (rw (e .0, e .2) at (c .check-new .ensures))
+returns c = c .check-cells .ensures
 
 with-helper-requires : tie.Need-with-helper-requires
-with-helper-requires c κs = search needs
+with-helper-requires c κs = c .before .before .before .before .pre .1
 
 -- the shape to work on, and that its choices are the predecessors
 placed : (c : tie.After-with-helper)
-    → let a = c .before .before .before .before .before .before .before .before .before .args in
-    let job = a .job .now in
+    → let a = c .before .before .before .before .before .args in
     let o = c .with-helper .result in
     Working 12 (a .variables) (o .kind) (o .a) (o .b) (a .s .now)
-    × (firsts (a .variables) (o .kind) (o .a) (o .b) (shapeIn (working (a .variables) (o .b)) (a .s .now))
-    ≡ predecessors (opOf (kindOf (getD job (a .at + 1) 0)) (getD job (a .at + 2) 0) (getD job (a .at + 3) 0)) (shapeIn (a .variables) (a .s .now)))
+    × (firsts (a .variables) (o .kind) (o .a) (o .b) (shapeIn (working (a .variables) (o .b)) (a .s .now)) ≡ predecessors (opOf (kindOf (a .by .kind)) (a .by .a) (a .by .b)) (shapeIn (a .variables) (a .s .now)))
 placed c =
-    let a = c .before .before .before .before .before .before .before .before .before .args in
-    let p = c .before .before .before .before .before .before .before .before .before .pre in
-    let by = bytes (c .before .before .before .before .before) in
-    let kind = getD (a .job .now) (a .at + 1) 0 in
-    let most : kind ≤ 5 = omega (arith, by .1, known (a .variables) kind _ _ (p .1), c .before .if2 .left, c .before .before .before .if1 .left) in
-    let w = plays (a .variables) kind (getD (a .job .now) (a .at + 2) 0) (getD (a .job .now) (a .at + 3) 0) most (p .1) (a .s .now) (p .2) (p .4) (p .3) _ refl in
-    rw (c .with-helper .ensures, by .1, by .2, by .3) (w .work, w .same)
+    let a = c .before .before .before .before .before .args in
+    let p = c .before .before .before .before .before .pre in
+    let most : a .by .kind ≤ 5 = omega arith in
+    let w = plays (a .variables) (a .by .kind) (a .by .a) (a .by .b) most (p .0) (a .s .now) (p .1) (p .3) (p .2) _ refl in
+    rw (c .with-helper .ensures) (w .work, w .same)
 
 check-first-choices-requires : tie.Need-check-first-choices-requires
-check-first-choices-requires c κs = (placed c .0, c .before .before .before .before .before .before .before .before .before .pre .5)
+check-first-choices-requires c κs = (placed c .0, c .before .before .before .before .before .pre .4)
 
-returns-3 : tie.Need-returns-3
-returns-3 c =
-    let a = c .before .before .before .before .before .before .before .before .before .before .args in
-    let from : c .before .with-helper .result .from ≡ getD (a .job .now) (a .at) 0 = rw (c .before .with-helper .ensures) (bytes (c .before .before .before .before .before .before) .0) in
+returns-2 : tie.Need-returns-2
+returns-2 c =
+    let a = c .before .before .before .before .before .before .args in
+    let from : c .before .with-helper .result .from ≡ a .by .from = rw (c .before .with-helper .ensures) refl in
     let taken = rw (from, placed (c .before) .1) at (c .check-first-choices .ensures) in
-    (taken, stays (a .cert .now) (membersFrom (a .cert .now) (a .variables) (a .starts .now)) _ (a .t) (c .before .before .before .before .before .before .before .before .before .before .pre .5) (c .check-first-choices .result) taken)
+    (taken, stays (a .cert .now) (membersFrom (a .cert .now) (a .variables) (a .starts .now)) _ (a .t) (c .before .before .before .before .before .before .pre .4) (c .check-first-choices .result) taken)
 
 pub check-transition-spec : {M : Type 1} → statement M
-check-transition-spec =
-    tie.close
-    (tie.spec
-    transition-at-requires
-    check-delete-requires
-    returns
-    check-new-requires
-    returns-2
-    with-helper-requires
-    check-first-choices-requires
-    returns-3)
+check-transition-spec = tie.close (tie.spec check-cells-requires returns with-helper-requires check-first-choices-requires returns-2)

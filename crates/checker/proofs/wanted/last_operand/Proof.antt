@@ -12,12 +12,12 @@ place-of-requires c κs = search needs
 returns : tie.Need-returns
 returns c =
     let a = c .before .before .before .args in
-    last-a (a .by .a) (a .by .b) (a .s .now) (sym (ap (λ (p : Place). p .code) (c .before .before .place-of .ensures)) ∙ c .if1 .taken)
+    last-a (a .a) (a .b) (a .s .now) (sym (ap (λ (p : Place). p .code) (c .before .before .place-of .ensures)) ∙ c .if1 .taken)
 
 returns-2 : tie.Need-returns-2
 returns-2 c =
     let a = c .before .before .before .args in
-    last-b (a .by .a) (a .by .b) (a .s .now) (λ e. c .if1 .left (ap (λ (p : Place). p .code) (c .before .before .place-of .ensures) ∙ e))
+    last-b (a .a) (a .b) (a .s .now) (λ e. c .if1 .left (ap (λ (p : Place). p .code) (c .before .before .place-of .ensures) ∙ e))
 
 pub last-operand-spec : {M : Type 1} → statement M
 last-operand-spec = tie.close (tie.spec place-of-requires returns returns-2)

@@ -13,7 +13,7 @@ wanted-first-requires : tie.Need-wanted-first-requires
 wanted-first-requires c κs = search needs
 
 returns : tie.Need-returns
-returns c = rw (← c .before .before .before .place-of .ensures, ← c .before .before .place-of2 .ensures) (c .wanted-first .ensures)
+returns c = rw (← c .before .before .place-of .ensures, ← c .before .place-of2 .ensures) (c .wanted-first .ensures)
 
 pub wanted-of-first-spec : {M : Type 1} → statement M
 wanted-of-first-spec = tie.close (tie.spec place-of-requires place-of-requires-2 wanted-first-requires returns)
