@@ -16,10 +16,6 @@ use Rattle.checker.specs.declared.checked.Checked.the-variants.{Upto, Re
 use Rattle.checker.specs.declared.checked.Position.{Position}
 
 module _ (cert : List ℕ) (ms : List Located) where
-  pub checkAll-none : (covers at : ℕ) → checkAll cert ms [] covers at ≡ parsed covers at
-  unfolding checkAll
-  checkAll-none covers at = refl
-
   pub checkAll-one : (o : Located) (covers at : ℕ)
       → checkAll cert ms (o ∷ []) covers at ≡ onward (readCover (certificateBuffer cert) ms o at) (λ u next. parsed (suc covers) next)
   unfolding checkAll

@@ -1,21 +1,18 @@
 -- What each answer of a cover's test means.
 use mathlib.Core.List.{List, [], _∷_}
 use mathlib.Core.Logic.{_≢_, _↔_}
-use mathlib.Core.Option.{some, Option·some-injective}
-use mathlib.Core.Path.{_≡_, refl, sym, _∙_, subst}
+use mathlib.Core.Path.{_≡_, refl, sym, subst}
 use Prim.Native.Nat.{ℕ, zero, suc, _+_, _≤_, _<_}
-use native.Mathlib.Decide.{decLt}
 use native.Mathlib.Omega.{arith}
-use lib.ListN.{length, getD, getElem?}
+use lib.ListN.{length, getD}
 use Rattle.lists.specs.Test.{allFrom, lowest}
 use Rattle.lists.proofs.Reflect.{r-eq, r-not, r-iff}
 use Rattle.heap.specs.Place.{nowhere, cell}
 use Rattle.graph.specs.Graph.{Graph, Images, Vars, Embeds}
 use Rattle.graph.proofs.Proper.{Closed}
-use Rattle.shape.specs.Shape.{Shape, linkAt, size, shapeGraph}
+use Rattle.shape.specs.Shape.{linkAt, size, shapeGraph}
 use Rattle.shape.proofs.Laws.{var-within, shape-proper}
 use Rattle.run.specs.Run.{Located}
-use Rattle.cover.specs.Cover.{Cover, Holds}
 use Rattle.cover.specs.Rules.{ImageTwice, VariableElsewhere, Path, LinkMisses, SharedPath, Breaks, wrong-state, image-twice, variable-elsewhere, link-misses, shared-path}
 use Rattle.cover.specs.Test.{imageMap, imageOnce, varFits, linkMeets, pathUnshared, Answer, holds, broken, ofCells, ofVariables, ofStates, coverRules, coverAnswer}
 use Rattle.cover.proofs.First.{Says, Decides, Kept, Rules, kept-next, first-broken, says-exactly}
@@ -223,18 +220,6 @@ module _ (m : Located) (images : List ℕ) (o : Located) (cl : Closed (shapeGrap
       → (coverAnswer m images o ≡ broken 5 i)
       ↔ ((SameState × Images (g .Cell) (h .Cell) f × Vars (g .var) (h .var) f × LinksMeet) × LowestSuch (SharedPath g h f) i)
   rule-5 i = means 5 i kept-5 (λ k. by-path) shared-path
-
--- the answer to a cover whose member has its number in the list
-pub holds-exactly : (ms : List Located) (c : Cover) (m o : Located) → getElem? ms (c .member) ≡ some m → Closed (shapeGraph (m .shape))
-    → length (c .images) ≡ size (m .shape) → ((i : ℕ) → i < size (m .shape) → getD (c .images) i 0 < size (o .shape))
-    → (coverAnswer m (c .images) o ≡ holds) ↔ Holds ms c o
-holds-exactly ms c m o at cl number below = (
-  λ e. let (s, b) = answer-holds m (c .images) o cl number below .0 e in record { member = m; numbered = at; state = s; embeds = b },
-  λ k.
-      let same : k .member ≡ m = Option·some-injective (k .member) m (sym (k .numbered) ∙ at) in
-      answer-holds m (c .images) o cl number below .1
-      (subst (λ (m : Located). (m .state ≡ o .state) × Embeds (shapeGraph (m .shape)) (shapeGraph (o .shape)) (imageMap (c .images))) same (k .state, k .embeds)),
-)
 
 -- ---- two cases that a test cell by cell would get wrong
 

@@ -81,7 +81,6 @@ module _ (member covered : Shape) (cert : List ℕ) (first count : ℕ) (codes m
     fit-all b = pass-all test count i (f .passing) b
 
     module _ (b : i < count) (p : ℕ) (e : p ≡ getD cert (first + i) 0) where
-
       pub fit-skip : (marks′ : List ℕ) → marks′ ≡ marks → p ≡ nowhere → Fitting marks′ (i + 1)
       fit-skip marks′ y z =
           let none : linkAt member (cell i) ≡ nowhere = sym (link-of i b p e) ∙ z in

@@ -7,7 +7,7 @@ use Prim.Native.Nat.{ℕ, _+_, _-_, _≤_, _<_}
 use native.Mathlib.Omega.{arith}
 use borrow.Author.Tests.{eq-eqb, ne-eqb}
 use lib.Dec.{eqb}
-use lib.ListN.{length, getD}
+use lib.ListN.{getD}
 use Rattle.lists.specs.Test.{allFrom}
 use Rattle.lists.proofs.Test.{all-passed, all-failed, all-done}
 use Rattle.coverreader.specs.Images.{imagesIn, ImageCodes}

@@ -21,7 +21,7 @@ ghost use lib.ListN.{getD};
 ghost use Rattle.lists.specs.Test.{lowest, numberOr};
 ghost use Rattle.shape.specs.Shape.{Shape};
 ghost use Rattle.cover.specs.Test.{linkMeets, coverAnswer};
-ghost use Rattle.layout.specs.Entries.{locatedAt, Whole};
+ghost use Rattle.layout.specs.Entries.{locatedAt};
 ghost use Rattle.layout.specs.ShapeArray.{shapeIn};
 ghost use Rattle.covering.specs.Answer.{brokenOf, answerOf, Tested, pathsAnswer};
 ghost use Rattle.coverreader.specs.Images.{imagesIn, ImageCodes};

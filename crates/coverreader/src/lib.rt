@@ -89,7 +89,13 @@ pub fn read_cover(
         return not_read(Refusal::CoverFails(other), at);
     }
     let mut images = NO_IMAGES;
-    let r = read_images(cert, next, cells_held(s), cert[start + 1] as usize, &mut images);
+    let r = read_images(
+        cert,
+        next,
+        cells_held(s),
+        cert[start + 1] as usize,
+        &mut images,
+    );
     match r {
         Reached::At(end) => CoverReading {
             answer: CoverRead::Taken(m, end),

@@ -4,7 +4,6 @@ use mathlib.Core.Logic.{_⊎_, inl, inr}
 use mathlib.Core.Option.{none}
 use mathlib.Core.Path.{_≡_, refl, ap, _∙_}
 use Prim.Native.Nat.{ℕ, zero, suc}
-use native.Mathlib.Omega.{arith}
 use Rattle.format.specs.Parser.{Reason, Parsed, parsed, fault, Parser, onward, _>>=_, _>>_, return, here, Buffer, jobBuffer, within, such, ranged}
 use Rattle.format.proofs.Parsing.{Faulty, read-fault}
 use Rattle.jobreader.specs.Reader.{lastReadOf, readOn, lastReadAfter, preambleRead}

@@ -1,7 +1,6 @@
 -- The test for a free cell, one part after the other, and the tests of room.
-use mathlib.Core.Bool.{Bool, true, false, _&&_, _||_, cond}
-use mathlib.Core.List.{List, [], _∷_}
-use mathlib.Core.Logic.{_≢_}
+use mathlib.Core.Bool.{Bool, true, false, _&&_, _||_}
+use mathlib.Core.List.{List}
 use mathlib.Core.Path.{_≡_, refl, sym, ap, _∙_}
 use Prim.Native.Nat.{ℕ, zero, suc, _+_, _-_, _≤_, _<_}
 use native.Mathlib.Omega.{arith}
@@ -10,17 +9,14 @@ use lib.Dec.{eqb}
 use lib.ListN.{take, drop}
 use Rattle.lists.specs.List.{absent, keep}
 use Rattle.lists.proofs.Reflect.{Reflect, r-and, r-iff, r-le, r-lt, r-itself, is-true, is-false, passes}
-use Rattle.heap.specs.Operation.{delete}
 use Rattle.heap.specs.Place.{nowhere, null, dangling, cell}
 use Rattle.shape.specs.Shape.{Shape, linkAt}
-use Rattle.backward.specs.Predecessors.{removeCell, predecessors}
 use Rattle.place.specs.Place.{cellPlace}
 use Rattle.place.specs.declared.Place.{Place}
-use Rattle.layout.specs.ShapeArray.{cellCount, operandAt, shapeIn, ShapeArray}
-use Rattle.shapes.specs.Change.{isFreeCell, arrayWithout, hasRoom, arrayRestored}
+use Rattle.layout.specs.ShapeArray.{cellCount, shapeIn, ShapeArray}
+use Rattle.shapes.specs.Change.{isFreeCell, arrayWithout, hasRoom}
 use Rattle.shapes.specs.Without.{isFree, without}
 use Rattle.shapes.proofs.Remove.{holds-without}
-use Rattle.shapes.proofs.Restore.{delete-some}
 
 module _ (s : Shape) (c : ℕ) where
   pub no-cell : c < 3 → false ≡ isFree c s

@@ -5,7 +5,7 @@ use mathlib.Core.Path.{_≡_, refl, sym}
 use Prim.Native.Nat.{ℕ, _+_, _-_, _*_, _≤_, _<_}
 use borrow.Author.Tests.{eq-eqb, ne-eqb}
 use lib.Dec.{leb}
-use lib.ListN.{length, getD}
+use lib.ListN.{length}
 use native.Mathlib.Omega.{arith}
 use Rattle.lists.proofs.Reflect.{Reflect, r-and, r-le, is-true, is-false, same-test}
 use Rattle.transitions.specs.Transitions.{zeros, transitionFrom, transitionBytes, transitionNamed, areThere}

@@ -1,5 +1,5 @@
 -- By kind and cell: a deleted cell is restored, nothing changes, or a is forgotten and the cell taken out.
-use mathlib.Core.Path.{refl, _∙_}
+use mathlib.Core.Path.{refl}
 use native.Mathlib.Omega.{arith}
 use borrow.Author.Needs.{needs}
 use borrow.Author.Tests.{le-leb, lt-leb, eq-eqb, ne-eqb}

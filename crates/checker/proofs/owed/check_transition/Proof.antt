@@ -12,7 +12,6 @@ use Rattle.placing.specs.Retained.{firsts}
 use Rattle.shapes.specs.Operands.{working, Working}
 use Rattle.checker.proofs.Operands.{operands-of, plays}
 use Rattle.checker.proofs.Checking.{stays}
-use borrow.Author.Needs.{needs}
 use Rattle.checker.proofs.owed.check_transition.Statement.{statement}
 use Rattle.checker.proofs.owed.check_transition.Tie as tie
 
