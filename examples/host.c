@@ -126,6 +126,20 @@ static void certificate_that_holds(void)
     expect("covers", out[2], 1);
 }
 
+/* Here it is the shape with head at *, which doesn't cover head at null. */
+static void cover_that_does_not_hold(void)
+{
+    const uint8_t cert[] = {1, 1, 1, 0, VORRUDA_DANGLING, 0};
+    uint64_t out[3] = {0, 0, 0};
+    uint32_t answer;
+
+    answer = vorruda_verdict(job, sizeof job, cert, sizeof cert, out, 3);
+    expect("head at *, which covers nothing: refused", answer, VORRUDA_COVER);
+    expect("at place", out[0], 5);
+    expect("a variable stands elsewhere: rule", out[1], VORRUDA_RULE_VARIABLE);
+    expect("of variable", out[2], HEAD);
+}
+
 static void refused(const char *what, const uint8_t *job_bytes, const uint8_t *cert,
                     size_t cert_len, uint32_t wanted, uint64_t place)
 {
@@ -135,14 +149,11 @@ static void refused(const char *what, const uint8_t *job_bytes, const uint8_t *c
     expect("at place", out[0], place);
 }
 
-static void certificates_that_do_not(void)
+static void other_refusals(void)
 {
-    const uint8_t dangling[] = {1, 1, 1, 0, VORRUDA_DANGLING, 0};
     const uint8_t anything[] = {1, 2, 1, 0, VORRUDA_NULL, 0, 0, 0, 0};
     uint8_t assigned[sizeof job];
 
-    refused("head at *, which covers nothing: refused", job, dangling, sizeof dangling,
-            VORRUDA_COVER, 5);
     memcpy(assigned, job, sizeof job);
     assigned[6] = VORRUDA_ASSIGN;
     refused("head := null, so from any heap: refused", assigned, anything, sizeof anything,
@@ -203,7 +214,8 @@ int main(void)
     refused_steps();
     puts("Certificates");
     certificate_that_holds();
-    certificates_that_do_not();
+    cover_that_does_not_hold();
+    other_refusals();
     puts("Forbidden shapes, ready cut");
     ready_shapes();
     puts("Listings");

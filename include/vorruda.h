@@ -126,11 +126,21 @@ uint32_t vorruda_step(uint8_t *heap, size_t heap_len, uint32_t kind, uint32_t a,
  * A call needs less than 4 KiB of stack. */
 uint32_t vorruda_check(const uint8_t *job, size_t job_len, const uint8_t *cert, size_t cert_len);
 
-/* The same, with what belongs to the number.
+/* What a cover that doesn't hold breaks. The first rule counts that is broken at any cell or variable,
+ * and the lowest of these is named. */
+
+#define VORRUDA_RULE_STATE    1 /* the member is at another state; the name is 0 */
+#define VORRUDA_RULE_IMAGE    2 /* a cell, from 0, has the image of another one */
+#define VORRUDA_RULE_VARIABLE 3 /* a variable, from 1, stands elsewhere */
+#define VORRUDA_RULE_LINK     4 /* the link of a cell misses */
+#define VORRUDA_RULE_PATH     5 /* the path of a cell shares a cell with that of a lower one */
+
+/* The same as vorruda_check, with what belongs to the number.
  *   0: out[0], out[1] and out[2] are how many forbidden shapes, members and covers there are.
- *   Refused: out[0] is the place, out[1] and out[2] are 0. The place is the first byte of the
- *      number, the member (8) or the cover (9); the first byte left (5, 10); 0 for a length.
- * out has three entries. */
+ *   VORRUDA_COVER: out[0] is the place, out[1] the rule that the cover breaks, out[2] the name.
+ *   Other refusals: out[0] is the place, out[1] and out[2] are 0.
+ * The place is the first byte of the number, the member (8) or the cover (9); the first byte left (5,
+ * 10); 0 for a length. out has three entries. */
 uint32_t vorruda_verdict(const uint8_t *job, size_t job_len, const uint8_t *cert, size_t cert_len,
                          uint64_t *out, size_t out_len);
 

@@ -1,5 +1,5 @@
 #!/usr/bin/env bash
-# Some hundred calls of the library under valgrind: fails where a byte beside a buffer or one without a value is used.
+# Some thousand calls of the library under valgrind: fails where a byte beside a buffer or one without a value is used.
 set -euo pipefail
 cd "$(dirname "$0")/.."
 if ! command -v valgrind > /dev/null; then

@@ -47,6 +47,16 @@ fn lines(shape: &Shape, numbers: &[usize], variables: &[String]) -> Vec<String> 
     lines
 }
 
+/// Where something stands, in words.
+pub fn standing(place: Option<Place>) -> String {
+    match place {
+        None => "nowhere".to_string(),
+        Some(Place::Null) => "at #".to_string(),
+        Some(Place::Dangling) => "at *".to_string(),
+        Some(Place::Cell(cell)) => format!("at cell {cell}"),
+    }
+}
+
 struct Drawing<'a> {
     shape: &'a Shape,
     /// The number that is drawn of each cell.

@@ -1,7 +1,7 @@
 //! A cover that doesn't hold, in words: which rule it breaks and how, and the two shapes. Cells are
 //! numbered from 0, as in the verdict.
 
-use crate::draw;
+use crate::draw::{self, standing};
 use crate::reference::cover::{cover_at, CoverRead, Reason};
 use crate::reference::heap::Place;
 use crate::reference::job::Located;
@@ -125,15 +125,6 @@ impl<'a> RefusedCover<'a> {
             Some(Place::Cell(cell)) => format!("{}, the image of cell {cell}", standing(image)),
             _ => standing(image),
         }
-    }
-}
-
-fn standing(place: Option<Place>) -> String {
-    match place {
-        None => "nowhere".to_string(),
-        Some(Place::Null) => "at #".to_string(),
-        Some(Place::Dangling) => "at *".to_string(),
-        Some(Place::Cell(cell)) => format!("at cell {cell}"),
     }
 }
 

@@ -5,8 +5,10 @@ use std::convert::Infallible;
 
 use crate::baseline::predecessor::each_predecessor;
 use crate::baseline::shape::{Shape, CELL, DANGLING, NOWHERE, NULL};
+use crate::draw::standing;
 use crate::extremes::{pair, shape};
 use crate::pairs::Pair;
+use crate::reference::heap::Place;
 use crate::reference::operation::{operation, Operation, KINDS};
 use crate::routine::words;
 
@@ -96,18 +98,12 @@ fn description(operation: Operation, a: u8, b: u8) -> String {
     let named = [(1, a), (2, b)]
         .into_iter()
         .filter(|&(variable, _)| operation.a == variable || operation.b == variable)
-        .map(|(variable, place)| format!("{} {}", name(variable), standing(place)));
+        .map(|(variable, place)| {
+            let standing = standing(Place::of_code(place.into()));
+            format!("{} {standing}", name(variable))
+        });
     let standing = named.collect::<Vec<_>>().join(", ");
     format!("`{}`, {standing}", words(operation, name))
-}
-
-fn standing(place: u8) -> String {
-    match place {
-        NOWHERE => "nowhere".to_string(),
-        NULL => "at #".to_string(),
-        DANGLING => "at *".to_string(),
-        cell => format!("at cell {}", cell - CELL),
-    }
 }
 
 #[cfg(test)]

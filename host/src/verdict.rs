@@ -3,8 +3,7 @@
 use std::fmt;
 
 /// What a cover can break, by number, in the order in which it is tried.
-#[derive(Clone, Copy, Debug, PartialEq, Eq, PartialOrd, Ord)]
-#[repr(u8)]
+#[derive(Clone, Copy, Debug, PartialEq, Eq)]
 pub enum Rule {
     /// The member has another state.
     State = 1,

@@ -33,11 +33,11 @@ const CHOICES: usize = 1 << (Rule::ALL.len() - 1);
 /// none is; behind the first, every choice of the others comes in its turn.
 pub fn broken(random: &mut Random, turn: usize) -> Pair {
     let first = turn % FIRSTS;
-    let others = turn / FIRSTS % CHOICES;
+    let of_predecessor = turn / FIRSTS % 2 == 1;
+    let others = turn / (2 * FIRSTS) % CHOICES;
     let numbered = Rule::ALL.into_iter().enumerate();
     let chosen = numbered.filter(|&(n, _)| n == first || n > first && others >> (n - 1) & 1 == 1);
     let rules: Vec<Rule> = chosen.map(|(_, rule)| rule).collect();
-    let of_predecessor = turn / (FIRSTS * CHOICES) % 2 == 1;
     loop {
         if let Some(pair) = attempt(random, &rules, of_predecessor) {
             return pair;

@@ -17,7 +17,6 @@ pub enum Reason {
 }
 
 /// A shape that has to be covered.
-#[derive(Clone, Debug, PartialEq, Eq)]
 pub struct Owed {
     pub covered: Located,
     pub reason: Reason,
@@ -123,4 +122,40 @@ pub fn cover_at(job: &Job, certificate: &[u8], place: usize) -> Option<CoverRead
     let members = read_members(&mut reader, job).ok()?;
     let mut covers = read_covers(&mut reader, job, &members).map_while(Result::ok);
     covers.find(|cover| cover.place == place)
+}
+
+#[cfg(test)]
+mod tests {
+    use super::*;
+
+    /// State 0, variable 1 := null, state 1; forbidden there: variable 1 at #.
+    const JOB: [u8; 14] = [1, 1, 2, 0, 1, 0, 3, 1, 0, 1, 1, 1, 0, 1];
+
+    /// Two members at state 1, the second with a cell: each has a predecessor at state 0.
+    const CERTIFICATE: [u8; 13] = [1, 2, 1, 0, 1, 1, 1, 1, 0, 0, 0, 1, 0];
+
+    #[test]
+    fn covers_know_what_they_are_to_cover() {
+        let job = Job::read(&JOB).unwrap();
+        let at = |place| cover_at(&job, &CERTIFICATE, place);
+        let reasons: Vec<Option<Reason>> = (8..14)
+            .map(|place| at(place).map(|cover| cover.owed.reason))
+            .collect();
+        let before = |member| {
+            Some(Reason::Before {
+                member,
+                transition: 0,
+            })
+        };
+        let forbidden = Some(Reason::Forbidden(0));
+        assert_eq!(reasons, [None, forbidden, before(0), before(1), None, None]);
+
+        let last = at(11).expect("a cover begins there");
+        assert_eq!((last.cover.member, last.owed.covered.state), (1, 0));
+        let wrong_state = Broken {
+            rule: Rule::State,
+            name: 0,
+        };
+        assert_eq!(last.broken(), Some(wrong_state));
+    }
 }

@@ -32,7 +32,6 @@ fn extends(shape: &Shape, other: &Shape, images: &mut Vec<usize>) -> bool {
 }
 
 /// A shape, another one, and an image in it for each of the shape's cells.
-#[derive(Clone, Copy)]
 pub struct Map<'a> {
     pub shape: &'a Shape,
     pub other: &'a Shape,
@@ -40,7 +39,6 @@ pub struct Map<'a> {
 }
 
 /// What is met by following links from an image.
-#[derive(Clone, Debug, PartialEq, Eq)]
 pub struct Path {
     /// The cells ahead of the end.
     pub between: Vec<usize>,
