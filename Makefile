@@ -2,7 +2,8 @@
 # make test                         every proof and every test
 # make lib                          target/staticlib/libvorruda.a, for hosts to link
 # make install PREFIX=/usr/local    header, library and pkg-config file; DESTDIR is honoured
-# make try ROUTINE=name-or-file     from a routine as text to a verdict; without ROUTINE, the routines there are
+# make try ROUTINE=name-or-file     from a routine as text to a verdict; without ROUTINE, the routines there are;
+#                                   with CERTIFICATE=file the verdict on a certificate of one's own, ROUTINE being text or a job's bytes
 # make report ROUTINE=name-or-file  a page to look at; without ROUTINE, or with a folder, a table and a page for each routine
 # make bench                        the benchmarks
 
@@ -30,7 +31,7 @@ install:
 # Status 1 says that there is no certificate, which is an answer.
 try:
 	@scripts/lib.sh
-	@scripts/tool.sh try $(if $(ROUTINE),"$(ROUTINE)") || { status=$$?; [ $$status -eq 1 ] || exit $$status; }
+	@scripts/tool.sh try $(if $(ROUTINE),"$(ROUTINE)") $(if $(CERTIFICATE),"$(CERTIFICATE)") || { status=$$?; [ $$status -eq 1 ] || exit $$status; }
 
 report:
 	@scripts/lib.sh
