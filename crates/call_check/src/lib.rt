@@ -44,11 +44,9 @@ pub extern "C" fn vorruda_verdict(job: &[u8], cert: &[u8], out: &mut [u64]) -> u
             0
         }
         Verdict::Refused(refusal, place) => {
-            let values = [
-                place as u64,
-                verdict::rule_number(refusal) as u64,
-                verdict::rule_name(refusal) as u64,
-            ];
+            let rule = verdict::rule_number(refusal) as u64;
+            let name = verdict::rule_name(refusal) as u64;
+            let values = [place as u64, rule, name];
             lend(&values, out);
             verdict::refusal_number(refusal)
         }

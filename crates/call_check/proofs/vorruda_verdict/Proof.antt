@@ -11,14 +11,14 @@ check-requires c κs = search needs
 enum-known-counts : tie.Need-enum-known-counts
 enum-known-counts c = search needs
 
-cast-t11 : tie.Need-cast-t11
-cast-t11 c = search needs
-
-cast-t12 : tie.Need-cast-t12
-cast-t12 c = search needs
-
 cast-t13 : tie.Need-cast-t13
 cast-t13 c = search needs
+
+cast-t14 : tie.Need-cast-t14
+cast-t14 c = search needs
+
+cast-t15 : tie.Need-cast-t15
+cast-t15 c = search needs
 
 slice-aggregate-lend : tie.Need-slice-aggregate-lend
 slice-aggregate-lend c = search needs
@@ -32,14 +32,14 @@ enum-known-refusal c = search needs
 rule-number-requires : tie.Need-rule-number-requires
 rule-number-requires c κs = search needs
 
-cast-t21 : tie.Need-cast-t21
-cast-t21 c = search needs
+cast-rule : tie.Need-cast-rule
+cast-rule c = search needs
 
 rule-name-requires : tie.Need-rule-name-requires
 rule-name-requires c κs = search needs
 
-cast-t23 : tie.Need-cast-t23
-cast-t23 c = search needs
+cast-name : tie.Need-cast-name
+cast-name c = search needs
 
 slice-aggregate-lend-2 : tie.Need-slice-aggregate-lend-2
 slice-aggregate-lend-2 c = search needs
@@ -81,16 +81,16 @@ vorruda-verdict-spec =
     (tie.spec
     check-requires
     enum-known-counts
-    cast-t11
-    cast-t12
     cast-t13
+    cast-t14
+    cast-t15
     slice-aggregate-lend
     lend-requires
     enum-known-refusal
     rule-number-requires
-    cast-t21
+    cast-rule
     rule-name-requires
-    cast-t23
+    cast-name
     slice-aggregate-lend-2
     lend-requires-2
     refusal-number-requires
