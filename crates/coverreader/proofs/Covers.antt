@@ -2,7 +2,7 @@
 use mathlib.Core.Bool.{true, false}
 use mathlib.Core.List.{List}
 use mathlib.Core.Option.{some}
-use mathlib.Core.Path.{_≡_, refl}
+use mathlib.Core.Path.{_≡_, refl, sym, ap, _∙_}
 use Prim.Native.Nat.{ℕ, _+_, _≤_, _<_}
 use native.Mathlib.Omega.{arith}
 use borrow.Author.Tests.{ne-eqb}
@@ -21,9 +21,9 @@ use Rattle.verdict.specs.declared.Refusal.{Refusal}
 use Rattle.verdict.specs.declared.Refusal.the-variants.{CertificateUnreadable, CertificateRange, CoverFails}
 use Rattle.layout.specs.Entries.{locatedAt, isWhole}
 use Rattle.coverreader.proofs.ReadImages.{read-unreadable}
-use Rattle.coverreader.specs.Images.{noImages}
+use Rattle.coverreader.specs.Images.{imagesIn, noImages}
 use Rattle.layout.specs.Members.{memberAt, membersFrom}
-use Rattle.coverreader.specs.Reading.{ImagesRead, CoverIs}
+use Rattle.coverreader.specs.Reading.{imagesOf, ImagesRead, CoverIs}
 use Rattle.coverreader.specs.declared.CoverRead.{CoverRead}
 use Rattle.coverreader.specs.declared.CoverRead.the-variants.{Taken, Refused as NotRead}
 use Rattle.layout.proofs.Whole.{whole}
@@ -38,6 +38,7 @@ module _ (cert : List ℕ) (variables : ℕ) (starts : List ℕ) (at n : ℕ) wh
   cover-unreadable place e =
       record {
         reads = λ covered s z. rw (read-unreadable cert (getElem? (membersFrom cert variables starts)) at place e) refl;
+        numbers = λ m next y. let x : _≡_ {A = ℕ} 0 1 = cc in absurd (omega arith);
         member = λ m next y. let x : _≡_ {A = ℕ} 0 1 = cc in absurd (omega arith);
         whole = λ m next y. let x : _≡_ {A = ℕ} 0 1 = cc in absurd (omega arith);
         images = λ m next y. let x : _≡_ {A = ℕ} 0 1 = cc in absurd (omega arith);
@@ -52,6 +53,7 @@ module _ (cert : List ℕ) (variables : ℕ) (starts : List ℕ) (at n : ℕ) wh
           reads = λ covered s z.
               rw (read-outside (certificateBuffer cert) (getElem? (membersFrom cert variables starts)) at m next e
               (no-element (memberAt cert variables) starts m b)) refl;
+          numbers = λ m next y. let x : _≡_ {A = ℕ} 0 1 = cc in absurd (omega arith);
           member = λ m next y. let x : _≡_ {A = ℕ} 0 1 = cc in absurd (omega arith);
           whole = λ m next y. let x : _≡_ {A = ℕ} 0 1 = cc in absurd (omega arith);
           images = λ m next y. let x : _≡_ {A = ℕ} 0 1 = cc in absurd (omega arith);
@@ -76,6 +78,7 @@ module _ (cert : List ℕ) (variables : ℕ) (starts : List ℕ) (at n : ℕ) wh
                   o,
                   ne-eqb 256 (covered .state) other,
                 ) refl;
+            numbers = λ m next y. let x : _≡_ {A = ℕ} 0 1 = cc in absurd (omega arith);
             member = λ m next y. let x : _≡_ {A = ℕ} 0 1 = cc in absurd (omega arith);
             whole = λ m next y. let x : _≡_ {A = ℕ} 0 1 = cc in absurd (omega arith);
             images = λ m next y. let x : _≡_ {A = ℕ} 0 1 = cc in absurd (omega arith);
@@ -105,6 +108,7 @@ module _ (cert : List ℕ) (variables : ℕ) (starts : List ℕ) (at n : ℕ) wh
                     ← i .reads,
                     y,
                   ) refl;
+              numbers = λ m next y. let x : _≡_ {A = ℕ} 0 1 = cc in absurd (omega arith);
               member = λ m next y. let x : _≡_ {A = ℕ} 0 1 = cc in absurd (omega arith);
               whole = λ m next y. let x : _≡_ {A = ℕ} 0 1 = cc in absurd (omega arith);
               images = λ m next y. let x : _≡_ {A = ℕ} 0 1 = cc in absurd (omega arith);
@@ -124,6 +128,10 @@ module _ (cert : List ℕ) (variables : ℕ) (starts : List ℕ) (at n : ℕ) wh
                     y,
                     size-is,
                   ) refl;
+              numbers = λ m′ next′ z.
+                  let m-is : m ≡ m′ = cc in
+                  let end-is : end ≡ next′ = cc in
+                  rw (← m-is, ← end-is) (next, e, rw (← size-is) (sym (i .reads) ∙ ap (λ q. imagesOf q (imagesIn count codes)) y));
               member = λ m′ next′ y. let x : m ≡ m′ = cc in omega arith;
               whole = λ m′ next′ y. let x : m ≡ m′ = cc in rw (← x) (whole cert variables start w);
               images = λ m′ next′ z. let x : m ≡ m′ = cc in rw (← x, ← size-is) (i .images end y);

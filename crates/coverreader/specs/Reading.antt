@@ -4,6 +4,8 @@ use mathlib.Core.List.{List}
 use mathlib.Core.Path.{_≡_}
 use Prim.Native.Nat.{ℕ, _+_, _<_}
 use lib.ListN.{length, getD}
+use Rattle.number.specs.Number.{numberAt}
+use Rattle.number.specs.declared.Read.the-variants.{Number}
 use Rattle.shape.specs.Shape.{size}
 use Rattle.run.specs.Run.{Located}
 use Rattle.cover.specs.Test.{coverAnswer}
@@ -40,10 +42,12 @@ module _ (cert : List ℕ) (variables : ℕ) (starts : List ℕ) where
       judge (coverAnswer (locatedAt cert variables (getD starts m 0)) (imagesIn (cellsAt m) codes) covered) at next
   coverOf at covered (NotRead r place) codes = fault (reasonOf r) place
 
-  -- what is known of a cover that was read, or refused
+  -- a cover that was read, with its member's number and its images, or refused
   pub record CoverIs (at n : ℕ) (r : CoverRead) (codes : List ℕ) : Type 0 where
     pub reads : (covered : Located) → covered .state < 256 → size (covered .shape) ≡ n
         → coverOf at covered r codes ≡ readCover (certificateBuffer cert) (membersFrom cert variables starts) covered at
+    pub numbers : (m next : ℕ) → r ≡ Taken m next
+        → (mid : ℕ) × (numberAt cert at ≡ Number m mid) × (many (cellsAt m) (ranged (certificateBuffer cert) 0 n) mid ≡ parsed (imagesIn (cellsAt m) codes) next)
     pub member : (m next : ℕ) → r ≡ Taken m next → m < length starts
     pub whole : (m next : ℕ) → r ≡ Taken m next → Whole cert variables (getD starts m 0)
     pub images : (m next : ℕ) → r ≡ Taken m next → ImageCodes (cellsAt m) n codes
