@@ -5,7 +5,7 @@ use Prim.Native.Nat.{ℕ, suc, _<_}
 use native.Mathlib.Omega.{arith}
 use lib.ListN.{length, getD}
 use Rattle.lists.specs.Test.{allFrom, lowest}
-use Rattle.lists.proofs.List.{all-cons, getD-mem}
+use Rattle.lists.proofs.List.{every-cons, getD-mem}
 use Rattle.heap.specs.Place.{cell}
 use Rattle.graph.proofs.Proper.{Closed}
 use Rattle.shape.specs.Shape.{Shape, AllBelow, shapeGraph}
@@ -23,7 +23,7 @@ use Rattle.cases.specs.Rows.{P10, P11, shape, twoLinks, oneLink, fourCel
 
 below : (k : ℕ) (l : List ℕ) → AtMost k l → AllBelow (suc k) l
 below k [] t = λ x i. absurd (List·Memᴰ·not-nil i)
-below k (y ∷ ys) (t, ts) = all-cons (λ x. x < suc k) (omega arith) (below k ys ts)
+below k (y ∷ ys) (t, ts) = every-cons (λ x. x < suc k) (omega arith) (below k ys ts)
 
 -- the shape of two cells or three is closed, by its codes
 closed : (n : ℕ) (links : List ℕ) → length links ≡ n → AtMost (suc (suc n)) links → Closed (shapeGraph (shape (0 ∷ []) links))
@@ -32,7 +32,7 @@ closed n links long codes =
     (record {
       variables-number = refl;
       cells = omega arith;
-      vars = all-cons (λ x. x < cell (length links)) (omega arith) (λ x i. absurd (List·Memᴰ·not-nil i));
+      vars = every-cons (λ x. x < cell (length links)) (omega arith) (λ x i. absurd (List·Memᴰ·not-nil i));
       links = rw long (below (suc (suc n)) links codes);
     })
 

@@ -1,53 +1,51 @@
--- Where a path ends, followed by marks for so many turns.
+-- The way to a stop by marks ends where the path by images ends.
 use mathlib.Core.Bool.{Bool, true, false}
 use mathlib.Core.List.{List}
-use mathlib.Core.Logic.{_≢_}
 use mathlib.Core.Path.{_≡_, refl, sym, ap, _∙_}
-use Prim.Native.Nat.{ℕ, zero, suc, _-_, _≤_, _<_}
+use Prim.Native.Nat.{ℕ, zero, suc, _<_}
+use native.Mathlib.Decide.{ℕ-discrete, decLt}
 use native.Mathlib.Omega.{arith}
 use lib.ListN.{getD}
 use Rattle.heap.specs.Codes.{linkIn}
 use Rattle.heap.specs.Place.{nowhere, cell}
 use Rattle.cover.specs.Test.{stops, walkEnd}
-use Rattle.covering.specs.Marks.{markIn, Walking, endFrom}
+use Rattle.marks.specs.Marks.{cellsIn, markIn, stopFrom}
+use Rattle.marks.proofs.Walks.{stop-none, stop-met, stop-past, stop-more}
+use Rattle.covering.specs.Marks.{Walking, endFrom}
 use Rattle.covering.proofs.Follow.{link-read, marked-end, end-marked}
 use Rattle.covering.proofs.Trail.{free-low, no-link}
 
-module _ (links images used s marks : List ℕ) (n from : ℕ) (w : Walking links images used s marks n from) where
-  -- the path has come to a place, with so many turns left
-  abbrev pub Coming : ℕ → ℕ → Type 0
-  Coming left p = endFrom links images from ≡ walkEnd (linkIn links) (stops images) left p
+module _ (links images used s marks : List ℕ) (from : ℕ) (w : Walking links images used s marks from) where
+  abbrev end : ℕ → ℕ → ℕ
+  end = walkEnd (linkIn links) (stops images)
 
-  pub come-none : (left p : ℕ) → left ≡ n → p ≡ getD s from 0 → Coming left p
-  come-none left p e z =
-      rw (e, z, link-read links s (w .linked) from (w .low, w .high)) (ap (λ (k : ℕ). walkEnd (linkIn links) (stops images) k (linkIn links from)) (w .cells))
+  still : (k : ℕ) → end k nowhere ≡ nowhere
+  still zero = refl
+  still (suc k) = refl
 
-  pub come-last : (left p : ℕ) → left ≡ 0 → Coming left p → 0 ≡ endFrom links images from
-  come-last left p z h = sym (rw z at h)
-
-  module _ (left p : ℕ) (h : Coming left p) (more : 0 < left) where
-    -- one turn
-    turn : endFrom links images from ≡ walkEnd (linkIn links) (stops images) (suc (left - 1)) p
-    turn = let e : left ≡ suc (left - 1) = omega arith in rw e at h
-
-    pub come-end : markIn n marks p ≡ 1 → p ≡ endFrom links images from
-    come-end m = sym (turn ∙ rw (marked-end links images used s marks n from w p m) refl)
-
-    module _ (m : markIn n marks p ≢ 1) where
-      free : (b : Bool) → stops images p ≡ b → stops images p ≡ false
-      free false z = z
-      free true z = absurd (m (end-marked links images used s marks n from w p z))
-
-      go-on : endFrom links images from ≡ walkEnd (linkIn links) (stops images) (left - 1) (linkIn links p)
-      go-on = turn ∙ rw (free (stops images p) refl) refl
-
-      pub come-past : cell n ≤ p → 0 ≡ endFrom links images from
-      come-past b = sym (go-on ∙ rw (no-link links p (omega (arith, w .cells))) (still (left - 1)))
+  ends : (k p : ℕ) → stopFrom k s marks p ≡ end k p
+  ends zero p = stop-none s marks p
+  ends (suc k) p = by-mark (ends k (getD s p 0)) (ℕ-discrete (markIn (cellsIn s) marks p) 1)
+    where
+      by-mark : stopFrom k s marks (getD s p 0) ≡ end k (getD s p 0) → Dec (markIn (cellsIn s) marks p ≡ 1) → stopFrom (suc k) s marks p ≡ end (suc k) p
+      by-mark rest (yes m) = stop-met s marks p k m ∙ rw (marked-end links images used s marks from w p m) refl
+      by-mark rest (no m) = by-place (decLt p (cell (cellsIn s)))
         where
-          still : (k : ℕ) → walkEnd (linkIn links) (stops images) k nowhere ≡ nowhere
-          still zero = refl
-          still (suc k) = refl
+          free : (b : Bool) → stops images p ≡ b → stops images p ≡ false
+          free false z = z
+          free true z = absurd (m (end-marked links images used s marks from w p z))
 
-      pub come-more : p < cell n → Coming (left - 1) (getD s p 0)
-      come-more b =
-          rw (link-read links s (w .linked) p (free-low images p (free (stops images p) refl), omega (arith, w .cells))) go-on
+          on : end (suc k) p ≡ end k (linkIn links p)
+          on = rw (free (stops images p) refl) refl
+
+          by-place : Dec (p < cell (cellsIn s)) → stopFrom (suc k) s marks p ≡ end (suc k) p
+          by-place (yes b) =
+              let link : getD s p 0 ≡ linkIn links p =
+              link-read links s (w .linked) p (free-low images p (free (stops images p) refl), omega (arith, w .cells)) in
+              stop-more s marks p k m b ∙ rest ∙ ap (end k) link ∙ sym on
+          by-place (no b) = stop-past s marks p k m (omega arith) ∙ sym (on ∙ ap (end k) (no-link links p (omega (arith, w .cells))) ∙ still k)
+
+  pub ends-same : stopFrom (cellsIn s) s marks (getD s from 0) ≡ endFrom links images from
+  ends-same =
+      rw (link-read links s (w .linked) from (w .low, w .high))
+      (ends (cellsIn s) (linkIn links from) ∙ ap (λ (k : ℕ). end k (linkIn links from)) (sym (w .cells)))

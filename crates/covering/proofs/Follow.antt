@@ -3,10 +3,9 @@ use mathlib.Core.List.{List, [], _∷_, _++_, List·Memᴰ·head, List·Memᴰ·
 use mathlib.Core.Bool.{true, false}
 use mathlib.Core.Logic.{_≢_, _⊎_, inl, ⊎-elim}
 use mathlib.Core.Path.{_≡_, refl, sym, _∙_}
-use Prim.Native.Nat.{ℕ, _≤_, _<_}
+use Prim.Native.Nat.{ℕ, zero, suc, _≤_, _<_}
 use native.Mathlib.Omega.{arith}
-use native.Mathlib.Decide.{decLt}
-use borrow.Author.Tests.{lt-ltb, le-ltb}
+use native.Mathlib.Decide.{ℕ-discrete, decLt}
 use lib.ListN.{length, getD, set}
 use Rattle.lists.specs.List.{_∈_, absent, disjoint}
 use Rattle.lists.proofs.List.{mem?}
@@ -15,7 +14,9 @@ use Rattle.heap.specs.Codes.{linkIn}
 use Rattle.heap.specs.Place.{nowhere, cell}
 use Rattle.shape.proofs.Laws.{CellOf, by-number}
 use Rattle.cover.specs.Test.{stops}
-use Rattle.covering.specs.Marks.{mark, markIn, Marks, LinksIn, Walking, endFrom, pathFrom, Followed}
+use Rattle.marks.specs.Marks.{Walk, markIn, cellsIn, walked}
+use Rattle.marks.proofs.Walks.{frees, frees-most, frees-less, mark-read, mark-past, mark-in, walk-more, walk-met}
+use Rattle.covering.specs.Marks.{mark, Marks, LinksIn, Walking, endFrom, pathFrom, Followed}
 use Rattle.covering.proofs.Marks.{mark-free, mark-stop, marks-like, marks-use}
 use Rattle.covering.proofs.Trail.{free-low, Trail, trail-none, trail-more, trail-past, trail-found, trail-lost}
 
@@ -33,25 +34,10 @@ pub record Following (links images used : List ℕ) (from : ℕ) (marks : List �
   pub trail : Trail links images used from path p
   pub marked : Marks images (path ++ used) marks
 
--- ---- a mark
+module _ (links images used s marks₀ : List ℕ) (from : ℕ) (w : Walking links images used s marks₀ from) where
+  abbrev n : ℕ
+  n = cellsIn s
 
-module _ (n : ℕ) (marks : List ℕ) (p : ℕ) where
-  pub mark-read : p < cell n → markIn n marks p ≡ getD marks p 0
-  unfolding markIn
-  mark-read b = rw (lt-ltb p (cell n) b) refl
-
-  pub mark-past : cell n ≤ p → markIn n marks p ≡ 2
-  unfolding markIn
-  mark-past b = rw (le-ltb p (cell n) b) refl
-
-  pub mark-in : markIn n marks p ≡ 0 → (p < cell n) × (getD marks p 0 ≡ 0)
-  mark-in z = go (decLt p (cell n))
-    where
-      go : Dec (p < cell n) → (p < cell n) × (getD marks p 0 ≡ 0)
-      go (yes b) = (b, sym (mark-read b) ∙ z)
-      go (no b) = absurd (omega (arith, mark-past (omega arith)))
-
-module _ (links images used s marks₀ : List ℕ) (n from : ℕ) (w : Walking links images used s marks₀ n from) where
   -- exactly an end is marked as one
   module _ (passed marks : List ℕ) (k : Marks images passed marks) (p : ℕ) where
     here-is : p < cell n → getD marks p 0 ≡ mark (stops images p) (absent p passed)
@@ -156,3 +142,32 @@ module _ (links images used s marks₀ : List ℕ) (n from : ℕ) (w : Walking l
   follow-direct r e stop =
       let f = rw e at follow-none in
       follow-met marks₀ r f (λ z. let one : 1 ≡ 0 = sym (end-marked r stop) ∙ z in omega arith)
+
+  -- ---- the walk by marks ends where the path by images ends
+
+  module _ (marks : List ℕ) (p : ℕ) (f : Following links images used from marks p) (e : markIn n marks p ≡ 0) where
+    less : frees (set marks p 2) < frees marks
+    less =
+        let (b, z) = mark-in n marks p e in
+        frees-less marks p 2 (omega (arith, here-in marks p f b, f .marked .room)) z (omega arith)
+
+    more : Following links images used from (set marks p 2) (getD s p 0)
+    more = let (b, z) = mark-in n marks p e in follow-more marks p f b z
+
+  follows : (k : ℕ) (marks : List ℕ) (p : ℕ) → frees marks ≤ k → Following links images used from marks p
+      → Followed links images used from (walked k s marks p .end) (walked k s marks p .marks)
+  follows zero marks p h f =
+      let o : markIn n marks p ≢ 0 = λ e. omega (arith, less marks p f e) in
+      rw (walk-met s 0 marks p o) (follow-met marks p f o)
+  follows (suc k) marks p h f =
+      by-mark (ℕ-discrete (markIn n marks p) 0)
+      (λ e. follows k (set marks p 2) (getD s p 0) (omega (arith, less marks p f e)) (more marks p f e))
+    where
+      by-mark : Dec (markIn n marks p ≡ 0)
+          → (markIn n marks p ≡ 0 → Followed links images used from (walked k s (set marks p 2) (getD s p 0) .end) (walked k s (set marks p 2) (getD s p 0) .marks))
+          → Followed links images used from (walked (suc k) s marks p .end) (walked (suc k) s marks p .marks)
+      by-mark (yes e) rest = rw (walk-more s k marks p e) (rest e)
+      by-mark (no o) rest = rw (walk-met s (suc k) marks p o) (follow-met marks p f o)
+
+  pub walk-follows : Followed links images used from (walked (length marks₀) s marks₀ (getD s from 0) .end) (walked (length marks₀) s marks₀ (getD s from 0) .marks)
+  walk-follows = follows (length marks₀) marks₀ (getD s from 0) (frees-most marks₀) follow-none

@@ -1,6 +1,6 @@
 -- The test of the links, cell by cell.
 use mathlib.Core.Bool.{Bool, true}
-use mathlib.Core.List.{List}
+use mathlib.Core.List.{List, []}
 use mathlib.Core.Logic.{_≢_}
 use mathlib.Core.Option.{some, none}
 use mathlib.Core.Path.{_≡_, sym, ap, ap₂, _∙_}
@@ -8,7 +8,7 @@ use Prim.Native.Nat.{ℕ, _+_, _≤_, _<_}
 use native.Mathlib.Decide.{decLt}
 use native.Mathlib.Numerals.{add-one}
 use native.Mathlib.Omega.{arith}
-use borrow.Author.Tests.{eq-eqb, ne-eqb}
+use borrow.Author.Tests.{eqb-true, eq-eqb, ne-eqb}
 use lib.Dec.{eqb}
 use lib.ListN.{length, getD}
 use Rattle.lists.specs.Test.{lowest}
@@ -22,11 +22,14 @@ use Rattle.coverreader.specs.Images.{imagesIn}
 use Rattle.covering.specs.Images.{imageIn, pathFits}
 use Rattle.covering.specs.Marks.{Marks, Walking, endFrom, Followed, Linking}
 use Rattle.coverreader.proofs.Images.{images-length, image-at}
+use Rattle.marks.specs.Marks.{markIn, cellsIn, isStop, walked, stopFrom}
 use Rattle.covering.proofs.Images.{image-of}
+use Rattle.covering.proofs.Follow.{walk-follows}
+use Rattle.covering.proofs.Ends.{ends-same}
 use Rattle.covering.proofs.Paths.{path-none, link-none, link-some, below-none, path-good, path-bad}
 
-module _ (member covered : Shape) (cert : List ℕ) (first count : ℕ) (codes marks₀ : List ℕ) (n : ℕ) (s : List ℕ)
-    (l : Linking member covered cert first count codes marks₀ n s) where
+module _ (member covered : Shape) (cert : List ℕ) (first count : ℕ) (codes marks₀ s : List ℕ)
+    (l : Linking member covered cert first count codes marks₀ s) where
   abbrev images : List ℕ
   images = imagesIn count codes
 
@@ -55,7 +58,7 @@ module _ (member covered : Shape) (cert : List ℕ) (first count : ℕ) (codes m
       pub image-of-cell : from ≡ imageMap images (cell i)
       image-of-cell = g ∙ sym (image-at count (size covered) codes (l .images) i b)
 
-      pub walk-from : (used marks : List ℕ) → Marks images used marks → Walking (covered .links) images used s marks n from
+      pub walk-from : (used marks : List ℕ) → Marks images used marks → Walking (covered .links) images used s marks from
       walk-from used marks marked =
           record {
             cells = l .covered-cells;
@@ -76,6 +79,13 @@ module _ (member covered : Shape) (cert : List ℕ) (first count : ℕ) (codes m
               let d : j < count = omega (arith, images-length count (size covered) codes (l .images)) in
               omega (arith, z, image-at count (size covered) codes (l .images) j d, l .images .high j d)
 
+  -- a stop by its mark
+  pub is-a-stop : (marks : List ℕ) (r : ℕ) → isStop s marks r ≡ true → markIn (size covered) marks r ≡ 1
+  is-a-stop marks r e = rw (l .covered-cells) (eqb-true (markIn (cellsIn s) marks r) 1 e)
+
+  pub told-a-stop : (marks : List ℕ) (r : ℕ) → markIn (size covered) marks r ≡ 1 → isStop s marks r ≡ true
+  told-a-stop marks r e = eq-eqb (markIn (cellsIn s) marks r) 1 (rw (l .covered-cells) at e)
+
   module _ (marks : List ℕ) (i : ℕ) (f : Fitting marks i) where
     pub fit-all : count ≤ i → lowest count 0 test ≡ none
     fit-all b = pass-all test count i (f .passing) b
@@ -91,8 +101,14 @@ module _ (member covered : Shape) (cert : List ℕ) (first count : ℕ) (codes m
           }
 
       module _ (from : ℕ) (g : from ≡ getD codes (i + 3) 0) where
-        pub fit-walk : Walking (covered .links) images (betweenBelow member covered images i) s marks n from
+        pub fit-walk : Walking (covered .links) images (betweenBelow member covered images i) s marks from
         fit-walk = walk-from i b p e from g (betweenBelow member covered images i) marks (f .marked)
+
+        -- what the walk by marks gives
+        pub fit-walked : (q r : ℕ) (marks′ : List ℕ) → q ≡ getD s from 0 → r ≡ walked (length marks) s marks q .end
+            → marks′ ≡ walked (length marks) s marks q .marks → Followed (covered .links) images (betweenBelow member covered images i) from r marks′
+        fit-walked q r marks′ z a c =
+            rw (a, c, z) (walk-follows (covered .links) images (betweenBelow member covered images i) s marks from fit-walk)
 
         module _ (o : p ≢ nowhere) (end : ℕ) (t : end ≡ imageIn codes p) (r : ℕ) (marks′ : List ℕ)
             (w : Followed (covered .links) images (betweenBelow member covered images i) from r marks′) where
@@ -124,8 +140,11 @@ module _ (member covered : Shape) (cert : List ℕ) (first count : ℕ) (codes m
     pub meet-skip : p ≡ nowhere → Passing meets count (i + 1)
     meet-skip z = pass-more meets count i k b (link-none member covered images i (sym (link-of i b p e) ∙ z))
 
-    module _ (from : ℕ) (g : from ≡ getD codes (i + 3) 0) (o : p ≢ nowhere) (end : ℕ) (t : end ≡ imageIn codes p) (r : ℕ)
-        (w : r ≡ endFrom (covered .links) images from) where
+    module _ (from : ℕ) (g : from ≡ getD codes (i + 3) 0) (o : p ≢ nowhere) (end : ℕ) (t : end ≡ imageIn codes p) (q r : ℕ) (z : q ≡ getD s from 0)
+        (a : r ≡ stopFrom (cellsIn s) s marks₀ q) where
+      w : r ≡ endFrom (covered .links) images from
+      w = a ∙ ap (stopFrom (cellsIn s) s marks₀) z ∙ ends-same (covered .links) images [] s marks₀ from (walk-from i b p e from g [] marks₀ (l .marked))
+
       at-end : linkMeets member covered images i ≡ eqb r end
       at-end =
           link-some member covered images i (λ z. o (link-of i b p e ∙ z))

@@ -10,7 +10,7 @@ use borrow.Author.Tests.{eq-eqb, ne-eqb, le-ltb}
 use lib.Dec.{eqb, eqb-refl, ltb}
 use lib.ListN.{length, getD, set, length-set, replicate, getD-replicate}
 use lib.Seq.{getD-set-same, getD-set-other}
-use Rattle.lists.specs.List.{_∈_, absent}
+use Rattle.lists.specs.List.{_∈_, Every, absent}
 use Rattle.lists.proofs.Reflect.{is-true, r-absent, same-test}
 use Rattle.heap.specs.Place.{cell}
 use Rattle.cover.specs.Test.{isImage, stops}
@@ -39,27 +39,11 @@ marks-none = record { room = refl; marked = go }
     go (suc (suc zero)) b = refl
     go (suc (suc (suc i))) b = getD-replicate 25 i 0 0 (omega arith) ∙ rw (le-ltb (cell i) (cell 0) (omega arith)) refl
 
--- ---- how many places are free
-
-unfoldable pub frees : List ℕ → ℕ
-frees [] = 0
-frees (m ∷ ms) = cond (eqb m 0) (suc (frees ms)) (frees ms)
-
-pub frees-less : (ms : List ℕ) (p v : ℕ) → p < length ms → getD ms p 0 ≡ 0 → v ≢ 0 → frees (set ms p v) < frees ms
-unfolding frees
-frees-less [] p v b e n = absurd (omega arith)
-frees-less (m ∷ ms) zero v b e n = simp (eq-eqb m 0 e, ne-eqb v 0 n) (omega arith)
-frees-less (m ∷ ms) (suc p) v b e n = go (eqb m 0) (frees-less ms p v (omega arith) e n)
-  where
-    go : (z : Bool) → frees (set ms p v) < frees ms → cond z (suc (frees (set ms p v))) (frees (set ms p v)) < cond z (suc (frees ms)) (frees ms)
-    go true h = omega arith
-    go false h = h
-
 -- ---- one place more is marked
 
 module _ (images used marks : List ℕ) (m : Marks images used marks) where
   -- the same, where the same cells are used
-  pub marks-like : (used′ : List ℕ) → ((x : ℕ) → x ∈ used → x ∈ used′) → ((x : ℕ) → x ∈ used′ → x ∈ used) → Marks images used′ marks
+  pub marks-like : (used′ : List ℕ) → Every (λ x. x ∈ used′) used → Every (λ x. x ∈ used) used′ → Marks images used′ marks
   marks-like used′ f g =
       record {
         room = m .room;

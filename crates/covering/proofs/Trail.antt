@@ -8,21 +8,13 @@ use native.Mathlib.Omega.{arith}
 use lib.Dec.{ltb}
 use lib.ListN.{length, length-append, List·getD-eq-default}
 use Rattle.lists.specs.List.{_∈_, disjoint}
-use Rattle.lists.proofs.List.{all-cons, Distinct, distinct-snoc, pigeonhole}
+use Rattle.lists.proofs.List.{every-cons, every-snoc, Distinct, distinct-snoc, pigeonhole}
 use Rattle.lists.proofs.Reflect.{is-false, passes, fails, r-lt, r-disjoint}
 use Rattle.heap.specs.Codes.{linkIn}
 use Rattle.heap.specs.Place.{nowhere, cell}
 use Rattle.shape.proofs.Laws.{CellOf}
 use Rattle.cover.specs.Test.{isImage, stops, walkEnd, walked}
 use Rattle.covering.specs.Marks.{endFrom, pathFrom}
-
--- what holds of each member of xs and of y
-all-snoc : (P : ℕ → Type 0) (xs : List ℕ) (y : ℕ) → ((x : ℕ) → x ∈ xs → P x) → P y → (x : ℕ) → x ∈ (xs ++ (y ∷ [])) → P x
-all-snoc P xs y h p x m = cases (List·Memᴰ·append-cases xs m)
-  where
-    cases : (x ∈ xs) ⊎ (x ∈ (y ∷ [])) → P x
-    cases (inl i) = h x i
-    cases (inr i) = subst P (sym (List·Memᴰ·eq-of-singleton i)) p
 
 last-mem : (xs : List ℕ) (y : ℕ) → y ∈ (xs ++ (y ∷ []))
 last-mem xs y = Memᴰ·append-right xs (List·Memᴰ·head refl)
@@ -104,7 +96,7 @@ module _ (links images used : List ℕ) (from : ℕ) where
       short : length path < length links
       short =
           pigeonhole (cell 0) (length links) (from ∷ path) ((λ m. fails (stop from) (t .free from m) (passes (stop from) s)), t .distinct)
-          (all-cons (λ x. (cell 0 ≤ x) × (x < cell 0 + length links)) (c .0, omega arith) (λ x m. let (a, b) = t .cells x m in (a, omega arith)))
+          (every-cons (λ x. (cell 0 ≤ x) × (x < cell 0 + length links)) (c .0, omega arith) (λ x m. let (a, b) = t .cells x m in (a, omega arith)))
 
       pub trail-more : q < cell (length links) → stop q ≡ false → ¬ (q ∈ path) → ¬ (q ∈ used) → Trail (path ++ (q ∷ [])) (link q)
       trail-more b e o u = go (t .left) refl
@@ -122,11 +114,11 @@ module _ (links images used : List ℕ) (from : ℕ) where
                 ends = t .ends ∙ rw (z, e) refl;
                 passes = t .passes ∙ rw (z, e) (sym (append-assoc path (q ∷ []) (walked link stop k (link q))));
                 distinct = distinct-snoc path q (t .distinct) o;
-                cells = all-snoc (CellOf (length links)) path q (t .cells) (free-low images q e, b);
-                free = all-snoc (λ x. stop x ≡ false) path q (t .free) e;
-                unused = all-snoc (λ x. ¬ (x ∈ used)) path q (t .unused) u;
+                cells = every-snoc (CellOf (length links)) path (t .cells) (free-low images q e, b);
+                free = every-snoc (λ x. stop x ≡ false) path (t .free) e;
+                unused = every-snoc (λ x. ¬ (x ∈ used)) path (t .unused) u;
                 continues =
-                    all-snoc (λ x. (link x ∈ (path ++ (q ∷ []))) ⊎ (link x ≡ link q)) path q (λ x m. widen (link x) (t .continues x m)) (inr refl);
+                    every-snoc (λ x. (link x ∈ (path ++ (q ∷ []))) ⊎ (link x ≡ link q)) path (λ x m. widen (link x) (t .continues x m)) (inr refl);
                 begins = widen (link from) (t .begins);
               }
 

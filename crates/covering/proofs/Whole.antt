@@ -4,7 +4,7 @@ use mathlib.Core.List.{List, []}
 use mathlib.Core.Logic.{_≢_}
 use mathlib.Core.Option.{Option, some, none}
 use mathlib.Core.Path.{_≡_, refl, sym, ap, ap₂, _∙_}
-use Prim.Native.Nat.{ℕ, suc, _+_, _≤_, _<_, min}
+use Prim.Native.Nat.{ℕ, suc, _+_, _≤_, _<_}
 use native.Mathlib.Decide.{decLt}
 use native.Mathlib.Numerals.{add-one}
 use native.Mathlib.Omega.{arith}
@@ -28,22 +28,19 @@ use Rattle.covering.specs.Marks.{Marks, LinksIn, Linking}
 use Rattle.coverreader.proofs.Images.{images-length}
 use Rattle.covering.proofs.Images.{image-of}
 
-module _ (cert : List ℕ) (variables start : ℕ) (codes : List ℕ) (n : ℕ) (s : List ℕ) (t : Tested cert variables start codes n s) where
+module _ (cert : List ℕ) (variables start : ℕ) (codes s : List ℕ) (t : Tested cert variables start codes s) where
   -- ---- the covered shape
 
-  held-length : length (linksIn s) ≡ min (cellCount s) 25
-  held-length =
-      let rest : length (drop 3 s) ≡ 25 = length-drop 3 s ∙ omega (arith, t .room) in
-      length-take (cellCount s) (drop 3 s) ∙ ap (min (cellCount s)) rest
+  abbrev n : ℕ
+  n = size (shapeIn variables s)
 
   covered-linked : LinksIn (linksIn s) s
   covered-linked =
       record {
-        room = t .room;
-        fit = omega (arith, held-length);
+        fit = t .images .most;
         same = λ i b.
             let swap : 3 + i ≡ cell i = omega arith in
-            rw (← swap) (sym (getD-take (cellCount s) (drop 3 s) i 0 (omega (arith, held-length)) ∙ getD-drop 3 s i 0));
+            rw (← swap) (sym (getD-take (cellCount s) (drop 3 s) i 0 (omega (arith, length-take (cellCount s) (drop 3 s))) ∙ getD-drop 3 s i 0));
       }
 
   -- ---- the member
@@ -70,14 +67,14 @@ module _ (cert : List ℕ) (variables start : ℕ) (codes : List ℕ) (n : ℕ) 
   member-var : (i : ℕ) → i < variables → getD cert (start + 2 + i) 0 ≡ varAt member (suc i)
   member-var i b = sym (getD-take variables (drop (start + 2) cert) i 0 b ∙ getD-drop (start + 2) cert i 0)
 
-  linking : (marks : List ℕ) → Marks images [] marks → Linking member covered cert (start + 2 + variables) cells codes marks n s
+  linking : (marks : List ℕ) → Marks images [] marks → Linking member covered cert (start + 2 + variables) cells codes marks s
   linking marks m =
       record {
         inside = t .whole .inside;
         cells = member-size;
         same = λ i b. sym (getD-take cells (drop (start + 2 + variables) cert) i 0 b ∙ getD-drop (start + 2 + variables) cert i 0);
-        covered-cells = t .held;
-        images = rw (t .held) (t .images);
+        covered-cells = refl;
+        images = t .images;
         linked = covered-linked;
         marked = m;
       }
@@ -190,16 +187,17 @@ module _ (cert : List ℕ) (variables start : ℕ) (codes : List ℕ) (n : ℕ) 
         (record {
           room = t .images .room;
           few = t .images .few;
+          most = omega arith;
           nowhere-fixed = t .images .nowhere-fixed;
           null-fixed = t .images .null-fixed;
           dangling-fixed = t .images .dangling-fixed;
           low = t .images .low;
-          high = λ i b. omega (arith, t .held, t .images .high i b, held-length);
+          high = λ i b. omega (arith, t .images .high i b, t .images .most);
           rest = t .images .rest;
         })
 
     pub linking-read : (marks : List ℕ) → Marks (imagesIn count codes) [] marks
-        → Linking member covered cert (start + 2 + variables) count codes marks n s
+        → Linking member covered cert (start + 2 + variables) count codes marks s
     linking-read marks = rw read (linking marks)
 
     pub once-read : once images ≡ true → once (imagesIn count codes) ≡ true

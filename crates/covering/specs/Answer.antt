@@ -2,7 +2,7 @@
 use mathlib.Core.List.{List}
 use mathlib.Core.Path.{_≡_}
 use Prim.Native.Nat.{ℕ, _+_}
-use lib.ListN.{length, getD}
+use lib.ListN.{getD}
 use Rattle.lists.specs.Test.{lowest}
 use Rattle.shape.specs.Shape.{Shape, size}
 use Rattle.cover.specs.Test.{linkMeets, pathUnshared, Answer, holds, broken, orElse}
@@ -29,12 +29,10 @@ abbrev pub withoutMember : CoverRead → Reached
 withoutMember (Taken m next) = At next
 withoutMember (NotRead r place) = Refused r place
 
--- a member stands whole at a place, a shape of n cells is in an array, and the member's cells have images in it
-pub record Tested (cert : List ℕ) (variables start : ℕ) (codes : List ℕ) (n : ℕ) (s : List ℕ) : Type 0 where
+-- a member stands whole at a place, and its cells have images in the shape in an array
+pub record Tested (cert : List ℕ) (variables start : ℕ) (codes s : List ℕ) : Type 0 where
   pub whole : Whole cert variables start
-  pub room : length s ≡ 28
-  pub held : size (shapeIn variables s) ≡ n
-  pub images : ImageCodes (getD cert (start + 1) 0) n codes
+  pub images : ImageCodes (getD cert (start + 1) 0) (size (shapeIn variables s)) codes
 
 -- what the last two rules say
 abbrev pub pathsAnswer : Shape → Shape → List ℕ → ℕ → Answer

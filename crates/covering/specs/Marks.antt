@@ -1,10 +1,9 @@
 -- Marks by the code of a place, while the paths of a cover are followed.
-use mathlib.Core.Bool.{Bool, true, false, cond}
+use mathlib.Core.Bool.{Bool, true, false}
 use mathlib.Core.List.{List, [], _++_}
 use mathlib.Core.Logic.{_⊎_}
 use mathlib.Core.Path.{_≡_}
 use Prim.Native.Nat.{ℕ, _+_, _≤_, _<_}
-use lib.Dec.{ltb}
 use lib.ListN.{length, getD}
 use Rattle.lists.specs.List.{absent, disjoint}
 use Rattle.heap.specs.Codes.{linkIn}
@@ -12,6 +11,7 @@ use Rattle.heap.specs.Place.{nowhere, cell}
 use Rattle.shape.specs.Shape.{Shape, size}
 use Rattle.cover.specs.Test.{stops, walkEnd, walked}
 use Rattle.coverreader.specs.Images.{imagesIn, ImageCodes}
+use Rattle.marks.specs.Marks.{markIn, cellsIn}
 
 -- the mark of a place at which a path ends or not, and that no path has used or one has: 0 is free, 1 a stop, 2 used
 abbrev pub mark : Bool → Bool → ℕ
@@ -24,19 +24,14 @@ pub record Marks (images used marks : List ℕ) : Type 0 where
   pub room : length marks ≡ 28
   pub marked : (p : ℕ) → p < 28 → getD marks p 0 ≡ mark (stops images p) (absent p used)
 
--- the mark of a place in a shape of n cells; one past its cells counts as used
-unfoldable pub markIn : ℕ → List ℕ → ℕ → ℕ
-markIn n marks p = cond (ltb p (cell n)) (getD marks p 0) 2
-
 -- these are the links of the shape in an array
 pub record LinksIn (links s : List ℕ) : Type 0 where
-  pub room : length s ≡ 28
   pub fit : length links ≤ 25
   pub same : (i : ℕ) → i < length links → getD s (cell i) 0 ≡ getD links i 0
 
--- a path may be followed from a cell that is an image, in a shape of n cells
-pub record Walking (links images used s marks : List ℕ) (n from : ℕ) : Type 0 where
-  pub cells : length links ≡ n
+-- a path may be followed from a cell that is an image, in the shape in an array
+pub record Walking (links images used s marks : List ℕ) (from : ℕ) : Type 0 where
+  pub cells : length links ≡ cellsIn s
   pub linked : LinksIn links s
   pub marked : Marks images used marks
   pub low : cell 0 ≤ from
@@ -62,12 +57,12 @@ pub record Followed (links images used : List ℕ) (from r : ℕ) (marks : List 
   pub marked-stop : markIn (length links) marks r ≡ 1 → stops images r ≡ true
   pub stop-marked : stops images r ≡ true → markIn (length links) marks r ≡ 1
 
--- The paths of a member's links may be followed in a shape of n cells: the links are the bytes from a place on, and no path has used a cell.
-pub record Linking (member covered : Shape) (cert : List ℕ) (first count : ℕ) (codes marks : List ℕ) (n : ℕ) (s : List ℕ) : Type 0 where
+-- The paths of a member's links may be followed in the shape in an array: the links are the bytes from a place on, and no path has used a cell.
+pub record Linking (member covered : Shape) (cert : List ℕ) (first count : ℕ) (codes marks s : List ℕ) : Type 0 where
   pub inside : first + count ≤ length cert
   pub cells : size member ≡ count
   pub same : (i : ℕ) → i < count → getD cert (first + i) 0 ≡ getD (member .links) i 0
-  pub covered-cells : size covered ≡ n
+  pub covered-cells : size covered ≡ cellsIn s
   pub images : ImageCodes count (size covered) codes
   pub linked : LinksIn (covered .links) s
   pub marked : Marks (imagesIn count codes) [] marks

@@ -1,5 +1,5 @@
 -- What the quick test of a cover says where it accepts.
-use mathlib.Core.Bool.{true}
+use mathlib.Core.Bool.{Bool, true}
 use mathlib.Core.List.{List, []}
 use mathlib.Core.Path.{_≡_}
 use Prim.Native.Nat.{ℕ, _+_}
@@ -19,6 +19,13 @@ pub record ImagesMarked (cert : List ℕ) (first n count : ℕ) (codes marks : L
   pub read : ImagesRead cert first n count (At (first + count)) codes
   pub apart : once (imagesIn count codes) ≡ true
   pub marked : Marks (imagesIn count codes) [] marks
+
+-- What reading and marking left, whatever was marked before: the images read are marked and nothing else, and where it did not end early they are so many
+-- and differ.
+pub record ReadAndMarked (cert : List ℕ) (first n count : ℕ) (r : Bool) (codes marks : List ℕ) : Type 0 where
+  pub taken : ℕ
+  pub marked : Marks (imagesIn taken codes) [] marks
+  pub whole : r ≡ true → ImagesMarked cert first n count codes marks
 
 -- so many images are read from a place on, and embed the member that starts at a place in the shape in an array
 pub record ImagesEmbed (cert : List ℕ) (start variables first count : ℕ) (s : List ℕ) : Type 0 where

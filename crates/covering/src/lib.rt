@@ -1,13 +1,12 @@
 // One cover, read and tested.
-use crate::fitting::wide;
 use crate::quick::images_embed;
 use crate::rules::Answer;
 use crate::rules::cover_answer;
 use coverreader::CoverRead;
 use coverreader::read_cover;
-use layout::cells_held;
 use number::Read;
 use number::read_number;
+use number::wide;
 use verdict::Reached;
 use verdict::Refusal;
 ghost use mathlib.Core.Logic.{_≢_};
@@ -51,7 +50,7 @@ pub fn exact_cover(
     };
     let start = starts[m] as usize;
     let images = reading.images;
-    let answer = cover_answer(cert, start, variables, state, &images, cells_held(s), s);
+    let answer = cover_answer(cert, start, variables, state, &images, s);
     match answer {
         Answer::Holds => Reached::At(next),
         Answer::Breaks(broken) => Reached::Refused(Refusal::CoverFails(broken), at),

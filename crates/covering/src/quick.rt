@@ -1,25 +1,25 @@
 // A quick test that images embed a member in a shape. It takes images of one byte only, and marks each of them as it is read.
-use crate::fitting::FREE;
-use crate::fitting::STOP;
-use crate::fitting::walk;
-use crate::fitting::wide;
 use coverreader::NO_IMAGES;
 use layout::cells_held;
+use marks::clear;
+use marks::mark_image;
+use marks::walk;
+use number::wide;
 ghost use mathlib.Core.Bool.{true};
 ghost use mathlib.Core.Option.{none};
 ghost use mathlib.Core.Path.{_≡_};
 ghost use Prim.Native.Nat.{_+_, _≤_};
-ghost use lib.ListN.{length, getD, replicate};
+ghost use lib.ListN.{length, getD};
 ghost use Rattle.lists.specs.Test.{lowest};
 ghost use Rattle.shape.specs.Shape.{Shape};
 ghost use Rattle.layout.specs.Entries.{Whole};
 ghost use Rattle.coverreader.specs.Images.{imagesIn, ImageCodes};
 ghost use Rattle.covering.specs.Images.{varFitsIn, pathFits};
 ghost use Rattle.covering.specs.Marks.{Linking};
-ghost use Rattle.covering.specs.Quick.{ImagesMarked, ImagesEmbed};
+ghost use Rattle.covering.specs.Quick.{ReadAndMarked, ImagesEmbed};
 
-// Reads so many images, each one byte and below n, and marks them as stops, as well as nowhere, # and *. False where an image is not so, or
-// two are the same.
+// Reads so many images, each one byte and below n, and marks them, whatever was marked before. It ends, with false, where an image is not so, or was
+// read before.
 fn read_and_mark(
     cert: &[u8],
     first: usize,
@@ -28,23 +28,19 @@ fn read_and_mark(
     images: &mut [u8; 15],
     marks: &mut [u8; 28],
 ) -> bool
-    requires { ⌜ (first + count ≤ length (now cert)) × (count ≤ 12) × (n ≤ 25) × ImageCodes 0 n (now images) × (now marks ≡ replicate 28 0) ⌝ }
-    ensures { λ r. ⌜ (r ≡ true → ImagesMarked (now (cert .entry)) first n count (now (images .exit)) (now (marks .exit))) ⌝ }
+    requires { ⌜ (first + count ≤ length (now cert)) × (count ≤ 12) × (n ≤ 25) × ImageCodes 0 n (now images) ⌝ }
+    ensures { λ r. ⌜ ReadAndMarked (now (cert .entry)) first n count r (now (images .exit)) (now (marks .exit)) ⌝ }
 {
-    marks[0] = STOP;
-    marks[1] = STOP;
-    marks[2] = STOP;
+    clear(marks);
     let mut i = 0;
     while i < count {
         let c = cert[first + i];
         if n <= wide(c) {
             return false;
         }
-        let p = wide(c) + 3;
-        if marks[p] != FREE {
+        if !mark_image(marks, wide(c) + 3) {
             return false;
         }
-        marks[p] = STOP;
         images[i + 3] = c + 3;
         i += 1;
     }
@@ -80,11 +76,10 @@ fn quick_links(
     count: usize,
     images: &[u8; 15],
     marks: &mut [u8; 28],
-    n: usize,
     s: &[u8; 28],
 ) -> bool
-    requires { ⌜ ((member : Shape) × (covered : Shape) × Linking member covered (now cert) first count (now images) (now marks) n (now s)) ⌝ }
-    ensures { λ r. ⌜ ((member covered : Shape) → Linking member covered (now (cert .entry)) first count (now (images .entry)) (now (marks .entry)) n (now (s .entry)) → r ≡ true → lowest count 0 (pathFits member covered (imagesIn count (now (images .entry)))) ≡ none) ⌝ }
+    requires { ⌜ ((member : Shape) × (covered : Shape) × Linking member covered (now cert) first count (now images) (now marks) (now s)) ⌝ }
+    ensures { λ r. ⌜ ((member covered : Shape) → Linking member covered (now (cert .entry)) first count (now (images .entry)) (now (marks .entry)) (now (s .entry)) → r ≡ true → lowest count 0 (pathFits member covered (imagesIn count (now (images .entry)))) ≡ none) ⌝ }
 {
     let mut i = 0;
     while i < count {
@@ -96,7 +91,7 @@ fn quick_links(
             let from = wide(images[i + 3]);
             // no walk where the link is to the image itself
             if s[from] != images[p] {
-                if walk(n, s, marks, from) != wide(images[p]) {
+                if walk(s, marks, wide(s[from])) != wide(images[p]) {
                     return false;
                 }
             }
@@ -127,13 +122,5 @@ pub(crate) fn images_embed(
     if !quick_vars(cert, start + 2, variables, &images, s) {
         return false;
     }
-    quick_links(
-        cert,
-        start + 2 + variables,
-        count,
-        &images,
-        &mut marks,
-        n,
-        s,
-    )
+    quick_links(cert, start + 2 + variables, count, &images, &mut marks, s)
 }

@@ -1,11 +1,10 @@
 // The exact test of one cover, rule by rule in document 02's order, and what it names where a rule is broken.
-use crate::fitting::STOP;
 use crate::fitting::image_of;
-use crate::fitting::mark_at;
 use crate::fitting::mark_images;
 use crate::fitting::path_fails;
 use crate::fitting::variable_elsewhere;
-use crate::fitting::wide;
+use marks::stop_from;
+use number::wide;
 use verdict::Broken;
 use verdict::IMAGE_TWICE;
 use verdict::LINK_MISSES;
@@ -13,10 +12,9 @@ use verdict::SHARED_PATH;
 use verdict::VARIABLE_ELSEWHERE;
 use verdict::WRONG_STATE;
 ghost use mathlib.Core.Bool.{true};
-ghost use mathlib.Core.List.{List};
 ghost use mathlib.Core.Option.{some};
 ghost use mathlib.Core.Path.{_≡_};
-ghost use Prim.Native.Nat.{ℕ, _+_, _<_};
+ghost use Prim.Native.Nat.{_+_, _<_};
 ghost use lib.ListN.{getD};
 ghost use Rattle.lists.specs.Test.{lowest, numberOr};
 ghost use Rattle.shape.specs.Shape.{Shape};
@@ -26,7 +24,7 @@ ghost use Rattle.layout.specs.ShapeArray.{shapeIn};
 ghost use Rattle.covering.specs.Answer.{brokenOf, answerOf, Tested, pathsAnswer};
 ghost use Rattle.coverreader.specs.Images.{imagesIn, ImageCodes};
 ghost use Rattle.covering.specs.Images.{once, onceAt, pathFits};
-ghost use Rattle.covering.specs.Marks.{Walking, endFrom, Linking};
+ghost use Rattle.covering.specs.Marks.{Linking};
 
 // What the test of a cover says: it holds, or which rule is broken first.
 pub(crate) enum Answer {
@@ -66,26 +64,6 @@ fn image_twice(images: &[u8; 15], count: usize) -> usize
     count
 }
 
-// Where the path from a cell ends: at the first stop that links lead to, or nowhere where they lead to none.
-fn path_end(n: usize, s: &[u8; 28], marks: &[u8; 28], from: usize) -> usize
-    requires { ⌜ ((links : List ℕ) × (images : List ℕ) × (used : List ℕ) × Walking links images used (now s) (now marks) n from) ⌝ }
-    ensures { λ r. ⌜ ((links images used : List ℕ) → Walking links images used (now (s .entry)) (now (marks .entry)) n from → r ≡ endFrom links images from) ⌝ }
-{
-    let mut p = wide(s[from]);
-    let mut left = n;
-    while 0 < left {
-        if mark_at(marks, n, p) == STOP {
-            return p;
-        }
-        if n + 3 <= p {
-            return 0;
-        }
-        p = wide(s[p]);
-        left -= 1;
-    }
-    0
-}
-
 // The lowest cell whose link misses; as many as there are where none does.
 fn link_misses(
     cert: &[u8],
@@ -93,11 +71,10 @@ fn link_misses(
     count: usize,
     images: &[u8; 15],
     marks: &[u8; 28],
-    n: usize,
     s: &[u8; 28],
 ) -> usize
-    requires { ⌜ ((member : Shape) × (covered : Shape) × Linking member covered (now cert) first count (now images) (now marks) n (now s)) ⌝ }
-    ensures { λ r. ⌜ ((member covered : Shape) → Linking member covered (now (cert .entry)) first count (now (images .entry)) (now (marks .entry)) n (now (s .entry)) → r ≡ numberOr count (lowest count 0 (linkMeets member covered (imagesIn count (now (images .entry)))))) ⌝ }
+    requires { ⌜ ((member : Shape) × (covered : Shape) × Linking member covered (now cert) first count (now images) (now marks) (now s)) ⌝ }
+    ensures { λ r. ⌜ ((member covered : Shape) → Linking member covered (now (cert .entry)) first count (now (images .entry)) (now (marks .entry)) (now (s .entry)) → r ≡ numberOr count (lowest count 0 (linkMeets member covered (imagesIn count (now (images .entry)))))) ⌝ }
 {
     let mut i = 0;
     while i < count {
@@ -105,7 +82,7 @@ fn link_misses(
         if p != 0 {
             let from = wide(images[i + 3]);
             let end = wide(image_of(images, p));
-            if path_end(n, s, marks, from) != end {
+            if stop_from(s, marks, wide(s[from])) != end {
                 return i;
             }
         }
@@ -120,17 +97,16 @@ fn broken_path(
     start: usize,
     variables: usize,
     images: &[u8; 15],
-    n: usize,
     s: &[u8; 28],
     i: usize,
 ) -> Broken
-    requires { ⌜ (Tested (now cert) variables start (now images) n (now s)) × (once (imagesIn (getD (now cert) (start + 1) 0) (now images)) ≡ true) × (i < getD (now cert) (start + 1) 0) × (lowest (getD (now cert) (start + 1) 0) 0 (pathFits (locatedAt (now cert) variables start .shape) (shapeIn variables (now s)) (imagesIn (getD (now cert) (start + 1) 0) (now images))) ≡ some i) ⌝ }
+    requires { ⌜ (Tested (now cert) variables start (now images) (now s)) × (once (imagesIn (getD (now cert) (start + 1) 0) (now images)) ≡ true) × (i < getD (now cert) (start + 1) 0) × (lowest (getD (now cert) (start + 1) 0) 0 (pathFits (locatedAt (now cert) variables start .shape) (shapeIn variables (now s)) (imagesIn (getD (now cert) (start + 1) 0) (now images))) ≡ some i) ⌝ }
     ensures { λ r. ⌜ brokenOf r ≡ pathsAnswer (locatedAt (now (cert .entry)) variables start .shape) (shapeIn variables (now (s .entry))) (imagesIn (getD (now (cert .entry)) (start + 1) 0) (now (images .entry))) (getD (now (cert .entry)) (start + 1) 0) ⌝ }
 {
     let cells = wide(cert[start + 1]);
     let mut marks = [0u8; 28];
     mark_images(images, cells, &mut marks);
-    let missing = link_misses(cert, start + 2 + variables, cells, images, &marks, n, s);
+    let missing = link_misses(cert, start + 2 + variables, cells, images, &marks, s);
     if missing < cells {
         return Broken {
             rule: LINK_MISSES,
@@ -150,10 +126,9 @@ pub(crate) fn cover_answer(
     variables: usize,
     state: u8,
     images: &[u8; 15],
-    n: usize,
     s: &[u8; 28],
 ) -> Answer
-    requires { ⌜ Tested (now cert) variables start (now images) n (now s) ⌝ }
+    requires { ⌜ Tested (now cert) variables start (now images) (now s) ⌝ }
     ensures { λ r. ⌜ answerOf r ≡ coverAnswer (locatedAt (now (cert .entry)) variables start) (imagesIn (getD (now (cert .entry)) (start + 1) 0) (now (images .entry))) (record { state = state; shape = shapeIn variables (now (s .entry)) }) ⌝ }
 {
     if cert[start] != state {
@@ -178,9 +153,9 @@ pub(crate) fn cover_answer(
             name: (elsewhere + 1) as u8,
         });
     }
-    let i = path_fails(cert, start + 2 + variables, cells, images, &mut marks, n, s);
+    let i = path_fails(cert, start + 2 + variables, cells, images, &mut marks, s);
     if i < cells {
-        return Answer::Breaks(broken_path(cert, start, variables, images, n, s, i));
+        return Answer::Breaks(broken_path(cert, start, variables, images, s, i));
     }
     Answer::Holds
 }

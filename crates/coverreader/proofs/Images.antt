@@ -1,7 +1,7 @@
 -- Images in an array.
 use mathlib.Core.List.{List, [], _∷_, map}
 use mathlib.Core.Path.{_≡_, refl, ap, _∙_}
-use Prim.Native.Nat.{ℕ, zero, suc, _+_, _-_, _<_}
+use Prim.Native.Nat.{ℕ, zero, suc, _+_, _-_, _≤_, _<_}
 use native.Mathlib.Omega.{arith}
 use lib.ListN.{length, getD, take, drop, length-map, length-take, length-drop, replicate, getD-replicate}
 use lib.Seq.{getD-take, getD-drop}
@@ -24,11 +24,12 @@ module _ (count n : ℕ) (codes : List ℕ) (m : ImageCodes count n codes) where
       let z : 3 + i ≡ i + 3 = omega arith in
       omega (arith, rw z at e, m .low i b)
 
-pub images-none : (n : ℕ) → ImageCodes 0 n noImages
-images-none n =
+pub images-none : (n : ℕ) → n ≤ 25 → ImageCodes 0 n noImages
+images-none n most =
     record {
       room = refl;
       few = omega arith;
+      most = most;
       nowhere-fixed = refl;
       null-fixed = refl;
       dangling-fixed = refl;

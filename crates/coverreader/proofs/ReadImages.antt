@@ -49,6 +49,7 @@ module _ (n i : ℕ) (codes : List ℕ) (m : ImageCodes i n codes) (x : ℕ) (ro
       record {
         room = length-set codes (i + 3) (x + 3) ∙ m .room;
         few = omega arith;
+        most = m .most;
         nowhere-fixed = getD-set-other codes (i + 3) 0 (x + 3) 0 (omega arith) ∙ m .nowhere-fixed;
         null-fixed = getD-set-other codes (i + 3) 1 (x + 3) 0 (omega arith) ∙ m .null-fixed;
         dangling-fixed = getD-set-other codes (i + 3) 2 (x + 3) 0 (omega arith) ∙ m .dangling-fixed;

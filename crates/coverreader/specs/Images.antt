@@ -9,10 +9,11 @@ use Rattle.heap.specs.Place.{nowhere, null, dangling, cell}
 abbrev pub imagesIn : ℕ → List ℕ → List ℕ
 imagesIn count codes = map (λ p. p - 3) (take count (drop 3 codes))
 
--- the array maps so many cells to cells below n: "# to # and * to *". What it has no image of it maps to cell 0, as `imageMap` does.
+-- the array maps so many cells to cells below n, of which an array holds at most 25: "# to # and * to *". What it has no image of it maps to cell 0, as `imageMap` does.
 pub record ImageCodes (count n : ℕ) (codes : List ℕ) : Type 0 where
   pub room : length codes ≡ 15
   pub few : count ≤ 12
+  pub most : n ≤ 25
   pub nowhere-fixed : getD codes 0 0 ≡ nowhere
   pub null-fixed : getD codes 1 0 ≡ null
   pub dangling-fixed : getD codes 2 0 ≡ dangling

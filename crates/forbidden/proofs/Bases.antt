@@ -6,7 +6,7 @@ use Prim.Native.Nat.{ℕ, _≤_, _<_}
 use native.Mathlib.Omega.{arith}
 use lib.ListN.{length}
 use Rattle.lists.specs.List.{_∈_}
-use Rattle.lists.proofs.List.{All, every, getD-mem}
+use Rattle.lists.proofs.List.{All, all-every, getD-mem}
 use Rattle.heap.specs.Codes.{varIn, linkIn}
 use Rattle.heap.specs.Heap.{Heap}
 use Rattle.heap.specs.Place.{nowhere, null, dangling, cell}
@@ -37,15 +37,15 @@ pub record Base (n x bad : ℕ) (s : Shape) : Type 0 where
 module _ (n x bad : ℕ) (low : bad < cell 0) where
   base : (p : ℕ) (links : List ℕ) → All (Inside (length links) bad) (p ∷ links) × (length links ≤ 2)
       → Base n x bad (record { vars = only n x p; links = links })
-  base p links (i, j) = record { place = p; only-x = refl; inside = every (Inside (length links) bad) (p ∷ links) i; small = j }
+  base p links (i, j) = record { place = p; only-x = refl; inside = all-every (Inside (length links) bad) (p ∷ links) i; small = j }
 
   -- p is # or *
   ending-base : (p : ℕ) → nowhere < p → p < cell 0 → p ≢ bad → (s : Shape) → s ∈ ending n x p → Base n x bad s
-  ending-base p a b o = every (Base n x bad) (ending n x p) (base p [] (omega arith), (base (cell 0) (p ∷ []) (omega arith), tt))
+  ending-base p a b o = all-every (Base n x bad) (ending n x p) (base p [] (omega arith), (base (cell 0) (p ∷ []) (omega arith), tt))
 
   looping-base : (s : Shape) → s ∈ looping n x → Base n x bad s
   looping-base =
-      every (Base n x bad) (looping n x) (base (cell 0) (cell 0 ∷ []) (omega arith), (base (cell 0) (cell 1 ∷ cell 1 ∷ []) (omega arith), tt))
+      all-every (Base n x bad) (looping n x) (base (cell 0) (cell 0 ∷ []) (omega arith), (base (cell 0) (cell 1 ∷ cell 1 ∷ []) (omega arith), tt))
 
   -- nothing of the four is at #
   pub four-base : bad ≢ dangling → (s : Shape) → s ∈ notList n x → Base n x bad s

@@ -7,7 +7,7 @@ use native.Mathlib.Decide.{ℕ-discrete}
 use native.Mathlib.Omega.{arith}
 use lib.ListN.{length}
 use Rattle.lists.specs.List.{_∈_}
-use Rattle.lists.proofs.List.{mem?, all-cons, Distinct, pigeonhole}
+use Rattle.lists.proofs.List.{mem?, every-cons, Distinct, pigeonhole}
 use Rattle.heap.specs.Heap.{Heap, IsCell}
 use Rattle.heap.specs.Place.{nowhere, null, dangling}
 use Rattle.graph.proofs.Follow.{Visits}
@@ -52,9 +52,9 @@ module _ (h : Heap) (w : WellFormed h) where
         met = p ∷ r .met;
         end = r .end;
         visits = (refl, r .visits);
-        cells = all-cons (IsCell h) k (r .cells);
+        cells = every-cons (IsCell h) k (r .cells);
         distinct = (λ m. r .apart p m (List·Memᴰ·head refl), r .distinct);
-        apart = all-cons (λ c. ¬ (c ∈ seen)) o (λ c m n. r .apart c m (List·Memᴰ·tail n));
+        apart = every-cons (λ c. ¬ (c ∈ seen)) o (λ c m n. r .apart c m (List·Memᴰ·tail n));
         last = still (r .last);
       }
     where
@@ -81,7 +81,7 @@ module _ (h : Heap) (w : WellFormed h) where
       go (no a) (no b) (yes m) r = stop p seen (back-before m)
       go (no a) (no b) (no o) r =
           let c : IsCell h p = s a b in
-          step p seen c o (r (p ∷ seen) (h .link p) c (w .closed .link-place p c) (o, d) (all-cons (IsCell h) c k) (omega arith))
+          step p seen c o (r (p ∷ seen) (h .link p) c (w .closed .link-place p c) (o, d) (every-cons (IsCell h) c k) (omega arith))
 
   pub walk-from : (x : ℕ) → Walk h (h .var x) []
   walk-from x =

@@ -6,8 +6,8 @@ use mathlib.Core.Path.{_≡_, refl, ap, subst, _∙_}
 use Prim.Native.Nat.{ℕ, zero, suc, _<_}
 use native.Mathlib.Omega.{arith}
 use lib.ListN.{length, getD, getElem?}
-use Rattle.lists.specs.List.{_∈_, concatMap}
-use Rattle.lists.proofs.List.{all-cons, getD-mem, mem-getD}
+use Rattle.lists.specs.List.{_∈_, Every, concatMap}
+use Rattle.lists.proofs.List.{every-cons, getD-mem, mem-getD}
 use Rattle.lists.proofs.Reflect.{Reflect, r-eq, r-and, r-not, r-iff}
 use Rattle.heap.specs.Heap.{empty}
 use Rattle.heap.specs.Place.{cell}
@@ -17,7 +17,7 @@ use Rattle.shape.specs.Shape.{size, shapeGraph, Satisfies, AllBelow, InRange}
 use Rattle.shape.proofs.InRange.{in-range-closed}
 use Rattle.run.specs.Run.{Located}
 use Rattle.lists.proofs.List.{element-mem}
-use Rattle.cover.specs.Cover.{Cover, Holds, AllHold}
+use Rattle.cover.specs.Cover.{Cover, Holds, Avoids, AllHold}
 use Rattle.cover.specs.Rules.{Breaks, First}
 use Rattle.cover.specs.Test.{imageMap, Answer, holds, broken, coverAnswer}
 use Rattle.cover.proofs.Answer.{answer-holds, answer-exactly}
@@ -80,7 +80,7 @@ module _ (s : Buffer) (variables states : ℕ) where
 
   pub members-sound : (at : ℕ) (ms : List Member) (next : ℕ) → readMembers s variables states at ≡ parsed ms next
       → Reads (s .bytes) at (memberNumbers (withoutPlaces ms)) next × Between 1 512 (length (withoutPlaces ms))
-      × ((m : Located) → m ∈ withoutPlaces ms → LocatedInRange variables states m)
+      × Every (LocatedInRange variables states) (withoutPlaces ms)
   unfolding readMembers
   members-sound at ms next =
       then (ranged s _ _ at) _
@@ -91,7 +91,7 @@ module _ (s : Buffer) (variables states : ℕ) where
       (rw long (reads-append (version s at one a h₁) (reads-append g₂ g₃)), (omega arith, omega arith), oks)))
 
   pub members-complete : (at : ℕ) (ls : List Located) (next : ℕ) → Reads (s .bytes) at (memberNumbers ls) next → Between 1 512 (length ls)
-      → ((m : Located) → m ∈ ls → LocatedInRange variables states m)
+      → Every (LocatedInRange variables states) ls
       → (ms : List Member) × (withoutPlaces ms ≡ ls) × (readMembers s variables states at ≡ parsed ms next)
   unfolding readMembers
   members-complete at ls next r (low, high) oks =
@@ -105,14 +105,6 @@ module _ (s : Buffer) (variables states : ℕ) where
 
 -- ---- refusal 8
 
--- not satisfied by the empty heap, if it is at the start state
-abbrev pub Avoids : ℕ → Located → Type 0
-Avoids start m = m .state ≡ start → ¬ Satisfies empty (m .shape)
-
--- P holds of each member
-abbrev pub Every : List Member → (Located → Type 0) → Type 0
-Every ms P = (m : Located) → m ∈ withoutPlaces ms → P m
-
 module _ (variables states start : ℕ) where
   pub r-start : (m : Located) → LocatedInRange variables states m → Reflect ((m .state ≡ start) × Satisfies empty (m .shape)) (atStart start m)
   r-start m ok = r-and (r-eq (m .state) start) (empty-reflects variables 12 (m .shape) (ok .shape))
@@ -120,8 +112,8 @@ module _ (variables states start : ℕ) where
   pub r-avoids : (m : Located) → LocatedInRange variables states m → Reflect (Avoids start m) (not (atStart start m))
   r-avoids m ok = r-iff (λ n e t. n (e, t)) (λ n (e, t). n e t) (r-not (r-start m ok))
 
-  pub tests-sound : (ms : List Member) → Every ms (LocatedInRange variables states) → (at : ℕ) {us : List (Unit {0})} {next : ℕ}
-      → each (testStart start) ms at ≡ parsed us next → Every ms (Avoids start) × (at ≡ next)
+  pub tests-sound : (ms : List Member) → Every (LocatedInRange variables states) (withoutPlaces ms) → (at : ℕ) {us : List (Unit {0})} {next : ℕ}
+      → each (testStart start) ms at ≡ parsed us next → Every (Avoids start) (withoutPlaces ms) × (at ≡ next)
   unfolding each
   tests-sound [] oks at e = (λ m i. absurd (List·Memᴰ·not-nil i), cc)
   tests-sound (m ∷ ms) oks at e =
@@ -130,9 +122,9 @@ module _ (variables states start : ℕ) where
       (λ us b h₂ r.
       let (t, at-is) = require-sound (not (atStart start (m .located))) (refusal 8) (m .first) at h₁ in
       let (rest, a-is) = tests-sound ms (λ l i. oks l (List·Memᴰ·tail i)) a h₂ in
-      (all-cons (Avoids start) (r-avoids (m .located) (oks (m .located) (List·Memᴰ·head refl)) .holds t) rest, cc))) e
+      (every-cons (Avoids start) (r-avoids (m .located) (oks (m .located) (List·Memᴰ·head refl)) .holds t) rest, cc))) e
 
-  pub tests-complete : (ms : List Member) → Every ms (LocatedInRange variables states) → (at : ℕ) → Every ms (Avoids start)
+  pub tests-complete : (ms : List Member) → Every (LocatedInRange variables states) (withoutPlaces ms) → (at : ℕ) → Every (Avoids start) (withoutPlaces ms)
       → (us : List (Unit {0})) × (each (testStart start) ms at ≡ parsed us at)
   unfolding each
   tests-complete [] oks at h = ([], refl)
@@ -218,7 +210,7 @@ module _ (s : Buffer) (variables : ℕ) (ms : List Located) (oks : (m : Located)
       let (cs, g₂, hs, all-images) = covers-sound os a h₂ in
       let next-is : b ≡ next = cc in
       let g = subst (Reads (s .bytes) at (concatMap coverNumbers (c ∷ cs))) next-is (reads-append g₁ g₂) in
-      (c ∷ cs, g, (h, hs), all-cons (ImageForEach ms) images all-images))) e
+      (c ∷ cs, g, (h, hs), every-cons (ImageForEach ms) images all-images))) e
 
   pub covers-complete : (os : List Located) (cs : List Cover) (at next : ℕ) → Reads (s .bytes) at (concatMap coverNumbers cs) next → AllHold ms cs os
       → ((c : Cover) → c ∈ cs → ImageForEach ms c) → (us : List (Unit {0})) × (each (readCover s ms) os at ≡ parsed us next)

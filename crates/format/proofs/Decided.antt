@@ -8,13 +8,13 @@ use Prim.Native.Nat.{ℕ, zero, suc, _≤_, _<_}
 use native.Mathlib.Omega.{arith}
 use lib.Dec.{T}
 use lib.ListN.{length, getElem?}
-use Rattle.lists.specs.List.{_∈_, concatMap}
+use Rattle.lists.specs.List.{_∈_, Every, concatMap}
 use Rattle.lists.proofs.List.{concatMap-append}
 use Rattle.lists.proofs.Reflect.{r-le, r-lt, r-and, cond-true, cond-false}
 use Rattle.shape.specs.Shape.{size, InRange}
 use Rattle.run.specs.Run.{Located}
 use Rattle.lists.proofs.List.{element-mem}
-use Rattle.cover.specs.Cover.{owed}
+use Rattle.cover.specs.Cover.{owed, Avoids}
 use Rattle.cover.specs.Rules.{Breaks, First}
 use Rattle.format.specs.Parser.{broken-rule, Reason, refusal, parsed, fault, Parser, onward, return, each, Buffer, within, such, readAs, ranged, jobBuffer, certificateBuffer, end}
 use Rattle.format.specs.Job.{readWholeJob}
@@ -30,7 +30,7 @@ use Rattle.format.specs.Meaning.{Meaning, job-length, certificate-length
 use Rattle.format.proofs.Sequence.{Reads, reads-first, reads-append, reads-split, reads-place}
 use Rattle.format.proofs.Parsing.{then, require-refuses, Faulty, faulty-map, read-complete, read-refuses, codes-exact, codes-refuses}
 use Rattle.format.proofs.Files.{end-refuses, job-exact}
-use Rattle.format.proofs.Covers.{members-complete, Avoids, Every, r-avoids, tests-complete, judged-broken, covers-complete}
+use Rattle.format.proofs.Covers.{members-complete, r-avoids, tests-complete, judged-broken, covers-complete}
 use Rattle.format.proofs.Exact.{r-fits, job-read}
 use Rattle.format.proofs.Local.{before-reads}
 use Rattle.format.proofs.Completing.{job-faults, members-faults}
@@ -92,13 +92,13 @@ module _ (certificate : List ℕ) (f : JobFile) (ok : JobInRange f) where
   afterMembers ms at = onward (each (readCover s ms) (owed (f .job) ms) at) (λ vs at. onward (end s at) (λ u. return (countsOf (f .job) ms)))
 
   -- members in range that the empty heap does not satisfy at the start state are read, and what comes after them decides
-  to-covers : (ms : List Located) → MembersInRange f ms → ((m : Located) → m ∈ ms → Avoids (f .job .start) m) → (next : ℕ)
+  to-covers : (ms : List Located) → MembersInRange f ms → Every (Avoids (f .job .start)) ms → (next : ℕ)
       → Reads certificate 0 (memberNumbers ms) next → readCertificate s f 0 ≡ afterMembers ms next
   unfolding readCertificate
   to-covers ms oks start next r =
       let (members, same, h₂) = members-complete s (f .job .variables) (f .states) 0 ms next r (oks .number) (oks .members) in
-      let ranges : Every members (LocatedInRange (f .job .variables) (f .states)) = rw same (oks .members) in
-      let avoid : Every members (Avoids (f .job .start)) = rw same start in
+      let ranges : Every (LocatedInRange (f .job .variables) (f .states)) (withoutPlaces members) = rw same (oks .members) in
+      let avoid : Every (Avoids (f .job .start)) (withoutPlaces members) = rw same start in
       let (us, h₃) = tests-complete (f .job .variables) (f .states) (f .job .start) members ranges next avoid in
       rw (h₂, h₃) (ap (λ l. afterMembers l next) same)
 
@@ -203,10 +203,10 @@ module _ (certificate : List ℕ) (f : JobFile) (ok : JobInRange f) where
           (member-first s (f .job .variables) (f .states) 0 earlier member later (w .next) h))
           (before-reads certificate (w .before))
 
-      range-earlier : Every earlier (LocatedInRange (f .job .variables) (f .states))
+      range-earlier : Every (LocatedInRange (f .job .variables) (f .states)) (withoutPlaces earlier)
       range-earlier m i = w .members-range .members m (Memᴰ·append-left (w .member ∷ w .later) (subst (λ (l : List Located). m ∈ l) earlier-is i))
 
-      avoid-earlier : Every earlier (Avoids (f .job .start))
+      avoid-earlier : Every (Avoids (f .job .start)) (withoutPlaces earlier)
       avoid-earlier = rw earlier-is (w .unsatisfied)
 
       test-fails : ¬ T (not (atStart (f .job .start) (member .located)))

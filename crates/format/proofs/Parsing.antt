@@ -8,8 +8,8 @@ use Prim.Native.Nat.{ℕ, zero, suc, _≤_, _<_}
 use native.Mathlib.Omega.{arith}
 use lib.Dec.{T}
 use lib.ListN.{length}
-use Rattle.lists.specs.List.{_∈_, concatMap}
-use Rattle.lists.proofs.List.{all-cons}
+use Rattle.lists.specs.List.{Every, concatMap}
+use Rattle.lists.proofs.List.{every-cons}
 use Rattle.lists.proofs.Reflect.{Reflect, r-le, r-lt, r-and, cond-true}
 use Rattle.number.specs.Number.{numberAt}
 use Rattle.number.specs.declared.Read.{Read}
@@ -154,7 +154,7 @@ module _ (s : Buffer) where
 
   module _ {A : Type 0} {p : Parser A} {numbers : A → List ℕ} {Ok : A → Type 0} (e : Exact p numbers Ok) where
     many-sound : (k at : ℕ) (xs : List A) (next : ℕ) → many k p at ≡ parsed xs next
-        → Reads (s .bytes) at (concatMap numbers xs) next × ((length xs ≡ k) × ((x : A) → x ∈ xs → Ok x))
+        → Reads (s .bytes) at (concatMap numbers xs) next × ((length xs ≡ k) × Every Ok xs)
     unfolding many
     many-sound zero at xs next h =
         let xs-is : [] ≡ xs = cc in
@@ -168,10 +168,10 @@ module _ (s : Buffer) where
         let (g₂, (long, oks)) = many-sound k mid ys end h₂ in
         let xs-is : x ∷ ys ≡ xs = cc in
         let next-is : end ≡ next = cc in
-        rw (← xs-is, ← next-is) (reads-append g₁ g₂, (ap suc long, all-cons Ok ok oks))))
+        rw (← xs-is, ← next-is) (reads-append g₁ g₂, (ap suc long, every-cons Ok ok oks))))
         h
 
-    many-complete : (k at : ℕ) (xs : List A) (next : ℕ) → Reads (s .bytes) at (concatMap numbers xs) next → length xs ≡ k → ((x : A) → x ∈ xs → Ok x)
+    many-complete : (k at : ℕ) (xs : List A) (next : ℕ) → Reads (s .bytes) at (concatMap numbers xs) next → length xs ≡ k → Every Ok xs
         → many k p at ≡ parsed xs next
     unfolding many
     many-complete zero at [] next g long oks = rw (reads-none g)
@@ -184,12 +184,12 @@ module _ (s : Buffer) where
           many-complete k mid xs next g₂ (omega arith) (λ y i. oks y (List·Memᴰ·tail i)),
         )
 
-    pub many-exact : (k : ℕ) → Exact (many k p) (concatMap numbers) (λ xs. (length xs ≡ k) × ((x : A) → x ∈ xs → Ok x))
+    pub many-exact : (k : ℕ) → Exact (many k p) (concatMap numbers) (λ xs. (length xs ≡ k) × Every Ok xs)
     many-exact k = record { sound = many-sound k; complete = λ at xs next g (long, oks). many-complete k at xs next g long oks }
 
     -- some are read, and the next is refused
     many-fault : (k at : ℕ) (why : Reason) (place : ℕ) → many k p at ≡ fault why place
-        → (xs : List A) × (mid : ℕ) × Reads (s .bytes) at (concatMap numbers xs) mid × (length xs < k) × ((x : A) → x ∈ xs → Ok x) × (p mid ≡ fault why place)
+        → (xs : List A) × (mid : ℕ) × Reads (s .bytes) at (concatMap numbers xs) mid × (length xs < k) × Every Ok xs × (p mid ≡ fault why place)
     unfolding many
     many-fault zero at why place h = absurd (not-fault [] at why place (sym h))
     many-fault (suc k) at why place h =
@@ -198,11 +198,11 @@ module _ (s : Buffer) where
         (λ h₂.
         let (g, ok) = e .sound at x a h₁ in
         let (xs, mid, r, fewer, oks, f) = many-fault k a why place h₂ in
-        (x ∷ xs, mid, reads-append g r, omega arith, all-cons Ok ok oks, f)))
+        (x ∷ xs, mid, reads-append g r, omega arith, every-cons Ok ok oks, f)))
         (λ h₁. ([], at, done, omega arith, (λ x i. absurd (List·Memᴰ·not-nil i)), h₁)) h
 
     many-refuses : (k at : ℕ) (xs : List A) (mid : ℕ) (why : Reason) (place : ℕ) → Reads (s .bytes) at (concatMap numbers xs) mid → length xs < k
-        → ((x : A) → x ∈ xs → Ok x) → p mid ≡ fault why place → many k p at ≡ fault why place
+        → Every Ok xs → p mid ≡ fault why place → many k p at ≡ fault why place
     unfolding many
     many-refuses zero at xs mid why place g fewer oks h = absurd (omega arith)
     many-refuses (suc k) at [] mid why place g fewer oks h = rw (reads-none g, h)

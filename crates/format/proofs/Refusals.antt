@@ -8,13 +8,13 @@ use Prim.Native.Nat.{ℕ, zero, suc, _≤_, _<_}
 use native.Mathlib.Omega.{arith}
 use lib.Dec.{T}
 use lib.ListN.{length, getElem?}
-use Rattle.lists.specs.List.{_∈_, concatMap}
-use Rattle.lists.proofs.List.{all-cons}
+use Rattle.lists.specs.List.{_∈_, Every, concatMap}
+use Rattle.lists.proofs.List.{every-cons}
 use Rattle.heap.specs.Heap.{empty}
 use Rattle.shape.specs.Shape.{size, Satisfies, AllBelow, InRange}
 use Rattle.run.specs.Run.{Located}
 use Rattle.lists.proofs.List.{element-mem}
-use Rattle.cover.specs.Cover.{Cover, AllHold}
+use Rattle.cover.specs.Cover.{Cover, Avoids, AllHold}
 use Rattle.cover.specs.Rules.{Breaks, First}
 use Rattle.cover.specs.Test.{Answer, holds, broken, coverAnswer}
 use Rattle.format.specs.Parser.{broken-rule, Reason, refusal, parsed, fault, many, each, Buffer, readAs, ranged}
@@ -26,7 +26,7 @@ use Rattle.format.specs.JobBytes.{LocatedInRange}
 use Rattle.format.proofs.Sequence.{Reads, done, more, reads-append}
 use Rattle.format.proofs.Parsing.{not-fault, then, then-fault, require-sound, require-fault, Faulty, faulty-map, read-sound, read-fault, ranged-exact, many-exact, codes-exact, codes-fault}
 use Rattle.format.proofs.Files.{version, located-exact}
-use Rattle.format.proofs.Covers.{member-read, without-places, Avoids, Every, r-start, r-avoids, judged-broken, cover-sound}
+use Rattle.format.proofs.Covers.{member-read, without-places, r-start, r-avoids, judged-broken, cover-sound}
 
 -- ---- members
 
@@ -76,7 +76,7 @@ module _ (variables states start : ℕ) where
     pub all : ms ≡ earlier ++ (member ∷ later)
     pub why-is : refusal 8 ≡ why
     pub place-is : member .first ≡ place
-    pub avoid : Every earlier (Avoids start)
+    pub avoid : Every (Avoids start) (withoutPlaces earlier)
     pub state : member .located .state ≡ start
     pub satisfied : Satisfies empty (member .located .shape)
 
@@ -84,7 +84,7 @@ module _ (variables states start : ℕ) where
   not-not true n = tt
   not-not false n = n tt
 
-  pub tests-fault : (ms : List Member) → Every ms (LocatedInRange variables states) → (at : ℕ) (why : Reason) (place : ℕ)
+  pub tests-fault : (ms : List Member) → Every (LocatedInRange variables states) (withoutPlaces ms) → (at : ℕ) (why : Reason) (place : ℕ)
       → each (testStart start) ms at ≡ fault why place → Failed ms why place
   unfolding each
   tests-fault [] oks at why place e = absurd (not-fault [] at why place (sym e))
@@ -101,7 +101,7 @@ module _ (variables states start : ℕ) where
         all = ap (λ l. m ∷ l) (f .all);
         why-is = f .why-is;
         place-is = f .place-is;
-        avoid = all-cons (Avoids start) (r-avoids variables states start (m .located) ok .holds t) (f .avoid);
+        avoid = every-cons (Avoids start) (r-avoids variables states start (m .located) ok .holds t) (f .avoid);
         state = f .state;
         satisfied = f .satisfied;
       }))
@@ -163,7 +163,7 @@ module _ (s : Buffer) (variables : ℕ) (ms : List Located) (oks : (m : Located)
         mid = f .mid;
         reads = reads-append g (f .reads);
         hold = (h, f .hold);
-        images = all-cons (ImageForEach ms) fit (f .images);
+        images = every-cons (ImageForEach ms) fit (f .images);
         refused = f .refused;
       }))
       (λ h₁.

@@ -5,12 +5,11 @@ use mathlib.Core.Option.{some}
 use mathlib.Core.Path.{_≡_}
 use Prim.Native.Nat.{ℕ}
 use lib.ListN.{length, getElem?}
-use Rattle.lists.specs.List.{_∈_}
+use Rattle.lists.specs.List.{Every}
 use Rattle.number.specs.NumberList.{numbers, decode}
-use Rattle.heap.specs.Heap.{empty}
-use Rattle.shape.specs.Shape.{size, Satisfies}
+use Rattle.shape.specs.Shape.{size}
 use Rattle.run.specs.Run.{Located, Job}
-use Rattle.cover.specs.Cover.{Cover, owed, AllHold}
+use Rattle.cover.specs.Cover.{Cover, owed, Avoids, AllHold}
 use Rattle.format.specs.JobBytes.{Between, LocatedInRange, IsJob}
 use Rattle.format.specs.JobNumbers.{JobFile}
 use Rattle.format.specs.Numbers.{certificateNumbers}
@@ -19,7 +18,7 @@ use Rattle.format.specs.Verdict.{Counts}
 -- "N 1..512; N members (state, shape)"
 pub record MembersInRange (f : JobFile) (ms : List Located) : Type 0 where
   pub number : Between 1 512 (length ms)
-  pub members : (m : Located) → m ∈ ms → LocatedInRange (f .job .variables) (f .states) m
+  pub members : Every (LocatedInRange (f .job .variables) (f .states)) ms
 
 -- "one image for each of its cells"
 abbrev pub ImageForEach : List Located → Cover → Type 0
@@ -38,9 +37,9 @@ pub record Conditions (job certificate : List ℕ) (counts : Counts) : Type 0 wh
   pub members : List Located
   pub members-range : MembersInRange file members
   pub covers : List Cover
-  pub images : (c : Cover) → c ∈ covers → ImageForEach members c
+  pub images : Every (ImageForEach members) covers
   pub certificate-reads : decode certificate ≡ numbers (certificateNumbers members covers)
-  pub start : (m : Located) → m ∈ members → m .state ≡ file .job .start → ¬ Satisfies empty (m .shape)
+  pub start : Every (Avoids (file .job .start)) members
   pub hold : AllHold members covers (owed (file .job) members)
   pub counts-due : counts ≡ countsOf (file .job) members
 

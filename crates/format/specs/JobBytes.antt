@@ -3,7 +3,7 @@ use mathlib.Core.List.{List}
 use mathlib.Core.Path.{_≡_}
 use Prim.Native.Nat.{ℕ, _≤_, _<_}
 use lib.ListN.{length}
-use Rattle.lists.specs.List.{_∈_}
+use Rattle.lists.specs.List.{Every}
 use Rattle.number.specs.NumberList.{numbers, decode}
 use Rattle.heap.specs.Operation.{Named}
 use Rattle.shape.specs.Shape.{InRange}
@@ -30,9 +30,9 @@ pub record JobInRange (f : JobFile) : Type 0 where
   pub states : Between 1 64 (f .states)
   pub start : f .job .start < f .states
   pub transitions-number : length (f .job .transitions) ≤ 256
-  pub transitions : (t : Transition) → t ∈ f .job .transitions → TransitionInRange (f .job .variables) (f .states) t
+  pub transitions : Every (TransitionInRange (f .job .variables) (f .states)) (f .job .transitions)
   pub forbidden-number : Between 1 64 (length (f .job .forbidden))
-  pub forbidden : (m : Located) → m ∈ f .job .forbidden → LocatedInRange (f .job .variables) (f .states) m
+  pub forbidden : Every (LocatedInRange (f .job .variables) (f .states)) (f .job .forbidden)
 
 -- the bytes are those of the job f, number after number to the end
 pub record IsJob (bytes : List ℕ) (f : JobFile) : Type 0 where

@@ -5,14 +5,14 @@ use mathlib.Core.Option.{some}
 use mathlib.Core.Path.{_≡_}
 use Prim.Native.Nat.{ℕ, _≤_, _<_}
 use lib.ListN.{length, take, getElem?}
-use Rattle.lists.specs.List.{_∈_, concatMap}
+use Rattle.lists.specs.List.{Every, concatMap}
 use Rattle.number.specs.Number.{numberAt}
 use Rattle.number.specs.NumberList.{numbers, decode}
 use Rattle.number.specs.declared.Read.the-variants.{Number, Unreadable}
 use Rattle.heap.specs.Heap.{empty}
 use Rattle.shape.specs.Shape.{size, Satisfies, AllBelow}
 use Rattle.run.specs.Run.{Located}
-use Rattle.cover.specs.Cover.{Cover, owed, AllHold}
+use Rattle.cover.specs.Cover.{Cover, owed, Avoids, AllHold}
 use Rattle.cover.specs.Rules.{Breaks, First}
 use Rattle.format.specs.Parser.{Reason, refusal, broken-rule}
 use Rattle.format.specs.JobNumbers.{JobFile, locatedNumbers, jobNumbers}
@@ -74,7 +74,7 @@ module _ (f : JobFile) (certificate : List ℕ) (place : ℕ) where
     pub members-range : MembersInRange f (earlier ++ (member ∷ later))
     pub members-read : Before certificate next (memberNumbers (earlier ++ (member ∷ later)))
     pub before : Before certificate place (1 ∷ length (earlier ++ (member ∷ later)) ∷ concatMap locatedNumbers earlier)
-    pub unsatisfied : (m : Located) → m ∈ earlier → m .state ≡ f .job .start → ¬ Satisfies empty (m .shape)
+    pub unsatisfied : Every (Avoids (f .job .start)) earlier
     pub state : member .state ≡ f .job .start
     pub satisfied : Satisfies empty (member .shape)
 
@@ -82,9 +82,9 @@ module _ (f : JobFile) (certificate : List ℕ) (place : ℕ) where
   pub record Covered (left : List Located) : Type 0 where
     pub members : List Located
     pub members-range : MembersInRange f members
-    pub start : (m : Located) → m ∈ members → m .state ≡ f .job .start → ¬ Satisfies empty (m .shape)
+    pub start : Every (Avoids (f .job .start)) members
     pub covers : List Cover
-    pub images : (c : Cover) → c ∈ covers → ImageForEach members c
+    pub images : Every (ImageForEach members) covers
     pub before : Before certificate place (certificateNumbers members covers)
     pub done : List Located
     pub owed-is : owed (f .job) members ≡ done ++ left

@@ -1,12 +1,14 @@
 -- Listings whose operations keep to the table of kinds.
 use Prim.Native.Nat.{ℕ, suc, _≤_}
 use native.Mathlib.Omega.{arith}
+use Rattle.lists.specs.List.{Every}
+use Rattle.lists.proofs.List.{every-none, every-one, every-append}
 use Rattle.heap.specs.Operation.{Op, equal, different, assign, load, store, new, delete, Allowed}
 use Rattle.run.specs.Run.{Transition}
 use Rattle.listing.specs.Limits.{FitsOne, Fits}
 use Rattle.listing.specs.Listing.{Test, same, other, any, Statement, perform, mark, while, if, Block, done, _⨾_}
 use Rattle.listing.specs.Translation.{skip, test, opposite, exit, steps, lines}
-use Rattle.listing.proofs.Members.{Every, all-none, all-one, all-append, all-around}
+use Rattle.listing.proofs.Members.{every-around}
 
 -- names are numbered as they are met: what fits so far still fits when there are more
 allowed-more : (o : Op) (v w : ℕ) → v ≤ w → Allowed v o → Allowed w o
@@ -43,13 +45,13 @@ Fine v t = Allowed v (t .op)
 
 mutual
   fine : (s : Statement) (v p n : ℕ) → FitsOne s v → Every (Fine v) (steps s p n)
-  fine (perform o) v p n f = all-one (Fine v) f
-  fine (mark k) v p n f = all-one (Fine v) (skip-allowed v)
+  fine (perform o) v p n f = every-one (Fine v) f
+  fine (mark k) v p n f = every-one (Fine v) (skip-allowed v)
   fine (while t b) v p n f =
-      all-around (Fine v) (lines b n (suc n)) (f .0) (fineIn b v n (suc n) (f .1)) (skip-allowed v) (opposite-allowed t v (f .0))
+      every-around (Fine v) (lines b n (suc n)) (f .0) (fineIn b v n (suc n) (f .1)) (skip-allowed v) (opposite-allowed t v (f .0))
   fine (if t b) v p n f =
-      all-around (Fine v) (lines b n (suc n)) (f .0) (fineIn b v n (suc n) (f .1)) (skip-allowed v) (opposite-allowed t v (f .0))
+      every-around (Fine v) (lines b n (suc n)) (f .0) (fineIn b v n (suc n) (f .1)) (skip-allowed v) (opposite-allowed t v (f .0))
 
   pub fineIn : (b : Block) (v p n : ℕ) → Fits b v → Every (Fine v) (lines b p n)
-  fineIn done v p n f = all-none (Fine v)
-  fineIn (s ⨾ b) v p n f = all-append (Fine v) (steps s p n) (fine s v p n (f .0)) (fineIn b v (exit s n) (suc (exit s n)) (f .1))
+  fineIn done v p n f = every-none (Fine v)
+  fineIn (s ⨾ b) v p n f = every-append (Fine v) (steps s p n) (fine s v p n (f .0)) (fineIn b v (exit s n) (suc (exit s n)) (f .1))

@@ -1,7 +1,5 @@
 -- Laws of lists: a property of each element, over lists that are put together.
-use mathlib.Core.List.{List, [], _∷_, _++_, List·Memᴰ·head, List·Memᴰ·tail}
-use mathlib.Core.Path.{refl}
-use Rattle.lists.specs.List.{_∈_}
+use mathlib.Core.List.{List, [], _∷_, _++_}
 use Rattle.lists.proofs.List.{All}
 
 pub all-left : {A : Type 0} (P : A → Type 0) (xs ys : List A) → All P (xs ++ ys) → All P xs
@@ -11,8 +9,3 @@ all-left P (x ∷ xs) ys a = (a .0, all-left P xs ys (a .1))
 pub all-right : {A : Type 0} (P : A → Type 0) (xs ys : List A) → All P (xs ++ ys) → All P ys
 all-right P [] ys a = a
 all-right P (x ∷ xs) ys a = all-right P xs ys (a .1)
-
--- a property of each member is one of each element
-pub all-of : {A : Type 0} {P : A → Type 0} (xs : List A) → ((x : A) → x ∈ xs → P x) → All P xs
-all-of [] h = tt
-all-of (x ∷ xs) h = (h x (List·Memᴰ·head refl), all-of xs (λ y i. h y (List·Memᴰ·tail i)))

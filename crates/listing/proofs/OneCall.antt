@@ -9,7 +9,7 @@ use native.Mathlib.Omega.{arith}
 use lib.Dec.{eqb}
 use lib.ListN.{length, length-set, length-replicate, getD, getD-replicate, set, replicate}
 use lib.Seq.{getD-set-same, getD-set-other}
-use Rattle.lists.specs.List.{_∈_, concatMap}
+use Rattle.lists.specs.List.{_∈_, Every, concatMap}
 use Rattle.lists.specs.Range.{range}
 use Rattle.lists.proofs.List.{All, Distinct}
 use Rattle.lists.proofs.Range.{tabled}
@@ -55,7 +55,7 @@ module _ (l : Listing) (ok : WithinLimits l) where
       record { from = a; op = named variables (t .op) (fineIn (l .statements) variables 0 1 (fits-variables l ok) t m); to = b }
 
   pub in-range : (bads : List Located) → Between 1 64 (length bads)
-      → ((m : Located) → m ∈ bads → LocatedInRange variables (statesOf (l .statements)) m) → JobInRange (fileOf l bads)
+      → Every (LocatedInRange variables (statesOf (l .statements))) bads → JobInRange (fileOf l bads)
   in-range bads n each =
       record {
         variables = variables-range (l .names) (ok .names);

@@ -6,7 +6,7 @@ use Prim.Native.Nat.{ℕ, suc, _+_, _≤_}
 use native.Mathlib.Omega.{arith}
 use lib.ListN.{length, length-append}
 use Rattle.lists.specs.List.{_∈_}
-use Rattle.lists.proofs.List.{All, Distinct, every}
+use Rattle.lists.proofs.List.{All, Distinct, all-every}
 use Rattle.lines.specs.declared.Line.{Line}
 use Rattle.lines.specs.declared.Line.the-variants.{Perform, While, If, End, Mark, Other}
 use Rattle.listing.specs.Limits.{Fits, WithinLimits}
@@ -68,7 +68,7 @@ module _ (f : ℕ → ℕ) where
     next-by done n = refl
     next-by (s ⨾ b) n = ap (λ (m : ℕ). next (blockBy f b) (suc m)) (exit-by s n) ∙ next-by b (suc (exit s n))
 
--- every line makes one state
+-- all-every line makes one state
 mutual
   exit-lines : (s : Statement) (n : ℕ) → suc (exit s n) ≡ n + length (linesFor s)
   exit-lines (perform o) n = omega arith
@@ -83,7 +83,7 @@ mutual
 -- ---- what is read
 
 small-marks : (ls : List Line) → All Proper ls → (k : ℕ) → k ∈ marksOn ls → k ≤ 63
-small-marks ls p = every (λ k. k ≤ 63) (marksOn ls) (go ls p)
+small-marks ls p = all-every (λ k. k ≤ 63) (marksOn ls) (go ls p)
   where
     go : (ls : List Line) → All Proper ls → All (λ k. k ≤ 63) (marksOn ls)
     go [] p = tt

@@ -6,7 +6,7 @@ use mathlib.Core.Path.{_≡_, refl, sym, ap, ap₂, subst, _∙_}
 use Prim.Native.Nat.{ℕ, _≤_}
 use native.Mathlib.Omega.{arith}
 use lib.ListN.{length}
-use Rattle.lists.proofs.List.{All, Distinct}
+use Rattle.lists.proofs.List.{All, Distinct, every-all}
 use Rattle.lines.specs.declared.Line.{Line}
 use Rattle.listing.specs.Limits.{depthIn, WithinLimits}
 use Rattle.listing.specs.Listing.{Block, marksIn}
@@ -17,7 +17,6 @@ use Rattle.listing.proofs.Depth.{Shallow, shallow-block, depth-by, from
 use Rattle.listing.proofs.Faultless.{Faultless, all-inside, no-fault, blocks-lines}
 use Rattle.listing.proofs.Letters.{lines-distinct, block-number-letter, spelled-block}
 use Rattle.listing.proofs.Lines.{Proper, Inside, proper-lines, text-of-lines, lines-of-text}
-use Rattle.listing.proofs.Lists.{all-of}
 use Rattle.listing.proofs.Read.{marks-block, marks-by, next-by, next-lines, lines-are, spelled, listed-text, read-within}
 
 pub written-text : (text : List ℕ) (l : Listing) → read text ≡ listed l → write l ≡ text
@@ -42,7 +41,7 @@ module _ (l : Listing) (ok : WithinLimits l) where
   distinct = subst Distinct (sym (ok .first-met)) (lines-distinct [] ls tt)
 
   fine : All Inside ls × All Proper ls
-  fine = spelled-block (l .names) distinct (ok .letters) (l .statements) (ok .operands) (all-of (marksIn (l .statements)) (ok .marks))
+  fine = spelled-block (l .names) distinct (ok .letters) (l .statements) (ok .operands) (every-all (marksIn (l .statements)) (ok .marks))
 
   faultless : Faultless ls nothingSeen
   faultless =

@@ -4,7 +4,7 @@ use mathlib.Core.List.{[]}
 use mathlib.Core.Path.{_≡_}
 use Prim.Native.Nat.{ℕ, suc, _≤_, max}
 use lib.ListN.{length}
-use Rattle.lists.specs.List.{_∈_}
+use Rattle.lists.specs.List.{Every}
 use Rattle.lists.proofs.List.{Distinct}
 use Rattle.heap.specs.Operation.{Allowed}
 use Rattle.format.specs.JobBytes.{Between}
@@ -39,11 +39,11 @@ abbrev mutual
   depthIn (s ⨾ b) = max (depthOf s) (depthIn b)
 
 pub record WithinLimits (l : Listing) : Type 0 where
-  pub letters : (x : ℕ) → x ∈ l .names → Between 1 26 x
+  pub letters : Every (Between 1 26) (l .names)
   pub first-met : l .names ≡ meetLines [] (linesIn (blockBy (letterIn (l .names)) (l .statements)))
   pub names : length (l .names) ≤ 8
   pub operands : Fits (l .statements) (length (l .names))
   pub states : statesOf (l .statements) ≤ 64
   pub depth : depthIn (l .statements) ≤ 16
   pub once : Distinct (marksIn (l .statements))
-  pub marks : (k : ℕ) → k ∈ marksIn (l .statements) → k ≤ 63
+  pub marks : Every (λ k. k ≤ 63) (marksIn (l .statements))

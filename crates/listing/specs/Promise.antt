@@ -6,7 +6,7 @@ use mathlib.Core.Logic.{_↔_}
 use mathlib.Core.Path.{_≡_}
 use Prim.Native.Nat.{ℕ}
 use lib.ListN.{length, getD, drop}
-use Rattle.lists.specs.List.{_∈_, concatMap}
+use Rattle.lists.specs.List.{_∈_, Every, concatMap}
 use Rattle.number.specs.CallResult.{CallResult, lent}
 use Rattle.number.specs.NumberList.{encode}
 use Rattle.heap.specs.Heap.{Heap, IsCell}
@@ -33,7 +33,7 @@ forbiddenBytes bads = encode (length bads ∷ concatMap locatedNumbers bads)
 -- shapes that a job with the listing's variables and states may forbid
 abbrev pub InRangeFor : Listing → List Located → Type 0
 InRangeFor l bads =
-    Between 1 64 (length bads) × ((m : Located) → m ∈ bads → LocatedInRange (variablesFor (l .names)) (statesOf (l .statements)) m)
+    Between 1 64 (length bads) × Every (LocatedInRange (variablesFor (l .names)) (statesOf (l .statements))) bads
 
 -- the shapes of a ready set, for the listing's variables and transitions
 abbrev pub setFor : Listing → ReadySet → List Located

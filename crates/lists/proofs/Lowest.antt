@@ -10,7 +10,7 @@ use native.Mathlib.Omega.{arith}
 use lib.Dec.{T}
 use Rattle.lists.specs.List.{_∈_, disjoint}
 use Rattle.lists.specs.Test.{allFrom, lowest, numberOr}
-use Rattle.lists.proofs.List.{mem?, all-cons}
+use Rattle.lists.proofs.List.{mem?, every-cons}
 use Rattle.lists.proofs.Test.{and-left, and-right}
 use Rattle.lists.proofs.Reflect.{Reflect, passes, r-not, r-all, r-disjoint}
 
@@ -140,7 +140,7 @@ r-meets xs ys =
         go : Dec (z ∈ ys) → (¬ ((x : ℕ) → x ∈ zs → ¬ (x ∈ ys)) → (x : ℕ) × (x ∈ zs) × (x ∈ ys)) → (x : ℕ) × (x ∈ (z ∷ zs)) × (x ∈ ys)
         go (yes m) ih = (z, List·Memᴰ·head refl, m)
         go (no o) ih =
-            let (x, a, b) = ih (λ h. n (λ x k. all-cons (λ y. ¬ (y ∈ ys)) o h x k)) in
+            let (x, a, b) = ih (λ h. n (λ x k. every-cons (λ y. ¬ (y ∈ ys)) o h x k)) in
             (x, List·Memᴰ·tail a, b)
 
 -- a test "P or Q" fails where neither does

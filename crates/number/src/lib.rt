@@ -19,8 +19,8 @@ pub enum Written {
     TooShort(usize),
 }
 
-// A byte as a number.
-fn wide(byte: u8) -> usize
+// A byte as a number, a place or an index.
+pub fn wide(byte: u8) -> usize
     ensures { λ r. ⌜ (r ≡ byte) × (r < 256) ⌝ }
 {
     byte as usize

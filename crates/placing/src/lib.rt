@@ -3,6 +3,7 @@
 use kinds::DIFFERENT;
 use kinds::LOAD;
 use kinds::STORE;
+use number::wide;
 use place::DANGLING;
 use place::FIRST_CELL;
 use place::NOWHERE;
@@ -123,13 +124,6 @@ fn source_fits(links: &[u8], p: Place, k: usize) -> bool
         return false;
     }
     link == p.code
-}
-
-// A byte as a number.
-fn wide(byte: u8) -> usize
-    ensures { λ r. ⌜ r ≡ byte ⌝ }
-{
-    byte as usize
 }
 
 // Whether choice k puts a variable at a cell whose link is nowhere or at that cell itself.

@@ -1,5 +1,6 @@
 // Shapes in arrays (layout/specs/ShapeArray.antt), undone by kinds 6 (new) and 7 (delete). Numbers that do not fit an array change nothing.
 use kinds::DELETE;
+use number::wide;
 use place::DANGLING;
 use place::FIRST_CELL;
 use place::NOWHERE;
@@ -184,13 +185,6 @@ fn forget_operand(s: &mut [u8; 28], a: u8)
         return;
     }
     s[17 + a as usize] = NOWHERE;
-}
-
-// A byte as a number.
-fn wide(byte: u8) -> usize
-    ensures { λ r. ⌜ (r ≡ byte) × (r < 256) ⌝ }
-{
-    byte as usize
 }
 
 // Cells from one on, before another.

@@ -4,7 +4,7 @@ use super::{Tally, UNTOUCHED};
 use crate::corpus;
 use crate::extremes::extremes;
 use crate::library;
-use crate::pairs::{broken_pairs, damaged_copies, near_pairs, Pair, Pairs};
+use crate::pairs::{broken_pairs, damaged_copies, near_pairs, series_pairs, Pair, Pairs};
 use crate::reference::checker;
 use crate::reference::cover::{cover_at, Reason};
 use crate::reference::job::Job;
@@ -96,8 +96,8 @@ fn expected_answers(verdict: &Verdict, out_len: usize) -> Answers {
 /// How many damaged copies of each real certificate are tried.
 const COPIES: usize = 60;
 
-/// Random pairs, one in five of them with covers that hold or nearly do, and one in five with a cover
-/// that breaks chosen rules; then the corpus with damaged copies, every kind on large members, and
+/// Random pairs, one in five of them with covers that hold or nearly do, one in five with a cover that
+/// breaks chosen rules, and one in fifty with covers that follow each other closely; then the corpus with damaged copies, every kind on large members, and
 /// the extremes.
 pub fn pairs(seed: u64, random: usize) -> Result<impl Iterator<Item = Pair>, String> {
     let real = corpus::certified()?.into_iter().map(|(_, pair)| pair);
@@ -110,8 +110,10 @@ pub fn pairs(seed: u64, random: usize) -> Result<impl Iterator<Item = Pair>, Str
     let fifth = random / 5;
     let near = near_pairs(seed).take(fifth);
     let broken = broken_pairs(seed).take(fifth);
-    let random = Pairs::new(seed).take(random - 2 * fifth);
-    let random = random.chain(near).chain(broken);
+    let fiftieth = random / 50;
+    let series = series_pairs(seed).take(fiftieth);
+    let random = Pairs::new(seed).take(random - 2 * fifth - fiftieth);
+    let random = random.chain(near).chain(broken).chain(series);
     Ok(random.chain(real).chain(kinds).chain(extremes))
 }
 

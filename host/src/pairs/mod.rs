@@ -5,6 +5,7 @@ mod broken;
 mod codes;
 mod damage;
 mod near;
+mod series;
 
 use crate::random::Random;
 use crate::reference::certificate::{Certificate, Cover};
@@ -14,6 +15,7 @@ use accepted::accepted;
 use broken::broken;
 use damage::damaged;
 use near::near;
+use series::series;
 
 /// The bytes of a job and of a certificate.
 #[derive(Clone, Debug)]
@@ -94,4 +96,10 @@ pub fn near_pairs(seed: u64) -> impl Iterator<Item = Pair> {
 pub fn broken_pairs(seed: u64) -> impl Iterator<Item = Pair> {
     let mut random = Random::new(seed);
     (0..).map(move |turn| broken(&mut random, turn))
+}
+
+/// Endless pairs whose covers follow each other closely.
+pub fn series_pairs(seed: u64) -> impl Iterator<Item = Pair> {
+    let mut random = Random::new(seed);
+    (0..).map(move |turn| series(&mut random, turn))
 }

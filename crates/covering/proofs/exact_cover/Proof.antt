@@ -36,15 +36,11 @@ shared-slice-read-start c = c .before .before .before .before .read-cover .ensur
 cast-start : tie.Need-cast-start
 cast-start c = omega (arith, c .shared-slice-known3 .given (c .before .before .r .given .0 .0))
 
-cells-held-requires : tie.Need-cells-held-requires
-cells-held-requires c κs = search needs
-
 cover-answer-requires : tie.Need-cover-answer-requires
 cover-answer-requires c κs =
-    let k = c .before .before .before .before .before .before .before .read-cover .ensures in
-    let e = c .before .before .before .before .before .r .given .1 in
-    let h = c .cells-held .ensures in
-    record { whole = k .whole _ _ e; room = h .0; held = sym (h .2); images = rw (h .2) (k .images _ _ e) }
+    let k = c .before .before .before .before .before .before .read-cover .ensures in
+    let e = c .before .before .before .before .r .given .1 in
+    record { whole = k .whole _ _ e; images = k .images _ _ e }
 
 enum-told-2 : tie.Need-enum-told-2
 enum-told-2 c = search needs
@@ -54,15 +50,15 @@ enum-known-answer c = search needs
 
 returns-2 : tie.Need-returns-2
 returns-2 c =
-    let a = c .before .before .before .before .before .before .before .before .before .before .before .before .before .args in
-    let byte : a .state < 256 = omega (arith, c .before .before .before .before .before .before .before .before .before .before .before .before .before .fits .state) in
-    take-holding _ _ _ _ _ byte (shapeIn (a .variables) (a .s .now)) _ refl _ _ (c .before .before .before .before .before .before .before .before .before .before .read-cover .ensures) _ _ (c .before .before .before .before .before .before .before .before .r .given .1) (sym (ap answerOf (c .enum-told2 .given .1)) ∙ c .before .before .cover-answer .ensures)
+    let a = c .before .before .before .before .before .before .before .before .before .before .before .before .args in
+    let byte : a .state < 256 = omega (arith, c .before .before .before .before .before .before .before .before .before .before .before .before .fits .state) in
+    take-holding _ _ _ _ _ byte (shapeIn (a .variables) (a .s .now)) _ refl _ _ (c .before .before .before .before .before .before .before .before .before .read-cover .ensures) _ _ (c .before .before .before .before .before .before .before .r .given .1) (sym (ap answerOf (c .enum-told2 .given .1)) ∙ c .before .before .cover-answer .ensures)
 
 returns-3 : tie.Need-returns-3
 returns-3 c =
-    let a = c .before .before .before .before .before .before .before .before .before .before .before .before .before .before .args in
-    let byte : a .state < 256 = omega (arith, c .before .before .before .before .before .before .before .before .before .before .before .before .before .before .fits .state) in
-    take-broken _ _ _ _ _ byte (shapeIn (a .variables) (a .s .now)) _ refl _ _ (c .before .before .before .before .before .before .before .before .before .before .before .read-cover .ensures) _ _ (c .before .before .before .before .before .before .before .before .before .r .given .1) _ (sym (ap answerOf (c .before .answer .given .1)) ∙ c .before .before .before .cover-answer .ensures)
+    let a = c .before .before .before .before .before .before .before .before .before .before .before .before .before .args in
+    let byte : a .state < 256 = omega (arith, c .before .before .before .before .before .before .before .before .before .before .before .before .before .fits .state) in
+    take-broken _ _ _ _ _ byte (shapeIn (a .variables) (a .s .now)) _ refl _ _ (c .before .before .before .before .before .before .before .before .before .before .read-cover .ensures) _ _ (c .before .before .before .before .before .before .before .before .r .given .1) _ (sym (ap answerOf (c .before .answer .given .1)) ∙ c .before .before .before .cover-answer .ensures)
 
 pub exact-cover-spec : {M : Type 1} → statement M
 exact-cover-spec =
@@ -76,7 +72,6 @@ exact-cover-spec =
     mul-start
     shared-slice-read-start
     cast-start
-    cells-held-requires
     cover-answer-requires
     enum-told-2
     enum-known-answer

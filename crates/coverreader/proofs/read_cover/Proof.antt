@@ -70,7 +70,7 @@ cast-read-images : tie.Need-cast-read-images
 cast-read-images c = omega (arith, c .shared-slice-known4 .given (getD (c .before .before .before .before .before .before .before .before .before .before .before .before .args .starts .now) (c .before .before .before .before .before .before .before .r .given .0 .0) 0 + 1))
 
 read-images-requires : tie.Need-read-images-requires
-read-images-requires c κs = (images-none _, stands (c .before .before .before) .cells, c .before .before .cells-held .ensures .1)
+read-images-requires c κs = (images-none _ (c .before .before .cells-held .ensures .1), stands (c .before .before .before) .cells, c .before .before .cells-held .ensures .1)
 
 enum-known-r-2 : tie.Need-enum-known-r-2
 enum-known-r-2 c = search needs

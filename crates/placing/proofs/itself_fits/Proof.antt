@@ -18,7 +18,7 @@ add-result : tie.Need-add-result
 add-result c = search needs
 
 returns-2 : tie.Need-returns-2
-returns-2 c = let a = c .before .before .before .before .before .args in itself-equal (a .links .now) (a .k) (omega arith) (c .before .if2 .left) (c .wide .result) (c .wide .ensures)
+returns-2 c = let a = c .before .before .before .before .before .args in itself-equal (a .links .now) (a .k) (omega arith) (c .before .if2 .left) (c .wide .result) (c .wide .ensures .0)
 
 add-result-2 : tie.Need-add-result-2
 add-result-2 c = search needs

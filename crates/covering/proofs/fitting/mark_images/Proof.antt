@@ -1,78 +1,73 @@
--- The loop marks the images in turn: those before i are marked and differ (`Marking`).
-use Prim.Native.Nat.{ℕ, _-_, _≤_}
-use lib.ListN.{take}
-use mathlib.Core.Path.{_≡_, sym}
+-- The loop marks the images in turn: those before i are marked, and it is known whether they differ (`Marked`).
+use Prim.Native.Nat.{ℕ, _-_, _≤_, _<_}
+use lib.ListN.{getD, take}
+use mathlib.Core.Logic.{⊎-elim}
+use mathlib.Core.Path.{_≡_, sym, _∙_}
 use native.Mathlib.Omega.{arith}
+use Rattle.heap.specs.Place.{cell}
 use Rattle.coverreader.specs.Images.{imagesIn}
 use Rattle.coverreader.proofs.Images.{images-length, image-at}
+use Rattle.marks.proofs.Images.{marking-read, was-free, was-marked}
 use Rattle.covering.proofs.Marks.{marks-none}
-use Rattle.covering.proofs.Marking.{Marking, marking-none, marking-once, mark-next, mark-twice, mark-all}
+use Rattle.covering.proofs.Marking.{Marked, marked-none, mark-new, mark-again, mark-all}
+use borrow.Author.Tests.{not-true, not-false}
 use borrow.Author.Needs.{needs}
 use Rattle.covering.proofs.fitting.mark_images.Statement.{statement}
 use Rattle.covering.proofs.fitting.mark_images.Tie as tie
 
 abbrev Inv-loop : tie.InvT-loop
-Inv-loop images count marks₀ i₀ marks i = (i ≤ count) × Marking (take i (imagesIn count images)) marks
+Inv-loop images count marks₀ apart₀ i₀ marks apart i = (i ≤ count) × Marked (take i (imagesIn count images)) marks apart
 
 abbrev μ-loop : tie.MeasureT-loop
-μ-loop images count marks₀ i₀ marks i = count - i
+μ-loop images count marks₀ apart₀ i₀ marks apart i = count - i
 
-element-write-marks : tie.Need-element-write-marks Inv-loop μ-loop
-element-write-marks c = search needs
-
-element-write-marks-2 : tie.Need-element-write-marks-2 Inv-loop μ-loop
-element-write-marks-2 c = search needs
-
-element-write-marks-3 : tie.Need-element-write-marks-3 Inv-loop μ-loop
-element-write-marks-3 c = search needs
+clear-requires : tie.Need-clear-requires Inv-loop μ-loop
+clear-requires c κs = search needs
 
 loop-holds : tie.Need-loop-holds Inv-loop μ-loop
-loop-holds c = (omega arith, marking-none _ (rw (c .pre .1) marks-none))
+loop-holds c = (omega arith, marked-none _ (rw (c .clear .ensures) marks-none))
 
 add-wide : tie.Need-add-wide Inv-loop μ-loop
-add-wide c = let k = images-length _ _ _ (c .before .before .pre .0) in omega arith
+add-wide c = omega (arith, c .before .before .before .before .before .pre .few)
 
 element-copy-out-wide : tie.Need-element-copy-out-wide Inv-loop μ-loop
-element-copy-out-wide c = let k = c .before .before .pre .0 .few in omega arith
+element-copy-out-wide c = omega (arith, c .before .before .before .before .before .pre .few)
 
 wide-requires : tie.Need-wide-requires Inv-loop μ-loop
 wide-requires c κs = search needs
 
-element-copy-out-if1 : tie.Need-element-copy-out-if1 Inv-loop μ-loop
-element-copy-out-if1 c = let i = c .before .before .before .loop .i in let k = c .before .before .before .before .pre .0 .high i (omega arith) in omega arith
-
-returns : tie.Need-returns Inv-loop μ-loop
-returns c =
-    let a = c .before .before .before .before .before .before .args in
-    let m = c .before .before .before .before .before .before .pre .0 in
-    let i = c .before .before .before .before .before .loop .i in
-    let e = image-at _ _ _ m i (omega arith) in
-    let k = m .high i (omega arith) in
-    (sym (mark-twice (imagesIn (a .count) (a .images .now)) _ i (c .before .before .before .before .before .loop .inv .1) (omega (arith, images-length _ _ _ m)) (c .before .before .wide .result) (omega arith) (omega arith) (c .if1 .taken)), λ z. let v : _≡_ {A = ℕ} 0 1 = cc in absurd (omega arith))
-
-element-write-marks-4 : tie.Need-element-write-marks-4 Inv-loop μ-loop
-element-write-marks-4 c = let i = c .before .before .before .before .before .loop .i in let k = c .before .before .before .before .before .before .pre .0 .high i (omega arith) in omega arith
+mark-image-requires : tie.Need-mark-image-requires Inv-loop μ-loop
+mark-image-requires c κs = search needs
 
 add-i : tie.Need-add-i Inv-loop μ-loop
-add-i c = let k = images-length _ _ _ (c .before .before .before .before .before .before .pre .0) in omega arith
+add-i c = omega (arith, c .before .before .before .before .before .before .before .before .before .pre .few)
 
 loop-less : tie.Need-loop-less Inv-loop μ-loop
 loop-less c = search needs
 
 loop-again : tie.Need-loop-again Inv-loop μ-loop
 loop-again c =
-    let a = c .before .before .before .before .before .before .args in
-    let m = c .before .before .before .before .before .before .pre .0 in
-    let i = c .before .before .before .before .before .loop .i in
-    let e = image-at _ _ _ m i (omega arith) in
-    let k = m .high i (omega arith) in
-    (omega arith, mark-next (imagesIn (a .count) (a .images .now)) _ i (c .before .before .before .before .before .loop .inv .1) (omega (arith, images-length _ _ _ m)) (c .before .before .wide .result) (omega arith) (omega arith) (c .if1 .left))
+    let a = c .before .before .before .before .before .before .before .before .before .args in
+    let m = c .before .before .before .before .before .before .before .before .before .pre in
+    let l = c .before .before .before .before .before .before .loop in
+    let images = imagesIn (a .count) (a .images .now) in
+    let inside = images-length _ _ _ m in
+    let p = c .before .before .wide .result in
+    let e : p ≡ cell (getD images (l .i) 0) = c .before .before .wide .ensures .0 ∙ sym (image-at _ _ _ m (l .i) (omega arith)) in
+    let room : p < 28 = omega (arith, c .before .before .wide .ensures .0, m .high (l .i) (omega arith)) in
+    let (was, now) = c .before .mark-image .ensures in (
+      omega arith,
+      ⊎-elim
+          (λ (t, y). rw (y, now, marking-read (l .marks) p room) (mark-again images _ _ (l .i) (l .inv .1) (omega arith) p e room (was-marked (l .marks) p room (sym was ∙ not-true _ (t .taken)))))
+          (λ (t, y). rw (y, now, marking-read (l .marks) p room) (mark-new images _ _ (l .i) (l .inv .1) (omega arith) p e room (was-free (l .marks) p room (sym was ∙ not-false _ (t .left)))))
+          (c .if1 .came),
+    )
 
-returns-2 : tie.Need-returns-2 Inv-loop μ-loop
-returns-2 c =
-    let a = c .before .before .args in
-    let m = c .before .before .pre .0 in
-    let k = mark-all (imagesIn (a .count) (a .images .now)) _ (c .before .loop .i) (c .before .loop .inv .1) (omega (arith, images-length _ _ _ m)) in (sym (marking-once _ _ k), λ _. k .marked)
+returns : tie.Need-returns Inv-loop μ-loop
+returns c =
+    let a = c .before .before .before .before .args in
+    let m = c .before .before .before .before .pre in
+    mark-all (imagesIn (a .count) (a .images .now)) _ _ (c .before .loop .i) (c .before .loop .inv .1) (omega (arith, images-length _ _ _ m))
 
 pub mark-images-spec : {M : Type 1} → statement M
 mark-images-spec =
@@ -80,17 +75,13 @@ mark-images-spec =
     (tie.spec
     Inv-loop
     μ-loop
-    element-write-marks
-    element-write-marks-2
-    element-write-marks-3
+    clear-requires
     loop-holds
     add-wide
     element-copy-out-wide
     wide-requires
-    element-copy-out-if1
-    returns
-    element-write-marks-4
+    mark-image-requires
     add-i
     loop-less
     loop-again
-    returns-2)
+    returns)

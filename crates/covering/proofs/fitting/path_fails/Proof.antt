@@ -1,27 +1,29 @@
 -- The loop follows the paths of the links in turn: those of the cells before i fit, and are marked (`Fitting`).
-use Prim.Native.Nat.{_-_, _≤_}
+use Prim.Native.Nat.{ℕ, _-_, _≤_}
+use mathlib.Core.Bool.{true, false}
 use mathlib.Core.Logic.{⊎-elim}
-use mathlib.Core.Path.{_∙_, sym, ap}
+use mathlib.Core.Path.{_≡_, _∙_, sym, ap}
 use native.Mathlib.Omega.{arith}
 use Rattle.lists.specs.Test.{numberOr}
 use Rattle.shape.specs.Shape.{Shape}
 use Rattle.covering.specs.Marks.{Linking}
-use Rattle.covering.proofs.Links.{Fitting, fit-none, fit-all, fit-skip, fit-walk, fit-good, fit-bad}
+use Rattle.covering.proofs.Links.{Fitting, fit-none, fit-all, fit-skip, fit-walk, fit-walked, fit-good, fit-bad, is-a-stop, told-a-stop}
+use borrow.Author.Tests.{not-true, not-false}
 use borrow.Author.Needs.{needs}
 use Rattle.covering.proofs.fitting.path_fails.Statement.{statement}
 use Rattle.covering.proofs.fitting.path_fails.Tie as tie
 
 abbrev Inv-loop : tie.InvT-loop
-Inv-loop cert first count images marks₀ n s i₀ marks i =
+Inv-loop cert first count images marks₀ s i₀ marks i =
     (i ≤ count)
-    × ((member covered : Shape) (l : Linking member covered cert first count images marks₀ n s)
-    → Fitting member covered cert first count images marks₀ n s l marks i)
+    × ((member covered : Shape) (l : Linking member covered cert first count images marks₀ s)
+    → Fitting member covered cert first count images marks₀ s l marks i)
 
 abbrev μ-loop : tie.MeasureT-loop
-μ-loop cert first count images marks₀ n s i₀ marks i = count - i
+μ-loop cert first count images marks₀ s i₀ marks i = count - i
 
 loop-holds : tie.Need-loop-holds Inv-loop μ-loop
-loop-holds c = (omega arith, λ m p l. fit-none _ _ _ _ _ _ _ _ _ l)
+loop-holds c = (omega arith, λ m p l. fit-none _ _ _ _ _ _ _ _ l)
 
 add-wide : tie.Need-add-wide Inv-loop μ-loop
 add-wide c = let (m, p, l) = c .before .before .before .pre in omega (arith, l .inside)
@@ -47,32 +49,42 @@ image-of-requires c κs = search needs
 wide-requires-3 : tie.Need-wide-requires-3 Inv-loop μ-loop
 wide-requires-3 c κs = search needs
 
-walk-requires : tie.Need-walk-requires Inv-loop μ-loop
-walk-requires c κs =
+element-copy-out-wide-2 : tie.Need-element-copy-out-wide-2 Inv-loop μ-loop
+element-copy-out-wide-2 c =
     let (m, p, l) = c .before .before .before .before .before .before .before .before .before .before .before .pre in
-    (p .links, _, _, fit-walk _ _ _ _ _ _ _ _ _ l _ _ (c .before .before .before .before .before .before .before .before .before .loop .inv .1 m p l) (omega arith) _ (c .before .before .before .before .before .before .wide .ensures .0) _ (c .before .before .before .wide2 .ensures .0))
+    let w = fit-walk _ _ _ _ _ _ _ _ l _ _ (c .before .before .before .before .before .before .before .before .before .loop .inv .1 m p l) (omega arith) _ (c .before .before .before .before .before .before .wide .ensures .0) _ (c .before .before .before .wide2 .ensures .0) in
+    omega (arith, w .high, l .linked .fit)
+
+wide-requires-4 : tie.Need-wide-requires-4 Inv-loop μ-loop
+wide-requires-4 c κs = search needs
+
+walk-requires : tie.Need-walk-requires Inv-loop μ-loop
+walk-requires c κs = search needs
 
 returns : tie.Need-returns Inv-loop μ-loop
 returns c = λ m p l.
-    let f = c .before .before .before .before .before .before .before .before .before .before .before .loop .inv .1 m p l in
-    let e = c .before .before .before .before .before .before .before .before .wide .ensures .0 in
-    let s = c .before .before .before .before .before .wide2 .ensures .0 in
+    let f = c .before .before .before .before .before .before .before .before .before .before .before .before .before .loop .inv .1 m p l in
+    let e = c .before .before .before .before .before .before .before .before .before .before .wide .ensures .0 in
+    let s = c .before .before .before .before .before .before .before .wide2 .ensures .0 in
+    let v = fit-walked _ _ _ _ _ _ _ _ l _ _ f (omega arith) _ e _ s _ _ _ (c .before .before .wide4 .ensures .0) (c .before .walk .ensures .0) (c .before .walk .ensures .1) in
     sym (ap (numberOr _)
-    (fit-bad _ _ _ _ _ _ _ _ _ l _ _ f (omega arith) _ e _ s (c .before .before .before .before .before .before .before .if1 .taken) _ (c .before .before .before .wide3 .ensures .0 ∙ c .before .before .before .before .image-of .ensures) _ _
-    (c .before .walk .ensures _ _ _ (fit-walk _ _ _ _ _ _ _ _ _ l _ _ f (omega arith) _ e _ s)) (λ _. c .if2 .taken)))
+    (fit-bad _ _ _ _ _ _ _ _ l _ _ f (omega arith) _ e _ s (c .before .before .before .before .before .before .before .before .before .if1 .taken) _ (c .before .before .before .before .before .wide3 .ensures .0 ∙ c .before .before .before .before .before .before .image-of .ensures) _ _ v (λ _. c .if2 .taken)))
 
-mark-at-requires : tie.Need-mark-at-requires Inv-loop μ-loop
-mark-at-requires c κs = let (m, p, l) = c .before .before .before .before .before .before .before .before .before .before .before .before .before .before .pre in omega (arith, l .covered-cells, l .linked .fit)
+is-stop-requires : tie.Need-is-stop-requires Inv-loop μ-loop
+is-stop-requires c κs = search needs
 
 returns-2 : tie.Need-returns-2 Inv-loop μ-loop
 returns-2 c = λ m p l.
-    let f = c .before .before .before .before .before .before .before .before .before .before .before .before .before .before .loop .inv .1 m p l in
-    let e = c .before .before .before .before .before .before .before .before .before .before .before .wide .ensures .0 in
-    let s = c .before .before .before .before .before .before .before .before .wide2 .ensures .0 in
-    let v = c .before .before .before .before .walk .ensures _ _ _ (fit-walk _ _ _ _ _ _ _ _ _ l _ _ f (omega arith) _ e _ s) in
+    let f = c .before .before .before .before .before .before .before .before .before .before .before .before .before .before .before .before .loop .inv .1 m p l in
+    let e = c .before .before .before .before .before .before .before .before .before .before .before .before .before .wide .ensures .0 in
+    let s = c .before .before .before .before .before .before .before .before .before .before .wide2 .ensures .0 in
+    let v = fit-walked _ _ _ _ _ _ _ _ l _ _ f (omega arith) _ e _ s _ _ _ (c .before .before .before .before .before .wide4 .ensures .0) (c .before .before .before .before .walk .ensures .0) (c .before .before .before .before .walk .ensures .1) in
     sym (ap (numberOr _)
-    (fit-bad _ _ _ _ _ _ _ _ _ l _ _ f (omega arith) _ e _ s (c .before .before .before .before .before .before .before .before .before .before .if1 .taken) _ (c .before .before .before .before .before .before .wide3 .ensures .0 ∙ c .before .before .before .before .before .before .before .image-of .ensures) _ _ v
-    (λ stop _. c .if3 .taken (c .before .mark-at .ensures ∙ (rw (l .covered-cells) at (v .stop-marked stop))))))
+    (fit-bad _ _ _ _ _ _ _ _ l _ _ f (omega arith) _ e _ s (c .before .before .before .before .before .before .before .before .before .before .before .before .if1 .taken) _ (c .before .before .before .before .before .before .before .before .wide3 .ensures .0 ∙ c .before .before .before .before .before .before .before .before .before .image-of .ensures) _ _ v
+    (λ stop _.
+    let no : true ≡ false = sym (told-a-stop _ _ _ _ _ _ _ _ l _ _ (v .stop-marked stop)) ∙ sym (c .before .is-stop .ensures) ∙ not-true _ (c .if3 .taken) in
+    let one : _≡_ {A = ℕ} 0 1 = cc in
+    omega arith)))
 
 add-i : tie.Need-add-i Inv-loop μ-loop
 add-i c = search needs
@@ -87,16 +99,16 @@ loop-again c = (
       let f = c .before .before .before .before .loop .inv .1 m p l in
       let e = c .before .wide .ensures .0 in
       ⊎-elim
-      (λ (n, _, s, q, t, _, w, z, _, k, h, y).
-      let v = w .ensures _ _ _ (fit-walk _ _ _ _ _ _ _ _ _ l _ _ f (omega arith) _ e _ (s .ensures .0)) in
+      (λ (n, _, s, q, t, _, _, x, w, z, _, k, h, y).
+      let v = fit-walked _ _ _ _ _ _ _ _ l _ _ f (omega arith) _ e _ (s .ensures .0) _ _ _ (x .ensures .0) (w .ensures .0) (w .ensures .1) in
       rw y
-      (fit-good _ _ _ _ _ _ _ _ _ l _ _ f (omega arith) _ e _ (s .ensures .0) (n .taken) _ (t .ensures .0 ∙ q .ensures) _ _ v (z .left)
-      (v .marked-stop (rw (l .covered-cells) (sym (k .ensures) ∙ h .left)))))
-      (λ (n, y). fit-skip _ _ _ _ _ _ _ _ _ l _ _ f (omega arith) _ e _ y (n .left)) (c .if1 .came),
+      (fit-good _ _ _ _ _ _ _ _ l _ _ f (omega arith) _ e _ (s .ensures .0) (n .taken) _ (t .ensures .0 ∙ q .ensures) _ _ v (z .left)
+      (v .marked-stop (is-a-stop _ _ _ _ _ _ _ _ l _ _ (sym (k .ensures) ∙ not-false _ (h .left))))))
+      (λ (n, y). fit-skip _ _ _ _ _ _ _ _ l _ _ f (omega arith) _ e _ y (n .left)) (c .if1 .came),
 )
 
 returns-3 : tie.Need-returns-3 Inv-loop μ-loop
-returns-3 c = λ m p l. sym (ap (numberOr _) (fit-all _ _ _ _ _ _ _ _ _ l _ _ (c .before .loop .inv .1 m p l) (omega arith)))
+returns-3 c = λ m p l. sym (ap (numberOr _) (fit-all _ _ _ _ _ _ _ _ l _ _ (c .before .loop .inv .1 m p l) (omega arith)))
 
 pub path-fails-spec : {M : Type 1} → statement M
 path-fails-spec =
@@ -113,9 +125,11 @@ path-fails-spec =
     wide-requires-2
     image-of-requires
     wide-requires-3
+    element-copy-out-wide-2
+    wide-requires-4
     walk-requires
     returns
-    mark-at-requires
+    is-stop-requires
     returns-2
     add-i
     loop-less

@@ -15,7 +15,8 @@ cells-held-requires c κs = search needs
 read-and-mark-requires : tie.Need-read-and-mark-requires
 read-and-mark-requires c κs =
     let (w, e, inside) = c .before .before .before .before .pre in
-    (inside, omega (arith, w .cells), c .before .before .cells-held .ensures .1, images-none _, refl)
+    let most = c .before .before .cells-held .ensures .1 in
+    (inside, omega (arith, w .cells), most, images-none _ most)
 
 returns : tie.Need-returns
 returns c = λ z. let v : _≡_ {A = ℕ} 0 1 = cc in absurd (omega arith)
@@ -39,16 +40,16 @@ quick-links-requires : tie.Need-quick-links-requires
 quick-links-requires c κs =
     let (w, e, _) = c .before .before .before .before .before .before .before .before .before .before .before .pre in
     let h = c .before .before .before .before .before .before .before .before .before .cells-held .ensures in
-    let t = c .before .before .before .before .before .before .read-and-mark .ensures (not-false _ (c .before .before .before .before .before .if1 .left)) in
-    (_, _, taken-linking _ _ _ _ _ w (h .0) (sym (h .2)) _ _ e _ _ t)
+    let t = c .before .before .before .before .before .before .read-and-mark .ensures .whole (not-false _ (c .before .before .before .before .before .if1 .left)) in
+    (_, _, taken-linking _ _ _ _ _ w (sym (h .2)) _ _ e _ _ t)
 
 returns-3 : tie.Need-returns-3
 returns-3 c = λ z.
     let (w, e, _) = c .before .before .before .before .before .before .before .before .before .before .before .before .pre in
     let h = c .before .before .before .before .before .before .before .before .before .before .cells-held .ensures in
-    let t = c .before .before .before .before .before .before .before .read-and-mark .ensures (not-false _ (c .before .before .before .before .before .before .if1 .left)) in
-    let l = taken-linking _ _ _ _ _ w (h .0) (sym (h .2)) _ _ e _ _ t in
-    taken-embed _ _ _ _ _ w (h .0) (sym (h .2)) _ _ e _ _ t (c .before .before .before .before .quick-vars .ensures (not-false _ (c .before .before .before .if2 .left))) (c .quick-links .ensures _ _ l z)
+    let t = c .before .before .before .before .before .before .before .read-and-mark .ensures .whole (not-false _ (c .before .before .before .before .before .before .if1 .left)) in
+    let l = taken-linking _ _ _ _ _ w (sym (h .2)) _ _ e _ _ t in
+    taken-embed _ _ _ _ _ w (sym (h .2)) _ _ e _ _ t (c .before .before .before .before .quick-vars .ensures (not-false _ (c .before .before .before .if2 .left))) (c .quick-links .ensures _ _ l z)
 
 pub images-embed-spec : {M : Type 1} → statement M
 images-embed-spec =

@@ -8,22 +8,22 @@ use Rattle.shape.specs.Shape.{Shape}
 use Rattle.covering.specs.Marks.{Linking}
 use Rattle.covering.proofs.Follow.{follow-direct}
 use Rattle.covering.proofs.Images.{image-read, image-stops}
-use Rattle.covering.proofs.Links.{Fitting, fit-none, fit-all, fit-skip, fit-walk, fit-good}
+use Rattle.covering.proofs.Links.{Fitting, fit-none, fit-all, fit-skip, fit-walk, fit-walked, fit-good}
 use borrow.Author.Needs.{needs}
 use Rattle.covering.proofs.quick.quick_links.Statement.{statement}
 use Rattle.covering.proofs.quick.quick_links.Tie as tie
 
 abbrev Inv-loop : tie.InvT-loop
-Inv-loop cert first count images marks₀ n s i₀ marks i =
+Inv-loop cert first count images marks₀ s i₀ marks i =
     (i ≤ count)
-    × ((member covered : Shape) (l : Linking member covered cert first count images marks₀ n s)
-    → Fitting member covered cert first count images marks₀ n s l marks i)
+    × ((member covered : Shape) (l : Linking member covered cert first count images marks₀ s)
+    → Fitting member covered cert first count images marks₀ s l marks i)
 
 abbrev μ-loop : tie.MeasureT-loop
-μ-loop cert first count images marks₀ n s i₀ marks i = count - i
+μ-loop cert first count images marks₀ s i₀ marks i = count - i
 
 loop-holds : tie.Need-loop-holds Inv-loop μ-loop
-loop-holds c = (omega arith, λ m p l. fit-none _ _ _ _ _ _ _ _ _ l)
+loop-holds c = (omega arith, λ m p l. fit-none _ _ _ _ _ _ _ _ l)
 
 add-wide : tie.Need-add-wide Inv-loop μ-loop
 add-wide c = let (m, p, l) = c .before .before .before .pre in omega (arith, l .inside)
@@ -53,24 +53,30 @@ element-copy-out-if3 : tie.Need-element-copy-out-if3 Inv-loop μ-loop
 element-copy-out-if3 c =
     let (m, p, l) = c .before .before .before .before .before .before .before .before .before .pre in
     let f = c .before .before .before .before .before .before .before .loop .inv .1 m p l in
-    let w = fit-walk _ _ _ _ _ _ _ _ _ l _ _ f (omega arith) _ (c .before .before .before .before .wide .ensures .0) _ (c .wide2 .ensures .0) in
+    let w = fit-walk _ _ _ _ _ _ _ _ l _ _ f (omega arith) _ (c .before .before .before .before .wide .ensures .0) _ (c .wide2 .ensures .0) in
     omega (arith, w .high, l .linked .fit)
 
 element-copy-out-if3-2 : tie.Need-element-copy-out-if3-2 Inv-loop μ-loop
 element-copy-out-if3-2 c = let (m, p, l) = c .before .before .before .before .before .before .before .before .before .before .pre in omega (arith, l .images .few)
 
-walk-requires : tie.Need-walk-requires Inv-loop μ-loop
-walk-requires c κs =
+element-copy-out-wide-2 : tie.Need-element-copy-out-wide-2 Inv-loop μ-loop
+element-copy-out-wide-2 c =
     let (m, p, l) = c .before .before .before .before .before .before .before .before .before .before .before .before .before .pre in
     let f = c .before .before .before .before .before .before .before .before .before .before .before .loop .inv .1 m p l in
-    let e = c .before .before .before .before .before .before .before .before .wide .ensures .0 in
-    (p .links, _, _, fit-walk _ _ _ _ _ _ _ _ _ l _ _ f (omega arith) _ e _ (c .before .before .before .before .wide2 .ensures .0))
-
-element-copy-out-wide-2 : tie.Need-element-copy-out-wide-2 Inv-loop μ-loop
-element-copy-out-wide-2 c = let (m, p, l) = c .before .before .before .before .before .before .before .before .before .before .before .before .before .before .pre in omega (arith, l .images .few)
+    let w = fit-walk _ _ _ _ _ _ _ _ l _ _ f (omega arith) _ (c .before .before .before .before .before .before .before .before .wide .ensures .0) _ (c .before .before .before .before .wide2 .ensures .0) in
+    omega (arith, w .high, l .linked .fit)
 
 wide-requires-3 : tie.Need-wide-requires-3 Inv-loop μ-loop
 wide-requires-3 c κs = search needs
+
+walk-requires : tie.Need-walk-requires Inv-loop μ-loop
+walk-requires c κs = search needs
+
+element-copy-out-wide-3 : tie.Need-element-copy-out-wide-3 Inv-loop μ-loop
+element-copy-out-wide-3 c = let (m, p, l) = c .before .before .before .before .before .before .before .before .before .before .before .before .before .before .before .before .pre in omega (arith, l .images .few)
+
+wide-requires-4 : tie.Need-wide-requires-4 Inv-loop μ-loop
+wide-requires-4 c κs = search needs
 
 returns-2 : tie.Need-returns-2 Inv-loop μ-loop
 returns-2 c = λ m p l z. let v : _≡_ {A = ℕ} 0 1 = cc in absurd (omega arith)
@@ -90,26 +96,26 @@ loop-again c = (
       let images = c .before .before .before .before .before .before .args .images .now in
       let q = c .before .wide .result in
       ⊎-elim
-      (λ (n, b, _, s, _, _, _, _, w, _, t, z, y).
-      let v = w .ensures _ _ _ (fit-walk _ _ _ _ _ _ _ _ _ l _ _ f (omega arith) _ e _ (s .ensures .0)) in
+      (λ (n, b, _, s, _, _, _, _, _, x, w, _, t, z, y).
+      let v = fit-walked _ _ _ _ _ _ _ _ l _ _ f (omega arith) _ e _ (s .ensures .0) _ _ _ (x .ensures .0) (w .ensures .0) (w .ensures .1) in
       let stop = image-stops _ _ images (l .images) q (omega (arith, b .left)) in
       let read = image-read images q (omega (arith, b .left, l .images .few)) in
       rw y
-      (fit-good _ _ _ _ _ _ _ _ _ l _ _ f (omega arith) _ e _ (s .ensures .0) (n .taken) _ (t .ensures .0 ∙ sym read) _ _ v (z .left)
+      (fit-good _ _ _ _ _ _ _ _ l _ _ f (omega arith) _ e _ (s .ensures .0) (n .taken) _ (t .ensures .0 ∙ sym read) _ _ v (z .left)
       (rw (z .left, t .ensures .0, ← read) stop)))
       (⊎-elim
       (λ (n, b, _, s, _, _, d, y).
       let stop = image-stops _ _ images (l .images) q (omega (arith, b .left)) in
       let read = image-read images q (omega (arith, b .left, l .images .few)) in
-      let w = fit-walk _ _ _ _ _ _ _ _ _ l _ _ f (omega arith) _ e _ (s .ensures .0) in
-      let v = follow-direct _ _ _ _ _ _ _ w _ (d .left ∙ sym read) stop in
-      rw y (fit-good _ _ _ _ _ _ _ _ _ l _ _ f (omega arith) _ e _ (s .ensures .0) (n .taken) _ refl _ _ v refl stop))
-      (λ (n, y). fit-skip _ _ _ _ _ _ _ _ _ l _ _ f (omega arith) _ e _ y (n .left)))
+      let w = fit-walk _ _ _ _ _ _ _ _ l _ _ f (omega arith) _ e _ (s .ensures .0) in
+      let v = follow-direct _ _ _ _ _ _ w _ (d .left ∙ sym read) stop in
+      rw y (fit-good _ _ _ _ _ _ _ _ l _ _ f (omega arith) _ e _ (s .ensures .0) (n .taken) _ refl _ _ v refl stop))
+      (λ (n, y). fit-skip _ _ _ _ _ _ _ _ l _ _ f (omega arith) _ e _ y (n .left)))
       (c .if1 .came),
 )
 
 returns-3 : tie.Need-returns-3 Inv-loop μ-loop
-returns-3 c = λ m p l _. fit-all _ _ _ _ _ _ _ _ _ l _ _ (c .before .loop .inv .1 m p l) (omega arith)
+returns-3 c = λ m p l _. fit-all _ _ _ _ _ _ _ _ l _ _ (c .before .loop .inv .1 m p l) (omega arith)
 
 pub quick-links-spec : {M : Type 1} → statement M
 quick-links-spec =
@@ -128,9 +134,11 @@ quick-links-spec =
     wide-requires-2
     element-copy-out-if3
     element-copy-out-if3-2
-    walk-requires
     element-copy-out-wide-2
     wide-requires-3
+    walk-requires
+    element-copy-out-wide-3
+    wide-requires-4
     returns-2
     add-i
     loop-less

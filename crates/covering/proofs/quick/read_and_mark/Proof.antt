@@ -1,9 +1,11 @@
 -- The loop takes the images in turn: those before i are read and marked, and differ (`ReadingMarked`).
-use Prim.Native.Nat.{ℕ, _-_}
-use mathlib.Core.Path.{_≡_, refl}
+use Prim.Native.Nat.{_+_, _-_}
+use lib.ListN.{getD}
+use mathlib.Core.Path.{refl, sym, _∙_}
 use native.Mathlib.Omega.{arith}
 use Rattle.covering.proofs.Marks.{marks-none}
-use Rattle.covering.proofs.ReadAndMark.{ReadingMarked, taking-none, taking-more, taking-all}
+use Rattle.covering.proofs.ReadAndMark.{ReadingMarked, taking-none, taking-more, taking-whole, taking-ended, taking-again}
+use borrow.Author.Tests.{not-true, not-false}
 use borrow.Author.Needs.{needs}
 use Rattle.covering.proofs.quick.read_and_mark.Statement.{statement}
 use Rattle.covering.proofs.quick.read_and_mark.Tie as tie
@@ -14,17 +16,11 @@ Inv-loop cert first count n images₀ marks₀ i₀ images marks i = ReadingMark
 abbrev μ-loop : tie.MeasureT-loop
 μ-loop cert first count n images₀ marks₀ i₀ images marks i = count - i
 
-element-write-marks : tie.Need-element-write-marks Inv-loop μ-loop
-element-write-marks c = search needs
-
-element-write-marks-2 : tie.Need-element-write-marks-2 Inv-loop μ-loop
-element-write-marks-2 c = search needs
-
-element-write-marks-3 : tie.Need-element-write-marks-3 Inv-loop μ-loop
-element-write-marks-3 c = search needs
+clear-requires : tie.Need-clear-requires Inv-loop μ-loop
+clear-requires c κs = search needs
 
 loop-holds : tie.Need-loop-holds Inv-loop μ-loop
-loop-holds c = taking-none _ _ _ _ _ _ (c .before .pre .3) (rw (c .before .pre .4) marks-none)
+loop-holds c = taking-none _ _ _ _ _ _ (c .before .before .before .pre .3) (rw (c .clear .ensures) marks-none)
 
 add-c : tie.Need-add-c Inv-loop μ-loop
 add-c c = search needs
@@ -36,22 +32,21 @@ wide-requires : tie.Need-wide-requires Inv-loop μ-loop
 wide-requires c κs = search needs
 
 returns : tie.Need-returns Inv-loop μ-loop
-returns c = λ z. let v : _≡_ {A = ℕ} 0 1 = cc in absurd (omega arith)
+returns c = taking-ended _ _ _ _ _ _ _ (c .before .before .before .before .loop .inv)
 
 wide-requires-2 : tie.Need-wide-requires-2 Inv-loop μ-loop
 wide-requires-2 c κs = search needs
 
-add-p : tie.Need-add-p Inv-loop μ-loop
-add-p c = search needs
+add-mark-image : tie.Need-add-mark-image Inv-loop μ-loop
+add-mark-image c = search needs
 
-element-copy-out-if2 : tie.Need-element-copy-out-if2 Inv-loop μ-loop
-element-copy-out-if2 c = search needs
+mark-image-requires : tie.Need-mark-image-requires Inv-loop μ-loop
+mark-image-requires c κs = search needs
 
 returns-2 : tie.Need-returns-2 Inv-loop μ-loop
-returns-2 c = λ z. let v : _≡_ {A = ℕ} 0 1 = cc in absurd (omega arith)
-
-element-write-marks-4 : tie.Need-element-write-marks-4 Inv-loop μ-loop
-element-write-marks-4 c = search needs
+returns-2 c =
+    let (was, now) = c .before .mark-image .ensures in
+    rw now (taking-again _ _ _ _ _ _ _ (c .before .before .before .before .before .before .before .before .loop .inv) (c .before .before .wide2 .result + 3) (omega arith) (sym was ∙ not-true _ (c .if2 .taken)))
 
 add-images : tie.Need-add-images Inv-loop μ-loop
 add-images c = search needs
@@ -70,11 +65,15 @@ loop-less c = search needs
 
 loop-again : tie.Need-loop-again Inv-loop μ-loop
 loop-again c =
-    taking-more _ _ _ _ _ _ _ (c .before .before .before .before .before .before .before .loop .inv) (omega arith) (omega arith) (omega arith) (omega arith) _ _ refl
-    (omega arith) (omega arith) (c .if2 .left)
+    let (was, now) = c .before .mark-image .ensures in
+    let a = c .before .before .before .before .before .before .before .before .before .before .before .before .args in
+    let i = c .before .before .before .before .before .before .before .before .loop .i in
+    rw now
+    (taking-more _ _ _ _ _ _ _ (c .before .before .before .before .before .before .before .before .loop .inv) (omega arith) (omega arith) (omega arith) (omega arith) (getD (a .cert .now) (a .first + i) 0) (c .before .before .wide2 .result + 3) refl (omega arith) (omega arith)
+    (sym was ∙ not-false _ (c .if2 .left)))
 
 returns-3 : tie.Need-returns-3 Inv-loop μ-loop
-returns-3 c = λ _. taking-all _ _ _ _ _ _ _ (c .before .loop .inv) (omega arith)
+returns-3 c = taking-whole _ _ _ _ _ _ _ (c .before .loop .inv) (omega arith)
 
 pub read-and-mark-spec : {M : Type 1} → statement M
 read-and-mark-spec =
@@ -82,19 +81,16 @@ read-and-mark-spec =
     (tie.spec
     Inv-loop
     μ-loop
-    element-write-marks
-    element-write-marks-2
-    element-write-marks-3
+    clear-requires
     loop-holds
     add-c
     shared-slice-read-c
     wide-requires
     returns
     wide-requires-2
-    add-p
-    element-copy-out-if2
+    add-mark-image
+    mark-image-requires
     returns-2
-    element-write-marks-4
     add-images
     add-images-2
     element-write-images

@@ -16,7 +16,7 @@ wide-requires : tie.Need-wide-requires
 wide-requires c κs = search needs
 
 mark-images-requires : tie.Need-mark-images-requires
-mark-images-requires c κs = (images-in _ _ _ _ _ _ (c .before .before .before .before .pre .0) _ (c .before .wide .ensures .0), refl)
+mark-images-requires c κs = images-in _ _ _ _ _ (c .before .before .before .before .pre .0) _ (c .before .wide .ensures .0)
 
 add-link-misses : tie.Need-add-link-misses
 add-link-misses c = search needs
@@ -29,27 +29,27 @@ link-misses-requires c κs =
     let (t, once, _, _) = c .before .before .before .before .before .before .pre in
     let k = c .before .mark-images .ensures in
     let read = c .before .before .before .wide .ensures .0 in
-    (_, _, linking-read _ _ _ _ _ _ t _ read _ (k .1 (k .0 ∙ once-read _ _ _ _ _ _ t _ read once)))
+    (_, _, linking-read _ _ _ _ _ t _ read _ (k .1))
 
-cast-t18 : tie.Need-cast-t18
-cast-t18 c = search needs
+cast-t17 : tie.Need-cast-t17
+cast-t17 c = search needs
 
 returns : tie.Need-returns
 returns c =
     let (t, once, _, first) = c .before .before .before .before .before .before .before .before .pre in
     let read = c .before .before .before .before .before .wide .ensures .0 in
     let k = c .before .before .before .mark-images .ensures in
-    miss-found _ _ _ _ _ _ t _ read _ (c .before .link-misses .ensures _ _ (linking-read _ _ _ _ _ _ t _ read _ (k .1 (k .0 ∙ once-read _ _ _ _ _ _ t _ read once)))) (c .if1 .taken)
+    miss-found _ _ _ _ _ t _ read _ (c .before .link-misses .ensures _ _ (linking-read _ _ _ _ _ t _ read _ (k .1))) (c .if1 .taken)
 
-cast-t13 : tie.Need-cast-t13
-cast-t13 c = search needs
+cast-t12 : tie.Need-cast-t12
+cast-t12 c = search needs
 
 returns-2 : tie.Need-returns-2
 returns-2 c =
     let (t, once, _, first) = c .before .before .before .before .before .before .before .before .pre in
     let read = c .before .before .before .before .before .wide .ensures .0 in
     let k = c .before .before .before .mark-images .ensures in
-    share-found _ _ _ _ _ _ t _ read _ (c .before .link-misses .ensures _ _ (linking-read _ _ _ _ _ _ t _ read _ (k .1 (k .0 ∙ once-read _ _ _ _ _ _ t _ read once)))) _ first (omega arith)
+    share-found _ _ _ _ _ t _ read _ (c .before .link-misses .ensures _ _ (linking-read _ _ _ _ _ t _ read _ (k .1))) _ first (omega arith)
 
 pub broken-path-spec : {M : Type 1} → statement M
 broken-path-spec =
@@ -62,7 +62,7 @@ broken-path-spec =
     add-link-misses
     add-link-misses-2
     link-misses-requires
-    cast-t18
+    cast-t17
     returns
-    cast-t13
+    cast-t12
     returns-2)

@@ -12,7 +12,7 @@ shared-slice-read-if1 : tie.Need-shared-slice-read-if1
 shared-slice-read-if1 c = search needs
 
 returns : tie.Need-returns
-returns c = answer-state _ _ _ _ _ _ (c .before .before .before .pre) _ (c .if1 .taken)
+returns c = answer-state _ _ _ _ _ (c .before .before .before .pre) _ (c .if1 .taken)
 
 add-wide : tie.Need-add-wide
 add-wide c = search needs
@@ -24,13 +24,13 @@ wide-requires : tie.Need-wide-requires
 wide-requires c κs = search needs
 
 mark-images-requires : tie.Need-mark-images-requires
-mark-images-requires c κs = (images-in _ _ _ _ _ _ (c .before .before .before .before .before .before .pre) _ (c .before .wide .ensures .0), refl)
+mark-images-requires c κs = images-in _ _ _ _ _ (c .before .before .before .before .before .before .pre) _ (c .before .wide .ensures .0)
 
 image-twice-requires : tie.Need-image-twice-requires
-image-twice-requires c κs = images-in _ _ _ _ _ _ (c .before .before .before .before .before .before .before .before .pre) _ (c .before .before .before .wide .ensures .0)
+image-twice-requires c κs = images-in _ _ _ _ _ (c .before .before .before .before .before .before .before .before .pre) _ (c .before .before .before .wide .ensures .0)
 
-cast-t21 : tie.Need-cast-t21
-cast-t21 c =
+cast-t20 : tie.Need-cast-t20
+cast-t20 c =
     let t = c .before .before .before .before .before .before .before .before .before .pre in
     omega (arith, c .before .before .before .before .wide .ensures .0, t .images .few, found-within _ _ _ (c .image-twice .ensures))
 
@@ -39,7 +39,7 @@ returns-2 c =
     let t = c .before .before .before .before .before .before .before .before .before .pre in
     let read = c .before .before .before .before .wide .ensures .0 in
     let same = c .before .before .before .before .before .before .if1 .left in
-    image-found _ _ _ _ _ _ t _ read _ same _ (sym (c .before .before .mark-images .ensures .0) ∙ not-true _ (c .before .if2 .taken)) (c .image-twice .ensures)
+    image-found _ _ _ _ _ t _ read _ same _ (sym (c .before .before .mark-images .ensures .0) ∙ not-true _ (c .before .if2 .taken)) (c .image-twice .ensures)
 
 add-variable-elsewhere : tie.Need-add-variable-elsewhere
 add-variable-elsewhere c = search needs
@@ -47,18 +47,18 @@ add-variable-elsewhere c = search needs
 variable-elsewhere-requires : tie.Need-variable-elsewhere-requires
 variable-elsewhere-requires c κs = search needs
 
-add-t23 : tie.Need-add-t23
-add-t23 c = search needs
+add-t22 : tie.Need-add-t22
+add-t22 c = search needs
 
-cast-t24 : tie.Need-cast-t24
-cast-t24 c = search needs
+cast-t23 : tie.Need-cast-t23
+cast-t23 c = search needs
 
 returns-3 : tie.Need-returns-3
 returns-3 c =
     let t = c .before .before .before .before .before .before .before .before .before .before .pre in
     let read = c .before .before .before .before .before .wide .ensures .0 in
     let same = c .before .before .before .before .before .before .before .if1 .left in
-    variable-found _ _ _ _ _ _ t _ read _ same (sym (c .before .before .before .mark-images .ensures .0) ∙ not-false _ (c .before .before .if2 .left)) _ (c .before .variable-elsewhere .ensures) (c .if3 .taken)
+    variable-found _ _ _ _ _ t _ read _ same (sym (c .before .before .before .mark-images .ensures .0) ∙ not-false _ (c .before .before .if2 .left)) _ (c .before .variable-elsewhere .ensures) (c .if3 .taken)
 
 add-path-fails : tie.Need-add-path-fails
 add-path-fails c = search needs
@@ -70,30 +70,30 @@ path-fails-requires : tie.Need-path-fails-requires
 path-fails-requires c κs =
     let t = c .before .before .before .before .before .before .before .before .before .before .before .pre in
     let read = c .before .before .before .before .before .before .wide .ensures .0 in
-    (_, _, linking-read _ _ _ _ _ _ t _ read _ (c .before .before .before .before .mark-images .ensures .1 (not-false _ (c .before .before .before .if2 .left))))
+    (_, _, linking-read _ _ _ _ _ t _ read _ (c .before .before .before .before .mark-images .ensures .1))
 
 broken-path-requires : tie.Need-broken-path-requires
 broken-path-requires c κs =
     let t = c .before .before .before .before .before .before .before .before .before .before .before .before .before .pre in
     let read = c .before .before .before .before .before .before .before .before .wide .ensures .0 in
-    let l = linking-read _ _ _ _ _ _ t _ read _ (c .before .before .before .before .before .before .mark-images .ensures .1 (not-false _ (c .before .before .before .before .before .if2 .left))) in
-    let i = first-failing _ _ _ _ _ _ t _ read _ (c .before .path-fails .ensures _ _ l) (c .if4 .taken) in
-    (t, once-cells _ _ _ _ _ _ t _ read (sym (c .before .before .before .before .before .before .mark-images .ensures .0) ∙ not-false _ (c .before .before .before .before .before .if2 .left)), omega (arith, read), i)
+    let l = linking-read _ _ _ _ _ t _ read _ (c .before .before .before .before .before .before .mark-images .ensures .1) in
+    let i = first-failing _ _ _ _ _ t _ read _ (c .before .path-fails .ensures _ _ l) (c .if4 .taken) in
+    (t, once-cells _ _ _ _ _ t _ read (sym (c .before .before .before .before .before .before .mark-images .ensures .0) ∙ not-false _ (c .before .before .before .before .before .if2 .left)), omega (arith, read), i)
 
 returns-4 : tie.Need-returns-4
 returns-4 c =
     let t = c .before .before .before .before .before .before .before .before .before .before .before .before .before .before .pre in
     let read = c .before .before .before .before .before .before .before .before .before .wide .ensures .0 in
     let same = c .before .before .before .before .before .before .before .before .before .before .before .if1 .left in
-    path-found _ _ _ _ _ _ t _ read _ same (sym (c .before .before .before .before .before .before .before .mark-images .ensures .0) ∙ not-false _ (c .before .before .before .before .before .before .if2 .left)) _ (c .before .before .before .before .before .variable-elsewhere .ensures) (omega arith) _ (c .broken-path .ensures)
+    path-found _ _ _ _ _ t _ read _ same (sym (c .before .before .before .before .before .before .before .mark-images .ensures .0) ∙ not-false _ (c .before .before .before .before .before .before .if2 .left)) _ (c .before .before .before .before .before .variable-elsewhere .ensures) (omega arith) _ (c .broken-path .ensures)
 
 returns-5 : tie.Need-returns-5
 returns-5 c =
     let t = c .before .before .before .before .before .before .before .before .before .before .before .before .before .pre in
     let read = c .before .before .before .before .before .before .before .before .wide .ensures .0 in
     let same = c .before .before .before .before .before .before .before .before .before .before .if1 .left in
-    let l = linking-read _ _ _ _ _ _ t _ read _ (c .before .before .before .before .before .before .mark-images .ensures .1 (not-false _ (c .before .before .before .before .before .if2 .left))) in
-    nothing-found _ _ _ _ _ _ t _ read _ same (sym (c .before .before .before .before .before .before .mark-images .ensures .0) ∙ not-false _ (c .before .before .before .before .before .if2 .left)) _ (c .before .before .before .before .variable-elsewhere .ensures) (omega arith) _ (c .before .path-fails .ensures _ _ l) (omega arith)
+    let l = linking-read _ _ _ _ _ t _ read _ (c .before .before .before .before .before .before .mark-images .ensures .1) in
+    nothing-found _ _ _ _ _ t _ read _ same (sym (c .before .before .before .before .before .before .mark-images .ensures .0) ∙ not-false _ (c .before .before .before .before .before .if2 .left)) _ (c .before .before .before .before .variable-elsewhere .ensures) (omega arith) _ (c .before .path-fails .ensures _ _ l) (omega arith)
 
 pub cover-answer-spec : {M : Type 1} → statement M
 cover-answer-spec =
@@ -106,12 +106,12 @@ cover-answer-spec =
     wide-requires
     mark-images-requires
     image-twice-requires
-    cast-t21
+    cast-t20
     returns-2
     add-variable-elsewhere
     variable-elsewhere-requires
-    add-t23
-    cast-t24
+    add-t22
+    cast-t23
     returns-3
     add-path-fails
     add-path-fails-2

@@ -16,13 +16,13 @@ use Rattle.covering.proofs.rules.link_misses.Statement.{statement}
 use Rattle.covering.proofs.rules.link_misses.Tie as tie
 
 abbrev Inv-loop : tie.InvT-loop
-Inv-loop cert first count images marks n s i₀ i =
+Inv-loop cert first count images marks s i₀ i =
     (i ≤ count)
-    × ((member covered : Shape) → Linking member covered cert first count images marks n s
+    × ((member covered : Shape) → Linking member covered cert first count images marks s
     → Passing (linkMeets member covered (imagesIn count images)) count i)
 
 abbrev μ-loop : tie.MeasureT-loop
-μ-loop cert first count images marks n s i₀ i = count - i
+μ-loop cert first count images marks s i₀ i = count - i
 
 loop-holds : tie.Need-loop-holds Inv-loop μ-loop
 loop-holds c = (omega arith, λ m p l. pass-none _ _)
@@ -51,19 +51,26 @@ image-of-requires c κs = search needs
 wide-requires-3 : tie.Need-wide-requires-3 Inv-loop μ-loop
 wide-requires-3 c κs = search needs
 
-path-end-requires : tie.Need-path-end-requires Inv-loop μ-loop
-path-end-requires c κs =
+element-copy-out-wide-2 : tie.Need-element-copy-out-wide-2 Inv-loop μ-loop
+element-copy-out-wide-2 c =
     let (m, p, l) = c .before .before .before .before .before .before .before .before .before .before .pre in
-    (p .links, _, [], walk-from _ _ _ _ _ _ _ _ _ l (c .before .before .before .before .before .before .before .before .loop .i) (omega arith) _ (c .before .before .before .before .before .wide .ensures .0) _ (c .before .before .wide2 .ensures .0) [] _ (l .marked))
+    let w = walk-from _ _ _ _ _ _ _ _ l (c .before .before .before .before .before .before .before .before .loop .i) (omega arith) _ (c .before .before .before .before .before .wide .ensures .0) _ (c .before .before .wide2 .ensures .0) [] _ (l .marked) in
+    omega (arith, w .high, l .linked .fit)
+
+wide-requires-4 : tie.Need-wide-requires-4 Inv-loop μ-loop
+wide-requires-4 c κs = search needs
+
+stop-from-requires : tie.Need-stop-from-requires Inv-loop μ-loop
+stop-from-requires c κs = search needs
 
 returns : tie.Need-returns Inv-loop μ-loop
 returns c = λ m p l.
-    let t = c .before .before .before .before .before .before .before .before .before .before .loop in
-    let e = c .before .before .before .before .before .before .before .wide .ensures .0 in
-    let s = c .before .before .before .before .wide2 .ensures .0 in
+    let t = c .before .before .before .before .before .before .before .before .before .before .before .before .loop in
+    let e = c .before .before .before .before .before .before .before .before .before .wide .ensures .0 in
+    let s = c .before .before .before .before .before .before .wide2 .ensures .0 in
     sym (ap (numberOr _)
-    (meet-not _ _ _ _ _ _ _ _ _ l (t .i) (t .inv .1 m p l) (omega arith) _ e _ s (c .before .before .before .before .before .before .if1 .taken) _ (c .before .before .wide3 .ensures .0 ∙ c .before .before .before .image-of .ensures) _
-    (c .before .path-end .ensures _ _ _ (walk-from _ _ _ _ _ _ _ _ _ l (t .i) (omega arith) _ e _ s [] _ (l .marked))) (c .if2 .taken)))
+    (meet-not _ _ _ _ _ _ _ _ l (t .i) (t .inv .1 m p l) (omega arith) _ e _ s (c .before .before .before .before .before .before .before .before .if1 .taken) _ (c .before .before .before .before .wide3 .ensures .0 ∙ c .before .before .before .before .before .image-of .ensures) _ _
+    (c .before .before .wide4 .ensures .0) (c .before .stop-from .ensures) (c .if2 .taken)))
 
 add-i : tie.Need-add-i Inv-loop μ-loop
 add-i c = search needs
@@ -78,10 +85,10 @@ loop-again c = (
       let t = c .before .before .before .before .loop in
       let e = c .before .wide .ensures .0 in
       ⊎-elim
-      (λ (o, _, s, q, v, w, z).
-      meet-more _ _ _ _ _ _ _ _ _ l (t .i) (t .inv .1 m p l) (omega arith) _ e _ (s .ensures .0) (o .taken) _ (v .ensures .0 ∙ q .ensures) _
-      (w .ensures _ _ _ (walk-from _ _ _ _ _ _ _ _ _ l (t .i) (omega arith) _ e _ (s .ensures .0) [] _ (l .marked))) (z .left))
-      (λ o. meet-skip _ _ _ _ _ _ _ _ _ l (t .i) (t .inv .1 m p l) (omega arith) _ e (o .left)) (c .if1 .came),
+      (λ (o, _, s, q, v, _, x, w, z).
+      meet-more _ _ _ _ _ _ _ _ l (t .i) (t .inv .1 m p l) (omega arith) _ e _ (s .ensures .0) (o .taken) _ (v .ensures .0 ∙ q .ensures) _ _ (x .ensures .0)
+      (w .ensures) (z .left))
+      (λ o. meet-skip _ _ _ _ _ _ _ _ l (t .i) (t .inv .1 m p l) (omega arith) _ e (o .left)) (c .if1 .came),
 )
 
 returns-2 : tie.Need-returns-2 Inv-loop μ-loop
@@ -102,7 +109,9 @@ link-misses-spec =
     wide-requires-2
     image-of-requires
     wide-requires-3
-    path-end-requires
+    element-copy-out-wide-2
+    wide-requires-4
+    stop-from-requires
     returns
     add-i
     loop-less

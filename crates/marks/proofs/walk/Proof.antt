@@ -1,0 +1,76 @@
+-- The loop walks: it has come to p, with turns left for every free place (`Going`).
+use mathlib.Core.Path.{_≡_, ap, sym, _∙_}
+use Prim.Native.Nat.{_<_}
+use native.Mathlib.Omega.{arith}
+use Rattle.marks.specs.Marks.{Walk, cellsIn, markIn}
+use Rattle.marks.proofs.Walks.{frees, Going, going-none, going-less, going-more, going-met, mark-in}
+use borrow.Author.Needs.{needs}
+use Rattle.marks.proofs.walk.Statement.{statement}
+use Rattle.marks.proofs.walk.Tie as tie
+
+abbrev Inv-loop : tie.InvT-loop
+Inv-loop s marks₀ first n p₀ marks p = Going s marks₀ first marks p
+
+abbrev μ-loop : tie.MeasureT-loop
+μ-loop s marks₀ first n p₀ marks p = frees marks
+
+cells-held-requires : tie.Need-cells-held-requires Inv-loop μ-loop
+cells-held-requires c κs = search needs
+
+loop-holds : tie.Need-loop-holds Inv-loop μ-loop
+loop-holds c = let a = c .before .args in going-none (a .s .now) (a .marks .now) (a .first)
+
+mark-at-requires : tie.Need-mark-at-requires Inv-loop μ-loop
+mark-at-requires c κs = search needs
+
+-- the place reached is free
+here-free : (c : tie.Then1 Inv-loop μ-loop) → markIn (cellsIn (c .before .before .before .before .before .args .s .now)) (c .before .before .before .loop .marks) (c .before .before .before .loop .p) ≡ 0
+here-free c = rw (← c .before .before .before .before .cells-held .ensures .2) (sym (c .before .mark-at .ensures .1) ∙ c .if1 .taken)
+
+-- and is one of the 28
+here-in : (c : tie.Then1 Inv-loop μ-loop) → c .before .before .before .loop .p < 28
+here-in c =
+    let held = c .before .before .before .before .cells-held .ensures in
+    omega (arith, held .1, held .2, mark-in _ _ _ (here-free c) .0)
+
+element-write-marks : tie.Need-element-write-marks Inv-loop μ-loop
+element-write-marks c = here-in c
+
+element-copy-out-wide : tie.Need-element-copy-out-wide Inv-loop μ-loop
+element-copy-out-wide c = here-in c
+
+wide-requires : tie.Need-wide-requires Inv-loop μ-loop
+wide-requires c κs = search needs
+
+loop-less : tie.Need-loop-less Inv-loop μ-loop
+loop-less c =
+    let l = c .before .before .before .before .before .loop in
+    going-less _ _ _ _ _ (l .inv) (omega (arith, here-in (c .before .before), c .before .before .before .mark-at .ensures .0)) (here-free (c .before .before))
+
+loop-again : tie.Need-loop-again Inv-loop μ-loop
+loop-again c =
+    let l = c .before .before .before .before .before .loop in
+    rw (c .wide .ensures .0)
+    (going-more _ _ _ _ _ (l .inv) (omega (arith, here-in (c .before .before), c .before .before .before .mark-at .ensures .0)) (here-free (c .before .before)))
+
+returns : tie.Need-returns Inv-loop μ-loop
+returns c =
+    let l = c .before .before .before .loop in
+    let e = going-met _ _ _ _ _ (l .inv) (λ z. c .if1 .left (c .before .mark-at .ensures .1 ∙ rw (c .before .before .before .before .cells-held .ensures .2) z)) in
+    (sym (ap (λ (w : Walk). w .end) e), sym (ap (λ (w : Walk). w .marks) e))
+
+pub walk-spec : {M : Type 1} → statement M
+walk-spec =
+    tie.close
+    (tie.spec
+    Inv-loop
+    μ-loop
+    cells-held-requires
+    loop-holds
+    mark-at-requires
+    element-write-marks
+    element-copy-out-wide
+    wide-requires
+    loop-less
+    loop-again
+    returns)
