@@ -200,11 +200,8 @@ module _ (cert : List ℕ) (variables start : ℕ) (codes s : List ℕ) (t : Tes
         → Linking member covered cert (start + 2 + variables) count codes marks s
     linking-read marks = rw read (linking marks)
 
-    pub once-read : once images ≡ true → once (imagesIn count codes) ≡ true
-    once-read a = rw read a
-
-    pub once-cells : once (imagesIn count codes) ≡ true → once images ≡ true
-    once-cells a = rw read at a
+    pub marks-cells : (marks : List ℕ) → Marks (imagesIn count codes) [] marks → Marks images [] marks
+    marks-cells marks m = rw read at m
 
     module _ (state : ℕ) (same : getD cert start 0 ≡ state) where
       pub image-found : (i : ℕ) → once (imagesIn count codes) ≡ false → i ≡ numberOr count (lowest count 0 (onceAt (imagesIn count codes)))

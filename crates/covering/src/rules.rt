@@ -11,7 +11,7 @@ use verdict::LINK_MISSES;
 use verdict::SHARED_PATH;
 use verdict::VARIABLE_ELSEWHERE;
 use verdict::WRONG_STATE;
-ghost use mathlib.Core.Bool.{true};
+ghost use mathlib.Core.List.{[]};
 ghost use mathlib.Core.Option.{some};
 ghost use mathlib.Core.Path.{_≡_};
 ghost use Prim.Native.Nat.{_+_, _<_};
@@ -23,8 +23,8 @@ ghost use Rattle.layout.specs.Entries.{locatedAt};
 ghost use Rattle.layout.specs.ShapeArray.{shapeIn};
 ghost use Rattle.covering.specs.Answer.{brokenOf, answerOf, Tested, pathsAnswer};
 ghost use Rattle.coverreader.specs.Images.{imagesIn, ImageCodes};
-ghost use Rattle.covering.specs.Images.{once, onceAt, pathFits};
-ghost use Rattle.covering.specs.Marks.{Linking};
+ghost use Rattle.covering.specs.Images.{onceAt, pathFits};
+ghost use Rattle.covering.specs.Marks.{Marks, Linking};
 
 // What the test of a cover says: it holds, or which rule is broken first.
 pub(crate) enum Answer {
@@ -91,22 +91,22 @@ fn link_misses(
     count
 }
 
-// What rules 4 and 5 say, where the path of cell i is the first that fails: a link that misses, of any cell, comes before a shared path.
+// What rules 4 and 5 say, where the path of cell i is the first that fails: a link that misses, of any cell, comes before a shared path. No path has
+// used a cell in these marks.
 fn broken_path(
     cert: &[u8],
     start: usize,
     variables: usize,
     images: &[u8; 15],
+    marks: &[u8; 28],
     s: &[u8; 28],
     i: usize,
 ) -> Broken
-    requires { ⌜ (Tested (now cert) variables start (now images) (now s)) × (once (imagesIn (getD (now cert) (start + 1) 0) (now images)) ≡ true) × (i < getD (now cert) (start + 1) 0) × (lowest (getD (now cert) (start + 1) 0) 0 (pathFits (locatedAt (now cert) variables start .shape) (shapeIn variables (now s)) (imagesIn (getD (now cert) (start + 1) 0) (now images))) ≡ some i) ⌝ }
+    requires { ⌜ (Tested (now cert) variables start (now images) (now s)) × (Marks (imagesIn (getD (now cert) (start + 1) 0) (now images)) [] (now marks)) × (i < getD (now cert) (start + 1) 0) × (lowest (getD (now cert) (start + 1) 0) 0 (pathFits (locatedAt (now cert) variables start .shape) (shapeIn variables (now s)) (imagesIn (getD (now cert) (start + 1) 0) (now images))) ≡ some i) ⌝ }
     ensures { λ r. ⌜ brokenOf r ≡ pathsAnswer (locatedAt (now (cert .entry)) variables start .shape) (shapeIn variables (now (s .entry))) (imagesIn (getD (now (cert .entry)) (start + 1) 0) (now (images .entry))) (getD (now (cert .entry)) (start + 1) 0) ⌝ }
 {
     let cells = wide(cert[start + 1]);
-    let mut marks = [0u8; 28];
-    mark_images(images, cells, &mut marks);
-    let missing = link_misses(cert, start + 2 + variables, cells, images, &marks, s);
+    let missing = link_misses(cert, start + 2 + variables, cells, images, marks, s);
     if missing < cells {
         return Broken {
             rule: LINK_MISSES,
@@ -153,9 +153,10 @@ pub(crate) fn cover_answer(
             name: (elsewhere + 1) as u8,
         });
     }
-    let i = path_fails(cert, start + 2 + variables, cells, images, &mut marks, s);
+    let mut used = marks;
+    let i = path_fails(cert, start + 2 + variables, cells, images, &mut used, s);
     if i < cells {
-        return Answer::Breaks(broken_path(cert, start, variables, images, s, i));
+        return Answer::Breaks(broken_path(cert, start, variables, images, &marks, s, i));
     }
     Answer::Holds
 }

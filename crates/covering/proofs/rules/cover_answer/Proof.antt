@@ -2,7 +2,7 @@
 use mathlib.Core.Path.{_∙_, refl, sym}
 use native.Mathlib.Omega.{arith}
 use Rattle.lists.proofs.Lowest.{found-within}
-use Rattle.covering.proofs.Whole.{answer-state, images-in, linking-read, once-cells, image-found, variable-found, path-found, nothing-found, first-failing}
+use Rattle.covering.proofs.Whole.{answer-state, images-in, linking-read, marks-cells, image-found, variable-found, path-found, nothing-found, first-failing}
 use borrow.Author.Tests.{not-true, not-false}
 use borrow.Author.Needs.{needs}
 use Rattle.covering.proofs.rules.cover_answer.Statement.{statement}
@@ -29,8 +29,8 @@ mark-images-requires c κs = images-in _ _ _ _ _ (c .before .before .before .bef
 image-twice-requires : tie.Need-image-twice-requires
 image-twice-requires c κs = images-in _ _ _ _ _ (c .before .before .before .before .before .before .before .before .pre) _ (c .before .before .before .wide .ensures .0)
 
-cast-t20 : tie.Need-cast-t20
-cast-t20 c =
+cast-t21 : tie.Need-cast-t21
+cast-t21 c =
     let t = c .before .before .before .before .before .before .before .before .before .pre in
     omega (arith, c .before .before .before .before .wide .ensures .0, t .images .few, found-within _ _ _ (c .image-twice .ensures))
 
@@ -47,11 +47,11 @@ add-variable-elsewhere c = search needs
 variable-elsewhere-requires : tie.Need-variable-elsewhere-requires
 variable-elsewhere-requires c κs = search needs
 
-add-t22 : tie.Need-add-t22
-add-t22 c = search needs
+add-t23 : tie.Need-add-t23
+add-t23 c = search needs
 
-cast-t23 : tie.Need-cast-t23
-cast-t23 c = search needs
+cast-t24 : tie.Need-cast-t24
+cast-t24 c = search needs
 
 returns-3 : tie.Need-returns-3
 returns-3 c =
@@ -74,18 +74,19 @@ path-fails-requires c κs =
 
 broken-path-requires : tie.Need-broken-path-requires
 broken-path-requires c κs =
-    let t = c .before .before .before .before .before .before .before .before .before .before .before .before .before .pre in
-    let read = c .before .before .before .before .before .before .before .before .wide .ensures .0 in
-    let l = linking-read _ _ _ _ _ t _ read _ (c .before .before .before .before .before .before .mark-images .ensures .1) in
-    let i = first-failing _ _ _ _ _ t _ read _ (c .before .path-fails .ensures _ _ l) (c .if4 .taken) in
-    (t, once-cells _ _ _ _ _ t _ read (sym (c .before .before .before .before .before .before .mark-images .ensures .0) ∙ not-false _ (c .before .before .before .before .before .if2 .left)), omega (arith, read), i)
+    let t = c .before .before .before .before .before .before .before .before .before .before .before .before .before .before .pre in
+    let read = c .before .before .before .before .before .before .before .before .before .wide .ensures .0 in
+    let marked = c .before .before .before .before .before .before .before .mark-images .ensures .1 in
+    let l = linking-read _ _ _ _ _ t _ read _ marked in
+    let i = first-failing _ _ _ _ _ t _ read _ (c .before .before .path-fails .ensures _ _ l) (c .before .if4 .taken) in
+    (t, marks-cells _ _ _ _ _ t _ read _ marked, omega (arith, read), i)
 
 returns-4 : tie.Need-returns-4
 returns-4 c =
-    let t = c .before .before .before .before .before .before .before .before .before .before .before .before .before .before .pre in
-    let read = c .before .before .before .before .before .before .before .before .before .wide .ensures .0 in
-    let same = c .before .before .before .before .before .before .before .before .before .before .before .if1 .left in
-    path-found _ _ _ _ _ t _ read _ same (sym (c .before .before .before .before .before .before .before .mark-images .ensures .0) ∙ not-false _ (c .before .before .before .before .before .before .if2 .left)) _ (c .before .before .before .before .before .variable-elsewhere .ensures) (omega arith) _ (c .broken-path .ensures)
+    let t = c .before .before .before .before .before .before .before .before .before .before .before .before .before .before .before .pre in
+    let read = c .before .before .before .before .before .before .before .before .before .before .wide .ensures .0 in
+    let same = c .before .before .before .before .before .before .before .before .before .before .before .before .if1 .left in
+    path-found _ _ _ _ _ t _ read _ same (sym (c .before .before .before .before .before .before .before .before .mark-images .ensures .0) ∙ not-false _ (c .before .before .before .before .before .before .before .if2 .left)) _ (c .before .before .before .before .before .before .variable-elsewhere .ensures) (omega arith) _ (c .broken-path .ensures)
 
 returns-5 : tie.Need-returns-5
 returns-5 c =
@@ -106,12 +107,12 @@ cover-answer-spec =
     wide-requires
     mark-images-requires
     image-twice-requires
-    cast-t20
+    cast-t21
     returns-2
     add-variable-elsewhere
     variable-elsewhere-requires
-    add-t22
-    cast-t23
+    add-t23
+    cast-t24
     returns-3
     add-path-fails
     add-path-fails-2
