@@ -4,7 +4,7 @@ use crate::baseline::shape::{Located, Shape};
 use crate::pairs::Pair;
 use crate::reference::certificate::MOST_MEMBERS;
 use crate::reference::job::{self, Job, Transition, MOST_TRANSITIONS};
-use crate::reference::operation::{Operation, ASSIGN, DIFFERENT, EQUAL, LOAD, STORE};
+use crate::reference::operation::{Operation, ASSIGN, DELETE, DIFFERENT, EQUAL, LOAD, STORE};
 use crate::reference::shape as reference;
 use crate::search::covers::certificate_of;
 
@@ -21,6 +21,14 @@ pub fn extremes() -> Vec<(&'static str, Pair)> {
         ("one-byte covers", one_byte_covers()),
         ("long paths", long_paths()),
         ("twelve links", twelve_links()),
+        ("delete, seven dangle, no cells", deletes(&[])),
+        ("delete, seven dangle, chain of 12", deletes(&CHAIN)),
+        ("delete, seven dangle, 12 links to *", deletes(&[2; 12])),
+        ("delete, seven dangle, an image each", deletes_with_images()),
+        (
+            "delete, seven dangle, a member each",
+            deletes_with_members(),
+        ),
     ]
 }
 
@@ -67,9 +75,12 @@ pub fn shape(variables: &[u64], links: &[u64]) -> Shape {
     Shape::of_reference(&reference::Shape::of_codes(variables, links))
 }
 
+/// The links of twelve cells in a chain to #.
+const CHAIN: [u64; 12] = [4, 5, 6, 7, 8, 9, 10, 11, 12, 13, 14, 1];
+
 /// Twelve cells in a chain to #, with some variables placed.
 pub fn chain(variables: &[u64]) -> Shape {
-    shape(variables, &[4, 5, 6, 7, 8, 9, 10, 11, 12, 13, 14, 1])
+    shape(variables, &CHAIN)
 }
 
 /// Variables 1 and 2 nowhere, 3 at #, 4 at *: every placing is made in vain.
@@ -121,6 +132,33 @@ fn twelve_links() -> Pair {
     pair(8, &[op(EQUAL, 0, 0)], MOST_TRANSITIONS as usize, &members)
 }
 
+/// All eight variables at *, so that a delete has 128 predecessors, which one member covers.
+fn deletes(links: &[u64]) -> Pair {
+    let members = [vec![Shape::EMPTY], vec![shape(&[2; 8], links); 122]].concat();
+    pair(8, &[op(DELETE, 1, 0)], 4, &members)
+}
+
+/// The same where covers have an image: of the cell that the deleted variable stands at.
+fn deletes_with_images() -> Pair {
+    let covering = shape(&[3], &[0]);
+    let members = [vec![covering], vec![chain(&[2; 8]); 60]].concat();
+    pair(8, &[op(DELETE, 1, 0)], 4, &members)
+}
+
+/// The same where each case has a member of its own, which places all variables.
+fn deletes_with_members() -> Pair {
+    let whole = shape(&[2; 8], &[]);
+    let case = |number: u64| {
+        let mut places = [3; 8];
+        for (bit, place) in places[1..].iter_mut().enumerate() {
+            *place = 2 + (number >> bit & 1);
+        }
+        shape(&places, &[0])
+    };
+    let members: Vec<Shape> = std::iter::once(whole).chain((0..128).map(case)).collect();
+    pair(8, &[op(DELETE, 1, 0)], 240, &members)
+}
+
 #[cfg(test)]
 mod tests {
     use super::*;
@@ -137,6 +175,11 @@ mod tests {
             (253, 1 + 253 * 256),
             (121, 1 + 121 * 256),
             (19, 1 + 19 * 256),
+            (123, 1 + 4 + 122 * 512),
+            (123, 1 + 4 + 122 * 512),
+            (123, 1 + 4 + 122 * 512),
+            (61, 1 + 60 * 512),
+            (129, 1 + 240 * 128),
         ];
         for ((name, pair), (members, covers)) in extremes().into_iter().zip(expected) {
             assert!(pair.certificate.len() <= MOST_BYTES, "{name}");

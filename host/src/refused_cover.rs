@@ -5,6 +5,7 @@ use crate::draw::{self, standing};
 use crate::reference::cover::{cover_at, CoverRead, Reason};
 use crate::reference::heap::Place;
 use crate::reference::job::Located;
+use crate::reference::operation::{Operation, DELETE};
 use crate::routine::Routine;
 use crate::verdict::{Broken, Refusal, Rule, Verdict};
 
@@ -108,9 +109,31 @@ impl<'a> RefusedCover<'a> {
             Reason::Forbidden(number) => self.routine.origins[number].to_string(),
             Reason::Before { member, transition } => {
                 let operation = self.routine.operation(transition);
-                format!("`{operation}` leads from there to member {member}")
+                let case = self.case(self.routine.job.transitions[transition].operation);
+                format!("`{operation}` leads from there to member {member}{case}")
             }
         }
+    }
+
+    /// Before a delete, the variables that were at * already and those that stood at the deleted cell
+    /// beside its own.
+    fn case(&self, operation: Operation) -> String {
+        if operation.kind != DELETE {
+            return String::new();
+        }
+        let covered = &self.cover.owed.covered.shape;
+        let at = |place: Option<Place>| -> Vec<&str> {
+            let others = (1..=covered.variables.len()).filter(|&other| other != operation.a);
+            let there = others.filter(|&other| covered.place(other) == place);
+            there.map(|other| self.routine.operand(other)).collect()
+        };
+        let cases = [
+            (at(Some(Place::Dangling)), "at * already"),
+            (at(covered.place(operation.a)), "at the deleted cell"),
+        ];
+        let told = cases.iter().filter(|(names, _)| !names.is_empty());
+        told.map(|(names, stood)| format!(", {} {stood}", names.join(" and ")))
+            .collect()
     }
 
     fn shape(&self, located: &Located) -> Vec<String> {
@@ -283,6 +306,49 @@ or a path):
 By member 1, at made, with the images 1 0:
        [0]
        [1 x] -> #";
+        assert_eq!(format!("\n{}", refused.drawn().join("\n")), expected);
+    }
+
+    /// Three variables dangle after the delete: the sixth of the eight cases before it.
+    #[test]
+    fn the_case_before_a_delete_is_told() {
+        let text = "\
+-- Deletes a cell.
+variables x y z t
+start begin
+begin new(t)    -> made
+made  delete(t) -> gone
+forbidden
+gone  x at *, y at *, z at *
+";
+        let routine = parse(text).unwrap();
+        let forbidden = routine.job.forbidden[0].clone();
+        let before = Located {
+            state: 1,
+            shape: Shape::of_codes(&[0, 0, 0, 0], &[]),
+        };
+        let elsewhere = Located {
+            state: 1,
+            shape: Shape::of_codes(&[0, 1, 0, 0], &[]),
+        };
+        let of = |member| Cover {
+            member,
+            images: Vec::new(),
+        };
+        let certificate = Certificate {
+            members: vec![forbidden, before, elsewhere],
+            covers: [0, 1, 1, 1, 1, 1, 2].map(of).to_vec(),
+        };
+        let bytes = certificate.bytes();
+        let verdict = check(&routine.job.bytes(), &bytes);
+        let refused = RefusedCover::of(&routine, &bytes, &verdict).expect("a cover is refused");
+        let expected = "
+To be covered at made, since `delete(t)` leads from there to member 0, y at * already, x and z at \
+the deleted cell (cells from 0, -> is a link or a path):
+       [0 x z t]
+       y at *
+By member 2, at made:
+       y at #";
         assert_eq!(format!("\n{}", refused.drawn().join("\n")), expected);
     }
 

@@ -1,13 +1,13 @@
 //! The facts a certificate rests on, by trying small heaps and shapes: if the heap after an
 //! operation satisfies a shape, the heap before satisfies one of its predecessors; and embeddings
-//! compose.
+//! compose. Deletes forget links to * and nothing else.
 
 use std::collections::BTreeMap;
 
 use vorruda_host::random::Random;
 use vorruda_host::reference::embedding::embeds_somehow;
 use vorruda_host::reference::heap::{Heap, Place};
-use vorruda_host::reference::operation::{operation, Operation, KINDS};
+use vorruda_host::reference::operation::{operation, Operation, DELETE, KINDS};
 use vorruda_host::reference::predecessor::predecessors;
 use vorruda_host::reference::shape::Shape;
 
@@ -99,6 +99,38 @@ fn one_step_on_all_small_heaps() {
         tested > 100_000,
         "only {tested} cases put the fact to the test"
     );
+}
+
+/// Of a shape without links to *: a heap that satisfies a predecessor satisfies the shape after the
+/// delete.
+#[test]
+fn before_a_delete_links_alone_are_forgotten() {
+    let mut satisfied = 0;
+    for (variables, heap_cells, shape_cells) in [(1, 3, 2), (2, 2, 1), (3, 2, 1)] {
+        let heaps: Vec<Shape> = (1..=heap_cells)
+            .flat_map(|cells| all_shapes(variables, cells, 1))
+            .collect();
+        let shapes = (0..=shape_cells).flat_map(|cells| all_shapes(variables, cells, 0));
+        let without_links_to_dangling =
+            shapes.filter(|shape| !shape.links.contains(&Some(Place::Dangling)));
+        for shape in without_links_to_dangling {
+            let delete = Operation {
+                kind: DELETE,
+                a: 1,
+                b: 0,
+            };
+            let before = predecessors(&shape, delete);
+            let is_before =
+                |heap: &&Shape| before.iter().any(|before| embeds_somehow(before, heap));
+            for heap in heaps.iter().filter(is_before) {
+                let after = heap_of(heap).after(delete, usize::MAX);
+                let after = Shape::of_heap(&after.expect("a is at a cell"));
+                assert!(embeds_somehow(&shape, &after), "{heap:?} {shape:?}");
+                satisfied += 1;
+            }
+        }
+    }
+    assert!(satisfied > 10_000, "only {satisfied}");
 }
 
 fn random_shape(random: &mut Random, variables: usize, cells: usize, lowest: u64) -> Shape {

@@ -36,7 +36,6 @@ fn a_certified_routine() {
     );
 }
 
-/// The first chain of shapes is one for `x at *`, which no run meets.
 #[test]
 fn a_wrong_routine_shows_a_run() {
     let (status, text) = tried(&["wrong_delete_linked"]);
@@ -62,8 +61,9 @@ fn a_right_routine_beyond_the_rules_says_how_far_was_looked() {
     let bound = "among all 99 heaps of up to 10 cells that runs reach";
     assert!(text.contains(bound), "{text}");
     for line in [
-        "  line 14        x at *",
-        "                   after while any",
+        "  line 14        [1 x] -> *",
+        "                   after delete(t)",
+        "  line 13        [1 x]",
     ] {
         assert!(text.lines().any(|other| other == line), "{line}\n{text}");
     }

@@ -47,9 +47,23 @@ removeCell c s = record { vars = map (lower c) (s .vars); links = map (lower c) 
 abbrev pub forget : ℕ → ℕ
 forget p = cond (eqb p dangling) nowhere p
 
--- "Every variable at * and every link to * becomes nowhere."
-abbrev pub forgetDangling : Shape → Shape
-forgetDangling s = record { vars = map forget (s .vars); links = map forget (s .links) }
+-- "links to * are still forgotten"
+abbrev pub forgetLinks : Shape → Shape
+forgetLinks s = record { vars = s .vars; links = map forget (s .links) }
+
+-- ---- kind 7: where the variables stood before the cell c was deleted
+
+-- where one that is now at p stood: "it was at * already, or it stood at the deleted cell"
+abbrev pub stood : ℕ → ℕ → List ℕ
+stood c p = cond (eqb p dangling) (dangling ∷ c ∷ []) (p ∷ [])
+
+-- where all stood: "The lowest such variable changes slowest, 'already' first"
+abbrev pub varsBefore : ℕ → List ℕ → List (List ℕ)
+varsBefore c [] = [] ∷ []
+varsBefore c (p ∷ ps) = let rest = varsBefore c ps in concatMap (λ q. map (λ qs. q ∷ qs) rest) (stood c p)
+
+abbrev pub withVars : Shape → List ℕ → Shape
+withVars s vars = record { vars = vars; links = s .links }
 
 -- ---- kind 4 with one variable: "a helper without a place plays b, and at the end a stands where the helper stood and the helper goes."
 
@@ -90,7 +104,9 @@ beforeLoad a b s =
 -- "Kind 5: place a, then b; a must be at a cell whose link is nowhere or equals b's place; that link becomes nowhere."
 -- "Kind 6: place a; it must be at a cell that no link and no other variable stands at and whose link is nowhere or *; that cell goes, a
 -- stands nowhere, and higher cells move down by one."
--- "Kind 7: a must be nowhere or at *. Every variable at * and every link to * becomes nowhere. A fresh cell is added and a stands at it."
+-- "Kind 7: a must be nowhere or at *. .. A fresh cell is added and a stands at it." Document 02, Wish 5: "each variable other than a that is at
+-- * gives two cases: it was at * already, or it stood at the deleted cell. The lowest such variable changes slowest, 'already' first; links to
+-- * are still forgotten."
 abbrev pub predecessors : Op → Shape → List Shape
 predecessors (equal a b) s = retain (together a b) (λ s. s) (placeBoth a b s)
 predecessors (different a b) s = retain (λ s. not (together a b s)) (λ s. s) (placeBoth a b s)
@@ -104,5 +120,6 @@ predecessors (store a b) s =
     retain (λ s. linkFits (varAt s a) (varAt s b) s) (λ s. setLink (varAt s a) nowhere s) (placeBoth a b s)
 predecessors (new a) s = retain (λ s. isNew a (varAt s a) s) (λ s. removeCell (varAt s a) (setVar a nowhere s)) (place a s)
 predecessors (delete a) s =
-    let before = forgetDangling s in
-    keep (eqb (varAt s a) nowhere || eqb (varAt s a) dangling) (setVar a (fresh before) (grow before))
+    let c = fresh s in
+    let results = map (withVars (grow (forgetLinks s))) (varsBefore c (setVarIn a c (s .vars))) in
+    cond (eqb (varAt s a) nowhere || eqb (varAt s a) dangling) results []

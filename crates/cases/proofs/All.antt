@@ -58,7 +58,7 @@ P11-holds =
     answer-holds (at-0 oneLink) (0 ∷ 3 ∷ []) (at-0 fourCells) (closed 2 (4 ∷ 0 ∷ []) refl (omega arith)) refl
     (images-below 3 (0 ∷ 3 ∷ []) (omega arith)) .0 refl .1
 
--- the twelve rows
+-- the rows
 pub all-rows : Conjunction rows
 unfolding allFrom lowest numberIn many each readAs end readShape readLocated readTransition readJob readWholeJob readMember readMembers readCover readCertificate readBoth verdict
-all-rows = (refl, (refl, (refl, (refl, (refl, (refl, (refl, (refl, (refl, (P10-holds, (P11-holds, (refl, tt))))))))))))
+all-rows = (refl, (refl, (refl, (refl, (refl, (refl, (refl, (refl, (refl, (P10-holds, (P11-holds, (refl, (refl, (refl, tt))))))))))))))

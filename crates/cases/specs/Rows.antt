@@ -1,5 +1,5 @@
 -- Document 01, "Threads to pull on": "P marks the twelve that are theorems of the definitions, gathered as rows of one list with one theorem
--- for the list".
+-- for the list". After them two of document 02.
 use mathlib.Core.List.{List, [], _∷_}
 use mathlib.Core.Option.{Option, none, some}
 use mathlib.Core.Path.{_≡_}
@@ -92,8 +92,22 @@ P11 = Embeds (shapeGraph oneLink) (shapeGraph fourCells) (imageMap (0 ∷ 3 ∷ 
 abbrev pub P12 : Type 0
 P12 = readResult (numberAt (128 ∷ 0 ∷ []) 0) ≡ record { code = 3; values = 0 ∷ 0 ∷ [] }
 
+-- Document 02, Wish 5: "With V = 2 and both at *, the predecessors become two." Variable 2 was at * already, or stood at the deleted cell.
+abbrev pub TwoDangling : Type 0
+TwoDangling = predecessorsOf 7 1 0 (shape (2 ∷ 2 ∷ []) []) ≡ shape (3 ∷ 2 ∷ []) (0 ∷ []) ∷ shape (3 ∷ 3 ∷ []) (0 ∷ []) ∷ []
+
+-- With V = 3, all at *, variable 2 deleted and a cell with a link to *: four; the link is forgotten, and variable 1 changes slowest.
+abbrev pub ThreeDangling : Type 0
+ThreeDangling =
+    predecessorsOf 7 2 0 (shape (2 ∷ 2 ∷ 2 ∷ []) (2 ∷ []))
+    ≡ shape (2 ∷ 4 ∷ 2 ∷ []) (0 ∷ 0 ∷ [])
+    ∷ shape (2 ∷ 4 ∷ 4 ∷ []) (0 ∷ 0 ∷ [])
+    ∷ shape (4 ∷ 4 ∷ 2 ∷ []) (0 ∷ 0 ∷ [])
+    ∷ shape (4 ∷ 4 ∷ 4 ∷ []) (0 ∷ 0 ∷ [])
+    ∷ []
+
 abbrev pub rows : List (Type 0)
-rows = P1 ∷ P2 ∷ P3 ∷ P4 ∷ P5 ∷ P6 ∷ P7 ∷ P8 ∷ P9 ∷ P10 ∷ P11 ∷ P12 ∷ []
+rows = P1 ∷ P2 ∷ P3 ∷ P4 ∷ P5 ∷ P6 ∷ P7 ∷ P8 ∷ P9 ∷ P10 ∷ P11 ∷ P12 ∷ TwoDangling ∷ ThreeDangling ∷ []
 
 -- all statements of a list
 abbrev pub Conjunction : List (Type 0) → Type 0

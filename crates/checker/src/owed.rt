@@ -3,7 +3,7 @@ use crate::checked::Checked;
 use crate::checked::Position;
 use crate::choices::check_first_choices;
 use crate::choices::with_helper;
-use crate::removal::check_cells;
+use crate::removal::check_cases;
 use crate::single::check_cover;
 use kinds::STORE;
 use layout::load_shape;
@@ -73,7 +73,7 @@ fn check_transition(
     ensures { λ r. ⌜ Checks (now (cert .entry)) (membersFrom (now (cert .entry)) variables (now (starts .entry))) (by .from) (predecessors (opOf (kindOf (by .kind)) (by .a) (by .b)) (shapeIn variables (now (s .entry)))) t r ⌝ }
 {
     if STORE < by.kind {
-        return check_cells(cert, starts, variables, by, s, t);
+        return check_cases(cert, starts, variables, by, s, t);
     }
     let placed = with_helper(variables, by);
     check_first_choices(cert, starts, variables, placed, s, t)

@@ -2,8 +2,8 @@
 use crate::checked::Checked;
 use crate::checked::Position;
 use crate::single::check_cover;
-use shapes::cells_to_try;
-use shapes::undo_cell;
+use shapes::prepare_cases;
+use shapes::undo_case;
 use transitions::Transition;
 ghost use Prim.Native.Nat.{_≤_, _<_};
 ghost use Rattle.heap.specs.Operation.{kindOf};
@@ -13,8 +13,8 @@ ghost use Rattle.layout.specs.Members.{membersFrom};
 ghost use Rattle.layout.specs.ShapeArray.{cellCount, shapeIn, ShapeArray};
 ghost use Rattle.layout.specs.Transitions.{opOf};
 
-// Covers of the predecessors, by each cell that may be the new one or the deleted one.
-pub(crate) fn check_cells(
+// Covers of the predecessors, by each case: which cell was the new one, or where the variables stood before the deleted one went.
+pub(crate) fn check_cases(
     cert: &[u8],
     starts: &[u16],
     variables: usize,
@@ -25,12 +25,13 @@ pub(crate) fn check_cells(
     requires { ⌜ (ShapeArray variables (now s)) × (cellCount (now s) ≤ 12) × (1 ≤ by .a) × (by .a ≤ variables) × (5 < by .kind) × (by .kind ≤ 7) × (Within (now cert) from) ⌝ }
     ensures { λ r. ⌜ Checks (now (cert .entry)) (membersFrom (now (cert .entry)) variables (now (starts .entry))) (by .from) (predecessors (opOf (kindOf (by .kind)) (by .a) (by .b)) (shapeIn variables (now (s .entry)))) from r ⌝ }
 {
-    let cells = cells_to_try(by.kind, by.a, s);
+    let mut prepared = *s;
+    let cases = prepare_cases(variables, by.kind, by.a, &mut prepared);
     let mut t = from;
-    let mut k = cells.first;
-    while k < cells.end {
-        let mut v = *s;
-        let is_before = undo_cell(variables, by.kind, by.a, k, &mut v);
+    let mut k = cases.first;
+    while k < cases.end {
+        let mut v = prepared;
+        let is_before = undo_case(variables, by.kind, cases.end, k, &mut v);
         k += 1;
         if is_before {
             let g = check_cover(cert, starts, variables, by.from, &v, t);

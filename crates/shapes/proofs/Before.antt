@@ -1,6 +1,7 @@
--- Kinds 6 and 7: the shapes before, by the cell that was new or is deleted, are the predecessors.
+-- Kinds 6 and 7: the shapes before, by their cases, are the predecessors.
 use mathlib.Core.Bool.{Bool, true, false, cond}
 use mathlib.Core.List.{List, [], _∷_, _++_}
+use mathlib.Core.Logic.{_≢_}
 use mathlib.Core.Path.{_≡_, refl, sym, ap, _∙_}
 use Prim.Native.Nat.{ℕ, suc, _+_, _-_, _≤_, _<_}
 use native.Mathlib.Decide.{ℕ-discrete, decLt}
@@ -16,25 +17,43 @@ use Rattle.backward.specs.Predecessors.{predecessors}
 use Rattle.layout.specs.ShapeArray.{cellCount, operandAt, shapeIn, ShapeArray}
 use Rattle.layout.specs.Transitions.{opOf}
 use Rattle.placing.proofs.Ranges.{stretch}
-use Rattle.shapes.specs.Change.{setOperand, cellsAt, cellsToTry, operandForgotten, arrayRestored, isBefore, arrayBefore, before}
+use Rattle.shapes.specs.Change.{
+  setOperand,
+  arrayRestored,
+  caseCount,
+  arrayByCase,
+  casesOfNew,
+  casesOfDelete,
+  casesOf,
+  operandForgotten,
+  arrayPrepared,
+  isBefore,
+  arrayBefore,
+  before,
+}
 use Rattle.shapes.specs.Without.{without}
-use Rattle.shapes.proofs.Free.{by-array, room}
+use Rattle.shapes.specs.declared.Cases.{Cases}
+use Rattle.shapes.proofs.Free.{by-array, Restorable, restorable, not-restorable}
 use Rattle.shapes.proofs.Remove.{new-nowhere, new-none, new-cell}
-use Rattle.shapes.proofs.Restore.{delete-some, delete-none}
+use Rattle.shapes.proofs.Restored.{array-restored, delete-some, delete-none}
 use Rattle.shapes.proofs.Slots.{count-operand, array-operand}
 
--- ---- one cell, by the test r
+-- ---- one case, by the test r
 
-module _ (variables kind a : ℕ) (s : List ℕ) (k : ℕ) (r : Bool) (r-is : r ≡ isBefore variables kind a s k) where
-  pub before-none : r ≡ false → before variables kind a s k ≡ []
+module _ (variables kind count : ℕ) (s : List ℕ) (k : ℕ) (r : Bool) (r-is : r ≡ isBefore variables kind s k) where
+  pub before-none : r ≡ false → before variables kind count s k ≡ []
   unfolding before
   before-none e = rw (← r-is, e) refl
 
-  pub before-one : r ≡ true → (t : List ℕ) → t ≡ cond r (arrayBefore kind a s k) s → before variables kind a s k ≡ shapeIn variables t ∷ []
+  pub before-one : r ≡ true → (t : List ℕ) → t ≡ cond r (arrayBefore variables kind count s k) s → before variables kind count s k ≡ shapeIn variables t ∷ []
   unfolding before
   before-one e t t-is = rw (t-is, ← r-is, e) refl
 
--- ---- all cells to try
+-- ---- all cases
+
+-- the shapes before, by these cases of a prepared array
+abbrev pub byCases : ℕ → ℕ → List ℕ → Cases → List Shape
+byCases variables kind s cases = stretch (before variables kind (cases .end) s) (cases .first) (cases .end)
 
 module _ (variables : ℕ) (s : List ℕ) (h : ShapeArray variables s) (small : cellCount s ≤ 12) (a : ℕ) (some : 1 ≤ a) (most : a ≤ variables) where
   abbrev shape : Shape
@@ -46,59 +65,83 @@ module _ (variables : ℕ) (s : List ℕ) (h : ShapeArray variables s) (small : 
   abbrev x : ℕ
   x = operandAt s a
 
-  -- kind 6
+  -- kind 6: a is nowhere in the prepared array
+  abbrev s₀ : List ℕ
+  s₀ = setOperand s a nowhere
 
-  without-cell : (k : ℕ) → k < n → before variables 6 a s k ≡ without (shapeIn variables (setOperand s a nowhere)) k
-  unfolding before isBefore arrayBefore operandForgotten
-  without-cell k b =
-      rw (lt-leb n k b, lt-ltb a 11 (omega (arith, h .variables-fit)))
-      (by-array variables (setOperand s a nowhere) (array-operand variables s h a nowhere some most (omega arith)) k (rw (count-operand s a nowhere) b))
+  prepared-new : arrayPrepared variables 6 a s ≡ s₀
+  unfolding arrayPrepared operandForgotten
+  prepared-new = rw (lt-ltb a 11 (omega (arith, h .variables-fit))) refl
 
-  unchanged : before variables 6 a s n ≡ shape ∷ []
+  without-cell : (count k : ℕ) → k < n → before variables 6 count s₀ k ≡ without (shapeIn variables s₀) k
   unfolding before isBefore arrayBefore
-  unchanged = rw (le-leb n n (omega arith)) refl
+  without-cell count k b =
+      let inside : k < cellCount s₀ = rw (count-operand s a nowhere) b in
+      rw (lt-leb (cellCount s₀) k inside) (by-array variables s₀ (array-operand variables s h a nowhere some most (omega arith)) k inside)
 
-  new-all : stretch (before variables 6 a s) (cellsAt 6 n x .first) (cellsAt 6 n x .end) ≡ predecessors (new a) shape
-  unfolding cellsAt
+  unchanged : (count : ℕ) → before variables 6 count s₀ n ≡ shapeIn variables s₀ ∷ []
+  unfolding before isBefore arrayBefore
+  unchanged count = rw (le-leb (cellCount s₀) n (omega (arith, count-operand s a nowhere))) refl
+
+  new-all : byCases variables 6 s₀ (casesOfNew n x) ≡ predecessors (new a) shape
+  unfolding casesOfNew
   new-all = go (ℕ-discrete x nowhere) (decLt x 3)
     where
-      go : Dec (x ≡ nowhere) → Dec (x < 3) → stretch (before variables 6 a s) (cellsAt 6 n x .first) (cellsAt 6 n x .end) ≡ predecessors (new a) shape
+      go : Dec (x ≡ nowhere) → Dec (x < 3) → byCases variables 6 s₀ (casesOfNew n x) ≡ predecessors (new a) shape
       go (yes e) d =
           let all : suc n - 0 ≡ n + 1 = omega arith in
           let last : 0 + n ≡ n = omega arith in
-          let same : setOperand s a nowhere ≡ s = rw e at (set-getD s (17 + a) nowhere) in
-          rw (eq-eqb x 0 e, all, range-append 0 n 1, concatMap-append (before variables 6 a s) (range 0 n) (range (0 + n) 1), last, unchanged, new-nowhere variables s h a some most e)
+          let same : s₀ ≡ s = rw e at (set-getD s (17 + a) nowhere) in
+          let f = before variables 6 (suc n) s₀ in
+          rw (eq-eqb x 0 e, all, range-append 0 n 1, concatMap-append f (range 0 n) (range (0 + n) 1), last, unchanged (suc n) ∙ ap (λ (t : List ℕ). shapeIn variables t ∷ []) same, new-nowhere variables s h a some most e)
           (ap (λ (l : List Shape). l ++ (shape ∷ []))
-          (concatMap-range (before variables 6 a s) (without shape) 0 0 n (λ i b. without-cell (0 + i) (omega arith) ∙ ap (λ (t : List ℕ). without (shapeIn variables t) (0 + i)) same)))
+          (concatMap-range f (without shape) 0 0 n (λ i b. without-cell (suc n) (0 + i) (omega arith) ∙ ap (λ (t : List ℕ). without (shapeIn variables t) (0 + i)) same)))
       go (no z) (yes b) = rw (ne-eqb x 0 z, lt-ltb x 3 b) (sym (new-none variables s h a some most z b))
       go (no z) (no b) =
           let one : suc (x - 3) - (x - 3) ≡ 1 = omega arith in
           let two : x - 2 - (x - 3) ≡ 1 = omega arith in
           rw (ne-eqb x 0 z, le-ltb x 3 (omega arith), one, new-cell variables s h a some most x refl (omega arith), two)
-          (ap (λ (l : List Shape). l ++ []) (without-cell (x - 3) (omega (arith, h .operands-range a))))
+          (ap (λ (l : List Shape). l ++ []) (without-cell (suc (x - 3)) (x - 3) (omega (arith, h .operands-range a))))
 
-  -- kind 7
+  -- kind 7: the deleted cell is restored in the prepared array
+  abbrev s₁ : List ℕ
+  s₁ = arrayRestored s a
 
-  restored : before variables 7 a s n ≡ shapeIn variables (arrayRestored s a) ∷ []
+  by-case : (count k : ℕ) → before variables 7 count s₁ k ≡ shapeIn variables (arrayByCase variables count k s₁) ∷ []
   unfolding before isBefore arrayBefore
-  restored = rw (room s a (omega arith) (omega (arith, h .variables-fit))) refl
+  by-case count k =
+      let r = array-restored variables s h small a some most in
+      rw (le-leb variables 9 (r .variables-fit), le-leb (cellCount s₁) 14 (r .cells-fit)) refl
 
-  delete-all : stretch (before variables 7 a s) (cellsAt 7 n x .first) (cellsAt 7 n x .end) ≡ predecessors (delete a) shape
-  unfolding cellsAt
+  restored-all : x ≢ null → x ≤ dangling → byCases variables 7 (arrayPrepared variables 7 a s) (casesOfDelete variables a s) ≡ predecessors (delete a) shape
+  unfolding arrayPrepared casesOfDelete
+  restored-all z b =
+      let count = caseCount (shapeIn variables s₁ .vars) in
+      let all : count - 0 ≡ count = omega arith in
+      let room : Restorable variables a s = record { variables-fit = h .variables-fit; a-fits = omega (arith, h .variables-fit); cell-fits = omega arith; not-null = z; no-cell = b } in
+      rw (restorable variables a s room, all, delete-some variables s h small a some most z b)
+      (concatMap-range (before variables 7 count s₁) (λ k. shapeIn variables (arrayByCase variables count k s₁) ∷ []) 0 0 count (λ i _. by-case count (0 + i)))
+
+  restored-none : (x ≢ null → x ≤ dangling → ⊥) → byCases variables 7 (arrayPrepared variables 7 a s) (casesOfDelete variables a s) ≡ predecessors (delete a) shape
+  unfolding arrayPrepared casesOfDelete
+  restored-none f =
+      rw (not-restorable variables a s (λ r. f (r .not-null) (r .no-cell)))
+      (sym (delete-none variables s h a (λ e. f (omega arith) (omega arith)) (λ e. f (omega arith) (omega arith))))
+
+  delete-all : byCases variables 7 (arrayPrepared variables 7 a s) (casesOfDelete variables a s) ≡ predecessors (delete a) shape
   delete-all = go (ℕ-discrete x null) (decLt dangling x)
     where
-      go : Dec (x ≡ null) → Dec (dangling < x) → stretch (before variables 7 a s) (cellsAt 7 n x .first) (cellsAt 7 n x .end) ≡ predecessors (delete a) shape
-      go (yes e) d = rw (eq-eqb x 1 e) (sym (delete-none variables s h a (λ z. omega arith) (λ z. omega arith)))
-      go (no e) (yes b) = rw (ne-eqb x 1 e, lt-ltb 2 x b) (sym (delete-none variables s h a (λ z. omega arith) (λ z. omega arith)))
-      go (no e) (no b) =
-          let one : suc n - n ≡ 1 = omega arith in
-          rw (ne-eqb x 1 e, le-ltb 2 x (omega arith), one, restored) (sym (delete-some variables s h small a some most e (omega arith)))
+      go : Dec (x ≡ null) → Dec (dangling < x) → byCases variables 7 (arrayPrepared variables 7 a s) (casesOfDelete variables a s) ≡ predecessors (delete a) shape
+      go (yes e) d = restored-none (λ z _. z e)
+      go (no e) (yes b) = restored-none (λ _ l. omega arith)
+      go (no e) (no b) = restored-all e (omega arith)
 
   -- either kind
   pub before-all : (kind b : ℕ) → 5 < kind → kind ≤ 7
-      → stretch (before variables kind a s) (cellsToTry kind a s .first) (cellsToTry kind a s .end) ≡ predecessors (opOf (kindOf kind) a b) shape
+      → byCases variables kind (arrayPrepared variables kind a s) (casesOf variables kind a s) ≡ predecessors (opOf (kindOf kind) a b) shape
+  unfolding casesOf
   before-all kind b l m = go (ℕ-discrete kind 6)
     where
-      go : Dec (kind ≡ 6) → stretch (before variables kind a s) (cellsToTry kind a s .first) (cellsToTry kind a s .end) ≡ predecessors (opOf (kindOf kind) a b) shape
-      go (yes e) = rw e new-all
+      go : Dec (kind ≡ 6) → byCases variables kind (arrayPrepared variables kind a s) (casesOf variables kind a s) ≡ predecessors (opOf (kindOf kind) a b) shape
+      go (yes e) = rw (e, prepared-new) new-all
       go (no z) = let e : kind ≡ 7 = omega arith in rw e delete-all

@@ -1,20 +1,22 @@
--- The test for a free cell, one part after the other, and the tests of room.
+-- The test for a free cell, one part after the other, and the test before a deleted cell is restored.
 use mathlib.Core.Bool.{Bool, true, false, _&&_, _||_}
 use mathlib.Core.List.{List}
+use mathlib.Core.Logic.{_≢_}
 use mathlib.Core.Path.{_≡_, refl, sym, ap, _∙_}
 use Prim.Native.Nat.{ℕ, zero, suc, _+_, _-_, _≤_, _<_}
+use native.Mathlib.Decide.{ℕ-discrete}
 use native.Mathlib.Omega.{arith}
 use borrow.Author.Tests.{lt-ltb, le-ltb, le-leb, ne-eqb}
 use lib.Dec.{eqb}
 use lib.ListN.{take, drop}
 use Rattle.lists.specs.List.{absent, keep}
-use Rattle.lists.proofs.Reflect.{Reflect, r-and, r-iff, r-le, r-lt, r-itself, is-true, is-false, passes}
+use Rattle.lists.proofs.Reflect.{Reflect, r-eq, r-and, r-or, r-iff, r-le, r-lt, r-itself, is-true, is-false, passes}
 use Rattle.heap.specs.Place.{nowhere, null, dangling, cell}
 use Rattle.shape.specs.Shape.{Shape, linkAt}
 use Rattle.place.specs.Place.{cellPlace}
 use Rattle.place.specs.declared.Place.{Place}
-use Rattle.layout.specs.ShapeArray.{cellCount, shapeIn, ShapeArray}
-use Rattle.shapes.specs.Change.{isFreeCell, arrayWithout, hasRoom}
+use Rattle.layout.specs.ShapeArray.{cellCount, operandAt, shapeIn, ShapeArray}
+use Rattle.shapes.specs.Change.{isFreeCell, arrayWithout, isRestorable}
 use Rattle.shapes.specs.Without.{isFree, without}
 use Rattle.shapes.proofs.Remove.{holds-without}
 
@@ -101,15 +103,46 @@ by-array variables s h k is-cell = go (isFreeCell variables s k) refl
         let free = free-cell variables s k e .free in
         rw (holds-without variables s h k is-cell (passes (isFree (cell k) (shapeIn variables s)) free) .same, free) refl
 
--- ---- the test for room
+-- ---- the test before a deleted cell is restored
 
-module _ (s : List ℕ) (a : ℕ) where
-  r-room : Reflect ((cellCount s < 14) × (a < 10)) (hasRoom s a)
-  unfolding hasRoom
-  r-room = r-and (r-lt (cellCount s) 14) (r-lt a 10)
+-- what the test says
+pub record Restorable (variables a : ℕ) (s : List ℕ) : Type 0 where
+  pub variables-fit : variables ≤ 9
+  pub a-fits : a < 10
+  pub cell-fits : cellCount s < 14
+  pub not-null : operandAt s a ≢ null
+  pub no-cell : operandAt s a ≤ dangling
 
-  pub no-room : ((cellCount s < 14) × (a < 10) → ⊥) → hasRoom s a ≡ false
-  no-room f = is-false (hasRoom s a) (λ t. f (r-room .holds t))
+module _ (variables a : ℕ) (s : List ℕ) where
+  r-restorable : Reflect (Restorable variables a s) (isRestorable variables a s)
+  unfolding isRestorable
+  r-restorable = r-iff made parts (r-and (r-le variables 9) (r-and (r-lt a 10) (r-and (r-lt (cellCount s) 14) (r-or (r-eq x nowhere) (r-eq x dangling)))))
+    where
+      x : ℕ
+      x = operandAt s a
 
-  pub room : cellCount s < 14 → a < 10 → hasRoom s a ≡ true
-  room b c = is-true (hasRoom s a) (r-room .tests (b, c))
+      made : (variables ≤ 9) × ((a < 10) × ((cellCount s < 14) × (x ≢ nowhere → x ≡ dangling))) → Restorable variables a s
+      made (v, (b, (c, h))) =
+          record {
+            variables-fit = v;
+            a-fits = b;
+            cell-fits = c;
+            not-null = λ e. let z = h (omega arith) in omega arith;
+            no-cell = go (ℕ-discrete x nowhere);
+          }
+        where
+          go : Dec (x ≡ nowhere) → x ≤ dangling
+          go (yes e) = omega arith
+          go (no n) = let z = h n in omega arith
+
+      parts : Restorable variables a s → (variables ≤ 9) × ((a < 10) × ((cellCount s < 14) × (x ≢ nowhere → x ≡ dangling)))
+      parts h = (h .variables-fit, (h .a-fits, (h .cell-fits, λ n. omega (arith, h .not-null, h .no-cell))))
+
+  pub not-restorable : (Restorable variables a s → ⊥) → isRestorable variables a s ≡ false
+  not-restorable f = is-false (isRestorable variables a s) (λ t. f (r-restorable .holds t))
+
+  pub restorable : Restorable variables a s → isRestorable variables a s ≡ true
+  restorable h = is-true (isRestorable variables a s) (r-restorable .tests h)
+
+  pub is-restorable : isRestorable variables a s ≡ true → Restorable variables a s
+  is-restorable e = r-restorable .holds (passes (isRestorable variables a s) e)

@@ -5,6 +5,7 @@ pub mod Steps
 pub mod Tables
 pub mod New
 pub mod Remove
-pub mod Restore
+pub mod ByCase
+pub mod Restored
 pub mod Free
 pub mod Before

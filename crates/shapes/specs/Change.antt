@@ -1,9 +1,9 @@
 -- A shape in an array (layout/specs/ShapeArray.antt), changed in place.
 use mathlib.Core.Bool.{Bool, _&&_, _||_, not, cond}
-use mathlib.Core.List.{List, map}
-use Prim.Native.Nat.{ℕ, suc, _+_, _-_}
+use mathlib.Core.List.{List, [], _∷_, _++_, map}
+use Prim.Native.Nat.{ℕ, suc, _+_, _-_, _/_}
 use lib.Dec.{eqb, ltb, leb}
-use lib.ListN.{getD, set}
+use lib.ListN.{getD, set, take, drop}
 use Rattle.lists.specs.List.{keep}
 use Rattle.lists.specs.Range.{range}
 use Rattle.heap.specs.Place.{nowhere, null, dangling, cell}
@@ -11,7 +11,7 @@ use Rattle.shape.specs.Shape.{Shape}
 use Rattle.backward.specs.Predecessors.{lower, forget}
 use Rattle.layout.specs.ShapeArray.{cellCount, operandAt, shapeIn}
 use Rattle.shapes.specs.Without.{isFree}
-use Rattle.shapes.specs.declared.Cells.{Cells}
+use Rattle.shapes.specs.declared.Cases.{Cases}
 
 -- ---- one change
 
@@ -72,13 +72,14 @@ arrayWithout s k = map (slotWithout s k) (range 0 28)
 
 -- ---- kind 7
 
--- the array has room for a fresh cell, and a slot for a
-unfoldable pub hasRoom : List ℕ → ℕ → Bool
-hasRoom s a = ltb (cellCount s) 14 && ltb a 10
+-- the array has room for so many variables, for a and for a fresh cell, and a is nowhere or at *
+unfoldable pub isRestorable : ℕ → ℕ → List ℕ → Bool
+isRestorable variables a s =
+    leb variables 9 && (ltb a 10 && (ltb (cellCount s) 14 && (eqb (operandAt s a) nowhere || eqb (operandAt s a) dangling)))
 
--- slot i of a shape in which nothing stands at *
+-- slot i of a shape in which no link stands at *
 unfoldable pub slotForgotten : List ℕ → ℕ → ℕ
-slotForgotten s i = cond (ltb i 3) (getD s i 0) (forget (getD s i 0))
+slotForgotten s i = cond (leb 3 i && ltb i 17) (forget (getD s i 0)) (getD s i 0)
 
 abbrev pub arrayForgotten : List ℕ → List ℕ
 arrayForgotten s = map (slotForgotten s) (range 0 28)
@@ -87,33 +88,62 @@ arrayForgotten s = map (slotForgotten s) (range 0 28)
 abbrev pub arrayRestored : List ℕ → ℕ → List ℕ
 arrayRestored s a = setOperand (addCell (arrayForgotten s) nowhere) a (cell (cellCount s))
 
--- ---- kinds 6 and 7 by a cell: the one that was new, or is deleted. Cell n of a shape of n cells is one that the shape lacks.
+-- the number of cases of where variables that are now at these places stood: each at * doubles it
+unfoldable pub caseCount : List ℕ → ℕ
+caseCount [] = 1
+caseCount (p ∷ ps) = let rest = caseCount ps in cond (eqb p dangling) (rest + rest) rest
 
-abbrev cellsFrom : ℕ → ℕ → Cells
-cellsFrom first end = record { first = first; end = end }
+-- where they stood by case k of so many, c being the deleted cell: the first variable at * was there already in the first half of the cases,
+-- and stood at c in the second
+unfoldable pub varsByCase : ℕ → ℕ → ℕ → List ℕ → List ℕ
+varsByCase c count k [] = []
+varsByCase c count k (p ∷ ps) =
+    let half = cond (eqb p dangling) (count / 2) count in
+    let moved = eqb p dangling && leb half k in
+    cond moved c p ∷ varsByCase c half (cond moved (k - half) k) ps
 
--- the cells to try, where a stands at x in a shape of n cells
-unfoldable pub cellsAt : ℕ → ℕ → ℕ → Cells
-cellsAt kind n x =
-    cond (eqb kind 7) (cond (eqb x null || ltb dangling x) (cellsFrom 0 0) (cellsFrom n (suc n)))
-    (cond (eqb x nowhere) (cellsFrom 0 (suc n)) (cond (ltb x 3) (cellsFrom 0 0) (cellsFrom (x - 3) (suc (x - 3)))))
+-- the array by case k of so many, its last cell being the deleted one
+abbrev pub arrayByCase : ℕ → ℕ → ℕ → List ℕ → List ℕ
+arrayByCase variables count k s =
+    take 18 s ++ (varsByCase (2 + cellCount s) count k (take variables (drop 18 s)) ++ drop (18 + variables) s)
 
-abbrev pub cellsToTry : ℕ → ℕ → List ℕ → Cells
-cellsToTry kind a s = cellsAt kind (cellCount s) (operandAt s a)
+-- ---- kinds 6 and 7 by cases. Of kind 6: which cell was the new one; case n of a shape of n cells is one that the shape lacks. Of kind 7: where
+-- the variables stood.
+
+abbrev casesFrom : ℕ → ℕ → Cases
+casesFrom first end = record { first = first; end = end }
+
+-- the cases of kind 6, where a stands at x in a shape of n cells
+unfoldable pub casesOfNew : ℕ → ℕ → Cases
+casesOfNew n x = cond (eqb x nowhere) (casesFrom 0 (suc n)) (cond (ltb x 3) (casesFrom 0 0) (casesFrom (x - 3) (suc (x - 3))))
+
+-- the cases of kind 7
+unfoldable pub casesOfDelete : ℕ → ℕ → List ℕ → Cases
+casesOfDelete variables a s =
+    cond (isRestorable variables a s) (casesFrom 0 (caseCount (take variables (drop 18 (arrayRestored s a))))) (casesFrom 0 0)
+
+unfoldable pub casesOf : ℕ → ℕ → ℕ → List ℕ → Cases
+casesOf variables kind a s = cond (eqb kind 7) (casesOfDelete variables a s) (casesOfNew (cellCount s) (operandAt s a))
 
 -- a is nowhere, if it has a slot
 unfoldable pub operandForgotten : List ℕ → ℕ → List ℕ
 operandForgotten s a = cond (ltb a 11) (setOperand s a nowhere) s
 
--- there is a shape before, in which cell k was not there yet, or still was
-unfoldable pub isBefore : ℕ → ℕ → ℕ → List ℕ → ℕ → Bool
-isBefore variables kind a s k = cond (eqb kind 7) (hasRoom s a) (leb (cellCount s) k || isFreeCell variables (operandForgotten s a) k)
+-- the array with what all cases have in common
+unfoldable pub arrayPrepared : ℕ → ℕ → ℕ → List ℕ → List ℕ
+arrayPrepared variables kind a s =
+    cond (eqb kind 7) (cond (isRestorable variables a s) (arrayRestored s a) s) (operandForgotten s a)
+
+-- there is a shape before, by case k of a prepared array
+unfoldable pub isBefore : ℕ → ℕ → List ℕ → ℕ → Bool
+isBefore variables kind s k =
+    cond (eqb kind 7) (leb variables 9 && leb (cellCount s) 14) (leb (cellCount s) k || isFreeCell variables s k)
 
 -- its array
-unfoldable pub arrayBefore : ℕ → ℕ → List ℕ → ℕ → List ℕ
-arrayBefore kind a s k =
-    cond (eqb kind 7) (arrayRestored s a) (cond (leb (cellCount s) k) s (arrayWithout (operandForgotten s a) k))
+unfoldable pub arrayBefore : ℕ → ℕ → ℕ → List ℕ → ℕ → List ℕ
+arrayBefore variables kind count s k =
+    cond (eqb kind 7) (arrayByCase variables count k s) (cond (leb (cellCount s) k) s (arrayWithout s k))
 
--- the shapes before, by a cell: one or none
+-- the shapes before, by a case: one or none
 unfoldable pub before : ℕ → ℕ → ℕ → List ℕ → ℕ → List Shape
-before variables kind a s k = keep (isBefore variables kind a s k) (shapeIn variables (arrayBefore kind a s k))
+before variables kind count s k = keep (isBefore variables kind s k) (shapeIn variables (arrayBefore variables kind count s k))

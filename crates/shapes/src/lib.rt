@@ -1,4 +1,6 @@
 // Shapes in arrays (layout/specs/ShapeArray.antt), undone by kinds 6 (new) and 7 (delete). Numbers that do not fit an array change nothing.
+use crate::restore::prepare_delete;
+use crate::restore::stand_by_case;
 use kinds::DELETE;
 use number::wide;
 use place::DANGLING;
@@ -14,8 +16,10 @@ ghost use Prim.Native.Nat.{_≤_, _<_};
 ghost use lib.ListN.{length};
 ghost use Rattle.backward.specs.Predecessors.{lower};
 ghost use Rattle.layout.specs.ShapeArray.{cellCount, operandAt};
-ghost use Rattle.shapes.specs.Change.{isFreeCell, slotFrom, slotWithout, arrayWithout, hasRoom, slotForgotten, arrayForgotten, arrayRestored, cellsToTry, operandForgotten, isBefore, arrayBefore};
+ghost use Rattle.shapes.specs.Change.{isFreeCell, slotFrom, slotWithout, arrayWithout, casesOfNew, casesOf, operandForgotten, arrayPrepared, isBefore, arrayBefore};
 ghost use Rattle.shapes.specs.Without.{isFree};
+
+mod restore;
 
 // Whether p is a cell, nothing stands at it and its link is nowhere or *.
 fn is_free(vars: &[u8], links: &[u8], p: Place) -> bool
@@ -119,53 +123,6 @@ fn remove_cell(variables: usize, s: &[u8; 28], k: u8, t: &mut [u8; 28]) -> bool
     true
 }
 
-// Slot i of a shape in which nothing stands at *.
-fn slot_forgotten(s: &[u8; 28], i: usize) -> u8
-    requires { ⌜ i < 28 ⌝ }
-    ensures { λ r. ⌜ r ≡ slotForgotten (now (s .entry)) i ⌝ }
-{
-    let code = s[i];
-    if i < 3 {
-        return code;
-    }
-    if code == DANGLING {
-        return NOWHERE;
-    }
-    code
-}
-
-// Makes t the shape of s in which nothing stands at *.
-fn forget_dangling(s: &[u8; 28], t: &mut [u8])
-    requires { ⌜ length (now t) ≡ 28 ⌝ }
-    ensures { λ r. ⌜ now (t .exit) ≡ arrayForgotten (now (s .entry)) ⌝ }
-{
-    let mut i = 0;
-    while i < 28 {
-        t[i] = slot_forgotten(s, i);
-        i += 1;
-    }
-}
-
-// Makes t the shape of s in which nothing stands at *, and a stands at a fresh cell without a link, if there is room for the cell and for a.
-// Whether there is.
-fn restore_deleted(s: &[u8; 28], a: u8, t: &mut [u8; 28]) -> bool
-    ensures room { λ r. ⌜ r ≡ hasRoom (now (s .entry)) a ⌝ }
-    ensures shape { λ r. ⌜ now (t .exit) ≡ cond r (arrayRestored (now (s .entry)) a) (now (t .entry)) ⌝ }
-{
-    let n = s[0];
-    if 14 <= n {
-        return false;
-    }
-    if 10 <= a {
-        return false;
-    }
-    forget_dangling(s, t);
-    t[0] = n + 1;
-    t[3 + n as usize] = NOWHERE;
-    t[17 + a as usize] = FIRST_CELL + n;
-    true
-}
-
 // Where an operand stands; nowhere, where the array has no slot for it.
 fn operand_at(s: &[u8], a: u8) -> u8
     ensures { λ r. ⌜ r ≡ operandAt (now (s .entry)) a ⌝ }
@@ -187,61 +144,61 @@ fn forget_operand(s: &mut [u8; 28], a: u8)
     s[17 + a as usize] = NOWHERE;
 }
 
-// Cells from one on, before another.
-pub struct Cells {
+// Numbers of cases, from one on, before another.
+pub struct Cases {
     pub first: usize,
     pub end: usize,
 }
 
-// The cells to try as the one that kind 6 added to the shape before, or that kind 7 took out; cell n is one that this shape lacks. For kind 6
-// a's cell, or any where a is nowhere; for kind 7 a fresh one, where a is nowhere or at *.
-pub fn cells_to_try(kind: u8, a: u8, s: &[u8; 28]) -> Cells
-    ensures { λ r. ⌜ r ≡ cellsToTry kind a (now (s .entry)) ⌝ }
+// The cases of kind 6, by the cell that was new: a's cell, or any where a is nowhere; the case after the last cell is one that the shape lacks. Puts
+// a nowhere.
+fn prepare_new(a: u8, s: &mut [u8; 28]) -> Cases
+    ensures cases { λ r. ⌜ r ≡ casesOfNew (cellCount (now (s .entry))) (operandAt (now (s .entry)) a) ⌝ }
+    ensures shape { λ r. ⌜ now (s .exit) ≡ operandForgotten (now (s .entry)) a ⌝ }
 {
     let n = wide(s[0]);
     let x = operand_at(s, a);
-    if kind == DELETE {
-        if x == NULL {
-            return Cells { first: 0, end: 0 };
-        }
-        if DANGLING < x {
-            return Cells { first: 0, end: 0 };
-        }
-        return Cells {
-            first: n,
-            end: n + 1,
-        };
-    }
+    forget_operand(s, a);
     if x == NOWHERE {
-        return Cells {
+        return Cases {
             first: 0,
             end: n + 1,
         };
     }
     if x < FIRST_CELL {
-        return Cells { first: 0, end: 0 };
+        return Cases { first: 0, end: 0 };
     }
     let k = (x - FIRST_CELL) as usize;
-    Cells {
+    Cases {
         first: k,
         end: k + 1,
     }
 }
 
-// Makes t the shape before, by cell k, if there is one. Whether there is. By kind 7 a stands at a fresh cell; by any other kind, which is taken
-// for 6, cell k is not there, and a is nowhere.
-pub fn undo_cell(variables: usize, kind: u8, a: u8, k: usize, t: &mut [u8; 28]) -> bool
-    ensures is { λ r. ⌜ r ≡ isBefore variables kind a (now (t .entry)) k ⌝ }
-    ensures shape { λ r. ⌜ now (t .exit) ≡ cond r (arrayBefore kind a (now (t .entry)) k) (now (t .entry)) ⌝ }
+// The cases of the shapes before: by kind 7 where the variables stood, by any other kind, which is taken for 6, which cell was new. Changes s as is
+// common to them: by kind 7 no link stands at * and a stands at a fresh cell, by 6 a is nowhere.
+pub fn prepare_cases(variables: usize, kind: u8, a: u8, s: &mut [u8; 28]) -> Cases
+    ensures cases { λ r. ⌜ r ≡ casesOf variables kind a (now (s .entry)) ⌝ }
+    ensures shape { λ r. ⌜ now (s .exit) ≡ arrayPrepared variables kind a (now (s .entry)) ⌝ }
 {
-    let mut s = *t;
     if kind == DELETE {
-        return restore_deleted(&s, a, t);
+        return prepare_delete(variables, a, s);
     }
-    let n = wide(s[0]);
+    prepare_new(a, s)
+}
+
+// Makes t, where what is common to all cases is done, the shape before by case k of so many, if there is one. Whether there is.
+pub fn undo_case(variables: usize, kind: u8, count: usize, k: usize, t: &mut [u8; 28]) -> bool
+    ensures is { λ r. ⌜ r ≡ isBefore variables kind (now (t .entry)) k ⌝ }
+    ensures shape { λ r. ⌜ now (t .exit) ≡ cond r (arrayBefore variables kind count (now (t .entry)) k) (now (t .entry)) ⌝ }
+{
+    if kind == DELETE {
+        return stand_by_case(variables, count, k, t);
+    }
+    let n = wide(t[0]);
     if n <= k {
         return true;
     }
-    forget_operand(&mut s, a);
+    let s = *t;
     remove_cell(variables, &s, k as u8, t)
 }

@@ -75,7 +75,7 @@ pub fn each_predecessor<E>(
         LOAD => each_load(shape, a, b, visit),
         STORE => each_store(shape, a, b, visit),
         NEW => each_new(shape, a, visit),
-        DELETE => before_delete(shape, a).map_or(Ok(()), |before| visit(&before)),
+        DELETE => each_delete(shape, a, visit),
         _ => unreachable!("an operation has a kind of the table"),
     }
 }
@@ -277,16 +277,121 @@ fn each_new<E>(
     }
 }
 
-/// What dangles is forgotten, and a stands at a fresh cell.
-fn before_delete(shape: &Shape, a: usize) -> Option<Shape> {
+/// Links to * are forgotten, and a stands at a fresh cell. Each other variable that dangles did so
+/// already or stood at that cell.
+fn each_delete<E>(
+    shape: &Shape,
+    a: usize,
+    visit: &mut impl FnMut(&Shape) -> Result<(), E>,
+) -> Result<(), E> {
     if !matches!(shape.variables[a], NOWHERE | DANGLING) {
-        return None;
+        return Ok(());
     }
-    let mut before = *shape;
-    for place in before.variables.iter_mut().chain(&mut before.links) {
-        if *place == DANGLING {
-            *place = NOWHERE;
+    let mut before = placed(shape, a, Fresh);
+    for link in &mut before.links {
+        if *link == DANGLING {
+            *link = NOWHERE;
         }
     }
-    Some(placed(&before, a, Fresh))
+    let numbered = before.variables.iter().enumerate();
+    let dangling = numbered.fold(0, |mask: u32, (variable, &place)| {
+        mask | u32::from(place == DANGLING) << variable
+    });
+    loop {
+        visit(&before)?;
+        if !count_up(&mut before, dangling, shape.fresh()) {
+            return Ok(());
+        }
+    }
+}
+
+/// The next case of some variables, each at * or at the deleted cell: they count up as digits, the
+/// highest variable the last. False after the last case.
+fn count_up(before: &mut Shape, dangling: u32, deleted: u8) -> bool {
+    let mut left = dangling;
+    while left != 0 {
+        let highest = left.ilog2();
+        left ^= 1 << highest;
+        let place = &mut before.variables[highest as usize];
+        if *place == DANGLING {
+            *place = deleted;
+            return true;
+        }
+        *place = DANGLING;
+    }
+    false
+}
+
+#[cfg(test)]
+mod tests {
+    use std::collections::BTreeSet;
+    use std::convert::Infallible;
+
+    use super::*;
+    use crate::random::Random;
+    use crate::reference::heap::Place;
+    use crate::reference::operation::{operation, KINDS};
+    use crate::reference::predecessor::predecessors;
+    use crate::reference::shape as reference;
+
+    fn assert_same(shape: &reference::Shape, operation: Operation) -> usize {
+        let mut ours = Vec::new();
+        let compact = Shape::of_reference(shape);
+        let Ok(()) = each_predecessor(&compact, operation, &mut |before| {
+            ours.push(before.to_reference(shape.variables.len()));
+            Ok::<(), Infallible>(())
+        });
+        assert_eq!(
+            ours,
+            predecessors(shape, operation),
+            "{shape:?} {operation:?}"
+        );
+        ours.len()
+    }
+
+    fn random_shape(random: &mut Random, variables: usize, most_cells: usize) -> reference::Shape {
+        let cells = random.below(most_cells + 1);
+        let mut codes =
+            |count| -> Vec<u64> { (0..count).map(|_| random.below(3 + cells) as u64).collect() };
+        reference::Shape::of_codes(&codes(variables), &codes(cells))
+    }
+
+    #[test]
+    fn predecessors_are_those_of_the_reference() {
+        let mut random = Random::new(0x18_5eed);
+        let mut made = 0;
+        for _ in 0..20_000 {
+            let shape = random_shape(&mut random, 3, 4);
+            let kind = 1 + random.below(*KINDS.end() as usize) as u64;
+            let (a, b) = (random.below(4) as u64, random.below(4) as u64);
+            if let Some(operation) = operation(kind, a, b, 3) {
+                made += assert_same(&shape, operation);
+            }
+        }
+        assert!(made > 10_000, "only {made}");
+    }
+
+    #[test]
+    fn every_number_of_cases_before_a_delete() {
+        let mut random = Random::new(0x19_5eed);
+        let mut counts = BTreeSet::new();
+        for _ in 0..5_000 {
+            let mut shape = random_shape(&mut random, 8, 2);
+            for place in &mut shape.variables {
+                if random.once_in(2) {
+                    *place = Some(Place::Dangling);
+                }
+            }
+            let a = 1 + random.below(8);
+            counts.insert(assert_same(
+                &shape,
+                Operation {
+                    kind: DELETE,
+                    a,
+                    b: 0,
+                },
+            ));
+        }
+        assert!(counts.into_iter().eq([0, 1, 2, 4, 8, 16, 32, 64, 128]));
+    }
 }

@@ -1,6 +1,6 @@
 //! Pairs with one cover that breaks a rule, the first or the last, at the highest cell or variable.
 
-use crate::pairs::{pair_with, Pair};
+use crate::pairs::{anything, pair_with, Pair};
 use crate::reference::certificate::Cover;
 use crate::reference::cover::owed;
 use crate::reference::job::{Job, Located, Transition};
@@ -44,10 +44,6 @@ fn broken(rule: Rule, is_last: bool) -> (usize, Pair) {
         state: COVERED,
         shape: Shape::of_codes(&VARIABLES, &LINKS),
     };
-    let anything = Located {
-        state: COVERED,
-        shape: Shape::of_codes(&[0; 8], &[]),
-    };
     let job = Job {
         variables: 8,
         states: 3,
@@ -67,7 +63,7 @@ fn broken(rule: Rule, is_last: bool) -> (usize, Pair) {
         true => breaking_last(rule),
         false => breaking_first(rule),
     };
-    let members = vec![anything, member, whole];
+    let members = vec![anything(COVERED, VARIABLES.len()), member, whole];
     let covers = owed(&job, members.iter()).count();
     let number = if is_last { covers - 1 } else { 0 };
     let cover = Cover { member: 1, images };

@@ -1,8 +1,8 @@
 //! Calls the proved library with buffers that end where their allocation ends, so that valgrind sees
 //! a byte read or written beside them, and compares its answers with the reference.
 //!
-//! `memcheck [PAIRS [SEED]]`: how many random pairs, and as many with a cover that breaks rules; and
-//! from which seed.
+//! `memcheck [PAIRS [SEED]]`: how many random pairs, as many with a cover that breaks rules, and as many
+//! with deletes; and from which seed.
 
 use std::env;
 use std::process::ExitCode;
@@ -10,7 +10,7 @@ use std::process::ExitCode;
 use vorruda_host::compare::ready::forbid_in_library;
 use vorruda_host::library;
 use vorruda_host::listings::{edges, Listings};
-use vorruda_host::pairs::{broken_pairs, Pair, Pairs};
+use vorruda_host::pairs::{broken_pairs, delete_pairs, Pair, Pairs};
 use vorruda_host::random::Random;
 use vorruda_host::reference::heap::Heap;
 use vorruda_host::reference::listing::{translate, MARKS};
@@ -38,8 +38,10 @@ fn main() -> ExitCode {
     };
     let kinds = sweep::pairs(2).into_iter().map(|(_, pair)| pair);
     let broken = broken_pairs(seed).take(pairs as usize);
+    let deletes = delete_pairs(seed).take(pairs as usize);
     let checked = Pairs::new(seed).take(pairs as usize).chain(broken);
-    let checked = checked.chain(kinds).enumerate().map(check).count();
+    let checked = checked.chain(deletes).chain(kinds);
+    let checked = checked.enumerate().map(check).count();
     let mut random = Random::new(seed);
     (0..LISTS).for_each(|_| numbers(&mut random));
     steps(&mut random);

@@ -4,7 +4,9 @@ use super::{Tally, UNTOUCHED};
 use crate::corpus;
 use crate::extremes::extremes;
 use crate::library;
-use crate::pairs::{broken_pairs, damaged_copies, near_pairs, series_pairs, Pair, Pairs};
+use crate::pairs::{
+    broken_pairs, damaged_copies, delete_pairs, near_pairs, series_pairs, Pair, Pairs,
+};
 use crate::reference::checker;
 use crate::reference::cover::{cover_at, Reason};
 use crate::reference::job::Job;
@@ -97,8 +99,9 @@ fn expected_answers(verdict: &Verdict, out_len: usize) -> Answers {
 const COPIES: usize = 60;
 
 /// Random pairs, one in five of them with covers that hold or nearly do, one in five with a cover that
-/// breaks chosen rules, and one in fifty with covers that follow each other closely; then the corpus with damaged copies, every kind on large members, and
-/// the extremes.
+/// breaks chosen rules, one in fifty with covers that follow each other closely, and one in fifty with
+/// deletes and dangling variables; then the corpus with damaged copies, every kind on large members,
+/// and the extremes.
 pub fn pairs(seed: u64, random: usize) -> Result<impl Iterator<Item = Pair>, String> {
     let real = corpus::certified()?.into_iter().map(|(_, pair)| pair);
     let real = real.flat_map(move |pair| {
@@ -112,8 +115,10 @@ pub fn pairs(seed: u64, random: usize) -> Result<impl Iterator<Item = Pair>, Str
     let broken = broken_pairs(seed).take(fifth);
     let fiftieth = random / 50;
     let series = series_pairs(seed).take(fiftieth);
-    let random = Pairs::new(seed).take(random - 2 * fifth - fiftieth);
+    let deletes = delete_pairs(seed).take(fiftieth);
+    let random = Pairs::new(seed).take(random - 2 * fifth - 2 * fiftieth);
     let random = random.chain(near).chain(broken).chain(series);
+    let random = random.chain(deletes);
     Ok(random.chain(real).chain(kinds).chain(extremes))
 }
 

@@ -2,8 +2,8 @@
 //! of a predecessor.
 
 use super::accepted::random_operation;
-use super::codes::{some_cells, some_index, Codes};
-use super::{pair_with, Pair};
+use super::codes::{some_index, some_numbers, Codes};
+use super::{anything, pair_with, Pair};
 use crate::random::Random;
 use crate::reference::certificate::Cover;
 use crate::reference::cover::{owed, Reason};
@@ -49,11 +49,7 @@ pub fn broken(random: &mut Random, turn: usize) -> Pair {
 fn attempt(random: &mut Random, rules: &[Rule], of_predecessor: bool) -> Option<Pair> {
     let variables = 1 + random.below(MOST_VARIABLES as usize);
     let job = random_job(random, variables);
-    let anything = Located {
-        state: COVERED,
-        shape: Shape::of_codes(&vec![0; variables], &[]),
-    };
-    let mut members = vec![anything, whole(random, variables)];
+    let mut members = vec![anything(COVERED, variables), whole(random, variables)];
     let is_wanted = |reason: Reason| match reason {
         Reason::Forbidden(_) => !of_predecessor,
         Reason::Before { member, .. } => of_predecessor && member == WHOLE,
@@ -121,7 +117,7 @@ fn whole(random: &mut Random, variables: usize) -> Located {
 /// with one or two changes for each rule. Where paths are to meet, those of the part may do so.
 fn breaking(random: &mut Random, covered: &Shape, rules: &[Rule]) -> Option<(Located, Vec<usize>)> {
     let count = mostly_many(random, covered.cells().min(MOST_CELLS as usize));
-    let mut images = some_cells(random, covered.cells(), count);
+    let mut images = some_numbers(random, covered.cells(), count);
     for _ in 0..changes(random, rules, Rule::Image) {
         repeat_an_image(random, &mut images);
     }

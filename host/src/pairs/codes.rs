@@ -90,9 +90,9 @@ impl Codes {
     }
 }
 
-/// So many of a shape's cells, in any order.
-pub fn some_cells(random: &mut Random, cells: usize, count: usize) -> Vec<usize> {
-    let mut left: Vec<usize> = (0..cells).collect();
+/// So many different numbers below a bound, in any order.
+pub fn some_numbers(random: &mut Random, bound: usize, count: usize) -> Vec<usize> {
+    let mut left: Vec<usize> = (0..bound).collect();
     (0..count)
         .map(|_| left.swap_remove(random.below(left.len())))
         .collect()
@@ -105,7 +105,7 @@ pub fn some_index(random: &mut Random, count: usize) -> usize {
 }
 
 /// The place whose image a place is: nowhere, # and * are their own; nothing for other cells.
-fn preimage(place: u64, images: &[usize]) -> Option<u64> {
+pub fn preimage(place: u64, images: &[usize]) -> Option<u64> {
     match place {
         0..CELL => Some(place),
         cell => {

@@ -4,6 +4,7 @@ mod accepted;
 mod broken;
 mod codes;
 mod damage;
+mod deletes;
 mod near;
 mod series;
 
@@ -11,9 +12,11 @@ use crate::random::Random;
 use crate::reference::certificate::{Certificate, Cover};
 use crate::reference::cover::owed;
 use crate::reference::job::{Job, Located};
+use crate::reference::shape::Shape;
 use accepted::accepted;
 use broken::broken;
 use damage::damaged;
+use deletes::deletes;
 use near::near;
 use series::series;
 
@@ -22,6 +25,24 @@ use series::series;
 pub struct Pair {
     pub job: Vec<u8>,
     pub certificate: Vec<u8>,
+}
+
+impl Pair {
+    /// The bytes of a job and of a certificate with these members and covers.
+    pub fn of(job: &Job, members: Vec<Located>, covers: Vec<Cover>) -> Pair {
+        Pair {
+            job: job.bytes(),
+            certificate: Certificate { members, covers }.bytes(),
+        }
+    }
+}
+
+/// A shape that everything satisfies, at a state.
+pub fn anything(state: u64, variables: usize) -> Located {
+    Located {
+        state,
+        shape: Shape::of_codes(&vec![0; variables], &[]),
+    }
 }
 
 /// The pair in which the first member, which has no cells, covers all but what one cover, by its
@@ -33,10 +54,7 @@ pub fn pair_with(job: &Job, members: Vec<Located>, number: usize, cover: Cover) 
     };
     let mut covers = vec![of_first; owed(job, members.iter()).count()];
     covers[number] = cover;
-    Pair {
-        job: job.bytes(),
-        certificate: Certificate { members, covers }.bytes(),
-    }
+    Pair::of(job, members, covers)
 }
 
 /// How many damaged pairs are made of each accepted one.
@@ -102,4 +120,10 @@ pub fn broken_pairs(seed: u64) -> impl Iterator<Item = Pair> {
 pub fn series_pairs(seed: u64) -> impl Iterator<Item = Pair> {
     let mut random = Random::new(seed);
     (0..).map(move |turn| series(&mut random, turn))
+}
+
+/// Endless pairs with a delete and one to seven dangling variables beside its own.
+pub fn delete_pairs(seed: u64) -> impl Iterator<Item = Pair> {
+    let mut random = Random::new(seed);
+    (0..).map(move |turn| deletes(&mut random, turn))
 }

@@ -1,10 +1,10 @@
 //! Covers that hold, or nearly: members that are parts of the covered shape. Where two of their paths
 //! meet, everything else is as it should be.
 
-use super::codes::{some_cells, some_index, Codes};
+use super::codes::{some_index, some_numbers, Codes};
 use super::Pair;
 use crate::random::Random;
-use crate::reference::certificate::{Certificate, Cover};
+use crate::reference::certificate::Cover;
 use crate::reference::job::Job;
 use crate::reference::shape::MOST_CELLS;
 
@@ -25,7 +25,7 @@ pub fn near(random: &mut Random) -> Pair {
         let cells = random.below(MOST_CELLS as usize + 1);
         let covered = Codes::random(random, variables, cells);
         let count = random.below(cells.min(MOST_IMAGES) + 1);
-        let mut images = some_cells(random, cells, count);
+        let mut images = some_numbers(random, cells, count);
         let mut part = covered.part(random, &images);
         if random.once_in(6) {
             match random.below(3) {
@@ -45,10 +45,7 @@ pub fn near(random: &mut Random) -> Pair {
         transitions: Vec::new(),
         forbidden,
     };
-    Pair {
-        job: job.bytes(),
-        certificate: Certificate { members, covers }.bytes(),
-    }
+    Pair::of(&job, members, covers)
 }
 
 /// Makes another of so many cells an image, if there are images.

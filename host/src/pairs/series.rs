@@ -1,15 +1,15 @@
 //! Covers that follow each other closely, so that what one leaves would tell in the next: images of
 //! which one is another than in the last cover, and covers of many cells followed by ones of few.
 
-use super::codes::{some_cells, some_index, Codes};
-use super::Pair;
+use super::codes::{some_index, some_numbers, Codes};
+use super::{anything, Pair};
 use crate::random::Random;
-use crate::reference::certificate::{Certificate, Cover};
+use crate::reference::certificate::Cover;
 use crate::reference::cover::{owed, Reason};
-use crate::reference::embedding::Map;
+use crate::reference::embedding::embeds;
 use crate::reference::job::{Job, Located, Transition};
 use crate::reference::operation::{Operation, DIFFERENT};
-use crate::reference::shape::{Shape, MOST_CELLS};
+use crate::reference::shape::MOST_CELLS;
 
 /// No shape is at the start.
 const START: u64 = 0;
@@ -37,15 +37,15 @@ fn by_one(random: &mut Random) -> Pair {
     let codes = Codes::random(random, variables, cells);
     let covered = codes.located(STATE);
     let count = 1 + random.below(cells - 1);
-    let mut images = some_cells(random, cells, count);
-    let mut members = vec![anything(variables)];
+    let mut images = some_numbers(random, cells, count);
+    let mut members = vec![anything(STATE, variables)];
     let mut covers = vec![Cover {
         member: 0,
         images: Vec::new(),
     }];
     for _ in 0..TRIES {
         let part = codes.part(random, &images).located(STATE);
-        if holds(&part.shape, &images, &covered.shape) {
+        if embeds(&part.shape, &covered.shape, &images) {
             covers.push(Cover {
                 member: members.len(),
                 images: images.clone(),
@@ -60,7 +60,7 @@ fn by_one(random: &mut Random) -> Pair {
         covers[last].images = covers[last - 1].images.clone();
     }
     let job = job(variables, Vec::new(), vec![covered; covers.len()]);
-    pair(&job, members, covers)
+    Pair::of(&job, members, covers)
 }
 
 /// Large members and small ones in turn. What precedes one is covered by itself where that holds and,
@@ -68,7 +68,7 @@ fn by_one(random: &mut Random) -> Pair {
 fn by_size(random: &mut Random) -> Pair {
     let variables = 2 + random.below(2);
     let both_nowhere = random.once_in(16);
-    let mut members = vec![anything(variables)];
+    let mut members = vec![anything(STATE, variables)];
     for number in 0..MEMBERS {
         let cells = match number % 2 {
             0 => MOST_CELLS as usize,
@@ -94,7 +94,7 @@ fn by_size(random: &mut Random) -> Pair {
     let mut cover = |covered: &Located, member: usize| {
         let shape = &members[member].shape;
         let images: Vec<usize> = (0..shape.cells()).collect();
-        match holds(shape, &images, &covered.shape) && !random.once_in(4) {
+        match embeds(shape, &covered.shape, &images) && !random.once_in(4) {
             true => Cover { member, images },
             false => Cover {
                 member: 0,
@@ -108,24 +108,7 @@ fn by_size(random: &mut Random) -> Pair {
             Reason::Before { member, .. } => cover(&owed.covered, member),
         })
         .collect();
-    pair(&job, members, covers)
-}
-
-/// A shape that everything satisfies.
-fn anything(variables: usize) -> Located {
-    Located {
-        state: STATE,
-        shape: Shape::of_codes(&vec![0; variables], &[]),
-    }
-}
-
-fn holds(member: &Shape, images: &[usize], covered: &Shape) -> bool {
-    let map = Map {
-        shape: member,
-        other: covered,
-        images,
-    };
-    map.broken().is_none()
+    Pair::of(&job, members, covers)
 }
 
 fn job(variables: usize, transitions: Vec<Transition>, forbidden: Vec<Located>) -> Job {
@@ -135,13 +118,6 @@ fn job(variables: usize, transitions: Vec<Transition>, forbidden: Vec<Located>) 
         start: START,
         transitions,
         forbidden,
-    }
-}
-
-fn pair(job: &Job, members: Vec<Located>, covers: Vec<Cover>) -> Pair {
-    Pair {
-        job: job.bytes(),
-        certificate: Certificate { members, covers }.bytes(),
     }
 }
 

@@ -27,7 +27,7 @@ pub fn predecessors(shape: &Shape, operation: Operation) -> Vec<Shape> {
             .into_iter()
             .filter_map(|placed| before_new(placed, a))
             .collect(),
-        DELETE => before_delete(shape, a).into_iter().collect(),
+        DELETE => before_delete(shape, a),
         _ => unreachable!("an operation has a kind of the table"),
     }
 }
@@ -148,18 +148,28 @@ fn before_new(mut shape: Shape, a: usize) -> Option<Shape> {
     Some(shape)
 }
 
-fn before_delete(shape: &Shape, a: usize) -> Option<Shape> {
+/// A fresh cell is added, a stands at it, and links to * are forgotten. Each other variable at * gives
+/// two cases: it was at * already, or it stood at that cell. The lowest changes slowest.
+fn before_delete(shape: &Shape, a: usize) -> Vec<Shape> {
     if !matches!(shape.place(a), None | Some(Place::Dangling)) {
-        return None;
+        return vec![];
     }
-    let mut shape = shape.clone();
-    for place in shape.variables.iter_mut().chain(&mut shape.links) {
-        if *place == Some(Place::Dangling) {
-            *place = None;
+    let deleted = Place::Cell(shape.cells());
+    let mut before = with_variable(&with_cell(shape, None), a, deleted);
+    for link in &mut before.links {
+        if *link == Some(Place::Dangling) {
+            *link = None;
         }
     }
-    let fresh = Place::Cell(shape.cells());
-    Some(with_variable(&with_cell(&shape, None), a, fresh))
+    let variables = 1..=shape.variables.len();
+    let dangling = variables.filter(|&v| v != a && shape.place(v) == Some(Place::Dangling));
+    dangling.fold(vec![before], |cases, variable| {
+        let both = |already: Shape| {
+            let stood_there = with_variable(&already, variable, deleted);
+            [already, stood_there]
+        };
+        cases.into_iter().flat_map(both).collect()
+    })
 }
 
 #[cfg(test)]
@@ -262,11 +272,59 @@ mod tests {
     }
 
     #[test]
-    fn deleting_forgets_what_dangles() {
+    fn deleting_forgets_links_that_dangle() {
         let expected = shapes(&[(&[5, 0, 3], &[0, 1, 0])]);
-        assert_eq!(before(&[2, 2, 3], &[2, 1], DELETE, 1, 0), expected);
-        assert_eq!(before(&[0, 2, 3], &[2, 1], DELETE, 1, 0), expected);
+        assert_eq!(before(&[2, 0, 3], &[2, 1], DELETE, 1, 0), expected);
+        assert_eq!(before(&[0, 0, 3], &[2, 1], DELETE, 1, 0), expected);
         assert_eq!(before(&[1], &[], DELETE, 1, 0), vec![]);
         assert_eq!(before(&[3], &[0], DELETE, 1, 0), vec![]);
+        assert_eq!(before(&[3, 2], &[0], DELETE, 1, 0), vec![]);
+    }
+
+    /// The other variable was at * already, or stood at the deleted cell.
+    #[test]
+    fn deleting_with_a_variable_at_the_cell() {
+        let two = shapes(&[(&[3, 2], &[0]), (&[3, 3], &[0])]);
+        assert_eq!(before(&[2, 2], &[], DELETE, 1, 0), two);
+        assert_eq!(before(&[0, 2], &[], DELETE, 1, 0), two);
+        let of_second = shapes(&[(&[2, 3], &[0]), (&[3, 3], &[0])]);
+        assert_eq!(before(&[2, 2], &[], DELETE, 2, 0), of_second);
+        let beside_a_list = shapes(&[(&[2, 3, 5], &[4, 0, 0]), (&[5, 3, 5], &[4, 0, 0])]);
+        assert_eq!(before(&[2, 3, 2], &[4, 2], DELETE, 3, 0), beside_a_list);
+    }
+
+    #[test]
+    fn the_lowest_dangling_variable_changes_slowest() {
+        let four = shapes(&[
+            (&[2, 3, 2, 1], &[0]),
+            (&[2, 3, 3, 1], &[0]),
+            (&[3, 3, 2, 1], &[0]),
+            (&[3, 3, 3, 1], &[0]),
+        ]);
+        assert_eq!(before(&[2, 0, 2, 1], &[], DELETE, 2, 0), four);
+    }
+
+    /// With any variables at * and a any of them, case k has the lowest such variable at the deleted
+    /// cell exactly if the highest bit of k is 1, and so on.
+    #[test]
+    fn cases_are_counted_in_binary() {
+        for dangling in 0..256u32 {
+            for a in 1..=8 {
+                let is_at = |variable: usize| dangling >> (variable - 1) & 1 == 1;
+                let places: Vec<u64> = (1..=8).map(|v| if is_at(v) { 2 } else { 0 }).collect();
+                let others: Vec<usize> = (1..=8).filter(|&v| v != a && is_at(v)).collect();
+                let cases = before(&places, &[], DELETE, a, 0);
+                assert_eq!(cases.len(), 1 << others.len());
+                for (number, case) in cases.iter().enumerate() {
+                    let mut expected = places.clone();
+                    expected[a - 1] = 3;
+                    for (bit, &variable) in others.iter().rev().enumerate() {
+                        expected[variable - 1] = 2 + (number >> bit & 1) as u64;
+                    }
+                    assert_eq!(*case, Shape::of_codes(&expected, &[0]));
+                }
+            }
+        }
+        assert_eq!(before(&[2; 8], &[0; 12], DELETE, 4, 0).len(), 128);
     }
 }

@@ -98,8 +98,8 @@ impl<'a> Exploration<'a> {
         }
     }
 
-    /// Adds what deletes lead to if a variable or a link dangles afterwards that didn't stand at
-    /// the deleted cell: backwards, deleting forgets where it stood.
+    /// Adds what deletes lead to if a link dangles afterwards that didn't stand at the deleted cell:
+    /// backwards, deleting forgets where it stood.
     fn take_forgetful_deletes(&mut self, number: usize) {
         let Located { state, shape } = self.reached[number].located;
         for (t, transition) in self.job.transitions.iter().enumerate() {
@@ -109,16 +109,10 @@ impl<'a> Exploration<'a> {
             let Some(heap) = after(&shape, transition.operation) else {
                 continue;
             };
-            let step = Step::Transition(number, t);
-            for variable in 1..=self.job.variables as usize {
-                let mut forgotten = heap;
-                forgotten.variables[variable] = DANGLING;
-                self.add(transition.to as u8, forgotten, step);
-            }
             for cell in CELL..heap.fresh() {
                 let mut forgotten = heap;
                 forgotten.set_link_of(cell, DANGLING);
-                self.add(transition.to as u8, forgotten, step);
+                self.add(transition.to as u8, forgotten, Step::Transition(number, t));
             }
         }
     }

@@ -3,6 +3,7 @@
 use super::choices::Choices;
 use super::cover::Covers;
 use super::places::{slot, Places};
+use super::words::bytes_equal;
 use crate::baseline::job::Transition;
 use crate::baseline::reader::Stopped;
 use crate::baseline::shape::{CELL, DANGLING, HELPER, NOWHERE, NULL};
@@ -160,14 +161,27 @@ impl Covers<'_, '_> {
         }
     }
 
-    /// What dangles forgotten, and a at a fresh cell.
+    /// Links to * forgotten, and a at a fresh cell. The others that dangle, as digits of a word, count
+    /// up through all sets of them that may have stood at that cell.
     fn check_delete(&mut self, shape: &Places, from: u8, a: usize) -> Result<(), Stopped> {
         if !matches!(shape.at(a), NOWHERE | DANGLING) {
             return Ok(());
         }
         let mut before = *shape;
-        before.forget_dangling();
-        self.check_each(from, &before, a, Choices::FRESH, |_| {})
+        before.forget_dangling_links();
+        let deleted = before.add_cell(NOWHERE);
+        before.set(a, deleted);
+        let places = before.variables();
+        let dangling = bytes_equal(places, DANGLING);
+        let mut moved = 0;
+        loop {
+            before.set_variables(places + moved * u64::from(deleted - DANGLING));
+            self.check(from, &before)?;
+            moved = moved.wrapping_sub(dangling) & dangling;
+            if moved == 0 {
+                return Ok(());
+            }
+        }
     }
 }
 

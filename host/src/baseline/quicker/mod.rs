@@ -54,3 +54,19 @@ impl Covers<'_, '_> {
         self.reader.end(10)
     }
 }
+
+#[cfg(test)]
+mod tests {
+    use super::check;
+    use crate::pairs::delete_pairs;
+    use crate::reference::checker;
+
+    /// The digits of a word that counts up are the cases in their order.
+    #[test]
+    fn deletes_are_undone_as_by_the_reference() {
+        for pair in delete_pairs(0x1a_5eed).take(500) {
+            let expected = checker::check(&pair.job, &pair.certificate);
+            assert_eq!(check(&pair.job, &pair.certificate), expected, "{pair:?}");
+        }
+    }
+}

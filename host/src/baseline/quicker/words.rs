@@ -28,8 +28,19 @@ pub fn all_below(word: u64, limit: u8) -> bool {
 /// A bit for each byte that is 0, among bytes below 128.
 #[inline(always)]
 pub fn zeros(word: u64) -> u64 {
-    let highs = !word.wrapping_add(HIGHS - ONES) & HIGHS;
-    highs.wrapping_mul(0x0002_0408_1020_4081) >> 56
+    high_where_zero(word).wrapping_mul(0x0002_0408_1020_4081) >> 56
+}
+
+/// 1 in each byte that equals one below 128, else 0, among bytes below 128.
+#[inline(always)]
+pub fn bytes_equal(word: u64, byte: u8) -> u64 {
+    high_where_zero(word ^ repeated(byte)) >> 7
+}
+
+/// The high bit of each byte that is 0, among bytes below 128.
+#[inline(always)]
+fn high_where_zero(word: u64) -> u64 {
+    !word.wrapping_add(HIGHS - ONES) & HIGHS
 }
 
 #[cfg(test)]
@@ -45,6 +56,8 @@ mod tests {
             let word = u64::from_le_bytes(bytes);
             let is_zero = |bit: usize| zeros(word) >> bit & 1 == 1;
             assert!((0..8).all(|index| is_zero(index) == (bytes[index] == 0)));
+            let twos = bytes.map(|byte| u8::from(byte == 2));
+            assert_eq!(bytes_equal(word, 2), u64::from_le_bytes(twos));
             let wide = bytes.map(|byte| if byte == 127 { 255 } else { byte });
             let below = wide.iter().all(|&byte| byte < 14);
             assert_eq!(all_below(u64::from_le_bytes(wide), 14), below, "{wide:?}");

@@ -15,15 +15,15 @@ use Rattle.checker.proofs.Checking.{stays}
 use Rattle.checker.proofs.owed.check_transition.Statement.{statement}
 use Rattle.checker.proofs.owed.check_transition.Tie as tie
 
-check-cells-requires : tie.Need-check-cells-requires
-check-cells-requires c κs =
+check-cases-requires : tie.Need-check-cases-requires
+check-cases-requires c κs =
     let by = c .before .before .before .before .args .by in
     let p = c .before .before .before .before .pre in
     let (some, fits, none) = operands-of _ (by .kind) (by .a) (by .b) (p .0) in
     (p .2, p .3, some (omega arith), fits, omega arith, known _ (by .kind) (by .a) (by .b) (p .0) .1, p .4)
 
 returns : tie.Need-returns
-returns c = c .check-cells .ensures
+returns c = c .check-cases .ensures
 
 with-helper-requires : tie.Need-with-helper-requires
 with-helper-requires c κs = c .before .before .before .before .pre .1
@@ -52,4 +52,4 @@ returns-2 c =
     (taken, stays (a .cert .now) (membersFrom (a .cert .now) (a .variables) (a .starts .now)) _ (a .t) (c .before .before .before .before .before .before .pre .4) (c .check-first-choices .result) taken)
 
 pub check-transition-spec : {M : Type 1} → statement M
-check-transition-spec = tie.close (tie.spec check-cells-requires returns with-helper-requires check-first-choices-requires returns-2)
+check-transition-spec = tie.close (tie.spec check-cases-requires returns with-helper-requires check-first-choices-requires returns-2)

@@ -5,8 +5,8 @@ use native.Mathlib.Omega.{arith}
 use Rattle.lists.proofs.Range.{Filled, fill-none, fill-more, fill-all}
 use Rattle.shapes.specs.Change.{slotForgotten}
 use borrow.Author.Needs.{needs}
-use Rattle.shapes.proofs.forget_dangling.Statement.{statement}
-use Rattle.shapes.proofs.forget_dangling.Tie as tie
+use Rattle.shapes.proofs.restore.forget_links.Statement.{statement}
+use Rattle.shapes.proofs.restore.forget_links.Tie as tie
 
 abbrev Inv-loop : tie.InvT-loop
 Inv-loop s t₀ i₀ t i = Filled (slotForgotten s) 0 28 t i
@@ -38,8 +38,8 @@ same-length c = c .before .loop .inv .size ∙ sym (c .before .before .before .p
 returns : tie.Need-returns Inv-loop μ-loop
 returns c = fill-all _ 0 28 _ _ (c .before .loop .inv) (omega arith)
 
-pub forget-dangling-spec : {M : Type 1} → statement M
-forget-dangling-spec =
+pub forget-links-spec : {M : Type 1} → statement M
+forget-links-spec =
     tie.close
     (tie.spec
     Inv-loop
