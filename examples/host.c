@@ -117,23 +117,42 @@ static const uint8_t job[] = {1, 1, 2, 0, 1, 0, VORRUDA_NEW, 1, 0, 1, 1, 1, 0, V
 static void certificate_that_holds(void)
 {
     const uint8_t cert[] = {1, 1, 1, 0, VORRUDA_NULL, 0};
-    uint64_t out[3] = {0, 0, 0};
+    uint64_t out[4] = {0, 0, 0, 0};
 
     expect("check: accepted", vorruda_check(job, sizeof job, cert, sizeof cert), 0);
-    expect("verdict: accepted", vorruda_verdict(job, sizeof job, cert, sizeof cert, out, 3), 0);
+    expect("verdict: accepted", vorruda_verdict(job, sizeof job, cert, sizeof cert, out, 4), 0);
     expect("forbidden shapes", out[0], 1);
     expect("members", out[1], 1);
     expect("covers", out[2], 1);
+    expect("links followed", out[3], 0);
+}
+
+/* Forbidden: head at a cell that links to another, which links to null. The member skips the other
+ * cell: its link is covered by a path of two links. */
+static void links_followed(void)
+{
+    const uint8_t chain[] = {1, 1, 1, 0, 0, 1, 0, 2, VORRUDA_CELL(0), VORRUDA_CELL(1), VORRUDA_NULL};
+    const uint8_t cert[] = {1, 1, 0, 1, VORRUDA_CELL(0), VORRUDA_NULL, 0, 0};
+    uint64_t out[4] = {0, 0, 0, 0};
+    uint32_t answer;
+
+    answer = vorruda_verdict(chain, sizeof chain, cert, sizeof cert, out, 4);
+    expect("a path of two links: accepted", answer, 0);
+    expect("links followed", out[3], 2);
+    out[0] = 7;
+    answer = vorruda_verdict(chain, sizeof chain, cert, sizeof cert, out, 3);
+    expect("room for three values: accepted", answer, 0);
+    expect("and nothing is written", out[0], 7);
 }
 
 /* Here it is the shape with head at *, which doesn't cover head at null. */
 static void cover_that_does_not_hold(void)
 {
     const uint8_t cert[] = {1, 1, 1, 0, VORRUDA_DANGLING, 0};
-    uint64_t out[3] = {0, 0, 0};
+    uint64_t out[4] = {0, 0, 0, 0};
     uint32_t answer;
 
-    answer = vorruda_verdict(job, sizeof job, cert, sizeof cert, out, 3);
+    answer = vorruda_verdict(job, sizeof job, cert, sizeof cert, out, 4);
     expect("head at *, which covers nothing: refused", answer, VORRUDA_COVER);
     expect("at place", out[0], 5);
     expect("a variable stands elsewhere: rule", out[1], VORRUDA_RULE_VARIABLE);
@@ -143,9 +162,9 @@ static void cover_that_does_not_hold(void)
 static void refused(const char *what, const uint8_t *job_bytes, const uint8_t *cert,
                     size_t cert_len, uint32_t wanted, uint64_t place)
 {
-    uint64_t out[3] = {0, 0, 0};
+    uint64_t out[4] = {0, 0, 0, 0};
 
-    expect(what, vorruda_verdict(job_bytes, sizeof job, cert, cert_len, out, 3), wanted);
+    expect(what, vorruda_verdict(job_bytes, sizeof job, cert, cert_len, out, 4), wanted);
     expect("at place", out[0], place);
 }
 
@@ -214,6 +233,7 @@ int main(void)
     refused_steps();
     puts("Certificates");
     certificate_that_holds();
+    links_followed();
     cover_that_does_not_hold();
     other_refusals();
     puts("Forbidden shapes, ready cut");

@@ -136,11 +136,14 @@ uint32_t vorruda_check(const uint8_t *job, size_t job_len, const uint8_t *cert, 
 #define VORRUDA_RULE_PATH     5 /* the path of a cell shares a cell with that of a lower one */
 
 /* The same as vorruda_check, with what belongs to the number.
- *   0: out[0], out[1] and out[2] are how many forbidden shapes, members and covers there are.
- *   VORRUDA_COVER: out[0] is the place, out[1] the rule that the cover breaks, out[2] the name.
- *   Other refusals: out[0] is the place, out[1] and out[2] are 0.
+ *   0: out[0], out[1] and out[2] are how many forbidden shapes, members and covers there are;
+ *      out[3] is how many links are followed for all covers together: for a cover the lengths of
+ *      its member's paths, at most 14.
+ *   VORRUDA_COVER: out[0] is the place, out[1] the rule that the cover breaks, out[2] the name,
+ *      out[3] is 0.
+ *   Other refusals: out[0] is the place, out[1], out[2] and out[3] are 0.
  * The place is the first byte of the number, the member (8) or the cover (9); the first byte left (5,
- * 10); 0 for a length. out has three entries. */
+ * 10); 0 for a length. out has four entries. */
 uint32_t vorruda_verdict(const uint8_t *job, size_t job_len, const uint8_t *cert, size_t cert_len,
                          uint64_t *out, size_t out_len);
 

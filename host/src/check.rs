@@ -5,12 +5,13 @@ use crate::verdict::{Broken, Counts, Refusal, Verdict};
 
 /// The verdict on two buffers.
 pub fn check(job: &[u8], certificate: &[u8]) -> Verdict {
-    let mut out = [0; 3];
+    let mut out = [0; 4];
     match library::verdict(job, certificate, &mut out) {
         0 => Verdict::Accepted(Counts {
             bads: out[0],
             members: out[1],
             covers: out[2],
+            links: out[3],
         }),
         number => Verdict::Refused(Refusal {
             number,
@@ -30,7 +31,10 @@ mod tests {
     #[test]
     fn verdicts_of_the_library() {
         let accepted = check(&JOB, &[1, 1, 1, 0, 1, 0]);
-        assert_eq!(accepted.to_string(), "accepted bads 1 members 1 covers 1");
+        assert_eq!(
+            accepted.to_string(),
+            "accepted bads 1 members 1 covers 1 links 0"
+        );
         let refused = check(&JOB, &[1, 1, 1, 0, 2, 0]);
         assert_eq!(refused.to_string(), "refused 9 at 5 rule 3 of 1");
         assert_eq!(check(&[], &[]).to_string(), "refused 1 at 0");

@@ -169,25 +169,26 @@ mod tests {
     #[test]
     fn all_are_accepted_and_large() {
         let expected = [
-            (512, 1),
-            (117, 1 + (3 + 116 * 2) * 256),
-            (81, 1 + 3 + 80 * 675),
-            (253, 1 + 253 * 256),
-            (121, 1 + 121 * 256),
-            (19, 1 + 19 * 256),
-            (123, 1 + 4 + 122 * 512),
-            (123, 1 + 4 + 122 * 512),
-            (123, 1 + 4 + 122 * 512),
-            (61, 1 + 60 * 512),
-            (129, 1 + 240 * 128),
+            (512, 1, 12),
+            (117, 1 + (3 + 116 * 2) * 256, 0),
+            (81, 1 + 3 + 80 * 675, 0),
+            (253, 1 + 253 * 256, 0),
+            (121, 1 + 121 * 256, 1 + 256 + 120 * 256 * 12),
+            (19, 1 + 19 * 256, 12 * (1 + 19 * 256)),
+            (123, 1 + 4 + 122 * 512, 0),
+            (123, 1 + 4 + 122 * 512, 0),
+            (123, 1 + 4 + 122 * 512, 0),
+            (61, 1 + 60 * 512, 0),
+            (129, 1 + 240 * 128, 0),
         ];
-        for ((name, pair), (members, covers)) in extremes().into_iter().zip(expected) {
+        for ((name, pair), (members, covers, links)) in extremes().into_iter().zip(expected) {
             assert!(pair.certificate.len() <= MOST_BYTES, "{name}");
             let verdict = check(&pair.job, &pair.certificate);
             let counts = Counts {
                 bads: 1,
                 members,
                 covers,
+                links,
             };
             assert_eq!(verdict, Verdict::Accepted(counts), "{name}");
         }

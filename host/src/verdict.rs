@@ -78,12 +78,14 @@ impl Refusal {
     }
 }
 
-/// How many forbidden shapes, members and covers an accepted pair has.
+/// How many forbidden shapes, members and covers an accepted pair has, and how many links are followed
+/// for all covers.
 #[derive(Clone, Copy, Debug, PartialEq, Eq)]
 pub struct Counts {
     pub bads: u64,
     pub members: u64,
     pub covers: u64,
+    pub links: u64,
 }
 
 #[derive(Clone, Copy, Debug, PartialEq, Eq)]
@@ -121,7 +123,11 @@ impl fmt::Display for Verdict {
                 bads,
                 members,
                 covers,
-            }) => write!(f, "accepted bads {bads} members {members} covers {covers}"),
+                links,
+            }) => write!(
+                f,
+                "accepted bads {bads} members {members} covers {covers} links {links}"
+            ),
             Verdict::Refused(refusal) => refusal.fmt(f),
         }
     }
@@ -147,9 +153,13 @@ mod tests {
             bads: 1,
             members: 1,
             covers: 1,
+            links: 0,
         };
         let accepted = Verdict::Accepted(counts);
-        assert_eq!(accepted.to_string(), "accepted bads 1 members 1 covers 1");
+        assert_eq!(
+            accepted.to_string(),
+            "accepted bads 1 members 1 covers 1 links 0"
+        );
         let refused = Verdict::Refused(Refusal::at(8, 5));
         assert_eq!(refused.to_string(), "refused 8 at 5");
         let elsewhere = Broken {

@@ -31,7 +31,7 @@ fn a_certified_routine() {
     let (status, text) = tried(&["reverse"]);
     assert_eq!(status, 0, "{text}");
     assert!(
-        text.contains("\naccepted bads 17 members 116 covers 380\n"),
+        text.contains("\naccepted bads 17 members 116 covers 380 links 412\n"),
         "{text}"
     );
 }
@@ -102,7 +102,8 @@ fn a_plain_listing() {
     let example = concat!(env!("CARGO_MANIFEST_DIR"), "/../examples/reverse.listing");
     let (status, text) = tried(&[example]);
     assert_eq!(status, 0, "{text}");
-    let verdict = ": Reverses the list x into y.\naccepted bads 16 members 115 covers 379\n";
+    let verdict =
+        ": Reverses the list x into y.\naccepted bads 16 members 115 covers 379 links 412\n";
     assert!(text.ends_with(verdict), "{text}");
 
     let path = file(
@@ -148,7 +149,7 @@ fn a_dead_end_is_a_warning() {
                    forbidden there\n";
     assert!(text.contains(warning), "{text}");
     assert!(
-        text.contains("\naccepted bads 1 members 1 covers 1\n"),
+        text.contains("\naccepted bads 1 members 1 covers 1 links 0\n"),
         "{text}"
     );
 }
@@ -177,7 +178,7 @@ fn tried_pair(name: &str, job: &[u8], certificate: &[u8]) -> (i32, String) {
 
 #[test]
 fn a_pair_of_ones_own() {
-    let accepted = "accepted bads 1 members 1 covers 1\n".to_string();
+    let accepted = "accepted bads 1 members 1 covers 1 links 0\n".to_string();
     assert_eq!(tried_pair("holds", &JOB, &HOLDS), (0, accepted));
     let elsewhere = "\
 refused 9 at 5 rule 3 of 1

@@ -30,7 +30,7 @@ module _
 
     pub told-accepted : (c : CountsAnswer) → r ≡ Accepted c → Told 0
     told-accepted c r-is =
-        let counts : Counts = record { bads = c .bads; members = c .members; covers = c .covers } in
+        let counts : Counts = record { bads = c .bads; members = c .members; covers = c .covers; links = c .links } in
         ((λ z. (counts, exact counts .0 (ap verdictOf r-is)), λ d. refl), λ z. safe c r-is)
 
     pub told-refused : (why : Refusal) (place code : ℕ) → r ≡ Refused why place → code ≡ reasonNumber (reasonOf why) → Told code

@@ -24,7 +24,7 @@ pub extern "C" fn vorruda_check(job: &[u8], cert: &[u8]) -> u32
     }
 }
 
-// The same, with the three counts, or the place, the broken rule and its name (0 and 0 but for refusal 9), in an array that the host lends.
+// The same, with the four counts, or the place, the broken rule, its name (0 and 0 but for refusal 9) and 0, in an array that the host lends.
 #[no_mangle]
 pub extern "C" fn vorruda_verdict(job: &[u8], cert: &[u8], out: &mut [u64]) -> u32
     ensures number { λ r. ⌜ r ≡ verdictResult (verdict (now (job .entry)) (now (cert .entry))) .code ⌝ }
@@ -39,6 +39,7 @@ pub extern "C" fn vorruda_verdict(job: &[u8], cert: &[u8], out: &mut [u64]) -> u
                 counts.bads as u64,
                 counts.members as u64,
                 counts.covers as u64,
+                counts.links as u64,
             ];
             lend(&values, out);
             0
@@ -46,7 +47,7 @@ pub extern "C" fn vorruda_verdict(job: &[u8], cert: &[u8], out: &mut [u64]) -> u
         Verdict::Refused(refusal, place) => {
             let rule = verdict::rule_number(refusal) as u64;
             let name = verdict::rule_name(refusal) as u64;
-            let values = [place as u64, rule, name];
+            let values = [place as u64, rule, name, 0];
             lend(&values, out);
             verdict::refusal_number(refusal)
         }

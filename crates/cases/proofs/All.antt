@@ -19,7 +19,7 @@ use Rattle.format.specs.Parser.{many, each, readAs, end}
 use Rattle.format.specs.Job.{readShape, readLocated, readTransition, readJob, readWholeJob}
 use Rattle.format.specs.Certificate.{readMember, readMembers, readCover}
 use Rattle.format.specs.Verdict.{readCertificate, readBoth, verdict}
-use Rattle.cases.specs.Rows.{P10, P11, shape, twoLinks, oneLink, fourCells, rows, Conjunction}
+use Rattle.cases.specs.Rows.{P10, P11, shape, twoLinks, oneLink, fourCells, twoLinksFollowed, rows, Conjunction}
 
 below : (k : ℕ) (l : List ℕ) → AtMost k l → AllBelow (suc k) l
 below k [] t = λ x i. absurd (List·Memᴰ·not-nil i)
@@ -62,3 +62,8 @@ P11-holds =
 pub all-rows : Conjunction rows
 unfolding allFrom lowest numberIn many each readAs end readShape readLocated readTransition readJob readWholeJob readMember readMembers readCover readCertificate readBoth verdict
 all-rows = (refl, (refl, (refl, (refl, (refl, (refl, (refl, (refl, (refl, (P10-holds, (P11-holds, (refl, (refl, (refl, tt))))))))))))))
+
+-- links followed, by the same computation
+pub links-followed : twoLinksFollowed
+unfolding allFrom lowest numberIn many each readAs end readShape readLocated readTransition readJob readWholeJob readMember readMembers readCover readCertificate readBoth verdict
+links-followed = refl

@@ -41,9 +41,9 @@ oneLink = shape (0 ∷ []) (4 ∷ 0 ∷ [])
 abbrev pub fourCells : Shape
 fourCells = shape (0 ∷ []) (5 ∷ 5 ∷ 6 ∷ 0 ∷ [])
 
--- "P1 J with `1 1 1 0 1 0`: accepted, counts 1, 1, 1."
+-- "P1 J with `1 1 1 0 1 0`: accepted, counts 1, 1, 1." Document 02: "P1 prints `accepted bads 1 members 1 covers 1 links 0`".
 abbrev pub P1 : Type 0
-P1 = verdict (J 6) (1 ∷ 1 ∷ 1 ∷ 0 ∷ 1 ∷ 0 ∷ []) ≡ accepted (record { bads = 1; members = 1; covers = 1 })
+P1 = verdict (J 6) (1 ∷ 1 ∷ 1 ∷ 0 ∷ 1 ∷ 0 ∷ []) ≡ accepted (record { bads = 1; members = 1; covers = 1; links = 0 })
 
 -- "P2 J with `1 1 1 0 2 0`: 9 at 5." Document 02: "`refused 9 at 5 rule 3 of 1` for P2".
 abbrev pub P2 : Type 0
@@ -105,6 +105,13 @@ ThreeDangling =
     ∷ shape (4 ∷ 4 ∷ 2 ∷ []) (0 ∷ 0 ∷ [])
     ∷ shape (4 ∷ 4 ∷ 4 ∷ []) (0 ∷ 0 ∷ [])
     ∷ []
+
+-- P11 as a certificate, for a job that forbids the four cells: the path from cell 0 by way of cell 2 to cell 3 has two links. (No row of the
+-- document.)
+abbrev pub twoLinksFollowed : Type 0
+twoLinksFollowed =
+    verdict (1 ∷ 1 ∷ 1 ∷ 0 ∷ 0 ∷ 1 ∷ 0 ∷ 4 ∷ 0 ∷ 5 ∷ 5 ∷ 6 ∷ 0 ∷ []) (1 ∷ 1 ∷ 0 ∷ 2 ∷ 0 ∷ 4 ∷ 0 ∷ 0 ∷ 0 ∷ 3 ∷ [])
+    ≡ accepted (record { bads = 1; members = 1; covers = 1; links = 2 })
 
 abbrev pub rows : List (Type 0)
 rows = P1 ∷ P2 ∷ P3 ∷ P4 ∷ P5 ∷ P6 ∷ P7 ∷ P8 ∷ P9 ∷ P10 ∷ P11 ∷ P12 ∷ TwoDangling ∷ ThreeDangling ∷ []

@@ -12,12 +12,12 @@ use Rattle.run.specs.Run.{Located}
 use Rattle.verdict.specs.declared.Refusal.{Refusal}
 use Rattle.placing.specs.declared.Choices.{Choices}
 use Rattle.placing.proofs.Ranges.{stretch, Covers}
-use Rattle.checker.specs.Checking.{checkAll, checkedOf, Within, located, ChecksAll, Checks}
+use Rattle.checker.specs.Checking.{Within, located, Checks}
 use Rattle.checker.specs.declared.checked.Checked.{Checked}
 use Rattle.checker.specs.declared.checked.Checked.the-variants.{Upto, Refused}
 use Rattle.checker.specs.declared.checked.Position.{Position}
 use Rattle.checker.proofs.Lists.{range-next, range-end}
-use Rattle.checker.proofs.Checking.{stays, Progress, begin, advance, halt, finish}
+use Rattle.checker.proofs.Checking.{Progress, begin, advance, halt, finish}
 
 -- what the choices from k to before `past` give
 abbrev rest : ℕ → (ℕ → List Shape) → ℕ → ℕ → List Located
@@ -88,9 +88,6 @@ module _ {cert : List ℕ} {ms : List Located} {state : ℕ} {f : ℕ → List S
     next inside =
         rw (range-next past k (omega (arith, h .most)), map-append (located state) (f k) (concatMap f (range (k + 1) (past - (k + 1))))) at (now .progress)
 
-    checks : (g : Checked) → checkedOf g ≡ checkAll cert ms here (t .covers) (t .at) → ChecksAll cert ms here t g
-    checks g taken = (taken, stays cert ms here t (now .progress .within) g taken)
-
     -- a choice that gives nothing is passed
     pub loop-past : k < c .to → f k ≡ [] → ChoiceLoop cert ms state f c start past t₀ (k + c .step) t
     loop-past inside none =
@@ -99,16 +96,16 @@ module _ {cert : List ℕ} {ms : List Located} {state : ℕ} {f : ℕ → List S
           among = still h k inside (now .among) (ℕ-discrete (c .step) 1);
         }
 
-    module _ (inside : k < c .to) {g : Checked} (taken : checkedOf g ≡ checkAll cert ms here (t .covers) (t .at)) where
+    module _ (inside : k < c .to) {g : Checked} (taken : Checks cert ms state (f k) t g) where
       pub loop-more : {u : Position} → g ≡ Upto u → ChoiceLoop cert ms state f c start past t₀ (k + c .step) u
       loop-more e =
           record {
-            progress = rw (skipped h k inside state (now .among)) at (advance here (rest state f past (k + 1)) (next inside) (checks g taken) e);
+            progress = rw (skipped h k inside state (now .among)) at (advance here (rest state f past (k + 1)) (next inside) taken e);
             among = still h k inside (now .among) (ℕ-discrete (c .step) 1);
           }
 
       pub loop-stop : {r : Refusal} {place : ℕ} → g ≡ Refused r place → {all : List Shape} → stretch f start past ≡ all → Checks cert ms state all t₀ g
-      loop-stop e all-is = rw (← all-is) (halt here (rest state f past (k + 1)) (next inside) (checks g taken) e)
+      loop-stop e all-is = rw (← all-is) (halt here (rest state f past (k + 1)) (next inside) taken e)
 
     pub loop-all : c .to ≤ k → {all : List Shape} → stretch f start past ≡ all → Checks cert ms state all t₀ (Upto t)
     loop-all b all-is = rw (← all-is) (finish (rw (over ∙ end) at (now .progress)))

@@ -13,7 +13,7 @@ use Rattle.format.proofs.Parsing.{then, read-sound, codes-exact}
 use Rattle.format.proofs.Covers.{judge-sound}
 use Rattle.format.proofs.Sequence.{number-in, reads-on, reads-inside}
 
-pub cover-place : (s : Buffer) (ms : List Located) (o : Located) (at : ℕ) {u : Unit {0}} {next : ℕ} → readCover s ms o at ≡ parsed u next
+pub cover-place : (s : Buffer) (ms : List Located) (o : Located) (at : ℕ) {links next : ℕ} → readCover s ms o at ≡ parsed links next
     → (at < next) × (next ≤ length (s .bytes))
 unfolding readCover
 cover-place s ms o at =
@@ -23,5 +23,5 @@ cover-place s ms o at =
     let (n, g, numbered) = read-sound s (getElem? ms) at m a h₁ in
     let (some-left, on, inside) = number-in at (length (s .bytes) - at) _ _ _ n a g in
     let (r, ok) = codes-exact s (size (m .shape)) (size (o .shape)) .sound a images b h₂ in
-    let (t, next-is) = judge-sound (coverAnswer m images o) at b h₃ in
+    let (t, _, next-is) = judge-sound (coverAnswer m images o) _ at b h₃ in
     (omega (arith, reads-on r), omega (arith, reads-inside r (omega arith)))))

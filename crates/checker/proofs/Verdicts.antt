@@ -1,14 +1,15 @@
 -- From what the code answers to the verdict.
 use mathlib.Core.Bool.{true, false}
-use mathlib.Core.List.{List, []}
+use mathlib.Core.List.{List}
 use mathlib.Core.Logic.{_↔_}
 use mathlib.Core.Path.{_≡_, refl, sym, ap, ap₂, _∙_}
-use Prim.Native.Nat.{ℕ, _+_, _≤_, _<_}
+use Prim.Native.Nat.{ℕ, _≤_, _<_}
 use native.Mathlib.Omega.{arith}
 use borrow.Author.Tests.{lt-leb, le-leb, ltb-true}
 use lib.Dec.{leb, ltb}
 use lib.ListN.{length}
 use Rattle.lists.proofs.Test.{and-right}
+use Rattle.lists.specs.List.{sum}
 use Rattle.run.specs.Run.{Located, Job}
 use Rattle.cover.specs.Cover.{owed}
 use Rattle.format.specs.Certificate.{Member, withoutPlaces, readMembers, testStart, readCover}
@@ -29,11 +30,11 @@ use Rattle.verdict.specs.declared.Counts.{Counts as CountsAnswer}
 use Rattle.verdict.specs.declared.Verdict.{Verdict as Answer}
 use Rattle.verdict.specs.declared.Verdict.the-variants.{Accepted}
 use Rattle.checker.specs.Jobs.{fileIn, readCovers}
-use Rattle.checker.specs.Checking.{checkAll, checkedOf}
+use Rattle.checker.specs.Checking.{Tally, noCovers, checkAll, tallyOf, checkedOf}
 use Rattle.checker.specs.declared.checked.Checked.{Checked}
 use Rattle.checker.specs.declared.checked.Checked.the-variants.{Upto, Refused}
 use Rattle.checker.specs.declared.checked.Position.{Position}
-use Rattle.checker.proofs.Checking.{checkAll-each}
+use Rattle.checker.proofs.Checking.{more, checkAll-each}
 
 -- ---- lengths
 
@@ -42,25 +43,27 @@ fits-most s e = let h = ltb-true (length s) 65537 (and-right (leb 1 (length s)) 
 
 -- ---- the covers
 
-module _ (cert : List ℕ) (j : Job) (ms : List Located) (at : ℕ) (g : Checked) (taken : checkedOf g ≡ checkAll cert ms (owed j ms) 0 at) where
-  -- what is read after the covers
-  abbrev after : List (Unit {0}) → Parser Counts
-  after us place = onward (end (certificateBuffer cert) place) (λ u next. parsed (countsOf j ms) next)
+module _ (cert : List ℕ) (j : Job) (ms : List Located) (at : ℕ) (g : Checked) (taken : checkedOf g ≡ checkAll cert ms (owed j ms) noCovers at) where
+  -- what is read after the covers, given their links
+  abbrev after : ℕ → Parser Counts
+  after links place = onward (end (certificateBuffer cert) place) (λ u next. parsed (countsOf j ms links) next)
 
-  by-each : (r : Parsed (List (Unit {0}))) → checkedOf g ≡ onward r (λ us next. parsed (0 + length (owed j ms)) next)
-      → ((why : Refusal) (place : ℕ) → g ≡ Refused why place → onward r after ≡ fault (reasonOf why) place)
-      × ((t : Position) → g ≡ Upto t → (t .covers ≡ length (owed j ms)) × (onward r after ≡ after [] (t .at)))
-  by-each (parsed us next) e = (
+  by-each : (r : Parsed (List ℕ)) → checkedOf g ≡ onward r (λ ls next. parsed (more cert ms (owed j ms) noCovers ls) next)
+      → ((why : Refusal) (place : ℕ) → g ≡ Refused why place → onward r (λ ls. after (sum ls)) ≡ fault (reasonOf why) place)
+      × ((t : Position) → g ≡ Upto t → (tallyOf t .covers ≡ length (owed j ms)) × (onward r (λ ls. after (sum ls)) ≡ after (tallyOf t .links) (t .at)))
+  by-each (parsed ls next) e = (
     (λ why place g-is. let z : _≡_ {A = ℕ} 0 1 = cc (ap checkedOf g-is) in absurd (omega arith)),
     (λ t g-is.
-        let f : _≡_ {A = Parsed ℕ} (parsed (t .covers) (t .at)) (parsed (0 + length (owed j ms)) next) = sym (ap checkedOf g-is) ∙ e in
-        let covers-is : t .covers ≡ 0 + length (owed j ms) = cc in
+        let f : _≡_ {A = Parsed Tally} (parsed (tallyOf t) (t .at)) (parsed (more cert ms (owed j ms) noCovers ls) next) = sym (ap checkedOf g-is) ∙ e in
+        let tally-is : tallyOf t ≡ more cert ms (owed j ms) noCovers ls = cc in
         let at-is : t .at ≡ next = cc in
-        (covers-is ∙ omega arith, ap (after []) (sym at-is))),
+        let covers-is = ap (λ (n : Tally). n .covers) tally-is in
+        let links-is : tallyOf t .links ≡ sum ls = ap (λ (n : Tally). n .links) tally-is ∙ omega arith in
+        (covers-is ∙ omega arith, ap₂ after (sym links-is) (sym at-is))),
   )
   by-each (fault reason place) e = (
     (λ why q g-is.
-        let f : _≡_ {A = Parsed ℕ} (fault (reasonOf why) q) (fault reason place) = sym (ap checkedOf g-is) ∙ e in
+        let f : _≡_ {A = Parsed Tally} (fault (reasonOf why) q) (fault reason place) = sym (ap checkedOf g-is) ∙ e in
         let reason-is : reason ≡ reasonOf why = cc in
         let place-is : place ≡ q = cc in
         ap₂ fault reason-is place-is),
@@ -71,20 +74,20 @@ module _ (cert : List ℕ) (j : Job) (ms : List Located) (at : ℕ) (g : Checked
   unfolding readCovers
   covers-refused why place g-is =
       let r = each (readCover (certificateBuffer cert) ms) (owed j ms) at in
-      sym (ap conclude (by-each r (taken ∙ checkAll-each cert ms (owed j ms) 0 at) .0 why place g-is))
+      sym (ap conclude (by-each r (taken ∙ checkAll-each cert ms (owed j ms) noCovers at) .0 why place g-is))
 
   module _ (t : Position) (g-is : g ≡ Upto t) where
     -- all covers were taken
-    reached : (t .covers ≡ length (owed j ms)) × (readCovers cert j ms at ≡ after [] (t .at))
+    reached : (tallyOf t .covers ≡ length (owed j ms)) × (readCovers cert j ms at ≡ after (tallyOf t .links) (t .at))
     unfolding readCovers
-    reached = by-each (each (readCover (certificateBuffer cert) ms) (owed j ms) at) (taken ∙ checkAll-each cert ms (owed j ms) 0 at) .1 t g-is
+    reached = by-each (each (readCover (certificateBuffer cert) ms) (owed j ms) at) (taken ∙ checkAll-each cert ms (owed j ms) noCovers at) .1 t g-is
 
     pub covers-left : t .at < length cert → refused (refusal 10) (t .at) ≡ conclude (readCovers cert j ms at)
     unfolding end
     covers-left h = rw (reached .1, lt-leb (length cert) (t .at) h) refl
 
     pub covers-taken : (bads members : ℕ) → length cert ≤ t .at → bads ≡ length (j .forbidden) → members ≡ length ms
-        → accepted (record { bads = bads; members = members; covers = t .covers }) ≡ conclude (readCovers cert j ms at)
+        → accepted (record { bads = bads; members = members; covers = tallyOf t .covers; links = tallyOf t .links }) ≡ conclude (readCovers cert j ms at)
     unfolding end
     covers-taken bads members h bads-is members-is = rw (reached .1, le-leb (length cert) (t .at) h, bads-is, members-is, reached .0) refl
 
@@ -165,6 +168,6 @@ module _ (job cert : List ℕ) where
     e,
     (
       λ c. (λ is. exact job cert c .0 (sym e ∙ is), λ d. e ∙ exact job cert c .1 d),
-      λ c r-is. safe-bytes job cert (record { bads = c .bads; members = c .members; covers = c .covers }) (sym e ∙ ap verdictOf r-is),
+      λ c r-is. safe-bytes job cert (record { bads = c .bads; members = c .members; covers = c .covers; links = c .links }) (sym e ∙ ap verdictOf r-is),
     ),
   )

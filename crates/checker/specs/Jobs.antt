@@ -1,13 +1,13 @@
 -- A job by its bytes and its header.
 use mathlib.Core.List.{List}
 use Prim.Native.Nat.{ℕ, _+_, _*_}
-use Rattle.lists.specs.List.{concatMap}
+use Rattle.lists.specs.List.{concatMap, sum}
 use Rattle.run.specs.Run.{Transition, Located, Job}
 use Rattle.cover.specs.Cover.{predecessorsBy, owed}
 use Rattle.format.specs.Certificate.{readCover}
 use Rattle.format.specs.Conditions.{countsOf}
 use Rattle.format.specs.JobNumbers.{JobFile}
-use Rattle.format.specs.Parser.{Parser, _>>_, return, each, certificateBuffer, end}
+use Rattle.format.specs.Parser.{Parser, _>>=_, _>>_, return, each, certificateBuffer, end}
 use Rattle.format.specs.Verdict.{Counts}
 use Rattle.layout.specs.Entries.{entriesAt}
 use Rattle.layout.specs.Transitions.{transitionAt}
@@ -42,6 +42,6 @@ module _ (job : List ℕ) (h : Header) where
 -- the covers that a job and members owe, and nothing after them
 unfoldable pub readCovers : List ℕ → Job → List Located → Parser Counts
 readCovers cert j ms = do
-  each (readCover (certificateBuffer cert) ms) (owed j ms)
+  links ← each (readCover (certificateBuffer cert) ms) (owed j ms)
   end (certificateBuffer cert)
-  return (countsOf j ms)
+  return (countsOf j ms (sum links))

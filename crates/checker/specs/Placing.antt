@@ -1,18 +1,8 @@
--- Covers of shapes at one state.
+-- The helper of kind 4.
 use mathlib.Core.Bool.{_&&_, cond}
-use mathlib.Core.List.{List, map}
 use Prim.Native.Nat.{ℕ, suc}
 use lib.Dec.{eqb}
-use Rattle.shape.specs.Shape.{Shape}
-use Rattle.format.specs.Parser.{Parsed}
-use Rattle.layout.specs.Members.{membersFrom}
 use Rattle.transitions.specs.declared.Transition.{Transition}
-use Rattle.checker.specs.Checking.{checkAll, located}
-use Rattle.checker.specs.declared.checked.Position.{Position}
-
-abbrev pub checkShapes : List ℕ → ℕ → List ℕ → ℕ → List Shape → Position → Parsed ℕ
-checkShapes cert variables starts state shapes t =
-    checkAll cert (membersFrom cert variables starts) (map (located state) shapes) (t .covers) (t .at)
 
 -- b, or the helper where kind 4 has one variable
 unfoldable pub secondOperand : ℕ → ℕ → ℕ → ℕ → ℕ

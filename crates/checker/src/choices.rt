@@ -16,13 +16,14 @@ use transitions::Transition;
 ghost use mathlib.Core.Bool.{true};
 ghost use mathlib.Core.Path.{_≡_};
 ghost use Prim.Native.Nat.{_+_, _≤_, _<_};
+ghost use Rattle.layout.specs.Members.{membersFrom};
 ghost use Rattle.layout.specs.ShapeArray.{cellCount, linksIn};
 ghost use Rattle.placing.specs.Choice.{put};
 ghost use Rattle.placing.specs.Retained.{changed, firsts};
 ghost use Rattle.placing.specs.Wanted.{fitsIn};
 ghost use Rattle.shapes.specs.Operands.{HoldsShape, shapeUnder, Working, OneToPlace, firstPlacedIn, lastOperandIn, wantedLastIn};
-ghost use Rattle.checker.specs.Checking.{checkedOf, Within};
-ghost use Rattle.checker.specs.Placing.{checkShapes, withHelper};
+ghost use Rattle.checker.specs.Checking.{Within, Checks};
+ghost use Rattle.checker.specs.Placing.{withHelper};
 
 // The predecessor by choice k of the operand that is placed last, which is wanted, in place.
 pub(crate) fn undo_choice(variables: usize, by: Transition, operand: u8, s: &mut [u8; 28], k: u8)
@@ -43,7 +44,7 @@ pub(crate) fn check_last_choices(
     from: Position,
 ) -> Checked
     requires { ⌜ (OneToPlace variables (by .kind) (by .a) (by .b) (now s)) × (Within (now cert) from) ⌝ }
-    ensures { λ r. ⌜ checkedOf r ≡ checkShapes (now (cert .entry)) variables (now (starts .entry)) (by .from) (firsts variables (by .kind) (by .a) (by .b) (shapeUnder variables (by .b) (now (s .entry)))) from ⌝ }
+    ensures { λ r. ⌜ Checks (now (cert .entry)) (membersFrom (now (cert .entry)) variables (now (starts .entry))) (by .from) (firsts variables (by .kind) (by .a) (by .b) (shapeUnder variables (by .b) (now (s .entry)))) from r ⌝ }
 {
     let operand = last_operand(by.a, by.b, s);
     let wanted = wanted_of_last(by.kind, by.a, by.b, s);
@@ -88,7 +89,7 @@ pub(crate) fn check_first_choices(
     from: Position,
 ) -> Checked
     requires { ⌜ (Working 12 variables (by .kind) (by .a) (by .b) (now s)) × (Within (now cert) from) ⌝ }
-    ensures { λ r. ⌜ checkedOf r ≡ checkShapes (now (cert .entry)) variables (now (starts .entry)) (by .from) (firsts variables (by .kind) (by .a) (by .b) (shapeUnder variables (by .b) (now (s .entry)))) from ⌝ }
+    ensures { λ r. ⌜ Checks (now (cert .entry)) (membersFrom (now (cert .entry)) variables (now (starts .entry))) (by .from) (firsts variables (by .kind) (by .a) (by .b) (shapeUnder variables (by .b) (now (s .entry)))) from r ⌝ }
 {
     let wanted = wanted_of_first(by.a, by.b, s);
     let c = choices_of(s[0], wanted);

@@ -1,4 +1,5 @@
 // The checker: one verdict for the bytes of a job and of a certificate.
+use crate::checked::COVER;
 use crate::checked::Checked;
 use crate::owed::check_owed;
 use reader::Header;
@@ -57,7 +58,8 @@ fn check_covers(job: &[u8], h: Header, cert: &[u8], starts: &[u16], at: usize) -
             Verdict::Accepted(Counts {
                 bads: h.bads as u32,
                 members: starts.len() as u32,
-                covers: t.covers,
+                covers: (t.counted / COVER) as u32,
+                links: (t.counted % COVER) as u32,
             })
         }
     }

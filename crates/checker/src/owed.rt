@@ -20,7 +20,7 @@ ghost use Rattle.heap.specs.Operation.{kindOf};
 ghost use Rattle.backward.specs.Predecessors.{predecessors};
 ghost use Rattle.cover.specs.Cover.{owed};
 ghost use Rattle.checker.specs.Jobs.{toState, fileIn, owedBy};
-ghost use Rattle.checker.specs.Checking.{checkAll, checkedOf, Within, ChecksAll, Checks};
+ghost use Rattle.checker.specs.Checking.{noCovers, checkAll, checkedOf, Within, ChecksAll, Checks};
 ghost use Rattle.layout.specs.Members.{membersFrom};
 ghost use Rattle.kinds.specs.Kinds.{allowed};
 ghost use Rattle.layout.specs.ShapeArray.{cellCount, shapeIn, ShapeArray};
@@ -140,11 +140,11 @@ pub(crate) fn check_members(
 // Covers of all that is owed, from a place of the certificate on.
 pub(crate) fn check_owed(job: &[u8], h: Header, cert: &[u8], starts: &[u16], at: usize) -> Checked
     requires { ⌜ (JobRead (now job) h) × (Table (now cert) (h .variables) (now starts)) × (at ≤ length (now cert)) × (length (now cert) ≤ 65536) ⌝ }
-    ensures { λ r. ⌜ checkedOf r ≡ checkAll (now (cert .entry)) (membersAt (now (cert .entry)) (h .variables) (now (starts .entry))) (owed (fileIn (now (job .entry)) h .job) (membersAt (now (cert .entry)) (h .variables) (now (starts .entry)))) 0 at ⌝ }
+    ensures { λ r. ⌜ checkedOf r ≡ checkAll (now (cert .entry)) (membersAt (now (cert .entry)) (h .variables) (now (starts .entry))) (owed (fileIn (now (job .entry)) h .job) (membersAt (now (cert .entry)) (h .variables) (now (starts .entry)))) noCovers at ⌝ }
 {
     let mut index = [0u16; 320];
     index_transitions(job, h.transitions_at, h.transitions, &mut index);
-    let from = Position { at, covers: 0 };
+    let from = Position { at, counted: 0 };
     let g = check_forbidden(job, h.bads_at, h.bads, cert, starts, h.variables, from);
     let Checked::Upto(t) = g else {
         return g;

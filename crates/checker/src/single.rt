@@ -1,15 +1,16 @@
 // Checking one cover.
+use crate::checked::COVER;
 use crate::checked::Checked;
 use crate::checked::Position;
+use covering::CoverAnswer;
 use covering::exact_cover;
 use covering::quick_cover;
-use verdict::Reached;
 ghost use mathlib.Core.List.{[], _∷_};
 ghost use Rattle.checker.specs.Checking.{Within, Checks};
 ghost use Rattle.layout.specs.ShapeArray.{shapeIn};
 ghost use Rattle.layout.specs.Members.{membersFrom};
 
-// Checks the cover of a shape and counts it, by the exact test.
+// Checks the cover of a shape and counts it and its links, by the exact test.
 pub(crate) fn check_cover(
     cert: &[u8],
     starts: &[u16],
@@ -23,11 +24,11 @@ pub(crate) fn check_cover(
 {
     let r = exact_cover(cert, starts, variables, t.at, state, s);
     match r {
-        Reached::At(at) => Checked::Upto(Position {
+        CoverAnswer::Holds(at, links) => Checked::Upto(Position {
             at,
-            covers: t.covers + 1,
+            counted: t.counted + COVER + links as u64,
         }),
-        Reached::Refused(refusal, place) => Checked::Refused(refusal, place),
+        CoverAnswer::Refused(refusal, place) => Checked::Refused(refusal, place),
     }
 }
 
@@ -43,12 +44,12 @@ pub(crate) fn check_quickly(
     requires { ⌜ Within (now cert) t ⌝ }
     ensures { λ r. ⌜ Checks (now (cert .entry)) (membersFrom (now (cert .entry)) variables (now (starts .entry))) state (shapeIn variables (now (s .entry)) ∷ []) t r ⌝ }
 {
-    let next = quick_cover(cert, starts, variables, t.at, state, s);
-    if next == 0 {
+    let quick = quick_cover(cert, starts, variables, t.at, state, s);
+    if quick.next == 0 {
         return check_cover(cert, starts, variables, state, s, t);
     }
     Checked::Upto(Position {
-        at: next,
-        covers: t.covers + 1,
+        at: quick.next,
+        counted: t.counted + COVER + quick.links as u64,
     })
 }

@@ -2,11 +2,11 @@
 use mathlib.Core.List.{List, [], _∷_, _++_, List·Memᴰ·head, List·Memᴰ·tail, Memᴰ·append-left, Memᴰ·append-right, List·Memᴰ·append-cases, List·Memᴰ·eq-of-singleton}
 use mathlib.Core.Bool.{true, false}
 use mathlib.Core.Logic.{_≢_, _⊎_, inl, ⊎-elim}
-use mathlib.Core.Path.{_≡_, refl, sym, _∙_}
+use mathlib.Core.Path.{_≡_, refl, sym, ap, _∙_}
 use Prim.Native.Nat.{ℕ, zero, suc, _≤_, _<_}
 use native.Mathlib.Omega.{arith}
 use native.Mathlib.Decide.{ℕ-discrete, decLt}
-use lib.ListN.{length, getD, set}
+use lib.ListN.{length, getD, set, length-append}
 use Rattle.lists.specs.List.{_∈_, absent, disjoint}
 use Rattle.lists.proofs.List.{mem?}
 use Rattle.lists.proofs.Reflect.{is-true, passes, r-absent, r-disjoint}
@@ -14,7 +14,7 @@ use Rattle.heap.specs.Codes.{linkIn}
 use Rattle.heap.specs.Place.{nowhere, cell}
 use Rattle.shape.proofs.Laws.{CellOf, by-number}
 use Rattle.cover.specs.Test.{stops}
-use Rattle.marks.specs.Marks.{Walk, markIn, cellsIn, walked}
+use Rattle.marks.specs.Marks.{Walk, markIn, cellsIn, walkedFrom, walked}
 use Rattle.marks.proofs.Walks.{frees, frees-most, frees-less, mark-read, mark-past, mark-in, walk-more, walk-met}
 use Rattle.covering.specs.Marks.{mark, Marks, LinksIn, Walking, endFrom, pathFrom, Followed}
 use Rattle.covering.proofs.Marks.{mark-free, mark-stop, marks-like, marks-use}
@@ -28,9 +28,10 @@ module _ (links s : List ℕ) (l : LinksIn links s) where
 
 -- ---- the loop
 
--- the path from a cell has been followed to a place, and what was passed is marked
-pub record Following (links images used : List ℕ) (from : ℕ) (marks : List ℕ) (p : ℕ) : Type 0 where
+-- the path from a cell has been followed to a place by so many links, and what was passed is marked
+pub record Following (links images used : List ℕ) (from : ℕ) (marks : List ℕ) (p steps : ℕ) : Type 0 where
   pub path : List ℕ
+  pub counted : steps ≡ suc (length path)
   pub trail : Trail links images used from path p
   pub marked : Marks images (path ++ used) marks
 
@@ -61,15 +62,16 @@ module _ (links images used s marks₀ : List ℕ) (from : ℕ) (w : Walking lin
   pub end-marked : (p : ℕ) → stops images p ≡ true → markIn n marks₀ p ≡ 1
   end-marked p = met-stop used marks₀ (w .marked) p
 
-  pub follow-none : Following links images used from marks₀ (getD s from 0)
+  pub follow-none : Following links images used from marks₀ (getD s from 0) 1
   follow-none =
       record {
         path = [];
+        counted = refl;
         trail = rw (link-read links s (w .linked) from (w .low, w .high)) (trail-none links images used from);
         marked = w .marked;
       }
 
-  module _ (marks : List ℕ) (p : ℕ) (f : Following links images used from marks p) where
+  module _ (marks : List ℕ) (p steps : ℕ) (f : Following links images used from marks p steps) where
     module _ (here : p < cell n) where
       pub here-in : p < 28
       here-in = omega (arith, here, w .cells, w .linked .fit)
@@ -80,12 +82,13 @@ module _ (links images used s marks₀ : List ℕ) (from : ℕ) (w : Walking lin
       pub here-cell : getD marks p 0 ≡ 0 → CellOf (length links) p
       here-cell e = (free-low images p (mark-free (stops images p) (absent p (f .path ++ used)) (sym here-marked ∙ e) .0), omega (arith, here, w .cells))
 
-      pub follow-more : getD marks p 0 ≡ 0 → Following links images used from (set marks p 2) (getD s p 0)
+      pub follow-more : getD marks p 0 ≡ 0 → Following links images used from (set marks p 2) (getD s p 0) (suc steps)
       follow-more e =
           let (free, new) = mark-free (stops images p) (absent p (f .path ++ used)) (sym here-marked ∙ e) in
           let out : ¬ (p ∈ (f .path ++ used)) = r-absent p (f .path ++ used) .holds (passes (absent p (f .path ++ used)) new) in
           record {
             path = f .path ++ (p ∷ []);
+            counted = omega (arith, f .counted, length-append (f .path) (p ∷ []));
             trail =
                 rw (link-read links s (w .linked) p (here-cell e))
                 (trail-more links images used from (f .path) p (f .trail) (w .low, w .high) (w .image) (omega (arith, here, w .cells)) free
@@ -126,10 +129,11 @@ module _ (links images used s marks₀ : List ℕ) (from : ℕ) (w : Walking lin
             (used-cell (mem? p (f .path ++ used)) (rw free at (here-marked b)) (λ z. o (mark-read n marks p b ∙ z)))
         go (no b) = inl (trail-past links images used from (f .path) p (f .trail) (omega (arith, w .cells)) free)
 
-    pub follow-met : markIn n marks p ≢ 0 → Followed links images used from p marks
+    pub follow-met : markIn n marks p ≢ 0 → Followed links images used from p steps marks
     follow-met o =
         record {
           ends = λ stop. met-end stop .0;
+          counted = λ stop. f .counted ∙ ap (λ (l : List ℕ). suc (length l)) (sym (met-end stop .1));
           unshared = λ stop. rw (met-end stop .1) (is-true (disjoint (f .path) used) (r-disjoint (f .path) used .tests (f .trail .unused)));
           marked = λ stop. rw (met-end stop .1) (f .marked);
           lost = met-none o;
@@ -138,36 +142,38 @@ module _ (links images used s marks₀ : List ℕ) (from : ℕ) (w : Walking lin
         }
 
   -- a path of one step, to an end
-  pub follow-direct : (r : ℕ) → getD s from 0 ≡ r → stops images r ≡ true → Followed links images used from r marks₀
+  pub follow-direct : (r : ℕ) → getD s from 0 ≡ r → stops images r ≡ true → Followed links images used from r 1 marks₀
   follow-direct r e stop =
       let f = rw e at follow-none in
-      follow-met marks₀ r f (λ z. let one : 1 ≡ 0 = sym (end-marked r stop) ∙ z in omega arith)
+      follow-met marks₀ r 1 f (λ z. let one : 1 ≡ 0 = sym (end-marked r stop) ∙ z in omega arith)
 
   -- ---- the walk by marks ends where the path by images ends
 
-  module _ (marks : List ℕ) (p : ℕ) (f : Following links images used from marks p) (e : markIn n marks p ≡ 0) where
+  module _ (marks : List ℕ) (p steps : ℕ) (f : Following links images used from marks p steps) (e : markIn n marks p ≡ 0) where
     less : frees (set marks p 2) < frees marks
     less =
         let (b, z) = mark-in n marks p e in
-        frees-less marks p 2 (omega (arith, here-in marks p f b, f .marked .room)) z (omega arith)
+        frees-less marks p 2 (omega (arith, here-in marks p steps f b, f .marked .room)) z (omega arith)
 
-    more : Following links images used from (set marks p 2) (getD s p 0)
-    more = let (b, z) = mark-in n marks p e in follow-more marks p f b z
+    more : Following links images used from (set marks p 2) (getD s p 0) (suc steps)
+    more = let (b, z) = mark-in n marks p e in follow-more marks p steps f b z
 
-  follows : (k : ℕ) (marks : List ℕ) (p : ℕ) → frees marks ≤ k → Following links images used from marks p
-      → Followed links images used from (walked k s marks p .end) (walked k s marks p .marks)
-  follows zero marks p h f =
-      let o : markIn n marks p ≢ 0 = λ e. omega (arith, less marks p f e) in
-      rw (walk-met s 0 marks p o) (follow-met marks p f o)
-  follows (suc k) marks p h f =
+  -- a walk followed the path from the cell
+  abbrev Follows : Walk → Type 0
+  Follows w = Followed links images used from (w .end) (w .links) (w .marks)
+
+  follows : (k : ℕ) (marks : List ℕ) (p steps : ℕ) → frees marks ≤ k → Following links images used from marks p steps → Follows (walkedFrom k steps s marks p)
+  follows zero marks p steps h f =
+      let o : markIn n marks p ≢ 0 = λ e. omega (arith, less marks p steps f e) in
+      rw (walk-met s 0 steps marks p o) (follow-met marks p steps f o)
+  follows (suc k) marks p steps h f =
       by-mark (ℕ-discrete (markIn n marks p) 0)
-      (λ e. follows k (set marks p 2) (getD s p 0) (omega (arith, less marks p f e)) (more marks p f e))
+      (λ e. follows k (set marks p 2) (getD s p 0) (suc steps) (omega (arith, less marks p steps f e)) (more marks p steps f e))
     where
-      by-mark : Dec (markIn n marks p ≡ 0)
-          → (markIn n marks p ≡ 0 → Followed links images used from (walked k s (set marks p 2) (getD s p 0) .end) (walked k s (set marks p 2) (getD s p 0) .marks))
-          → Followed links images used from (walked (suc k) s marks p .end) (walked (suc k) s marks p .marks)
-      by-mark (yes e) rest = rw (walk-more s k marks p e) (rest e)
-      by-mark (no o) rest = rw (walk-met s (suc k) marks p o) (follow-met marks p f o)
+      by-mark : Dec (markIn n marks p ≡ 0) → (markIn n marks p ≡ 0 → Follows (walkedFrom k (suc steps) s (set marks p 2) (getD s p 0)))
+          → Follows (walkedFrom (suc k) steps s marks p)
+      by-mark (yes e) rest = rw (walk-more s k steps marks p e) (rest e)
+      by-mark (no o) rest = rw (walk-met s (suc k) steps marks p o) (follow-met marks p steps f o)
 
-  pub walk-follows : Followed links images used from (walked (length marks₀) s marks₀ (getD s from 0) .end) (walked (length marks₀) s marks₀ (getD s from 0) .marks)
-  walk-follows = follows (length marks₀) marks₀ (getD s from 0) (frees-most marks₀) follow-none
+  pub walk-follows : Follows (walked s marks₀ (getD s from 0))
+  walk-follows = follows (length marks₀) marks₀ (getD s from 0) 1 (frees-most marks₀) follow-none

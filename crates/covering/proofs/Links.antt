@@ -2,31 +2,33 @@
 use mathlib.Core.Bool.{Bool, true}
 use mathlib.Core.List.{List, []}
 use mathlib.Core.Logic.{_≢_}
-use mathlib.Core.Option.{some, none}
-use mathlib.Core.Path.{_≡_, sym, ap, ap₂, _∙_}
-use Prim.Native.Nat.{ℕ, _+_, _≤_, _<_}
+use mathlib.Core.Option.{some}
+use mathlib.Core.Path.{_≡_, refl, sym, ap, ap₂, _∙_}
+use Prim.Native.Nat.{ℕ, _+_, _*_, _≤_, _<_}
 use native.Mathlib.Decide.{decLt}
 use native.Mathlib.Numerals.{add-one}
 use native.Mathlib.Omega.{arith}
 use borrow.Author.Tests.{eqb-true, eq-eqb, ne-eqb}
 use lib.Dec.{eqb}
 use lib.ListN.{length, getD}
-use Rattle.lists.specs.Test.{lowest}
+use Rattle.lists.specs.Test.{lowest, numberOr}
 use Rattle.lists.proofs.Reflect.{is-true, passes}
 use Rattle.lists.proofs.Lowest.{Passing, pass-none, pass-more, pass-failed, pass-all}
 use Rattle.heap.specs.Place.{nowhere, cell}
 use Rattle.shape.specs.Shape.{Shape, linkAt, size}
-use Rattle.cover.specs.Test.{imageMap, stops, linkMeets, betweenBelow}
+use Rattle.cover.specs.Lengths.{lengthsBelow}
+use Rattle.cover.specs.Test.{imageMap, stops, linkMeets, between, betweenBelow}
 use Rattle.cover.proofs.Paths.{r-stops}
 use Rattle.coverreader.specs.Images.{imagesIn}
-use Rattle.covering.specs.Images.{imageIn, pathFits}
+use Rattle.covering.specs.Images.{imageIn, pathFits, PathsFit}
 use Rattle.covering.specs.Marks.{Marks, Walking, endFrom, Followed, Linking}
 use Rattle.coverreader.proofs.Images.{images-length, image-at}
 use Rattle.marks.specs.Marks.{markIn, cellsIn, isStop, walked, stopFrom}
+use Rattle.marks.proofs.Walks.{walk-few}
 use Rattle.covering.proofs.Images.{image-of}
 use Rattle.covering.proofs.Follow.{walk-follows}
 use Rattle.covering.proofs.Ends.{ends-same}
-use Rattle.covering.proofs.Paths.{path-none, link-none, link-some, below-none, path-good, path-bad}
+use Rattle.covering.proofs.Paths.{path-none, link-none, link-some, below-none, length-none, path-counted, path-good, path-bad}
 
 module _ (member covered : Shape) (cert : List ℕ) (first count : ℕ) (codes marks₀ s : List ℕ)
     (l : Linking member covered cert first count codes marks₀ s) where
@@ -36,14 +38,20 @@ module _ (member covered : Shape) (cert : List ℕ) (first count : ℕ) (codes m
   abbrev test : ℕ → Bool
   test = pathFits member covered images
 
-  -- the links of the first i cells fit, and their paths are marked
-  pub record Fitting (marks : List ℕ) (i : ℕ) : Type 0 where
+  -- the lengths of the paths of the first i cells, added up
+  abbrev lengths : ℕ → ℕ
+  lengths = lengthsBelow member (between member covered images)
+
+  -- the links of the first i cells fit, their paths are marked, and so many links were followed; a walk follows at most 29
+  pub record Fitting (marks : List ℕ) (i steps : ℕ) : Type 0 where
     pub inside : i ≤ count
+    pub counted : steps ≡ lengths i
+    pub few : steps ≤ 29 * i
     pub marked : Marks images (betweenBelow member covered images i) marks
     pub passing : Passing test count i
 
-  pub fit-none : Fitting marks₀ 0
-  fit-none = record { inside = omega arith; marked = l .marked; passing = pass-none test count }
+  pub fit-none : Fitting marks₀ 0 0
+  fit-none = record { inside = omega arith; counted = refl; few = omega arith; marked = l .marked; passing = pass-none test count }
 
   -- the link of cell i
   module _ (i : ℕ) (b : i < count) (p : ℕ) (e : p ≡ getD cert (first + i) 0) where
@@ -86,16 +94,28 @@ module _ (member covered : Shape) (cert : List ℕ) (first count : ℕ) (codes m
   pub told-a-stop : (marks : List ℕ) (r : ℕ) → markIn (size covered) marks r ≡ 1 → isStop s marks r ≡ true
   told-a-stop marks r e = eq-eqb (markIn (cellsIn s) marks r) 1 (rw (l .covered-cells) at e)
 
-  module _ (marks : List ℕ) (i : ℕ) (f : Fitting marks i) where
-    pub fit-all : count ≤ i → lowest count 0 test ≡ none
-    fit-all b = pass-all test count i (f .passing) b
+  -- the path of a cell is the first that fails
+  pub fit-ends : (i steps : ℕ) → i < count → lowest count 0 test ≡ some i
+      → (i ≡ numberOr count (lowest count 0 test)) × (count ≤ i → PathsFit member covered images count steps)
+  fit-ends i steps b e = (sym (ap (numberOr count) e), λ o. absurd (omega arith))
+
+  module _ (marks : List ℕ) (i steps : ℕ) (f : Fitting marks i steps) where
+    pub fit-all : count ≤ i → PathsFit member covered images count steps
+    fit-all b =
+        let all : i ≡ size member = omega (arith, f .inside, l .cells) in
+        record { fit = pass-all test count i (f .passing) b; counted = f .counted ∙ ap lengths all }
+
+    pub walked-few : (q n : ℕ) → n ≡ walked s marks q .links → n ≤ 29
+    walked-few q n d = omega (arith, d, walk-few s (length marks) 1 marks q, f .marked .room)
 
     module _ (b : i < count) (p : ℕ) (e : p ≡ getD cert (first + i) 0) where
-      pub fit-skip : (marks′ : List ℕ) → marks′ ≡ marks → p ≡ nowhere → Fitting marks′ (i + 1)
+      pub fit-skip : (marks′ : List ℕ) → marks′ ≡ marks → p ≡ nowhere → Fitting marks′ (i + 1) steps
       fit-skip marks′ y z =
           let none : linkAt member (cell i) ≡ nowhere = sym (link-of i b p e) ∙ z in
           record {
             inside = omega arith;
+            counted = rw (add-one i) (f .counted ∙ sym (length-none member covered images i none));
+            few = omega (arith, f .few);
             marked = rw (y, add-one i, below-none member covered images i none) (f .marked);
             passing = pass-more test count i (f .passing) b (path-none member covered images i none);
           }
@@ -105,13 +125,13 @@ module _ (member covered : Shape) (cert : List ℕ) (first count : ℕ) (codes m
         fit-walk = walk-from i b p e from g (betweenBelow member covered images i) marks (f .marked)
 
         -- what the walk by marks gives
-        pub fit-walked : (q r : ℕ) (marks′ : List ℕ) → q ≡ getD s from 0 → r ≡ walked (length marks) s marks q .end
-            → marks′ ≡ walked (length marks) s marks q .marks → Followed (covered .links) images (betweenBelow member covered images i) from r marks′
-        fit-walked q r marks′ z a c =
-            rw (a, c, z) (walk-follows (covered .links) images (betweenBelow member covered images i) s marks from fit-walk)
+        pub fit-walked : (q r n : ℕ) (marks′ : List ℕ) → q ≡ getD s from 0 → r ≡ walked s marks q .end → n ≡ walked s marks q .links
+            → marks′ ≡ walked s marks q .marks → Followed (covered .links) images (betweenBelow member covered images i) from r n marks′
+        fit-walked q r n marks′ z a d c =
+            rw (a, d, c, z) (walk-follows (covered .links) images (betweenBelow member covered images i) s marks from fit-walk)
 
-        module _ (o : p ≢ nowhere) (end : ℕ) (t : end ≡ imageIn codes p) (r : ℕ) (marks′ : List ℕ)
-            (w : Followed (covered .links) images (betweenBelow member covered images i) from r marks′) where
+        module _ (o : p ≢ nowhere) (end : ℕ) (t : end ≡ imageIn codes p) (r n : ℕ) (marks′ : List ℕ)
+            (w : Followed (covered .links) images (betweenBelow member covered images i) from r n marks′) where
           stop : end ≡ imageMap images (linkAt member (cell i))
           stop = image-of-link i b p e end t
 
@@ -121,15 +141,22 @@ module _ (member covered : Shape) (cert : List ℕ) (first count : ℕ) (codes m
           start : from ≡ imageMap images (cell i)
           start = image-of-cell i b p e from g
 
-          pub fit-good : r ≡ end → stops images r ≡ true → Fitting marks′ (i + 1)
-          fit-good z e =
-              let (good, marked) = path-good member covered images i some-link r marks′ (rw (← start) w) (z ∙ stop) e in
-              record { inside = omega arith; marked = rw (add-one i) marked; passing = pass-more test count i (f .passing) b good }
+          pub fit-good : r ≡ end → stops images r ≡ true → n ≤ 29 → Fitting marks′ (i + 1) (steps + n)
+          fit-good z e most =
+              let w′ : Followed (covered .links) images (betweenBelow member covered images i) (imageMap images (cell i)) r n marks′ = rw (← start) w in
+              let (good, marked) = path-good member covered images i some-link r n marks′ w′ (z ∙ stop) e in
+              record {
+                inside = omega arith;
+                counted = rw (add-one i) (omega (arith, f .counted, path-counted member covered images i some-link r n marks′ w′ e));
+                few = omega (arith, f .few);
+                marked = rw (add-one i) marked;
+                passing = pass-more test count i (f .passing) b good;
+              }
 
           pub fit-bad : (stops images r ≡ true → r ≢ end) → lowest count 0 test ≡ some i
           fit-bad m =
               pass-failed test count i (f .passing) b
-              (path-bad member covered images i some-link r marks′ (rw (← start) w) (λ e z. m e (z ∙ sym stop)))
+              (path-bad member covered images i some-link r n marks′ (rw (← start) w) (λ e z. m e (z ∙ sym stop)))
 
   -- ---- links alone: where their paths end
 

@@ -17,7 +17,7 @@ use Rattle.layout.specs.Entries.{locatedAt, Whole}
 use Rattle.layout.specs.ShapeArray.{shapeIn}
 use Rattle.covering.specs.Answer.{Tested}
 use Rattle.coverreader.specs.Images.{imagesIn, ImageCodes}
-use Rattle.covering.specs.Images.{varFitsIn, pathFits}
+use Rattle.covering.specs.Images.{varFitsIn, PathsFit}
 use Rattle.covering.specs.Marks.{Marks, Linking}
 use Rattle.marks.specs.Marks.{isFree, marking}
 use Rattle.marks.proofs.Images.{marking-read, was-free, was-marked}
@@ -93,13 +93,14 @@ module _ (cert : List ℕ) (variables start n : ℕ) (s : List ℕ) (whole : Who
   taken-linking = linking-read cert variables start codes s tested count read marks (t .marked)
 
   pub taken-embed : lowest variables 0 (varFitsIn cert (start + 2) codes s) ≡ none
-      → lowest count 0 (pathFits member (shapeIn variables s) (imagesIn count codes)) ≡ none → ImagesEmbed cert start variables first count s
-  taken-embed vars links =
+      → (links : ℕ) → PathsFit member (shapeIn variables s) (imagesIn count codes) count links → ImagesEmbed cert start variables first count s links
+  taken-embed vars links paths =
       record {
         codes = codes;
         read = rw held (t .read);
+        counted = paths .counted;
         holds = λ covered shape-is state-is.
             rw read
             (ap (coverAnswer (locatedAt cert variables start) (imagesIn (getD cert (start + 1) 0) codes)) (λ i. record { state = state-is i; shape = shape-is i })
-            ∙ sym (answer-whole cert variables start codes s tested (getD cert start 0) refl (rw read at (t .apart)) vars (rw read at links)));
+            ∙ sym (answer-whole cert variables start codes s tested (getD cert start 0) refl (rw read at (t .apart)) vars (rw read at (paths .fit))));
       }

@@ -18,12 +18,12 @@ use Rattle.lists.proofs.Test.{all-at, all-made}
 use Rattle.heap.specs.Place.{cell}
 use Rattle.shape.specs.Shape.{Shape, varAt, size}
 use Rattle.run.specs.Run.{Located}
-use Rattle.cover.specs.Test.{imageMap, imageOnce, varFits, linkMeets, pathUnshared, Answer, holds, broken, orElse, coverAnswer}
+use Rattle.cover.specs.Test.{imageMap, imageOnce, varFits, linkMeets, pathUnshared, Answer, holds, broken, orElse, coverAnswer, linksFollowed}
 use Rattle.layout.specs.ShapeArray.{cellCount, linksIn, shapeIn}
 use Rattle.layout.specs.Entries.{locatedAt}
 use Rattle.covering.specs.Answer.{Tested, pathsAnswer}
 use Rattle.coverreader.specs.Images.{imagesIn, ImageCodes}
-use Rattle.covering.specs.Images.{imageIn, onceAt, once, varFitsIn, pathFits}
+use Rattle.covering.specs.Images.{imageIn, onceAt, once, varFitsIn, pathFits, PathsFit}
 use Rattle.covering.specs.Marks.{Marks, LinksIn, Linking}
 use Rattle.coverreader.proofs.Images.{images-length}
 use Rattle.covering.proofs.Images.{image-of}
@@ -221,11 +221,13 @@ module _ (cert : List ℕ) (variables start : ℕ) (codes s : List ℕ) (t : Tes
               → r ≡ coverAnswer (locatedAt cert variables start) images (of-shape state)
           path-found r h = h ∙ answer-paths state same (rw read at a) no-variable
 
-          pub nothing-found : (i : ℕ) → i ≡ numberOr count (lowest count 0 (pathFits member covered (imagesIn count codes))) → count ≤ i
+          pub nothing-found : (links : ℕ) → PathsFit member covered (imagesIn count codes) count links
               → holds ≡ coverAnswer (locatedAt cert variables start) images (of-shape state)
-          nothing-found i h c =
-              answer-whole state same (rw read at a) no-variable
-              (found-none (pathFits member covered images) cells i (rw read at h) (omega arith))
+          nothing-found links paths = answer-whole state same (rw read at a) no-variable (rw read at (paths .fit))
+
+    -- the links followed where every path fits
+    pub links-told : (links : ℕ) → PathsFit member covered (imagesIn count codes) count links → links ≡ linksFollowed member covered images
+    links-told links paths = rw read at (paths .counted)
 
     -- the path of a cell fails
     pub first-failing : (i : ℕ) → i ≡ numberOr count (lowest count 0 (pathFits member covered (imagesIn count codes))) → i < count

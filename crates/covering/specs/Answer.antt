@@ -11,9 +11,11 @@ use Rattle.layout.specs.ShapeArray.{shapeIn}
 use Rattle.coverreader.specs.declared.CoverRead.{CoverRead}
 use Rattle.coverreader.specs.declared.CoverRead.the-variants.{Taken, Refused as NotRead}
 use Rattle.verdict.specs.declared.Broken.{Broken}
-use Rattle.verdict.specs.declared.Reached.{Reached}
-use Rattle.verdict.specs.declared.Reached.the-variants.{At, Refused}
+use Rattle.format.specs.Parser.{Parsed, parsed, fault}
+use Rattle.verdict.specs.Verdict.{reasonOf}
 use Rattle.coverreader.specs.Images.{ImageCodes}
+use Rattle.covering.specs.declared.CoverAnswer.{CoverAnswer}
+use Rattle.covering.specs.declared.CoverAnswer.the-variants.{Holds as CoverHolds, Refused}
 use Rattle.covering.specs.declared.rules.Answer.{Answer as Told}
 use Rattle.covering.specs.declared.rules.Answer.the-variants.{Holds, Breaks}
 
@@ -21,12 +23,22 @@ abbrev pub brokenOf : Broken → Answer
 brokenOf b = broken (b .rule) (b .name)
 
 abbrev pub answerOf : Told → Answer
-answerOf Holds = holds
+answerOf (Holds links) = holds
 answerOf (Breaks b) = brokenOf b
 
--- where the reading of a cover ended
-abbrev pub withoutMember : CoverRead → Reached
-withoutMember (Taken m next) = At next
+-- the links that are told where it holds
+abbrev pub LinksTold : Told → ℕ → Type 0
+LinksTold (Holds links) n = links ≡ n
+LinksTold (Breaks b) n = Unit {0}
+
+-- the answer on a cover, as that of a parser
+abbrev pub coverAnswerOf : CoverAnswer → Parsed ℕ
+coverAnswerOf (CoverHolds next links) = parsed links next
+coverAnswerOf (Refused r place) = fault (reasonOf r) place
+
+-- the answer on a cover that is not read
+abbrev pub withoutMember : CoverRead → CoverAnswer
+withoutMember (Taken m next) = CoverHolds next 0
 withoutMember (NotRead r place) = Refused r place
 
 -- a member stands whole at a place, and its cells have images in the shape in an array

@@ -1,13 +1,15 @@
 -- What is tested of images in an array.
 use mathlib.Core.Bool.{Bool, _&&_, _||_, not, cond}
 use mathlib.Core.List.{List}
+use mathlib.Core.Option.{none}
+use mathlib.Core.Path.{_≡_}
 use Prim.Native.Nat.{ℕ, _+_}
 use lib.Dec.{eqb, ltb}
 use lib.ListN.{length, getD}
-use Rattle.lists.specs.Test.{allFrom}
+use Rattle.lists.specs.Test.{allFrom, lowest}
 use Rattle.heap.specs.Place.{nowhere, cell}
 use Rattle.shape.specs.Shape.{Shape}
-use Rattle.cover.specs.Test.{linkMeets, pathUnshared}
+use Rattle.cover.specs.Test.{linkMeets, pathUnshared, linksFollowed}
 
 -- the image of a place by the array
 unfoldable pub imageIn : List ℕ → ℕ → ℕ
@@ -28,3 +30,8 @@ varFitsIn cert first codes s i =
 -- the path for the link of cell i ends where it should and shares no cell with that of a lower cell
 abbrev pub pathFits : Shape → Shape → List ℕ → ℕ → Bool
 pathFits member covered images i = linkMeets member covered images i && pathUnshared member covered images i
+
+-- the paths of all cells, of which there are so many, fit, and so many links are followed
+pub record PathsFit (member covered : Shape) (images : List ℕ) (count links : ℕ) : Type 0 where
+  pub fit : lowest count 0 (pathFits member covered images) ≡ none
+  pub counted : links ≡ linksFollowed member covered images

@@ -3,7 +3,7 @@ use mathlib.Core.Bool.{Bool, true, false}
 use mathlib.Core.List.{List, [], _++_}
 use mathlib.Core.Logic.{_⊎_}
 use mathlib.Core.Path.{_≡_}
-use Prim.Native.Nat.{ℕ, _+_, _≤_, _<_}
+use Prim.Native.Nat.{ℕ, suc, _+_, _≤_, _<_}
 use lib.ListN.{length, getD}
 use Rattle.lists.specs.List.{absent, disjoint}
 use Rattle.heap.specs.Codes.{linkIn}
@@ -47,10 +47,11 @@ module _ (links images : List ℕ) where
   abbrev pub pathFrom : ℕ → List ℕ
   pathFrom from = walked (linkIn links) (stops images) (length links) (linkIn links from)
 
--- What following a path gives, the first place met that is not free. Where that is an end, it is the path's, with its cells used; else the path has
--- no end or shares a cell.
-pub record Followed (links images used : List ℕ) (from r : ℕ) (marks : List ℕ) : Type 0 where
+-- What following a path by so many links gives, the first place met that is not free. Where that is an end, it is the path's, with its links counted
+-- and its cells used; else the path has no end or shares a cell.
+pub record Followed (links images used : List ℕ) (from r steps : ℕ) (marks : List ℕ) : Type 0 where
   pub ends : stops images r ≡ true → endFrom links images from ≡ r
+  pub counted : stops images r ≡ true → steps ≡ suc (length (pathFrom links images from))
   pub unshared : stops images r ≡ true → disjoint (pathFrom links images from) used ≡ true
   pub marked : stops images r ≡ true → Marks images (pathFrom links images from ++ used) marks
   pub lost : stops images r ≡ false → (endFrom links images from ≡ nowhere) ⊎ (disjoint (pathFrom links images from) used ≡ false)

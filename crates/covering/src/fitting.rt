@@ -11,7 +11,7 @@ ghost use lib.ListN.{length};
 ghost use Rattle.lists.specs.Test.{lowest, numberOr};
 ghost use Rattle.shape.specs.Shape.{Shape};
 ghost use Rattle.coverreader.specs.Images.{imagesIn, ImageCodes};
-ghost use Rattle.covering.specs.Images.{imageIn, once, varFitsIn, pathFits};
+ghost use Rattle.covering.specs.Images.{imageIn, once, varFitsIn, pathFits, PathsFit};
 ghost use Rattle.covering.specs.Marks.{Marks, Linking};
 
 // The image of a place; that of a cell which the member lacks is cell 0.
@@ -65,19 +65,27 @@ pub(crate) fn variable_elsewhere(
     count
 }
 
-// The lowest cell whose link's path does not end where it should, or shares a cell with that of a lower one; as many as there are where none is so.
-// What stands for a cell that the member lacks may be met and yet be no end.
-pub(crate) fn path_fails(
+// What following the paths of a member's links came to: the lowest cell whose path fails, as many as there are cells where none does, and how many
+// links were followed before it.
+pub(crate) struct PathsTest {
+    pub fails: usize,
+    pub links: u16,
+}
+
+// Follows the paths of the links up to the lowest cell whose path does not end where it should, or shares a cell with that of a lower one. What stands
+// for a cell that the member lacks may be met and yet be no end.
+pub(crate) fn follow_paths(
     cert: &[u8],
     first: usize,
     count: usize,
     images: &[u8; 15],
     marks: &mut [u8; 28],
     s: &[u8; 28],
-) -> usize
+) -> PathsTest
     requires { ⌜ ((member : Shape) × (covered : Shape) × Linking member covered (now cert) first count (now images) (now marks) (now s)) ⌝ }
-    ensures { λ r. ⌜ ((member covered : Shape) → Linking member covered (now (cert .entry)) first count (now (images .entry)) (now (marks .entry)) (now (s .entry)) → r ≡ numberOr count (lowest count 0 (pathFits member covered (imagesIn count (now (images .entry)))))) ⌝ }
+    ensures { λ r. ⌜ ((member covered : Shape) → Linking member covered (now (cert .entry)) first count (now (images .entry)) (now (marks .entry)) (now (s .entry)) → (r .fails ≡ numberOr count (lowest count 0 (pathFits member covered (imagesIn count (now (images .entry)))))) × (count ≤ r .fails → PathsFit member covered (imagesIn count (now (images .entry))) count (r .links))) ⌝ }
 {
+    let mut links = 0;
     let mut i = 0;
     while i < count {
         let p = wide(cert[first + i]);
@@ -85,14 +93,18 @@ pub(crate) fn path_fails(
             let from = wide(images[i + 3]);
             let end = wide(image_of(images, p));
             let met = walk(s, marks, wide(s[from]));
-            if met != end {
-                return i;
+            if met.place != end {
+                return PathsTest { fails: i, links };
             }
-            if !is_stop(s, marks, met) {
-                return i;
+            if !is_stop(s, marks, met.place) {
+                return PathsTest { fails: i, links };
             }
+            links += met.links;
         }
         i += 1;
     }
-    count
+    PathsTest {
+        fails: count,
+        links,
+    }
 }

@@ -7,32 +7,36 @@ use coverreader::read_cover;
 use number::Read;
 use number::read_number;
 use number::wide;
-use verdict::Reached;
 use verdict::Refusal;
 ghost use mathlib.Core.Logic.{_≢_};
 ghost use mathlib.Core.Path.{_≡_};
 ghost use Rattle.format.specs.Certificate.{readCover};
 ghost use Rattle.format.specs.Parser.{parsed, certificateBuffer};
-ghost use Rattle.verdict.specs.Verdict.{reachedOf};
 ghost use Rattle.layout.specs.ShapeArray.{shapeIn};
 ghost use Rattle.layout.specs.Members.{membersFrom};
-ghost use Rattle.covering.specs.Answer.{withoutMember};
+ghost use Rattle.covering.specs.Answer.{withoutMember, coverAnswerOf};
 
 mod fitting;
 mod quick;
 mod rules;
 
-// The place after a cover, or its refusal.
-fn refused(read: CoverRead) -> Reached
+// The answer on one cover: it holds, with the place after it and the number of links followed, or it is refused.
+pub enum CoverAnswer {
+    Holds(usize, u16),
+    Refused(Refusal, usize),
+}
+
+// The refusal of a cover that is not read; one that is read holds with no link followed.
+fn refused(read: CoverRead) -> CoverAnswer
     ensures { λ r. ⌜ r ≡ withoutMember read ⌝ }
 {
     match read {
-        CoverRead::Taken(_, next) => Reached::At(next),
-        CoverRead::Refused(refusal, place) => Reached::Refused(refusal, place),
+        CoverRead::Taken(_, next) => CoverAnswer::Holds(next, 0),
+        CoverRead::Refused(refusal, place) => CoverAnswer::Refused(refusal, place),
     }
 }
 
-// Checks the cover at a place by the exact test, of a shape at a state: the place after it, or a refusal.
+// Checks the cover at a place by the exact test, of a shape at a state: the place after it and the links followed, or a refusal.
 pub fn exact_cover(
     cert: &[u8],
     starts: &[u16],
@@ -40,8 +44,8 @@ pub fn exact_cover(
     at: usize,
     state: u8,
     s: &[u8; 28],
-) -> Reached
-    ensures { λ r. ⌜ reachedOf r ≡ readCover (certificateBuffer (now (cert .entry))) (membersFrom (now (cert .entry)) variables (now (starts .entry))) (record { state = state; shape = shapeIn variables (now (s .entry)) }) at ⌝ }
+) -> CoverAnswer
+    ensures { λ r. ⌜ coverAnswerOf r ≡ readCover (certificateBuffer (now (cert .entry))) (membersFrom (now (cert .entry)) variables (now (starts .entry))) (record { state = state; shape = shapeIn variables (now (s .entry)) }) at ⌝ }
 {
     let reading = read_cover(cert, starts, variables, at, s);
     let r = reading.answer;
@@ -52,13 +56,21 @@ pub fn exact_cover(
     let images = reading.images;
     let answer = cover_answer(cert, start, variables, state, &images, s);
     match answer {
-        Answer::Holds => Reached::At(next),
-        Answer::Breaks(broken) => Reached::Refused(Refusal::CoverFails(broken), at),
+        Answer::Holds(links) => CoverAnswer::Holds(next, links),
+        Answer::Breaks(broken) => CoverAnswer::Refused(Refusal::CoverFails(broken), at),
     }
 }
 
-// A quick test of the cover at a place: the place after it, or 0 where it is left to `exact_cover`. An entry of 9 variables and 12 cells has 23
-// bytes.
+// What the quick test of a cover gives: the place after it, 0 where it is left to `exact_cover`, and the number of links followed.
+pub struct QuickCover {
+    pub next: usize,
+    pub links: u16,
+}
+
+// The cover is left to `exact_cover`.
+const LEFT: QuickCover = QuickCover { next: 0, links: 0 };
+
+// A quick test of the cover at a place. An entry of 9 variables and 12 cells has 23 bytes.
 pub fn quick_cover(
     cert: &[u8],
     starts: &[u16],
@@ -66,35 +78,39 @@ pub fn quick_cover(
     at: usize,
     state: u8,
     s: &[u8; 28],
-) -> usize
-    ensures { λ r. ⌜ (r ≢ 0 → readCover (certificateBuffer (now (cert .entry))) (membersFrom (now (cert .entry)) variables (now (starts .entry))) (record { state = state; shape = shapeIn variables (now (s .entry)) }) at ≡ parsed tt r) ⌝ }
+) -> QuickCover
+    ensures { λ r. ⌜ (r .next ≢ 0 → readCover (certificateBuffer (now (cert .entry))) (membersFrom (now (cert .entry)) variables (now (starts .entry))) (record { state = state; shape = shapeIn variables (now (s .entry)) }) at ≡ parsed (r .links) (r .next)) ⌝ }
 {
     let r = read_number(cert, at);
     let Read::Number(m, first) = r else {
-        return 0;
+        return LEFT;
     };
     if starts.len() <= m {
-        return 0;
+        return LEFT;
     }
     let start = starts[m] as usize;
     if 9 < variables {
-        return 0;
+        return LEFT;
     }
     if cert.len() < start + 23 {
-        return 0;
+        return LEFT;
     }
     if state != cert[start] {
-        return 0;
+        return LEFT;
     }
     let count = wide(cert[start + 1]);
     if 12 < count {
-        return 0;
+        return LEFT;
     }
     if cert.len() - first < count {
-        return 0;
+        return LEFT;
     }
-    if !images_embed(cert, start, variables, first, count, s) {
-        return 0;
+    let quick = images_embed(cert, start, variables, first, count, s);
+    if !quick.accepts {
+        return LEFT;
     }
-    first + count
+    QuickCover {
+        next: first + count,
+        links: quick.links,
+    }
 }

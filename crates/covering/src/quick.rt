@@ -14,7 +14,7 @@ ghost use Rattle.lists.specs.Test.{lowest};
 ghost use Rattle.shape.specs.Shape.{Shape};
 ghost use Rattle.layout.specs.Entries.{Whole};
 ghost use Rattle.coverreader.specs.Images.{imagesIn, ImageCodes};
-ghost use Rattle.covering.specs.Images.{varFitsIn, pathFits};
+ghost use Rattle.covering.specs.Images.{varFitsIn, PathsFit};
 ghost use Rattle.covering.specs.Marks.{Linking};
 ghost use Rattle.covering.specs.Quick.{ReadAndMarked, ImagesEmbed};
 
@@ -68,8 +68,20 @@ fn quick_vars(cert: &[u8], first: usize, count: usize, images: &[u8; 15], s: &[u
     true
 }
 
+// What the quick test came to: whether it accepts, and how many links were followed.
+pub(crate) struct QuickTest {
+    pub accepts: bool,
+    pub links: u16,
+}
+
+// The test is left open.
+const OPEN: QuickTest = QuickTest {
+    accepts: false,
+    links: 0,
+};
+
 // Whether the paths of the member's links end where they should and share no cell: a path that meets a used cell ends there, which is no image.
-// False also where a link is to a cell that the member lacks.
+// Left open also where a link is to a cell that the member lacks.
 fn quick_links(
     cert: &[u8],
     first: usize,
@@ -77,31 +89,40 @@ fn quick_links(
     images: &[u8; 15],
     marks: &mut [u8; 28],
     s: &[u8; 28],
-) -> bool
+) -> QuickTest
     requires { ⌜ ((member : Shape) × (covered : Shape) × Linking member covered (now cert) first count (now images) (now marks) (now s)) ⌝ }
-    ensures { λ r. ⌜ ((member covered : Shape) → Linking member covered (now (cert .entry)) first count (now (images .entry)) (now (marks .entry)) (now (s .entry)) → r ≡ true → lowest count 0 (pathFits member covered (imagesIn count (now (images .entry)))) ≡ none) ⌝ }
+    ensures { λ r. ⌜ ((member covered : Shape) → Linking member covered (now (cert .entry)) first count (now (images .entry)) (now (marks .entry)) (now (s .entry)) → r .accepts ≡ true → PathsFit member covered (imagesIn count (now (images .entry))) count (r .links)) ⌝ }
 {
+    let mut links = 0;
     let mut i = 0;
     while i < count {
         let p = wide(cert[first + i]);
         if p != 0 {
             if count + 3 <= p {
-                return false;
+                return OPEN;
             }
             let from = wide(images[i + 3]);
             // no walk where the link is to the image itself
-            if s[from] != images[p] {
-                if walk(s, marks, wide(s[from])) != wide(images[p]) {
-                    return false;
+            if s[from] == images[p] {
+                links += 1;
+            } else {
+                let met = walk(s, marks, wide(s[from]));
+                if met.place != wide(images[p]) {
+                    return OPEN;
                 }
+                links += met.links;
             }
         }
         i += 1;
     }
-    true
+    QuickTest {
+        accepts: true,
+        links,
+    }
 }
 
-// Whether so many images from a place on embed the member that starts at a place in a shape. False also where the test is left open.
+// Whether so many images from a place on embed the member that starts at a place in a shape, and the links followed. Left open where the test does not
+// tell.
 pub(crate) fn images_embed(
     cert: &[u8],
     start: usize,
@@ -109,18 +130,18 @@ pub(crate) fn images_embed(
     first: usize,
     count: usize,
     s: &[u8; 28],
-) -> bool
+) -> QuickTest
     requires { ⌜ (Whole (now cert) variables start) × (count ≡ getD (now cert) (start + 1) 0) × (first + count ≤ length (now cert)) ⌝ }
-    ensures { λ r. ⌜ (r ≡ true → ImagesEmbed (now (cert .entry)) start variables first count (now (s .entry))) ⌝ }
+    ensures { λ r. ⌜ (r .accepts ≡ true → ImagesEmbed (now (cert .entry)) start variables first count (now (s .entry)) (r .links)) ⌝ }
 {
     let n = cells_held(s);
     let mut images = NO_IMAGES;
     let mut marks = [0u8; 28];
     if !read_and_mark(cert, first, count, n, &mut images, &mut marks) {
-        return false;
+        return OPEN;
     }
     if !quick_vars(cert, start + 2, variables, &images, s) {
-        return false;
+        return OPEN;
     }
     quick_links(cert, start + 2 + variables, count, &images, &mut marks, s)
 }

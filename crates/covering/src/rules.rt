@@ -1,7 +1,7 @@
 // The exact test of one cover, rule by rule in document 02's order, and what it names where a rule is broken.
+use crate::fitting::follow_paths;
 use crate::fitting::image_of;
 use crate::fitting::mark_images;
-use crate::fitting::path_fails;
 use crate::fitting::variable_elsewhere;
 use marks::stop_from;
 use number::wide;
@@ -18,17 +18,17 @@ ghost use Prim.Native.Nat.{_+_, _<_};
 ghost use lib.ListN.{getD};
 ghost use Rattle.lists.specs.Test.{lowest, numberOr};
 ghost use Rattle.shape.specs.Shape.{Shape};
-ghost use Rattle.cover.specs.Test.{linkMeets, coverAnswer};
+ghost use Rattle.cover.specs.Test.{linkMeets, coverAnswer, linksFollowed};
 ghost use Rattle.layout.specs.Entries.{locatedAt};
 ghost use Rattle.layout.specs.ShapeArray.{shapeIn};
-ghost use Rattle.covering.specs.Answer.{brokenOf, answerOf, Tested, pathsAnswer};
+ghost use Rattle.covering.specs.Answer.{brokenOf, answerOf, LinksTold, Tested, pathsAnswer};
 ghost use Rattle.coverreader.specs.Images.{imagesIn, ImageCodes};
 ghost use Rattle.covering.specs.Images.{onceAt, pathFits};
 ghost use Rattle.covering.specs.Marks.{Marks, Linking};
 
-// What the test of a cover says: it holds, or which rule is broken first.
+// What the test of a cover says: it holds, with the number of links followed, or which rule is broken first.
 pub(crate) enum Answer {
-    Holds,
+    Holds(u16),
     Breaks(Broken),
 }
 
@@ -129,7 +129,8 @@ pub(crate) fn cover_answer(
     s: &[u8; 28],
 ) -> Answer
     requires { ⌜ Tested (now cert) variables start (now images) (now s) ⌝ }
-    ensures { λ r. ⌜ answerOf r ≡ coverAnswer (locatedAt (now (cert .entry)) variables start) (imagesIn (getD (now (cert .entry)) (start + 1) 0) (now (images .entry))) (record { state = state; shape = shapeIn variables (now (s .entry)) }) ⌝ }
+    ensures answer { λ r. ⌜ answerOf r ≡ coverAnswer (locatedAt (now (cert .entry)) variables start) (imagesIn (getD (now (cert .entry)) (start + 1) 0) (now (images .entry))) (record { state = state; shape = shapeIn variables (now (s .entry)) }) ⌝ }
+    ensures links { λ r. ⌜ LinksTold r (linksFollowed (locatedAt (now (cert .entry)) variables start .shape) (shapeIn variables (now (s .entry))) (imagesIn (getD (now (cert .entry)) (start + 1) 0) (now (images .entry)))) ⌝ }
 {
     if cert[start] != state {
         return Answer::Breaks(Broken {
@@ -154,9 +155,10 @@ pub(crate) fn cover_answer(
         });
     }
     let mut used = marks;
-    let i = path_fails(cert, start + 2 + variables, cells, images, &mut used, s);
+    let paths = follow_paths(cert, start + 2 + variables, cells, images, &mut used, s);
+    let i = paths.fails;
     if i < cells {
         return Answer::Breaks(broken_path(cert, start, variables, images, &marks, s, i));
     }
-    Answer::Holds
+    Answer::Holds(paths.links)
 }

@@ -8,7 +8,7 @@ use Rattle.number.specs.Number.{numberAt}
 use Rattle.number.specs.declared.Read.the-variants.{Number}
 use Rattle.shape.specs.Shape.{size}
 use Rattle.run.specs.Run.{Located}
-use Rattle.cover.specs.Test.{coverAnswer}
+use Rattle.cover.specs.Test.{coverAnswer, linksFollowed}
 use Rattle.format.specs.Certificate.{judge, readCover}
 use Rattle.format.specs.Parser.{Parsed, parsed, fault, many, ranged, certificateBuffer}
 use Rattle.verdict.specs.Verdict.{reasonOf}
@@ -36,10 +36,12 @@ module _ (cert : List ℕ) (variables : ℕ) (starts : List ℕ) where
   abbrev pub cellsAt : ℕ → ℕ
   cellsAt m = getD cert (getD starts m 0 + 1) 0
 
-  -- what becomes of the cover at a place, once it is read: it is refused, or judged
-  abbrev pub coverOf : ℕ → Located → CoverRead → List ℕ → Parsed (Unit {0})
+  -- what becomes of the cover at a place, once it is read: it is refused, or judged, with the links followed
+  abbrev pub coverOf : ℕ → Located → CoverRead → List ℕ → Parsed ℕ
   coverOf at covered (Taken m next) codes =
-      judge (coverAnswer (locatedAt cert variables (getD starts m 0)) (imagesIn (cellsAt m) codes) covered) at next
+      let member = locatedAt cert variables (getD starts m 0) in
+      let images = imagesIn (cellsAt m) codes in
+      judge (coverAnswer member images covered) (linksFollowed (member .shape) (covered .shape) images) at next
   coverOf at covered (NotRead r place) codes = fault (reasonOf r) place
 
   -- a cover that was read, with its member's number and its images, or refused

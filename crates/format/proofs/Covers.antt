@@ -2,11 +2,11 @@
 use mathlib.Core.Bool.{not}
 use mathlib.Core.List.{List, [], _∷_, List·Memᴰ·head, List·Memᴰ·tail, List·Memᴰ·not-nil}
 use mathlib.Core.Logic.{_↔_}
-use mathlib.Core.Path.{_≡_, refl, ap, subst, _∙_}
-use Prim.Native.Nat.{ℕ, zero, suc, _<_}
+use mathlib.Core.Path.{_≡_, refl, sym, ap, ap₂, subst, _∙_}
+use Prim.Native.Nat.{ℕ, zero, suc, _+_, _<_}
 use native.Mathlib.Omega.{arith}
 use lib.ListN.{length, getD, getElem?}
-use Rattle.lists.specs.List.{_∈_, Every, concatMap}
+use Rattle.lists.specs.List.{_∈_, Every, concatMap, sum}
 use Rattle.lists.proofs.List.{every-cons, getD-mem, mem-getD}
 use Rattle.lists.proofs.Reflect.{Reflect, r-eq, r-and, r-not, r-iff}
 use Rattle.heap.specs.Heap.{empty}
@@ -18,9 +18,12 @@ use Rattle.shape.proofs.InRange.{in-range-closed}
 use Rattle.run.specs.Run.{Located}
 use Rattle.lists.proofs.List.{element-mem}
 use Rattle.cover.specs.Cover.{Cover, Holds, Avoids, AllHold}
+use Rattle.cover.specs.Lengths.{pathLengths}
+use Rattle.cover.specs.Links.{mids, coverLinks, linksOf}
 use Rattle.cover.specs.Rules.{Breaks, First}
-use Rattle.cover.specs.Test.{imageMap, Answer, holds, broken, coverAnswer}
+use Rattle.cover.specs.Test.{imageMap, Answer, holds, broken, coverAnswer, linksFollowed}
 use Rattle.cover.proofs.Answer.{answer-holds, answer-exactly}
+use Rattle.cover.proofs.Links.{links-exact}
 use Rattle.cover.proofs.Start.{empty-reflects}
 use Rattle.format.specs.Parser.{broken-rule, refusal, parsed, many, each, Buffer, readAs, ranged}
 use Rattle.format.specs.Job.{readLocated}
@@ -136,9 +139,9 @@ module _ (variables states start : ℕ) where
 -- ---- covers
 
 -- a cover goes through exactly if it holds
-pub judge-sound : (a : Answer) (first at : ℕ) {u : Unit {0}} {next : ℕ} → judge a first at ≡ parsed u next → (a ≡ holds) × (at ≡ next)
-judge-sound holds first at e = (refl, cc)
-judge-sound (broken rule name) first at {u} {next} e = absurd (not-fault u next (broken-rule rule name) first e)
+pub judge-sound : (a : Answer) (links first at : ℕ) {n next : ℕ} → judge a links first at ≡ parsed n next → (a ≡ holds) × (links ≡ n) × (at ≡ next)
+judge-sound holds links first at e = (refl, cc, cc)
+judge-sound (broken rule name) links first at {n} {next} e = absurd (not-fault n next (broken-rule rule name) first e)
 
 -- the images of a cover that holds are below the number of cells of the covered shape
 pub images-below : (ms : List Located) (o : Located) (c : Cover) → Holds ms c o → ImageForEach ms c → AllBelow (size (o .shape)) (c .images)
@@ -160,33 +163,36 @@ module _ (s : Buffer) (variables : ℕ) (ms : List Located) (oks : (m : Located)
     pub judged-holds : (coverAnswer m images o ≡ holds) ↔ ((m .state ≡ o .state) × Embeds (shapeGraph (m .shape)) (shapeGraph (o .shape)) (imageMap images))
     judged-holds = answer-holds m images o closed long in-range
 
+    -- and the links followed are those of the embedding
+    links-are : (e : Embeds (shapeGraph (m .shape)) (shapeGraph (o .shape)) (imageMap images))
+        → linksFollowed (m .shape) (o .shape) images ≡ pathLengths (m .shape) (mids e)
+    links-are = links-exact (m .shape) (o .shape) images closed long
+
     pub judged-broken : (rule name : ℕ) → (coverAnswer m images o ≡ broken rule name) ↔ First (Breaks m images o) rule name
     judged-broken rule name = answer-exactly m images o closed long in-range (broken rule name)
 
-  -- a cover that holds, with an image for each cell of its member
-  abbrev pub Fit : Cover → Located → Type 0
-  Fit c o = Holds ms c o × ImageForEach ms c
-
-  pub cover-sound : (o : Located) (at : ℕ) {u : Unit {0}} {next : ℕ} → readCover s ms o at ≡ parsed u next
-      → (c : Cover) × Reads (s .bytes) at (coverNumbers c) next × Fit c o
+  pub cover-sound : (o : Located) (at : ℕ) {links next : ℕ} → readCover s ms o at ≡ parsed links next
+      → (c : Cover) × Reads (s .bytes) at (coverNumbers c) next × ImageForEach ms c × ((h : Holds ms c o) × (links ≡ coverLinks h))
   unfolding readCover
-  cover-sound o at {u} {next} =
+  cover-sound o at {links} {next} =
       then (readAs s (getElem? ms) at) _
       (λ m a h₁. then (many _ (ranged s _ _) a) _
       (λ images b h₂ h₃.
       let (n, g₁, numbered) = read-sound s (getElem? ms) at m a h₁ in
       let i = element-mem ms n m numbered in
       let (g₂, (long, below)) = codes-exact s _ _ .sound a images b h₂ in
-      let (t, next-is) = judge-sound (coverAnswer m images o) at b h₃ in
+      let (t, links-is, next-is) = judge-sound (coverAnswer m images o) _ at b h₃ in
       let (state, embeds) = judged-holds m o images i long below .0 t in (
         record { member = n; images = images },
         rw (← next-is) (more g₁ g₂),
-        (record { member = m; numbered = numbered; state = state; embeds = embeds }, λ m′ e. let m-is : m ≡ m′ = cc in rw (← m-is) long),
+        (λ m′ e. let m-is : m ≡ m′ = cc in rw (← m-is) long),
+        (record { member = m; numbered = numbered; state = state; embeds = embeds }, sym links-is ∙ links-are m o images i long below embeds),
       )))
 
-  cover-complete : (o : Located) (at next : ℕ) (c : Cover) → Reads (s .bytes) at (coverNumbers c) next → Fit c o → readCover s ms o at ≡ parsed tt next
+  cover-complete : (o : Located) (at next : ℕ) (c : Cover) → Reads (s .bytes) at (coverNumbers c) next → ImageForEach ms c → (h : Holds ms c o)
+      → readCover s ms o at ≡ parsed (coverLinks h) next
   unfolding readCover
-  cover-complete o at next c r (h, each-cell) =
+  cover-complete o at next c r each-cell h =
       let m = h .member in
       let i = element-mem ms (c .member) m (h .numbered) in
       let long = each-cell m (h .numbered) in
@@ -196,29 +202,37 @@ module _ (s : Buffer) (variables : ℕ) (ms : List Located) (oks : (m : Located)
         read-complete s (getElem? ms) at (c .member) a m g₁ (h .numbered),
         codes-exact s (size (m .shape)) (size (o .shape)) .complete a (c .images) next g₂ (long, below),
         judged-holds m o (c .images) i long below .1 (h .state, h .embeds),
+        links-are m o (c .images) i long below (h .embeds),
       )
 
-  pub covers-sound : (os : List Located) (at : ℕ) {us : List (Unit {0})} {next : ℕ} → each (readCover s ms) os at ≡ parsed us next
-      → (cs : List Cover) × Reads (s .bytes) at (concatMap coverNumbers cs) next × AllHold ms cs os × ((c : Cover) → c ∈ cs → ImageForEach ms c)
+  -- the covers that are read, and the links followed for each
+  pub covers-sound : (os : List Located) (at : ℕ) {ls : List ℕ} {next : ℕ} → each (readCover s ms) os at ≡ parsed ls next
+      → (cs : List Cover) × Reads (s .bytes) at (concatMap coverNumbers cs) next × Every (ImageForEach ms) cs
+      × ((hold : AllHold ms cs os) × (sum ls ≡ linksOf ms cs os hold))
   unfolding each
-  covers-sound [] at {next = next} e = ([], let next-is : at ≡ next = cc in rw (← next-is) done, tt, λ c i. absurd (List·Memᴰ·not-nil i))
-  covers-sound (o ∷ os) at {next = next} e =
+  covers-sound [] at {ls} {next} e =
+      let next-is : at ≡ next = cc in
+      let ls-is : [] ≡ ls = cc in
+      ([], rw (← next-is) done, (λ c i. absurd (List·Memᴰ·not-nil i)), (tt, rw (← ls-is) refl))
+  covers-sound (o ∷ os) at {ls} {next} e =
       then (readCover s ms o at) _
-      (λ u a h₁. then (each (readCover s ms) os a) _
-      (λ us b h₂ r.
-      let (c, g₁, (h, images)) = cover-sound o at h₁ in
-      let (cs, g₂, hs, all-images) = covers-sound os a h₂ in
+      (λ l a h₁. then (each (readCover s ms) os a) _
+      (λ rest b h₂ r.
+      let (c, g₁, images, (h, l-is)) = cover-sound o at h₁ in
+      let (cs, g₂, all-images, (hs, rest-is)) = covers-sound os a h₂ in
       let next-is : b ≡ next = cc in
+      let ls-is : l ∷ rest ≡ ls = cc in
       let g = subst (Reads (s .bytes) at (concatMap coverNumbers (c ∷ cs))) next-is (reads-append g₁ g₂) in
-      (c ∷ cs, g, (h, hs), every-cons (ImageForEach ms) images all-images))) e
+      (c ∷ cs, g, every-cons (ImageForEach ms) images all-images, ((h, hs), rw (← ls-is) (ap₂ _+_ l-is rest-is))))) e
 
-  pub covers-complete : (os : List Located) (cs : List Cover) (at next : ℕ) → Reads (s .bytes) at (concatMap coverNumbers cs) next → AllHold ms cs os
-      → ((c : Cover) → c ∈ cs → ImageForEach ms c) → (us : List (Unit {0})) × (each (readCover s ms) os at ≡ parsed us next)
+  pub covers-complete : (os : List Located) (cs : List Cover) (at next : ℕ) → Reads (s .bytes) at (concatMap coverNumbers cs) next
+      → Every (ImageForEach ms) cs → (hold : AllHold ms cs os)
+      → (ls : List ℕ) × (each (readCover s ms) os at ≡ parsed ls next) × (sum ls ≡ linksOf ms cs os hold)
   unfolding each
-  covers-complete [] [] at next r hs images = ([], ap (parsed []) (reads-none r))
-  covers-complete [] (c ∷ cs) at next r hs images = absurd hs
-  covers-complete (o ∷ os) [] at next r hs images = absurd hs
-  covers-complete (o ∷ os) (c ∷ cs) at next r (h, hs) images =
+  covers-complete [] [] at next r images hold = ([], ap (parsed []) (reads-none r), refl)
+  covers-complete [] (c ∷ cs) at next r images hold = absurd hold
+  covers-complete (o ∷ os) [] at next r images hold = absurd hold
+  covers-complete (o ∷ os) (c ∷ cs) at next r images (h, hs) =
       let (mid, g₁, g₂) = reads-split (coverNumbers c) r in
-      let (us, e) = covers-complete os cs mid next g₂ hs (λ d i. images d (List·Memᴰ·tail i)) in
-      (tt ∷ us, rw (cover-complete o at mid c g₁ (h, images c (List·Memᴰ·head refl)), e))
+      let (ls, e, all) = covers-complete os cs mid next g₂ (λ d i. images d (List·Memᴰ·tail i)) hs in
+      (coverLinks h ∷ ls, rw (cover-complete o at mid c g₁ (images c (List·Memᴰ·head refl)) h, e), ap (λ (n : ℕ). coverLinks h + n) all)

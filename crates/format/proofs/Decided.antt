@@ -8,7 +8,7 @@ use Prim.Native.Nat.{ℕ, zero, suc, _≤_, _<_}
 use native.Mathlib.Omega.{arith}
 use lib.Dec.{T}
 use lib.ListN.{length, getElem?}
-use Rattle.lists.specs.List.{_∈_, Every, concatMap}
+use Rattle.lists.specs.List.{_∈_, Every, concatMap, sum}
 use Rattle.lists.proofs.List.{concatMap-append}
 use Rattle.lists.proofs.Reflect.{r-le, r-lt, r-and, cond-true, cond-false}
 use Rattle.shape.specs.Shape.{size, InRange}
@@ -89,7 +89,7 @@ module _ (certificate : List ℕ) (f : JobFile) (ok : JobInRange f) where
 
   -- what comes after the members
   abbrev afterMembers : List Located → Parser Counts
-  afterMembers ms at = onward (each (readCover s ms) (owed (f .job) ms) at) (λ vs at. onward (end s at) (λ u. return (countsOf (f .job) ms)))
+  afterMembers ms at = onward (each (readCover s ms) (owed (f .job) ms) at) (λ ls at. onward (end s at) (λ u. return (countsOf (f .job) ms (sum ls))))
 
   -- members in range that the empty heap does not satisfy at the start state are read, and what comes after them decides
   to-covers : (ms : List Located) → MembersInRange f ms → Every (Avoids (f .job .start)) ms → (next : ℕ)
@@ -109,12 +109,12 @@ module _ (certificate : List ℕ) (f : JobFile) (ok : JobInRange f) where
     shapes : (m : Located) → m ∈ c .members → InRange (f .job .variables) 12 (m .shape)
     shapes m i = c .members-range .members m i .shape
 
-    covered-read : (next : ℕ) × (vs : List (Unit {0})) × (readCertificate s f 0 ≡ afterMembers (c .members) next)
-        × (each (readCover s (c .members)) (c .done) next ≡ parsed vs place)
+    covered-read : (next : ℕ) × (ls : List ℕ) × (readCertificate s f 0 ≡ afterMembers (c .members) next)
+        × (each (readCover s (c .members)) (c .done) next ≡ parsed ls place)
     covered-read =
         let (next, r₁, r₂) = reads-split (memberNumbers (c .members)) (before-reads certificate (c .before)) in
-        let (vs, h) = covers-complete s (f .job .variables) (c .members) shapes (c .done) (c .covers) next place r₂ (c .hold) (c .images) in
-        (next, vs, to-covers (c .members) (c .members-range) (c .start) next r₁, h)
+        let (ls, h, _) = covers-complete s (f .job .variables) (c .members) shapes (c .done) (c .covers) next place r₂ (c .images) (c .hold) in
+        (next, ls, to-covers (c .members) (c .members-range) (c .start) next r₁, h)
 
   -- the next cover is refused
   cover-refused : {first : ℕ} {shape : Located} {later : List Located} (c : Covered f certificate first (shape ∷ later)) (why : Reason) (place : ℕ)

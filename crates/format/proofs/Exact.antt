@@ -7,19 +7,19 @@ use Prim.Native.Nat.{ℕ, _≤_}
 use native.Mathlib.Omega.{arith}
 use lib.Dec.{T}
 use lib.ListN.{length}
-use Rattle.lists.specs.List.{_∈_, concatMap}
+use Rattle.lists.specs.List.{_∈_, concatMap, sum}
 use Rattle.lists.proofs.Reflect.{Reflect, r-le, r-lt, r-and, r-iff, cond-true}
 use Rattle.heap.specs.Heap.{empty}
 use Rattle.shape.specs.Shape.{Satisfies}
 use Rattle.run.specs.Run.{Located}
-use Rattle.cover.specs.Cover.{Cover, owed, AllHold}
+use Rattle.cover.specs.Cover.{owed}
 use Rattle.format.specs.Parser.{refusal, Parsed, parsed, fault, each, jobBuffer, certificateBuffer, end}
 use Rattle.format.specs.Job.{readWholeJob}
 use Rattle.format.specs.JobNumbers.{JobFile, jobNumbers}
 use Rattle.format.specs.Certificate.{Member, withoutPlaces, readMembers, testStart, readCover}
 use Rattle.format.specs.Verdict.{Counts, accepted, refused, readCertificate, readBoth, conclude, fits, verdict}
 use Rattle.format.specs.Numbers.{memberNumbers, coverNumbers, certificateNumbers}
-use Rattle.format.specs.Conditions.{ImageForEach, countsOf, Conditions}
+use Rattle.format.specs.Conditions.{countsOf, Conditions}
 use Rattle.format.specs.JobBytes.{Between, LocatedInRange, IsJob}
 use Rattle.format.proofs.Sequence.{Reads, reads-append, reads-split, reads-decode, decode-reads}
 use Rattle.format.proofs.Parsing.{then}
@@ -66,8 +66,9 @@ module _ (job certificate : List ℕ) (counts : Counts) where
       let (g₁, ok) = job-exact (jobBuffer job) .sound 0 f next h₀ in
       let (g₂, number, oks) = members-sound (certificateBuffer certificate) (f .job .variables) (f .states) 0 members p₂ h₂ in
       let (avoid, p₃-is) = tests-sound (f .job .variables) (f .states) _ members oks p₂ h₃ in
-      let (cs, g₄, hold, images) = covers-sound (certificateBuffer certificate) (f .job .variables) ms (λ m i. oks m i .shape) _ p₃ h₄ in
+      let (cs, g₄, images, (hold, links-are)) = covers-sound (certificateBuffer certificate) (f .job .variables) ms (λ m i. oks m i .shape) _ p₃ h₄ in
       let (whole′, p₄-is) = end-sound (certificateBuffer certificate) p₄ h₅ in
+      let due : counts ≡ countsOf (f .job) ms (sum vs) = cc in
       record {
         job-length = a;
         certificate-length = b;
@@ -80,7 +81,7 @@ module _ (job certificate : List ℕ) (counts : Counts) where
         certificate-reads = reads-decode certificate (certificateNumbers ms cs) p₄ (reads-append (rw p₃-is at g₂) g₄) whole′;
         start = avoid;
         hold = hold;
-        counts-due = cc;
+        counts-due = due ∙ ap (countsOf (f .job) ms) links-are;
       })))))
 
   sound : verdict job certificate ≡ accepted counts → Conditions job certificate counts
@@ -100,12 +101,12 @@ module _ (job certificate : List ℕ) (counts : Counts) where
         let ms : List Located = withoutPlaces members in
         let oks : (m : Located) → m ∈ ms → LocatedInRange (f .job .variables) (f .states) m = rw same (c .members-range .members) in
         let avoid : (m : Located) → m ∈ ms → m .state ≡ f .job .start → ¬ Satisfies empty (m .shape) = rw same (c .start) in
-        let hold : AllHold ms (c .covers) (owed (f .job) ms) = rw same (c .hold) in
-        let images : (d : Cover) → d ∈ c .covers → ImageForEach ms d = rw same (c .images) in
-        let due : countsOf (f .job) ms ≡ counts = rw same (sym (c .counts-due)) in
         let (us, h₃) = tests-complete (f .job .variables) (f .states) (f .job .start) members oks p₂ avoid in
-        let (vs, h₄) = covers-complete s (f .job .variables) ms (λ m i. oks m i .shape) (owed (f .job) ms) (c .covers) p₂ p₄ g hold images in
-        rw (h₁, h₂, h₃, h₄, end-complete s p₄ whole) (ap (λ x. parsed x p₄) due)
+        let (ls, h₄, links-are) =
+        covers-complete s (f .job .variables) (c .members) (λ m i. c .members-range .members m i .shape) (owed (f .job) (c .members)) (c .covers) p₂ p₄ g
+        (c .images) (c .hold) in
+        let due : countsOf (f .job) (c .members) (sum ls) ≡ counts = ap (countsOf (f .job) (c .members)) links-are ∙ sym (c .counts-due) in
+        rw (h₁, h₂, h₃, same, h₄, end-complete s p₄ whole) (ap (λ x. parsed x p₄) due)
 
     complete : verdict job certificate ≡ accepted counts
     unfolding verdict

@@ -5,6 +5,7 @@ pub mod Covers
 pub mod Exact
 pub mod Guarantee
 pub mod Written
+pub mod Links
 pub mod Local
 pub mod FirstFault
 pub mod Completing

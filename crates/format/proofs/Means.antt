@@ -6,7 +6,7 @@ use mathlib.Core.Path.{_≡_, refl, sym, ap, ap₂, subst, subst₂, _∙_}
 use Prim.Native.Nat.{ℕ, _≤_}
 use native.Mathlib.Omega.{arith}
 use lib.ListN.{length}
-use Rattle.lists.specs.List.{_∈_, concatMap}
+use Rattle.lists.specs.List.{_∈_, concatMap, sum}
 use Rattle.lists.proofs.List.{concatMap-append}
 use Rattle.shape.specs.Shape.{InRange}
 use Rattle.run.specs.Run.{Located}
@@ -165,10 +165,10 @@ module _ (certificate : List ℕ) (f : JobFile) (ok : JobInRange f) where
               subst₂ (InCertificate f certificate) k q
               (cover-fails rule name (t .mid) (record { next = w .next; cover = read (w .next) (w .begun); images = w .images; first = w .first }))
 
-      left-meaning : (why : Reason) (place p₄ : ℕ) (vs : List (Unit {0})) → each (readCover s ms) (owed (f .job) ms) p₃ ≡ parsed vs p₄ → end s p₄ ≡ fault why place
+      left-meaning : (why : Reason) (place p₄ : ℕ) (vs : List ℕ) → each (readCover s ms) (owed (f .job) ms) p₃ ≡ parsed vs p₄ → end s p₄ ≡ fault why place
           → InCertificate f certificate why place
       left-meaning why place p₄ vs h₄ h₅ =
-          let (cs, g, hold, images) = covers-sound s (f .job .variables) ms shapes (owed (f .job) ms) p₃ h₄ in
+          let (cs, g, images, (hold, _)) = covers-sound s (f .job .variables) ms shapes (owed (f .job) ms) p₃ h₄ in
           let (k, q, more) = end-fault s p₄ h₅ in
           subst₂ (InCertificate f certificate) k q
           (certificate-left p₄ (so-far cs p₄ (owed (f .job) ms) [] g (sym (append-nil (owed (f .job) ms))) hold images) more)
@@ -179,7 +179,7 @@ module _ (certificate : List ℕ) (f : JobFile) (ok : JobInRange f) where
       then-fault (readMembers s (f .job .variables) (f .states) 0) _
       (λ members p₂ h₂. then-fault (each (testStart (f .job .start)) members p₂) _
       (λ us p₃ h₃. then-fault (each (readCover s (withoutPlaces members)) (owed (f .job) (withoutPlaces members)) p₃) _
-      (λ vs p₄ h₄. then-fault (end s p₄) _ (λ u p₅ h₅ r. absurd (not-fault (countsOf (f .job) (withoutPlaces members)) p₅ why place (sym r)))
+      (λ vs p₄ h₄. then-fault (end s p₄) _ (λ u p₅ h₅ r. absurd (not-fault (countsOf (f .job) (withoutPlaces members) (sum vs)) p₅ why place (sym r)))
       (left-meaning members p₂ h₂ us p₃ h₃ why place p₄ vs h₄))
       (covers-meaning members p₂ h₂ us p₃ h₃ why place))
       (start-meaning members p₂ h₂ why place))

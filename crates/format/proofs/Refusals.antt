@@ -126,10 +126,10 @@ module _ (variables states start : ℕ) where
 -- ---- covers
 
 -- a cover is refused for the rule that the answer of its test names
-judge-fault : (a : Answer) (first at : ℕ) {why : Reason} {place : ℕ} → judge a first at ≡ fault why place
+judge-fault : (a : Answer) (links first at : ℕ) {why : Reason} {place : ℕ} → judge a links first at ≡ fault why place
     → (rule : ℕ) × (name : ℕ) × (a ≡ broken rule name) × (broken-rule rule name ≡ why) × (first ≡ place)
-judge-fault holds first at {why} {place} e = absurd (not-fault tt at why place (sym e))
-judge-fault (broken rule name) first at e = (rule, name, refl, cc, cc)
+judge-fault holds links first at {why} {place} e = absurd (not-fault links at why place (sym e))
+judge-fault (broken rule name) links first at e = (rule, name, refl, cc, cc)
 
 module _ (s : Buffer) (variables : ℕ) (ms : List Located) (oks : (m : Located) → m ∈ ms → InRange variables 12 (m .shape)) where
   -- the first cover that is refused
@@ -152,7 +152,7 @@ module _ (s : Buffer) (variables : ℕ) (ms : List Located) (oks : (m : Located)
       then-fault (readCover s ms o at) _
       (λ u a h₁. then-fault (each (readCover s ms) os a) _ (λ us b h₂ r. absurd (not-fault (u ∷ us) b why place (sym r)))
       (λ h₂.
-      let (c, g, (h, fit)) = cover-sound s variables ms oks o at h₁ in
+      let (c, g, fit, (h, _)) = cover-sound s variables ms oks o at h₁ in
       let f = covers-fault os a why place h₂ in
       record {
         done = o ∷ f .done;
@@ -210,7 +210,7 @@ module _ (s : Buffer) (variables : ℕ) (ms : List Located) (oks : (m : Located)
       (λ images b h₂ h₃.
       let (n, g₁, numbered) = read-sound s (getElem? ms) at m a h₁ in
       let (g₂, (long, below)) = codes-exact s _ _ .sound a images b h₂ in
-      let (rule, name, t, k, q) = judge-fault (coverAnswer m images o) at b h₃ in
+      let (rule, name, t, k, q) = judge-fault (coverAnswer m images o) _ at b h₃ in
       let i = element-mem ms n m numbered in
       inl (
         rule,

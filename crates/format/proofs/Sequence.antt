@@ -49,6 +49,11 @@ pub reads-on : {s : List ℕ} {at next : ℕ} {ns : List ℕ} → Reads s at ns 
 reads-on done = omega arith
 reads-on (more {at = a} {n = n} {mid = k} g r) = let (_, b, _) = number-in a _ _ _ _ n k g in let c = reads-on r in omega arith
 
+-- each number has a byte at least
+pub reads-long : {s : List ℕ} {at next : ℕ} {ns : List ℕ} → Reads s at ns next → at + length ns ≤ next
+reads-long done = omega arith
+reads-long (more {at = a} {n = n} {mid = k} g r) = let (_, b, _) = number-in a _ _ _ _ n k g in let c = reads-long r in omega arith
+
 -- what is read does not go past the end
 pub reads-inside : {s : List ℕ} {at next : ℕ} {ns : List ℕ} → Reads s at ns next → at ≤ length s → next ≤ length s
 reads-inside done i = i

@@ -21,6 +21,7 @@ use Rattle.run.specs.Run.{Transition, Located}
 use Rattle.heap.proofs.Operands.{named-allowed}
 use Rattle.backward.specs.Predecessors.{predecessors}
 use Rattle.cover.specs.Cover.{predecessorsBy, owed, Cover, AllHold}
+use Rattle.cover.specs.Links.{linksOf}
 use Rattle.cover.proofs.InRange.{predecessors-range}
 use Rattle.format.specs.JobNumbers.{JobFile, opNumbers, transitionNumbers, locatedNumbers, jobNumbers}
 use Rattle.format.specs.Numbers.{memberNumbers, coverNumbers, certificateNumbers}
@@ -162,10 +163,10 @@ module _ (f : JobFile) (ms : List Located) (cs : List Cover) (ok : JobInRange f)
 
   -- WRITTEN: they are accepted, if they are not too long
   pub written-accepted : ((m : Located) → m ∈ ms → m .state ≡ f .job .start → ¬ Satisfies empty (m .shape)) → length (encode (jobNumbers f)) ≤ 65536
-      → length (encode (certificateNumbers ms cs)) ≤ 65536 → verdict (encode (jobNumbers f)) (encode (certificateNumbers ms cs)) ≡ accepted (countsOf (f .job) ms)
+      → length (encode (certificateNumbers ms cs)) ≤ 65536 → verdict (encode (jobNumbers f)) (encode (certificateNumbers ms cs)) ≡ accepted (countsOf (f .job) ms (linksOf ms cs (owed (f .job) ms) hold))
   unfolding encode bytesOf
   written-accepted start j c =
-      exact (encode (jobNumbers f)) (encode (certificateNumbers ms cs)) (countsOf (f .job) ms) .1
+      exact (encode (jobNumbers f)) (encode (certificateNumbers ms cs)) (countsOf (f .job) ms (linksOf ms cs (owed (f .job) ms) hold)) .1
       (record {
         job-length = (omega arith, j);
         certificate-length = (omega arith, c);

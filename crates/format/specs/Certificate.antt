@@ -7,7 +7,7 @@ use lib.ListN.{getElem?}
 use Rattle.shape.specs.Shape.{size}
 use Rattle.run.specs.Run.{Located}
 use Rattle.cover.specs.Cover.{byEmpty}
-use Rattle.cover.specs.Test.{Answer, holds, broken, coverAnswer}
+use Rattle.cover.specs.Test.{Answer, holds, broken, coverAnswer, linksFollowed}
 use Rattle.format.specs.Parser.{refusal, broken-rule, parsed, fault, Parser, _>>=_, _>>_, return, here, require, many, Buffer, readAs, ranged}
 use Rattle.format.specs.Job.{readLocated}
 
@@ -27,10 +27,10 @@ atStart start m = eqb (m .state) start && byEmpty (m .shape)
 abbrev pub testStart : ℕ → Member → Parser (Unit {0})
 testStart start m = require (not (atStart start (m .located))) (refusal 8) (m .first)
 
--- "9. A cover that reads doesn't hold (the cover's first byte)."
-abbrev pub judge : Answer → ℕ → Parser (Unit {0})
-judge holds first at = parsed tt at
-judge (broken rule name) first at = fault (broken-rule rule name) first
+-- "9. A cover that reads doesn't hold (the cover's first byte)." One that holds answers the links followed.
+abbrev pub judge : Answer → ℕ → ℕ → Parser ℕ
+judge holds links first at = parsed links at
+judge (broken rule name) links first at = fault (broken-rule rule name) first
 
 module _ (s : Buffer) where
   unfoldable pub readMember : ℕ → ℕ → Parser Member
@@ -47,9 +47,10 @@ module _ (s : Buffer) where
     many count (readMember variables states)
 
   -- "A cover is a member number below N and one image for each of its cells, below the number of cells of the covered shape."
-  unfoldable pub readCover : List Located → Located → Parser (Unit {0})
+  -- Its value is the number of links followed.
+  unfoldable pub readCover : List Located → Located → Parser ℕ
   readCover members covered = do
     first ← here
     member ← readAs s (getElem? members)
     images ← many (size (member .shape)) (ranged s 0 (size (covered .shape)))
-    judge (coverAnswer member images covered) first
+    judge (coverAnswer member images covered) (linksFollowed (member .shape) (covered .shape) images) first

@@ -10,6 +10,7 @@ use Rattle.number.specs.NumberList.{numbers, decode}
 use Rattle.shape.specs.Shape.{size}
 use Rattle.run.specs.Run.{Located, Job}
 use Rattle.cover.specs.Cover.{Cover, owed, Avoids, AllHold}
+use Rattle.cover.specs.Links.{linksOf}
 use Rattle.format.specs.JobBytes.{Between, LocatedInRange, IsJob}
 use Rattle.format.specs.JobNumbers.{JobFile}
 use Rattle.format.specs.Numbers.{certificateNumbers}
@@ -24,9 +25,9 @@ pub record MembersInRange (f : JobFile) (ms : List Located) : Type 0 where
 abbrev pub ImageForEach : List Located → Cover → Type 0
 ImageForEach ms c = (m : Located) → getElem? ms (c .member) ≡ some m → length (c .images) ≡ size (m .shape)
 
--- the counts that are due
-abbrev pub countsOf : Job → List Located → Counts
-countsOf j ms = record { bads = length (j .forbidden); members = length ms; covers = length (owed j ms) }
+-- the counts that are due, with the links followed
+abbrev pub countsOf : Job → List Located → ℕ → Counts
+countsOf j ms links = record { bads = length (j .forbidden); members = length ms; covers = length (owed j ms); links = links }
 
 -- The conditions of acceptance, with the counts that are then told.
 pub record Conditions (job certificate : List ℕ) (counts : Counts) : Type 0 where
@@ -41,7 +42,8 @@ pub record Conditions (job certificate : List ℕ) (counts : Counts) : Type 0 wh
   pub certificate-reads : decode certificate ≡ numbers (certificateNumbers members covers)
   pub start : Every (Avoids (file .job .start)) members
   pub hold : AllHold members covers (owed (file .job) members)
-  pub counts-due : counts ≡ countsOf (file .job) members
+  -- the links: over all covers, the lengths of the paths of its embedding
+  pub counts-due : counts ≡ countsOf (file .job) members (linksOf members covers (owed (file .job) members) hold)
 
 -- the certificate is to be accepted, with some counts
 abbrev pub Acceptable : List ℕ → List ℕ → Type 0

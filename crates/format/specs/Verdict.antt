@@ -3,6 +3,7 @@ use mathlib.Core.Bool.{Bool, cond}
 use mathlib.Core.List.{List}
 use Prim.Native.Nat.{ℕ}
 use lib.ListN.{length}
+use Rattle.lists.specs.List.{sum}
 use Rattle.run.specs.Run.{Located}
 use Rattle.cover.specs.Cover.{owed}
 use Rattle.format.specs.Parser.{Reason, refusal, Parsed, parsed, fault, onward, Parser, _>>=_, _>>_, return, each, Buffer, jobBuffer, certificateBuffer, within, end}
@@ -10,13 +11,15 @@ use Rattle.format.specs.Job.{readWholeJob}
 use Rattle.format.specs.JobNumbers.{JobFile}
 use Rattle.format.specs.Certificate.{withoutPlaces, readMembers, testStart, readCover}
 
--- "The counts are B, N and the covers in the order above."
+-- "The counts are B, N and the covers in the order above." Document 02, Wish 8: "The verdict carries the sum over all covers as a fourth
+-- count", that of the links followed.
 pub record Counts : Type 0 where
   pub bads : ℕ
   pub members : ℕ
   pub covers : ℕ
+  pub links : ℕ
 
--- "an answer carries either the three counts or a refusal with its place"
+-- "an answer carries either the three counts or a refusal with its place"; they are four with the links
 pub data Verdict : Type 0 where
   accepted : Counts → Verdict
   refused : Reason → ℕ → Verdict
@@ -29,9 +32,9 @@ readCertificate s f = do
   let ms : List Located = withoutPlaces members
   let covered : List Located = owed (f .job) ms
   each (testStart (f .job .start)) members
-  each (readCover s ms) covered
+  links ← each (readCover s ms) covered
   end s
-  return (record { bads = length (f .job .forbidden); members = length ms; covers = length covered })
+  return (record { bads = length (f .job .forbidden); members = length ms; covers = length covered; links = sum links })
 
 -- the job, then the certificate, each from its first byte
 unfoldable pub readBoth : List ℕ → List ℕ → Parsed Counts

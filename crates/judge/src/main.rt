@@ -29,6 +29,7 @@ fn print_counts(counts: Counts) {
     print(b"accepted bads ", counts.bads as u64);
     print(b" members ", counts.members as u64);
     print(b" covers ", counts.covers as u64);
+    print(b" links ", counts.links as u64);
 }
 
 // Judges the two files.

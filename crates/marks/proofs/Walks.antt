@@ -3,14 +3,15 @@ use mathlib.Core.Bool.{Bool, true, false, cond}
 use mathlib.Core.List.{List, [], _∷_}
 use mathlib.Core.Logic.{_≢_}
 use mathlib.Core.Path.{_≡_, refl, sym, _∙_}
-use Prim.Native.Nat.{ℕ, zero, suc, _≤_, _<_}
+use Prim.Native.Nat.{ℕ, zero, suc, _+_, _≤_, _<_}
 use native.Mathlib.Decide.{decLt}
+use native.Mathlib.Numerals.{add-one}
 use native.Mathlib.Omega.{arith}
 use borrow.Author.Tests.{eq-eqb, ne-eqb, lt-ltb, le-ltb}
 use lib.Dec.{eqb}
-use lib.ListN.{length, getD, set}
+use lib.ListN.{length, getD, set, length-set}
 use Rattle.heap.specs.Place.{nowhere, cell}
-use Rattle.marks.specs.Marks.{markIn, cellsIn, walked, stopFrom}
+use Rattle.marks.specs.Marks.{markIn, cellsIn, walkedFrom, walked, stopFrom}
 
 -- ---- how many places are free
 
@@ -58,39 +59,60 @@ module _ (n : ℕ) (marks : List ℕ) (p : ℕ) where
 -- ---- the walk to what is not free
 
 module _ (s : List ℕ) where
-  pub walk-more : (k : ℕ) (marks : List ℕ) (p : ℕ) → markIn (cellsIn s) marks p ≡ 0 → walked (suc k) s marks p ≡ walked k s (set marks p 2) (getD s p 0)
-  unfolding walked
-  walk-more k marks p e = rw (eq-eqb (markIn (cellsIn s) marks p) 0 e) refl
+  pub walk-more : (k links : ℕ) (marks : List ℕ) (p : ℕ) → markIn (cellsIn s) marks p ≡ 0
+      → walkedFrom (suc k) links s marks p ≡ walkedFrom k (suc links) s (set marks p 2) (getD s p 0)
+  unfolding walkedFrom
+  walk-more k links marks p e = rw (eq-eqb (markIn (cellsIn s) marks p) 0 e) refl
 
-  pub walk-met : (k : ℕ) (marks : List ℕ) (p : ℕ) → markIn (cellsIn s) marks p ≢ 0 → walked k s marks p ≡ record { end = p; marks = marks }
-  unfolding walked
-  walk-met zero marks p e = refl
-  walk-met (suc k) marks p e = rw (ne-eqb (markIn (cellsIn s) marks p) 0 e) refl
+  pub walk-met : (k links : ℕ) (marks : List ℕ) (p : ℕ) → markIn (cellsIn s) marks p ≢ 0
+      → walkedFrom k links s marks p ≡ record { end = p; links = links; marks = marks }
+  unfolding walkedFrom
+  walk-met zero links marks p e = refl
+  walk-met (suc k) links marks p e = rw (ne-eqb (markIn (cellsIn s) marks p) 0 e) refl
+
+  -- each turn follows a link
+  pub walk-few : (k links : ℕ) (marks : List ℕ) (p : ℕ) → walkedFrom k links s marks p .links ≤ k + links
+  unfolding walkedFrom
+  walk-few zero links marks p = omega arith
+  walk-few (suc k) links marks p = go (eqb (markIn (cellsIn s) marks p) 0) (walk-few k (suc links) (set marks p 2) (getD s p 0))
+    where
+      go : (b : Bool) → walkedFrom k (suc links) s (set marks p 2) (getD s p 0) .links ≤ k + suc links
+          → cond b (walkedFrom k (suc links) s (set marks p 2) (getD s p 0)) (record { end = p; links = links; marks = marks }) .links ≤ suc k + links
+      go true h = omega arith
+      go false h = omega arith
 
   module _ (marks₀ : List ℕ) (first : ℕ) where
-    -- the walk has come to a place, with turns left for all that is free
-    pub record Going (marks : List ℕ) (p : ℕ) : Type 0 where
+    -- the walk has come to a place by so many links, with turns left for all that is free
+    pub record Going (marks : List ℕ) (p links : ℕ) : Type 0 where
       pub left : ℕ
       pub enough : frees marks ≤ left
-      pub goes : walked (length marks₀) s marks₀ first ≡ walked left s marks p
+      pub counted : left + links ≡ length marks + 1
+      pub goes : walked s marks₀ first ≡ walkedFrom left links s marks p
 
-    pub going-none : Going marks₀ first
-    going-none = record { left = length marks₀; enough = frees-most marks₀; goes = refl }
+    pub going-none : Going marks₀ first 1
+    going-none = record { left = length marks₀; enough = frees-most marks₀; counted = refl; goes = refl }
 
-    module _ (marks : List ℕ) (p : ℕ) (g : Going marks p) where
+    module _ (marks : List ℕ) (p links : ℕ) (g : Going marks p links) where
       module _ (b : p < length marks) (e : markIn (cellsIn s) marks p ≡ 0) where
         pub going-less : frees (set marks p 2) < frees marks
         going-less = frees-less marks p 2 b (mark-in (cellsIn s) marks p e .1) (omega arith)
 
-        pub going-more : Going (set marks p 2) (getD s p 0)
-        going-more = go (g .left) (g .enough) (g .goes)
+        pub going-more : Going (set marks p 2) (getD s p 0) (links + 1)
+        going-more = go (g .left) (g .enough) (g .counted) (g .goes)
           where
-            go : (k : ℕ) → frees marks ≤ k → walked (length marks₀) s marks₀ first ≡ walked k s marks p → Going (set marks p 2) (getD s p 0)
-            go zero h w = absurd (omega (arith, going-less))
-            go (suc k) h w = record { left = k; enough = omega (arith, going-less); goes = w ∙ walk-more k marks p e }
+            go : (k : ℕ) → frees marks ≤ k → k + links ≡ length marks + 1 → walked s marks₀ first ≡ walkedFrom k links s marks p
+                → Going (set marks p 2) (getD s p 0) (links + 1)
+            go zero h c w = absurd (omega (arith, going-less))
+            go (suc k) h c w =
+                record {
+                  left = k;
+                  enough = omega (arith, going-less);
+                  counted = omega (arith, length-set marks p 2);
+                  goes = rw (add-one links) (w ∙ walk-more k links marks p e);
+                }
 
-      pub going-met : markIn (cellsIn s) marks p ≢ 0 → walked (length marks₀) s marks₀ first ≡ record { end = p; marks = marks }
-      going-met e = g .goes ∙ walk-met (g .left) marks p e
+      pub going-met : markIn (cellsIn s) marks p ≢ 0 → walked s marks₀ first ≡ record { end = p; links = links; marks = marks }
+      going-met e = g .goes ∙ walk-met (g .left) links marks p e
 
 -- ---- the way to a stop
 

@@ -31,18 +31,23 @@ cellsIn s = length (linksIn s)
 abbrev pub isStop : List ℕ → List ℕ → ℕ → Bool
 isStop s marks p = eqb (markIn (cellsIn s) marks p) 1
 
--- where a walk came to, and the marks after it
+-- where a walk came to, how many links lead there, and the marks after it
 pub record Walk : Type 0 where
   pub end : ℕ
+  pub links : ℕ
   pub marks : List ℕ
 
--- The walk from a place along links to the first that is not free; what it passes is used. Each turn takes a free place, so that there are no more turns
--- than marks.
-unfoldable pub walked : ℕ → List ℕ → List ℕ → ℕ → Walk
-walked zero s marks p = record { end = p; marks = marks }
-walked (suc k) s marks p =
-    let rest = walked k s (set marks p 2) (getD s p 0) in
-    cond (eqb (markIn (cellsIn s) marks p) 0) rest (record { end = p; marks = marks })
+-- The walk from a place, to which so many links have led, along links to the first that is not free; what it passes is used. Each turn takes a free
+-- place, so that there are no more turns than marks.
+unfoldable pub walkedFrom : ℕ → ℕ → List ℕ → List ℕ → ℕ → Walk
+walkedFrom zero links s marks p = record { end = p; links = links; marks = marks }
+walkedFrom (suc k) links s marks p =
+    let rest = walkedFrom k (suc links) s (set marks p 2) (getD s p 0) in
+    cond (eqb (markIn (cellsIn s) marks p) 0) rest (record { end = p; links = links; marks = marks })
+
+-- the walk from the first place of a path, to which one link has led
+abbrev pub walked : List ℕ → List ℕ → ℕ → Walk
+walked s marks first = walkedFrom (length marks) 1 s marks first
 
 -- the first stop from a place along links; nowhere if they lead past the cells, or that takes more than k turns
 unfoldable pub stopFrom : ℕ → List ℕ → List ℕ → ℕ → ℕ

@@ -1,4 +1,4 @@
-// Marks of places by their codes, made ahead of the walk, and the walk along links by marks alone.
+// Marks of places by their codes, made ahead of the walk, and the walk along links by marks alone, which counts them.
 use layout::cells_held;
 use number::wide;
 ghost use mathlib.Core.List.{List};
@@ -56,17 +56,25 @@ pub fn is_stop(s: &[u8; 28], marks: &[u8; 28], p: usize) -> bool
     mark_at(marks, cells_held(s), p) == STOP
 }
 
-// Follows links from a place on to the first that is not free, and uses those before it.
-pub fn walk(s: &[u8; 28], marks: &mut [u8; 28], first: usize) -> usize
-    ensures { λ r. ⌜ (r ≡ walked (length (now (marks .entry))) (now (s .entry)) (now (marks .entry)) first .end) × (now (marks .exit) ≡ walked (length (now (marks .entry))) (now (s .entry)) (now (marks .entry)) first .marks) ⌝ }
+// Where a walk came to, and how many links lead there: one to its first place, and one from each place that it passed.
+pub struct WalkEnd {
+    pub place: usize,
+    pub links: u16,
+}
+
+// Follows links from the first place of a path on to the first that is not free, and uses those before it.
+pub fn walk(s: &[u8; 28], marks: &mut [u8; 28], first: usize) -> WalkEnd
+    ensures { λ r. ⌜ (r .place ≡ walked (now (s .entry)) (now (marks .entry)) first .end) × (r .links ≡ walked (now (s .entry)) (now (marks .entry)) first .links) × (now (marks .exit) ≡ walked (now (s .entry)) (now (marks .entry)) first .marks) ⌝ }
 {
     let n = cells_held(s);
     let mut p = first;
+    let mut links = 1;
     while mark_at(marks, n, p) == FREE {
         marks[p] = USED;
         p = wide(s[p]);
+        links += 1;
     }
-    p
+    WalkEnd { place: p, links }
 }
 
 // Follows links from a place on to the first stop; nowhere where as many turns as there are cells lead to none.

@@ -35,7 +35,7 @@ nameTold (broken-rule rule name) = name
 
 -- the verdict of the definitions that an answer of the code is
 abbrev pub verdictOf : Answer → Verdict
-verdictOf (Accepted c) = accepted (record { bads = c .bads; members = c .members; covers = c .covers })
+verdictOf (Accepted c) = accepted (record { bads = c .bads; members = c .members; covers = c .covers; links = c .links })
 verdictOf (Refused r place) = refused (reasonOf r) place
 
 -- what a place reached, or a refusal, is as the answer of a parser
@@ -43,7 +43,7 @@ abbrev pub reachedOf : Reached → Parsed (Unit {0})
 reachedOf (At next) = parsed tt next
 reachedOf (ReachedRefused r place) = fault (reasonOf r) place
 
--- what a host is told: 0 with the three counts, or document 01's number with the place, the rule that broke and the name
+-- what a host is told: 0 with the four counts, or document 01's number with the place, the rule that broke, the name and 0
 abbrev pub verdictResult : Verdict → CallResult
-verdictResult (accepted c) = record { code = 0; values = c .bads ∷ c .members ∷ c .covers ∷ [] }
-verdictResult (refused why place) = record { code = reasonNumber why; values = place ∷ ruleTold why ∷ nameTold why ∷ [] }
+verdictResult (accepted c) = record { code = 0; values = c .bads ∷ c .members ∷ c .covers ∷ c .links ∷ [] }
+verdictResult (refused why place) = record { code = reasonNumber why; values = place ∷ ruleTold why ∷ nameTold why ∷ 0 ∷ [] }

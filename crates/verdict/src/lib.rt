@@ -1,4 +1,4 @@
-// The verdict on a job and a certificate: three counts, or a refusal with its place.
+// The verdict on a job and a certificate: four counts, or a refusal with its place.
 ghost use mathlib.Core.Path.{_≡_};
 ghost use Rattle.format.specs.Parser.{reasonNumber};
 ghost use Rattle.verdict.specs.Verdict.{reasonOf, ruleTold, nameTold};
@@ -34,11 +34,12 @@ pub enum Refusal {
     CertificateLeft,
 }
 
-// The counts of an accepted pair: forbidden shapes, members, covers.
+// The counts of an accepted pair: forbidden shapes, members, covers, and the links followed for all covers.
 pub struct Counts {
     pub bads: u32,
     pub members: u32,
     pub covers: u32,
+    pub links: u32,
 }
 
 // Accepted with the counts, or a refusal with its place.

@@ -23,6 +23,7 @@ fn say_counts(counts: Counts) {
     say_number(b"accepted bads ", counts.bads as u64);
     say_number(b" members ", counts.members as u64);
     say_number(b" covers ", counts.covers as u64);
+    say_number(b" links ", counts.links as u64);
 }
 
 // Prints the verdict on a case.

@@ -1,6 +1,6 @@
 //! The verdict on a job and a certificate, fast.
 
-use super::embedding::{broken, passed, variables_agree, ENDS, NO_IMAGES};
+use super::embedding::{broken, follow, variables_agree, ENDS, NO_IMAGES};
 use super::job::{Entry, Job};
 use super::predecessor::each_predecessor;
 use super::reader::{Reader, Stopped};
@@ -17,16 +17,27 @@ pub fn check(job: &[u8], certificate: &[u8]) -> Verdict {
         covers
             .check_all(job)
             .map_err(|Stopped| covers.reader.refusal)?;
-        Ok((covers.members.len() as u64, covers.count))
+        Ok(Counted {
+            members: covers.members.len() as u64,
+            covers: covers.count,
+            links: covers.links,
+        })
     })
 }
 
-/// The verdict on two buffers, given a check of the certificate that counts its members and covers.
+/// What is counted in a certificate.
+pub struct Counted {
+    pub members: u64,
+    pub covers: u64,
+    pub links: u64,
+}
+
+/// The verdict on two buffers, given a check of the certificate that counts what it has.
 #[inline(always)]
 pub fn verdict<S: Entry>(
     job: &[u8],
     certificate: &[u8],
-    check: impl FnOnce(&Job<S>, &[u8]) -> Result<(u64, u64), Refusal>,
+    check: impl FnOnce(&Job<S>, &[u8]) -> Result<Counted, Refusal>,
 ) -> Verdict {
     let accept = || {
         check_length(job, 1)?;
@@ -35,11 +46,12 @@ pub fn verdict<S: Entry>(
         // The job stays where it is read to.
         let job = Job::read(&mut reader);
         let job = job.as_ref().map_err(|&Stopped| reader.refusal)?;
-        let (members, covers) = check(job, certificate)?;
+        let counted = check(job, certificate)?;
         Ok(Counts {
             bads: job.forbidden.len() as u64,
-            members,
-            covers,
+            members: counted.members,
+            covers: counted.covers,
+            links: counted.links,
         })
     };
     accept().into()
@@ -65,6 +77,7 @@ pub struct Covers<'a> {
     pub members: Vec<Located>,
     pub variables: usize,
     pub count: u64,
+    pub links: u64,
 }
 
 impl<'a> Covers<'a> {
@@ -74,6 +87,7 @@ impl<'a> Covers<'a> {
             members: Vec::new(),
             variables: 0,
             count: 0,
+            links: 0,
         }
     }
 
@@ -128,12 +142,14 @@ impl<'a> Covers<'a> {
             marks |= 1 << *image;
         }
         self.count += 1;
-        let holds = twice == 0
+        let may_hold = twice == 0
             && member.state == state
-            && variables_agree(&member.shape, covered, &images, self.variables)
-            && passed(&member.shape, covered, &images, marks).is_some();
-        if holds {
-            return Ok(());
+            && variables_agree(&member.shape, covered, &images, self.variables);
+        if may_hold {
+            if let Some(paths) = follow(&member.shape, covered, &images, marks) {
+                self.links += u64::from(paths.links);
+                return Ok(());
+            }
         }
         let broken = broken(member, state, covered, &images, self.variables);
         self.reader.refusal = Refusal::of_cover(place, broken);

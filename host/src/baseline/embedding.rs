@@ -34,23 +34,32 @@ fn agrees(here: u8, there: u8, images: &Images) -> bool {
     here == NOWHERE || images[usize::from(here)] == there
 }
 
-/// The cells strictly between on the paths of the links whose ends have images, a bit for each;
-/// nothing where a path misses or two meet. The marks are the images and [`ENDS`].
+/// Paths that were followed.
+pub struct Followed {
+    /// The cells strictly between, a bit for each.
+    pub passed: u32,
+    /// How many links were followed.
+    pub links: u32,
+}
+
+/// Follows the paths of the links whose ends have images; nothing where one misses or two meet. The
+/// marks are the images and [`ENDS`].
 #[inline(always)]
-pub fn passed(member: &Shape, covered: &Shape, images: &Images, marks: u32) -> Option<u32> {
-    passed_from(0..member.cells.into(), member, covered, images, marks)
+pub fn follow(member: &Shape, covered: &Shape, images: &Images, marks: u32) -> Option<Followed> {
+    follow_from(0..member.cells.into(), member, covered, images, marks)
 }
 
 /// The same for the links of some cells.
 #[inline(always)]
-fn passed_from(
+fn follow_from(
     cells: Range<usize>,
     member: &Shape,
     covered: &Shape,
     images: &Images,
     marks: u32,
-) -> Option<u32> {
+) -> Option<Followed> {
     let mut passed = 0;
+    let mut links = 0;
     let first = usize::from(CELL) + cells.start;
     for (cell, &link) in member.links[cells].iter().enumerate() {
         let source = images[first + cell];
@@ -59,6 +68,7 @@ fn passed_from(
             continue;
         }
         let mut place = covered.link_of(source);
+        links += 1;
         while marks >> place & 1 == 0 {
             // Passed before: on another path, or on a ring without an image.
             if passed >> place & 1 == 1 {
@@ -66,12 +76,13 @@ fn passed_from(
             }
             passed |= 1 << place;
             place = covered.link_of(place);
+            links += 1;
         }
         if place != target {
             return None;
         }
     }
-    Some(passed)
+    Some(Followed { passed, links })
 }
 
 /// The first rule that is broken by a cover which doesn't hold, at the lowest cell or variable.
@@ -107,13 +118,13 @@ pub fn broken(
     let mut passed = 0;
     let mut shared = None;
     for cell in 0..cells {
-        let Some(path) = passed_from(cell..cell + 1, shape, covered, images, marks) else {
+        let Some(path) = follow_from(cell..cell + 1, shape, covered, images, marks) else {
             return at(Rule::Link, cell);
         };
-        if passed & path != 0 {
+        if passed & path.passed != 0 {
             shared = shared.or(Some(cell));
         }
-        passed |= path;
+        passed |= path.passed;
     }
     at(
         Rule::Path,

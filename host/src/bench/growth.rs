@@ -45,8 +45,8 @@ mod tests {
             check(&pair.job, &pair.certificate).to_string()
         };
         let members = verdict(in_members().last());
-        assert_eq!(members, "accepted bads 1 members 512 covers 513");
+        assert_eq!(members, "accepted bads 1 members 512 covers 513 links 2052");
         let covers = verdict(in_covers().last());
-        assert_eq!(covers, "accepted bads 1 members 20 covers 5121");
+        assert_eq!(covers, "accepted bads 1 members 20 covers 5121 links 20484");
     }
 }

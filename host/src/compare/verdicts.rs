@@ -13,11 +13,15 @@ use crate::reference::job::Job;
 use crate::sweep;
 use crate::verdict::{Broken, Check, Verdict};
 
-const OUTCOMES: [&str; 23] = [
-    "accepted, up to 5 covers",
-    "accepted, up to 50 covers",
-    "accepted, up to 500 covers",
-    "accepted, up to 65,000 covers",
+const OUTCOMES: [&str; 27] = [
+    "accepted, up to 5 covers, no links",
+    "accepted, up to 5 covers with links",
+    "accepted, up to 50 covers, no links",
+    "accepted, up to 50 covers with links",
+    "accepted, up to 500 covers, no links",
+    "accepted, up to 500 covers with links",
+    "accepted, up to 65,000 covers, no links",
+    "accepted, up to 65,000 covers with links",
     "refused  1",
     "refused  2",
     "refused  3",
@@ -40,7 +44,7 @@ const OUTCOMES: [&str; 23] = [
 ];
 
 /// Lengths of `out` that are tried in turn: too short, exact and longer.
-const OUT_LENGTHS: [usize; 5] = [0, 1, 2, 3, 4];
+const OUT_LENGTHS: [usize; 6] = [0, 1, 2, 3, 4, 5];
 
 /// Compares checkers, each with its title, with the reference on pairs; and last the library's two
 /// calls, with all that they write.
@@ -71,26 +75,26 @@ pub fn compare(
 }
 
 /// What both calls return, and what the second leaves in an array of which so much is lent.
-type Answers = (u32, u32, [u64; 4]);
+type Answers = (u32, u32, [u64; 5]);
 
 fn answers(job: &[u8], certificate: &[u8], out_len: usize) -> Answers {
-    let mut out = [UNTOUCHED; 4];
+    let mut out = [UNTOUCHED; 5];
     let number = library::check(job, certificate);
     let again = library::verdict(job, certificate, &mut out[..out_len]);
     (number, again, out)
 }
 
 fn expected_answers(verdict: &Verdict, out_len: usize) -> Answers {
-    let mut out = [UNTOUCHED; 4];
-    if out_len >= 3 {
+    let mut out = [UNTOUCHED; 5];
+    if out_len >= 4 {
         let results = match verdict {
-            Verdict::Accepted(counts) => [counts.bads, counts.members, counts.covers],
+            Verdict::Accepted(counts) => [counts.bads, counts.members, counts.covers, counts.links],
             Verdict::Refused(refusal) => {
                 let [rule, name] = refusal.broken.map_or([0, 0], Broken::numbers);
-                [refusal.place as u64, rule, name]
+                [refusal.place as u64, rule, name, 0]
             }
         };
-        out[..3].copy_from_slice(&results);
+        out[..4].copy_from_slice(&results);
     }
     (verdict.number(), verdict.number(), out)
 }
@@ -131,7 +135,11 @@ fn outcome(job: &[u8], certificate: &[u8], verdict: &Verdict) -> String {
                 51..=500 => "500",
                 _ => "65,000",
             };
-            format!("accepted, up to {most} covers")
+            let links = match counts.links {
+                0 => ", no links",
+                _ => " with links",
+            };
+            format!("accepted, up to {most} covers{links}")
         }
         Verdict::Refused(refusal) => match refusal.broken {
             None => format!("refused {:>2}", refusal.number),

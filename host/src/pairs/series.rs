@@ -124,7 +124,7 @@ fn job(variables: usize, transitions: Vec<Transition>, forbidden: Vec<Located>) 
 #[cfg(test)]
 mod tests {
     use super::*;
-    use crate::baseline::embedding::{passed, ENDS, NO_IMAGES};
+    use crate::baseline::embedding::{follow, ENDS, NO_IMAGES};
     use crate::baseline::shape::{Shape as Array, CELL};
     use crate::reference::certificate::read_members;
     use crate::reference::checker::check;
@@ -186,6 +186,6 @@ mod tests {
         }
         let [member, covered] =
             [&read.member, &read.owed.covered].map(|at| Array::of_reference(&at.shape));
-        passed(&member, &covered, &images, marks).is_some()
+        follow(&member, &covered, &images, marks).is_some()
     }
 }

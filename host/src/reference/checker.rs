@@ -23,18 +23,21 @@ fn accept(job: &[u8], certificate: &[u8]) -> Result<Counts, Refusal> {
     let members = read_members(&mut reader, &job)?;
     check_start(&job, &members)?;
     let mut covers = 0;
+    let mut links = 0;
     for cover in read_covers(&mut reader, &job, &members) {
         let cover = cover?;
         if let Some(broken) = cover.broken() {
             return Err(Refusal::of_cover(cover.place, broken));
         }
         covers += 1;
+        links += cover.map().links() as u64;
     }
     reader.end(10)?;
     Ok(Counts {
         bads: job.forbidden.len() as u64,
         members: members.len() as u64,
         covers,
+        links,
     })
 }
 
@@ -71,11 +74,12 @@ mod tests {
     /// The same with variable 1 := null.
     const ASSIGNED: [u8; 14] = [1, 1, 2, 0, 1, 0, 3, 1, 0, 1, 1, 1, 0, 1];
 
-    fn accepted(bads: u64, members: u64, covers: u64) -> Verdict {
+    fn accepted(bads: u64, members: u64, covers: u64, links: u64) -> Verdict {
         Verdict::Accepted(Counts {
             bads,
             members,
             covers,
+            links,
         })
     }
 
@@ -98,11 +102,24 @@ mod tests {
 
     #[test]
     fn documented_pairs() {
-        assert_eq!(check(&JOB, &[1, 1, 1, 0, 1, 0]), accepted(1, 1, 1));
+        assert_eq!(check(&JOB, &[1, 1, 1, 0, 1, 0]), accepted(1, 1, 1, 0));
         assert_eq!(check(&JOB, &[1, 1, 1, 0, 2, 0]), not_covered(5, 3, 1));
         assert_eq!(check(&ASSIGNED, &[1, 1, 1, 0, 1, 0]), refused(6, 6));
         let with_start_member = [1, 2, 1, 0, 1, 0, 0, 0, 0];
         assert_eq!(check(&ASSIGNED, &with_start_member), refused(8, 5));
+    }
+
+    /// The forbidden shape is a chain of three cells to #. The member is the same, then its first cell
+    /// and its last, then no cell.
+    #[test]
+    fn links_are_counted_over_all_covers() {
+        let chain = [3, 0, 4, 5, 1];
+        let located = [&[0][..], &chain].concat();
+        let job = [&[1, 1, 2, 1, 0, 3], &located.repeat(3)[..]].concat();
+        let members = [&[1, 3][..], &located, &[0, 2, 0, 4, 1], &[0, 0, 0]].concat();
+        let covers = [0, 0, 1, 2, 1, 0, 2, 2];
+        let verdict = check(&job, &[&members[..], &covers].concat());
+        assert_eq!(verdict, accepted(3, 3, 3, 6));
     }
 
     #[test]
@@ -149,7 +166,7 @@ mod tests {
     fn shapes_have_at_most_twelve_cells() {
         let twelve = [&JOB[..12], &[12], &[1], &[14; 12]].concat();
         let thirteen = [&JOB[..12], &[13], &[1], &[14; 13]].concat();
-        assert_eq!(check(&twelve, &[1, 1, 1, 0, 1, 0]), accepted(1, 1, 1));
+        assert_eq!(check(&twelve, &[1, 1, 1, 0, 1, 0]), accepted(1, 1, 1, 0));
         assert_eq!(check(&thirteen, &[1, 1, 1, 0, 1, 0]), refused(4, 12));
         assert_eq!(check(&JOB, &[1, 1, 1, 12, 1]), refused(6, 5));
         assert_eq!(check(&JOB, &[1, 1, 1, 13, 1]), refused(7, 3));

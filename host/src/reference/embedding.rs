@@ -115,6 +115,12 @@ impl Map<'_> {
         Path { between, end: met }
     }
 
+    /// The sum of the lengths of the paths: each has a link more than cells between.
+    pub fn links(&self) -> usize {
+        let linked = (0..self.shape.cells()).filter(|&cell| self.shape.links[cell].is_some());
+        linked.map(|cell| self.path(cell).between.len() + 1).sum()
+    }
+
     /// The lowest of the cells below a cell with whose path its own shares a cell, and the first such
     /// cell.
     pub fn shared(&self, cell: usize) -> Option<(usize, usize)> {
@@ -179,6 +185,24 @@ mod tests {
         assert!(embeds(&one_link, &meeting(), &[0, 3]));
         assert!(embeds(&one_link, &meeting(), &[2, 3]));
         assert_eq!(broken(&one_link, &meeting(), &[3, 0]), Some((4, 0)));
+    }
+
+    #[test]
+    fn links_are_the_lengths_of_all_paths() {
+        let links = |shape: &Shape, images: &[usize]| {
+            let map = Map {
+                shape,
+                other: &meeting(),
+                images,
+            };
+            assert_eq!(map.broken(), None);
+            map.links()
+        };
+        let one_link = Shape::of_codes(&[0], &[4, 0]);
+        assert_eq!(links(&one_link, &[0, 3]), 2);
+        assert_eq!(links(&one_link, &[2, 3]), 1);
+        assert_eq!(links(&meeting(), &[0, 1, 2, 3]), 3);
+        assert_eq!(links(&Shape::of_codes(&[0], &[0, 0]), &[0, 3]), 0);
     }
 
     #[test]

@@ -225,6 +225,9 @@ fn counts(routine: &Routine, judged: &Judged) -> String {
             ("bytes of the certificate", certificate.bytes().len() as u64),
         ]);
     }
+    if let Ending::Certified(_, Verdict::Accepted(counts)) = &judged.ending {
+        rows.push(("links followed", counts.links));
+    }
     let cells: String = rows
         .iter()
         .map(|(name, count)| format!("<div><dt>{name}</dt><dd>{}</dd></div>\n", thousands(*count)))

@@ -1,6 +1,6 @@
 //! Finding images that make one shape embed in another.
 
-use crate::baseline::embedding::{passed, Images, ENDS, NO_IMAGES};
+use crate::baseline::embedding::{follow, Images, ENDS, NO_IMAGES};
 use crate::baseline::shape::{Shape, CELL, HELPER, NOWHERE};
 
 /// Facts about single variables and pairs of them, a bit for each. A shape that embeds in another
@@ -96,7 +96,7 @@ impl Finder<'_> {
     /// Extends the images to the linked cells from the next one on, then to the loose ones. More
     /// images mend no path, so what fails early is left.
     fn extend(&self, images: Images, marks: u32, next: usize) -> Option<Images> {
-        let passed = passed(self.small, self.large, &images, marks)?;
+        let passed = follow(self.small, self.large, &images, marks)?.passed;
         let Some(&code) = self.linked.get(next) else {
             return self.with_loose(images, marks | passed);
         };

@@ -1,4 +1,4 @@
--- The same as of `vorruda_check`, and the counts or the place lent.
+-- The same as of `vorruda_check`, and the values lent.
 use mathlib.Core.Path.{refl}
 use Rattle.call_check.proofs.Judging.{told-accepted, told-refused, told-values}
 use borrow.Author.Needs.{needs}
@@ -19,6 +19,9 @@ cast-t14 c = search needs
 
 cast-t15 : tie.Need-cast-t15
 cast-t15 c = search needs
+
+cast-t16 : tie.Need-cast-t16
+cast-t16 c = search needs
 
 slice-aggregate-lend : tie.Need-slice-aggregate-lend
 slice-aggregate-lend c = search needs
@@ -55,8 +58,8 @@ same-length c = search needs
 
 returns : tie.Need-returns
 returns c =
-    let k = c .before .before .before .before .before .before .before .before .before .before .before .check .ensures in
-    let r-is = c .before .before .before .before .before .before .before .before .before .counts .given .1 in (
+    let k = c .before .before .before .before .before .before .before .before .before .before .before .before .check .ensures in
+    let r-is = c .before .before .before .before .before .before .before .before .before .before .counts .given .1 in (
       rw (← k .0, r-is) refl,
       told-values _ _ _ (k .0) (k .1 .0) (k .1 .1) _ _ _ (told-accepted _ _ _ (k .0) (k .1 .0) (k .1 .1) _ r-is)
           (rw (← k .0, r-is) (c .before .before .lend .ensures)),
@@ -84,6 +87,7 @@ vorruda-verdict-spec =
     cast-t13
     cast-t14
     cast-t15
+    cast-t16
     slice-aggregate-lend
     lend-requires
     enum-known-refusal

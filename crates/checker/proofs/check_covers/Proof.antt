@@ -31,6 +31,12 @@ cast-t14 c = omega (arith, c .before .before .before .before .before .before .be
 cast-t15 : tie.Need-cast-t15
 cast-t15 c = omega (arith, c .before .before .before .before .before .before .before .before .before .before .pre .1 .count-most)
 
+cast-t17 : tie.Need-cast-t17
+cast-t17 c = search needs
+
+cast-t19 : tie.Need-cast-t19
+cast-t19 c = search needs
+
 returns-2 : tie.Need-returns-2
 returns-2 c =
     let a = c .before .before .before .before .before .before .before .args in
@@ -39,9 +45,9 @@ returns-2 c =
 
 returns-3 : tie.Need-returns-3
 returns-3 c =
-    let a = c .before .before .before .before .before .before .before .before .before .before .args in
-    let v = c .before .before .before .before .g2 .given in
-    covers-taken (a .cert .now) (fileIn (a .job .now) (a .h) .job) (membersAt (a .cert .now) (a .h .variables) (a .starts .now)) (a .at) _ (c .before .before .before .before .before .before .check-owed .ensures) (v .0 .0) (v .1) (a .h .bads) _ (omega arith) (sym (entries-number (a .job .now) (a .h .variables) (a .h .«bads_at») (a .h .bads))) (sym (length-map (a .starts .now) (locatedAt (a .cert .now) (a .h .variables))))
+    let a = c .before .before .before .before .before .before .before .before .before .before .before .before .args in
+    let v = c .before .before .before .before .before .before .g2 .given in
+    covers-taken (a .cert .now) (fileIn (a .job .now) (a .h) .job) (membersAt (a .cert .now) (a .h .variables) (a .starts .now)) (a .at) _ (c .before .before .before .before .before .before .before .before .check-owed .ensures) (v .0 .0) (v .1) (a .h .bads) _ (omega arith) (sym (entries-number (a .job .now) (a .h .variables) (a .h .«bads_at») (a .h .bads))) (sym (length-map (a .starts .now) (locatedAt (a .cert .now) (a .h .variables))))
 
 pub check-covers-spec : {M : Type 1} → statement M
 check-covers-spec =
@@ -53,5 +59,7 @@ check-covers-spec =
     returns
     cast-t14
     cast-t15
+    cast-t17
+    cast-t19
     returns-2
     returns-3)

@@ -42,23 +42,25 @@ cover-answer-requires c κs =
     let e = c .before .before .before .before .r .given .1 in
     record { whole = k .whole _ _ e; images = k .images _ _ e }
 
-enum-told-2 : tie.Need-enum-told-2
-enum-told-2 c = search needs
-
 enum-known-answer : tie.Need-enum-known-answer
 enum-known-answer c = search needs
 
+enum-known-answer-2 : tie.Need-enum-known-answer-2
+enum-known-answer-2 c = search needs
+
 returns-2 : tie.Need-returns-2
 returns-2 c =
-    let a = c .before .before .before .before .before .before .before .before .before .before .before .before .args in
-    let byte : a .state < 256 = omega (arith, c .before .before .before .before .before .before .before .before .before .before .before .before .fits .state) in
-    take-holding _ _ _ _ _ byte (shapeIn (a .variables) (a .s .now)) _ refl _ _ (c .before .before .before .before .before .before .before .before .before .read-cover .ensures) _ _ (c .before .before .before .before .before .before .before .r .given .1) (sym (ap answerOf (c .enum-told2 .given .1)) ∙ c .before .before .cover-answer .ensures)
+    let a = c .before .before .before .before .before .before .before .before .before .before .before .before .before .args in
+    let byte : a .state < 256 = omega (arith, c .before .before .before .before .before .before .before .before .before .before .before .before .before .fits .state) in
+    let told = c .before .answer .given .1 in
+    let answered = c .before .before .before .cover-answer .ensures in
+    take-holding _ _ _ _ _ byte (shapeIn (a .variables) (a .s .now)) _ refl _ _ (c .before .before .before .before .before .before .before .before .before .before .read-cover .ensures) _ _ (c .before .before .before .before .before .before .before .before .r .given .1) _ (sym (ap answerOf told) ∙ answered .0) (rw told at (answered .1))
 
 returns-3 : tie.Need-returns-3
 returns-3 c =
     let a = c .before .before .before .before .before .before .before .before .before .before .before .before .before .args in
     let byte : a .state < 256 = omega (arith, c .before .before .before .before .before .before .before .before .before .before .before .before .before .fits .state) in
-    take-broken _ _ _ _ _ byte (shapeIn (a .variables) (a .s .now)) _ refl _ _ (c .before .before .before .before .before .before .before .before .before .before .read-cover .ensures) _ _ (c .before .before .before .before .before .before .before .before .r .given .1) _ (sym (ap answerOf (c .before .answer .given .1)) ∙ c .before .before .before .cover-answer .ensures)
+    take-broken _ _ _ _ _ byte (shapeIn (a .variables) (a .s .now)) _ refl _ _ (c .before .before .before .before .before .before .before .before .before .before .read-cover .ensures) _ _ (c .before .before .before .before .before .before .before .before .r .given .1) _ (sym (ap answerOf (c .before .answer2 .given .1)) ∙ c .before .before .before .cover-answer .ensures .0)
 
 pub exact-cover-spec : {M : Type 1} → statement M
 exact-cover-spec =
@@ -73,7 +75,7 @@ exact-cover-spec =
     shared-slice-read-start
     cast-start
     cover-answer-requires
-    enum-told-2
     enum-known-answer
+    enum-known-answer-2
     returns-2
     returns-3)

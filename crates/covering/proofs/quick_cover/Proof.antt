@@ -87,15 +87,15 @@ images-embed-requires c κs = let k = number-ends (c .before .before .before .be
 returns-8 : tie.Need-returns-8
 returns-8 c = λ o. absurd (o refl)
 
-add-result : tie.Need-add-result
-add-result c = search needs
+add-t17 : tie.Need-add-t17
+add-t17 c = search needs
 
 returns-9 : tie.Need-returns-9
 returns-9 c = λ _.
-    let a = c .before .before .before .before .before .before .before .before .before .before .before .before .before .before .before .before .before .before .args in
-    let byte : a .state < 256 = omega (arith, c .before .before .before .before .before .before .before .before .before .before .before .before .before .before .before .before .before .before .fits .state) in
-    quick-embedding _ _ (a .starts .now) _ _ byte _ _ _ (number-read (c .before .before .before .before .before .before .before .before .before .before .before)) (omega arith) (stands (c .before .before)) (sym (c .before .before .before .before .before .before .if4 .left)) _ (c .before .before .before .before .wide .ensures .0)
-    (c .before .images-embed .ensures (not-false _ (c .if7 .left)))
+    let a = c .before .before .before .before .before .before .before .before .before .before .before .before .before .before .before .before .before .before .before .args in
+    let byte : a .state < 256 = omega (arith, c .before .before .before .before .before .before .before .before .before .before .before .before .before .before .before .before .before .before .before .fits .state) in
+    quick-embedding _ _ (a .starts .now) _ _ byte _ _ _ (number-read (c .before .before .before .before .before .before .before .before .before .before .before .before)) (omega arith) (stands (c .before .before .before)) (sym (c .before .before .before .before .before .before .before .if4 .left)) _ (c .before .before .before .before .before .wide .ensures .0)
+    _ (c .before .before .images-embed .ensures (not-false _ (c .if7 .left)))
 
 pub quick-cover-spec : {M : Type 1} → statement M
 quick-cover-spec =
@@ -122,5 +122,5 @@ quick-cover-spec =
     returns-7
     images-embed-requires
     returns-8
-    add-result
+    add-t17
     returns-9)

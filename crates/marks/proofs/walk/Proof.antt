@@ -1,4 +1,4 @@
--- The loop walks: it has come to p, with turns left for every free place (`Going`).
+-- The loop walks: it has come to p by so many links, with turns left for every free place (`Going`).
 use mathlib.Core.Path.{_≡_, ap, sym, _∙_}
 use Prim.Native.Nat.{_<_}
 use native.Mathlib.Omega.{arith}
@@ -9,10 +9,10 @@ use Rattle.marks.proofs.walk.Statement.{statement}
 use Rattle.marks.proofs.walk.Tie as tie
 
 abbrev Inv-loop : tie.InvT-loop
-Inv-loop s marks₀ first n p₀ marks p = Going s marks₀ first marks p
+Inv-loop s marks₀ first n p₀ links₀ marks p links = Going s marks₀ first marks p links
 
 abbrev μ-loop : tie.MeasureT-loop
-μ-loop s marks₀ first n p₀ marks p = frees marks
+μ-loop s marks₀ first n p₀ links₀ marks p links = frees marks
 
 cells-held-requires : tie.Need-cells-held-requires Inv-loop μ-loop
 cells-held-requires c κs = search needs
@@ -42,22 +42,25 @@ element-copy-out-wide c = here-in c
 wide-requires : tie.Need-wide-requires Inv-loop μ-loop
 wide-requires c κs = search needs
 
+add-links : tie.Need-add-links Inv-loop μ-loop
+add-links c = let l = c .before .before .before .before .before .loop in omega (arith, l .inv .counted, c .before .before .before .mark-at .ensures .0)
+
 loop-less : tie.Need-loop-less Inv-loop μ-loop
 loop-less c =
     let l = c .before .before .before .before .before .loop in
-    going-less _ _ _ _ _ (l .inv) (omega (arith, here-in (c .before .before), c .before .before .before .mark-at .ensures .0)) (here-free (c .before .before))
+    going-less _ _ _ _ _ _ (l .inv) (omega (arith, here-in (c .before .before), c .before .before .before .mark-at .ensures .0)) (here-free (c .before .before))
 
 loop-again : tie.Need-loop-again Inv-loop μ-loop
 loop-again c =
     let l = c .before .before .before .before .before .loop in
     rw (c .wide .ensures .0)
-    (going-more _ _ _ _ _ (l .inv) (omega (arith, here-in (c .before .before), c .before .before .before .mark-at .ensures .0)) (here-free (c .before .before)))
+    (going-more _ _ _ _ _ _ (l .inv) (omega (arith, here-in (c .before .before), c .before .before .before .mark-at .ensures .0)) (here-free (c .before .before)))
 
 returns : tie.Need-returns Inv-loop μ-loop
 returns c =
     let l = c .before .before .before .loop in
-    let e = going-met _ _ _ _ _ (l .inv) (λ z. c .if1 .left (c .before .mark-at .ensures .1 ∙ rw (c .before .before .before .before .cells-held .ensures .2) z)) in
-    (sym (ap (λ (w : Walk). w .end) e), sym (ap (λ (w : Walk). w .marks) e))
+    let e = going-met _ _ _ _ _ _ (l .inv) (λ z. c .if1 .left (c .before .mark-at .ensures .1 ∙ rw (c .before .before .before .before .cells-held .ensures .2) z)) in
+    (sym (ap (λ (w : Walk). w .end) e), sym (ap (λ (w : Walk). w .links) e), sym (ap (λ (w : Walk). w .marks) e))
 
 pub walk-spec : {M : Type 1} → statement M
 walk-spec =
@@ -71,6 +74,7 @@ walk-spec =
     element-write-marks
     element-copy-out-wide
     wide-requires
+    add-links
     loop-less
     loop-again
     returns)

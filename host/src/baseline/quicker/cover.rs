@@ -12,6 +12,7 @@ pub struct Covers<'r, 'a> {
     pub members: &'r [Places],
     pub variables: usize,
     pub count: u64,
+    pub links: u64,
 }
 
 /// The code of the member's cell that has its image at a code. Paths may pass what is free; nothing
@@ -39,9 +40,10 @@ impl<'a> Covers<'_, 'a> {
     #[inline(always)]
     pub fn check(&mut self, state: u8, covered: &Places) -> Result<(), Stopped> {
         match self.quick(state, covered) {
-            Some(rest) => {
+            Some((rest, links)) => {
                 self.rest = rest;
                 self.count += 1;
+                self.links += links;
                 Ok(())
             }
             None => self.check_exactly(state, covered),
@@ -62,17 +64,19 @@ impl<'a> Covers<'_, 'a> {
             members: members.collect(),
             variables: self.variables,
             count: self.count,
+            links: self.links,
         };
         let checked = covers.check(state, &covered.to_shape(self.variables));
         *self.reader = covers.reader;
         self.rest = self.reader.rest();
         self.count = covers.count;
+        self.links = covers.links;
         checked
     }
 
-    /// What is left behind the next cover, if it is plain that it holds.
+    /// What is left behind the next cover, and the links followed, if it is plain that it holds.
     #[inline(always)]
-    fn quick(&self, state: u8, covered: &Places) -> Option<&'a [u8]> {
+    fn quick(&self, state: u8, covered: &Places) -> Option<(&'a [u8], u64)> {
         let (number, rest) = match self.rest {
             [low @ 0..128, rest @ ..] => (usize::from(*low), rest),
             [low, high @ 1..4, rest @ ..] => {
@@ -83,23 +87,28 @@ impl<'a> Covers<'_, 'a> {
         };
         let member = self.members.get(number)?;
         let (images, rest) = rest.split_at_checked(usize::from(member.cells()) % 16)?;
-        let holds = member.state() == state && embeds(member, images, covered);
-        holds.then_some(rest)
+        if member.state() != state {
+            return None;
+        }
+        Some((rest, embeds(member, images, covered)?))
     }
 }
 
-/// Whether these images, if they are cells, embed a member in a shape.
+/// The links followed if these images, if they are cells, embed a member in a shape.
 #[inline(always)]
-fn embeds(member: &Places, images: &[u8], covered: &Places) -> bool {
+fn embeds(member: &Places, images: &[u8], covered: &Places) -> Option<u64> {
     let mut codes = NO_CODES;
     let cells = covered.cells() % 16;
     for (&image, code) in images.iter().zip(CELL..) {
         if image >= cells || codes[usize::from(CELL + image)] != FREE {
-            return false;
+            return None;
         }
         codes[usize::from(CELL + image)] = code;
     }
-    variables_agree(member, covered, &codes) && paths_agree(member, images, covered, &mut codes)
+    match variables_agree(member, covered, &codes) {
+        true => follow(member, images, covered, &mut codes),
+        false => None,
+    }
 }
 
 /// Whether the variables that a member places stand at the images.
@@ -116,22 +125,25 @@ fn variables_agree(member: &Places, covered: &Places, codes: &Codes) -> bool {
     true
 }
 
-/// Whether the paths of a member's links end at the images, and no two meet.
+/// The links followed if the paths of a member's links end at the images, and no two meet.
 #[inline(always)]
-fn paths_agree(member: &Places, images: &[u8], covered: &Places, codes: &mut Codes) -> bool {
+fn follow(member: &Places, images: &[u8], covered: &Places, codes: &mut Codes) -> Option<u64> {
+    let mut links = 0;
     for (&image, &link) in images.iter().zip(member.links()) {
         if link == NOWHERE {
             continue;
         }
         let source = usize::from(CELL) + usize::from(image) % 16;
         let mut place = usize::from(covered.at(source)) % 32;
+        links += 1;
         while codes[place] == FREE {
             codes[place] = PASSED;
             place = usize::from(covered.at(place)) % 32;
+            links += 1;
         }
         if codes[place] != link {
-            return false;
+            return None;
         }
     }
-    true
+    Some(links)
 }

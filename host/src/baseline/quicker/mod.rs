@@ -12,7 +12,7 @@ mod words;
 use self::cover::Covers;
 use self::members::read_members;
 use self::places::Places;
-use super::checker::verdict;
+use super::checker::{verdict, Counted};
 use super::job::Job;
 use super::reader::{Reader, Stopped};
 use crate::verdict::Verdict;
@@ -25,9 +25,9 @@ pub fn check(job: &[u8], certificate: &[u8]) -> Verdict {
     })
 }
 
-/// Checks a certificate, and counts its members and covers.
+/// Checks a certificate, and counts what it has.
 #[inline(always)]
-fn count(job: &Job<Places>, reader: &mut Reader) -> Result<(u64, u64), Stopped> {
+fn count(job: &Job<Places>, reader: &mut Reader) -> Result<Counted, Stopped> {
     let members = read_members(reader, job)?;
     let mut covers = Covers {
         rest: reader.rest(),
@@ -35,9 +35,14 @@ fn count(job: &Job<Places>, reader: &mut Reader) -> Result<(u64, u64), Stopped> 
         members: &members,
         variables: job.variables.into(),
         count: 0,
+        links: 0,
     };
     covers.check_all(job)?;
-    Ok((members.len() as u64, covers.count))
+    Ok(Counted {
+        members: members.len() as u64,
+        covers: covers.count,
+        links: covers.links,
+    })
 }
 
 impl Covers<'_, '_> {

@@ -11,8 +11,7 @@ use Rattle.placing.specs.Wanted.{fitsIn}
 use Rattle.placing.proofs.Ranges.{Covers, step-most}
 use Rattle.shapes.specs.Operands.{shapeUnder, wantedFirstIn}
 use Rattle.shapes.proofs.Steps.{first-covers, first-range, first-none, first-some, first-placed}
-use Rattle.checker.specs.Checking.{checkedOf}
-use Rattle.checker.specs.Placing.{checkShapes}
+use Rattle.checker.specs.Checking.{Checks}
 use Rattle.checker.proofs.ChoiceLoop.{ChoiceLoop, loop-none, loop-past, loop-more, loop-stop, loop-all}
 use borrow.Author.Needs.{needs}
 use Rattle.checker.proofs.choices.check_first_choices.Statement.{statement}
@@ -45,7 +44,7 @@ past c = let l = c .before .before .before .before .before in omega (arith, cove
 taken : (c : tie.After-check-last-choices Inv-loop μ-loop)
     → let l = c .before .before .before .before .before .before .before .before .before .before in
     let a = l .before .before .before .before .before .before .args in
-    checkedOf (c .check-last-choices .result) ≡ checkShapes (a .cert .now) (a .variables) (a .starts .now) (a .by .from) (firstOf (a .variables) (a .by .kind) (a .by .a) (a .by .b) (shapeUnder (a .variables) (a .by .b) (a .s .now)) (l .loop .k)) (l .loop .t)
+    Checks (a .cert .now) (membersFrom (a .cert .now) (a .variables) (a .starts .now)) (a .by .from) (firstOf (a .variables) (a .by .kind) (a .by .a) (a .by .b) (shapeUnder (a .variables) (a .by .b) (a .s .now)) (l .loop .k)) (l .loop .t) (c .check-last-choices .result)
 taken c =
     let l = c .before .before .before .before .before .before .before .before .before .before in
     let i = c .before .before .before .before .before in
@@ -102,7 +101,7 @@ returns : tie.Need-returns Inv-loop μ-loop
 returns c =
     let o = c .before .before in
     let l = o .before .before .before .before .before .before .before .before .before .before in
-    loop-stop (covers (l .before)) (l .loop .inv) (o .before .before .before .before .before .before .before .before .if1 .taken) (taken o) (c .enum-told .given .1) (first-range (l .before .before .before .before .before .before .pre .0)) .0
+    loop-stop (covers (l .before)) (l .loop .inv) (o .before .before .before .before .before .before .before .before .if1 .taken) (taken o) (c .enum-told .given .1) (first-range (l .before .before .before .before .before .before .pre .0))
 
 loop-less : tie.Need-loop-less Inv-loop μ-loop
 loop-less c =
@@ -129,7 +128,7 @@ loop-again-2 c =
 returns-2 : tie.Need-returns-2 Inv-loop μ-loop
 returns-2 c =
     let l = c .before .before in
-    loop-all (covers (l .before)) (l .loop .inv) (c .if1 .left) (first-range (l .before .before .before .before .before .before .pre .0)) .0
+    loop-all (covers (l .before)) (l .loop .inv) (c .if1 .left) (first-range (l .before .before .before .before .before .before .pre .0))
 
 pub check-first-choices-spec : {M : Type 1} → statement M
 check-first-choices-spec =

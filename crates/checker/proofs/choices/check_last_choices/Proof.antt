@@ -11,8 +11,7 @@ use Rattle.placing.specs.Wanted.{fitsIn}
 use Rattle.placing.proofs.Ranges.{Covers, step-most}
 use Rattle.shapes.specs.Operands.{shapeUnder, wantedLastIn}
 use Rattle.shapes.proofs.Steps.{last-covers, last-range, last-none, last-one}
-use Rattle.checker.specs.Checking.{checkedOf}
-use Rattle.checker.specs.Placing.{checkShapes}
+use Rattle.checker.specs.Checking.{Checks}
 use Rattle.checker.proofs.ChoiceLoop.{ChoiceLoop, loop-none, loop-past, loop-more, loop-stop, loop-all}
 use borrow.Author.Needs.{needs}
 use Rattle.checker.proofs.choices.check_last_choices.Statement.{statement}
@@ -45,11 +44,11 @@ past c = let l = c .before .before .before .before .before in omega (arith, cove
 taken : (c : tie.After-check-quickly Inv-loop μ-loop)
     → let l = c .before .before .before .before .before .before .before .before .before .before in
     let a = l .before .before .before .before .before .before .before .args in
-    checkedOf (c .check-quickly .result) ≡ checkShapes (a .cert .now) (a .variables) (a .starts .now) (a .by .from) (lastOf (a .variables) (a .by .kind) (a .by .a) (a .by .b) (shapeUnder (a .variables) (a .by .b) (a .s .now)) (l .loop .k)) (l .loop .t)
+    Checks (a .cert .now) (membersFrom (a .cert .now) (a .variables) (a .starts .now)) (a .by .from) (lastOf (a .variables) (a .by .kind) (a .by .a) (a .by .b) (shapeUnder (a .variables) (a .by .b) (a .s .now)) (l .loop .k)) (l .loop .t) (c .check-quickly .result)
 taken c =
     let l = c .before .before .before .before .before .before .before .before .before .before in
     let i = c .before .before .before .before .before in
-    rw (last-one (l .before .before .before .before .before .before .before .pre .0) (l .loop .k) (fits i), ← l .before .before .before .before .last-operand .ensures, ← c .before .before .undo-choice .ensures .same) (c .check-quickly .ensures .0)
+    rw (last-one (l .before .before .before .before .before .before .before .pre .0) (l .loop .k) (fits i), ← l .before .before .before .before .last-operand .ensures, ← c .before .before .undo-choice .ensures .same) (c .check-quickly .ensures)
 
 last-operand-requires : tie.Need-last-operand-requires Inv-loop μ-loop
 last-operand-requires c κs =
@@ -106,7 +105,7 @@ returns : tie.Need-returns Inv-loop μ-loop
 returns c =
     let o = c .before .before in
     let l = o .before .before .before .before .before .before .before .before .before .before in
-    loop-stop (covers (l .before)) (l .loop .inv) (o .before .before .before .before .before .before .before .before .if1 .taken) (taken o) (c .enum-told .given .1) (last-range (l .before .before .before .before .before .before .before .pre .0)) .0
+    loop-stop (covers (l .before)) (l .loop .inv) (o .before .before .before .before .before .before .before .before .if1 .taken) (taken o) (c .enum-told .given .1) (last-range (l .before .before .before .before .before .before .before .pre .0))
 
 loop-less : tie.Need-loop-less Inv-loop μ-loop
 loop-less c =
@@ -133,7 +132,7 @@ loop-again-2 c =
 returns-2 : tie.Need-returns-2 Inv-loop μ-loop
 returns-2 c =
     let l = c .before .before in
-    loop-all (covers (l .before)) (l .loop .inv) (c .if1 .left) (last-range (l .before .before .before .before .before .before .before .pre .0)) .0
+    loop-all (covers (l .before)) (l .loop .inv) (c .if1 .left) (last-range (l .before .before .before .before .before .before .before .pre .0))
 
 pub check-last-choices-spec : {M : Type 1} → statement M
 check-last-choices-spec =

@@ -1,12 +1,11 @@
 -- The covers of the forbidden shapes and then those of the members are all that is owed.
 use mathlib.Core.Path.{refl, _∙_}
-use native.Mathlib.Omega.{arith}
 use Rattle.lists.specs.List.{concatMap}
 use Rattle.layout.specs.Entries.{entriesAt, membersAt}
 use Rattle.checker.specs.Jobs.{owedBy}
 use Rattle.checker.proofs.Indexed.{linked-job}
 use Rattle.checker.proofs.Members.{from-table}
-use Rattle.checker.proofs.Checking.{begin, advance, halt}
+use Rattle.checker.proofs.Checking.{at-start, begin, advance, halt}
 use borrow.Author.Needs.{needs}
 use Rattle.checker.proofs.owed.check_owed.Statement.{statement}
 use Rattle.checker.proofs.owed.check_owed.Tie as tie
@@ -17,7 +16,7 @@ index-transitions-requires c κs = search needs
 check-forbidden-requires : tie.Need-check-forbidden-requires
 check-forbidden-requires c κs =
     let p = c .before .before .before .before .before .pre in
-    (p .0 .bads, p .1 .variables-most, record { counted = omega arith; inside = p .2; fits = p .3 })
+    (p .0 .bads, p .1 .variables-most, at-start _ (p .2) (p .3))
 
 enum-known-g : tie.Need-enum-known-g
 enum-known-g c = search needs
@@ -30,7 +29,7 @@ returns c =
     let a = c .before .before .before .before .before .before .before .before .args in
     let p = c .before .before .before .before .before .before .before .before .pre in
     rw (from-table (a .cert .now) (a .h .variables) (a .starts .now) (p .1)) at
-    (halt (entriesAt (a .job .now) (a .h .variables) (a .h .«bads_at») (a .h .bads)) (concatMap (owedBy (a .job .now) (a .h)) (membersAt (a .cert .now) (a .h .variables) (a .starts .now))) (begin (record { counted = omega arith; inside = p .2; fits = p .3 })) (c .before .before .check-forbidden .ensures) (c .enum-told .given .1) .0)
+    (halt (entriesAt (a .job .now) (a .h .variables) (a .h .«bads_at») (a .h .bads)) (concatMap (owedBy (a .job .now) (a .h)) (membersAt (a .cert .now) (a .h .variables) (a .starts .now))) (begin (at-start (a .at) (p .2) (p .3))) (c .before .before .check-forbidden .ensures) (c .enum-told .given .1) .0)
 
 check-members-requires : tie.Need-check-members-requires
 check-members-requires c κs =
@@ -44,7 +43,7 @@ returns-2 c =
     let a = c .before .before .before .before .before .before .before .before .before .before .before .args in
     let p = c .before .before .before .before .before .before .before .before .before .before .before .pre in
     rw (from-table (a .cert .now) (a .h .variables) (a .starts .now) (p .1)) at
-    (c .check-members .ensures .0 ∙ advance (entriesAt (a .job .now) (a .h .variables) (a .h .«bads_at») (a .h .bads)) (concatMap (owedBy (a .job .now) (a .h)) (membersAt (a .cert .now) (a .h .variables) (a .starts .now))) (begin (record { counted = omega arith; inside = p .2; fits = p .3 })) (c .before .before .before .before .before .check-forbidden .ensures) (c .before .before .before .g .given .1) .left)
+    (c .check-members .ensures .0 ∙ advance (entriesAt (a .job .now) (a .h .variables) (a .h .«bads_at») (a .h .bads)) (concatMap (owedBy (a .job .now) (a .h)) (membersAt (a .cert .now) (a .h .variables) (a .starts .now))) (begin (at-start (a .at) (p .2) (p .3))) (c .before .before .before .before .before .check-forbidden .ensures) (c .before .before .before .g .given .1) .left)
 
 pub check-owed-spec : {M : Type 1} → statement M
 check-owed-spec =

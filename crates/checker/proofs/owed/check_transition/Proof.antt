@@ -6,12 +6,10 @@ use Rattle.heap.specs.Operation.{kindOf}
 use Rattle.backward.specs.Predecessors.{predecessors}
 use Rattle.kinds.proofs.Rows.{known}
 use Rattle.layout.specs.ShapeArray.{shapeIn}
-use Rattle.layout.specs.Members.{membersFrom}
 use Rattle.layout.specs.Transitions.{opOf}
 use Rattle.placing.specs.Retained.{firsts}
 use Rattle.shapes.specs.Operands.{working, Working}
 use Rattle.checker.proofs.Operands.{operands-of, plays}
-use Rattle.checker.proofs.Checking.{stays}
 use Rattle.checker.proofs.owed.check_transition.Statement.{statement}
 use Rattle.checker.proofs.owed.check_transition.Tie as tie
 
@@ -48,8 +46,7 @@ returns-2 : tie.Need-returns-2
 returns-2 c =
     let a = c .before .before .before .before .before .before .args in
     let from : c .before .with-helper .result .from ≡ a .by .from = rw (c .before .with-helper .ensures) refl in
-    let taken = rw (from, placed (c .before) .1) at (c .check-first-choices .ensures) in
-    (taken, stays (a .cert .now) (membersFrom (a .cert .now) (a .variables) (a .starts .now)) _ (a .t) (c .before .before .before .before .before .before .pre .4) (c .check-first-choices .result) taken)
+    rw (from, placed (c .before) .1) at (c .check-first-choices .ensures)
 
 pub check-transition-spec : {M : Type 1} → statement M
 check-transition-spec = tie.close (tie.spec check-cases-requires returns with-helper-requires check-first-choices-requires returns-2)

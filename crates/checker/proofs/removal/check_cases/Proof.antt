@@ -1,5 +1,5 @@
 -- The loop: the covers of the predecessors by the cases so far are checked.
-use mathlib.Core.List.{List, map}
+use mathlib.Core.List.{List}
 use mathlib.Core.Path.{_≡_}
 use Prim.Native.Nat.{_-_}
 use native.Mathlib.Omega.{arith}
@@ -13,7 +13,7 @@ use Rattle.placing.specs.Wanted.{oneByOne}
 use Rattle.placing.proofs.Ranges.{covers-stretch}
 use Rattle.shapes.specs.Change.{before}
 use Rattle.shapes.proofs.Before.{before-none, before-one, byCases, before-all}
-use Rattle.checker.specs.Checking.{checkAll, checkedOf, located}
+use Rattle.checker.specs.Checking.{Checks}
 use Rattle.checker.proofs.ChoiceLoop.{ChoiceLoop, loop-none, loop-past, loop-more, loop-stop, loop-all}
 use borrow.Author.Needs.{needs}
 use Rattle.checker.proofs.removal.check_cases.Statement.{statement}
@@ -47,13 +47,12 @@ here l =
 taken : (c : tie.After-check-cover Inv-loop μ-loop)
     → let l = c .before .before .before .before .before .before .before in
     let a = l .before .before .before .before .before .before .args in
-    checkedOf (c .check-cover .result)
-    ≡ checkAll (a .cert .now) (membersFrom (a .cert .now) (a .variables) (a .starts .now)) (map (located (a .by .from)) (here l)) (l .loop .t .covers) (l .loop .t .at)
+    Checks (a .cert .now) (membersFrom (a .cert .now) (a .variables) (a .starts .now)) (a .by .from) (here l) (l .loop .t) (c .check-cover .result)
 taken c =
     let u = c .before .before .before .undo-case in
     let l = c .before .before .before .before .before .before .before in
     let a = l .before .before .before .before .before .before .args in
-    rw (before-one (a .variables) (a .by .kind) _ _ (l .loop .k) _ (u .ensures .0) (c .before .before .if2 .taken) _ (u .ensures .1)) (c .check-cover .ensures .0)
+    rw (before-one (a .variables) (a .by .kind) _ _ (l .loop .k) _ (u .ensures .0) (c .before .before .if2 .taken) _ (u .ensures .1)) (c .check-cover .ensures)
 
 prepare-cases-requires : tie.Need-prepare-cases-requires Inv-loop μ-loop
 prepare-cases-requires c κs = search needs

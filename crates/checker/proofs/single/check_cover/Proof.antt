@@ -1,10 +1,14 @@
--- What the exact test answers, with one cover more counted.
-use mathlib.Core.Path.{ap, _∙_, sym}
+-- What the exact test answers, with one cover more counted, and its links.
+use mathlib.Core.Path.{_≡_, ap, _∙_, sym}
+use Prim.Native.Nat.{_<_}
+use native.Mathlib.Omega.{arith}
+use Rattle.format.specs.Certificate.{readCover}
+use Rattle.format.specs.Parser.{parsed, certificateBuffer}
 use Rattle.layout.specs.ShapeArray.{shapeIn}
 use Rattle.layout.specs.Members.{membersFrom}
-use Rattle.verdict.specs.Verdict.{reachedOf}
+use Rattle.covering.specs.Answer.{coverAnswerOf}
 use Rattle.checker.specs.Checking.{located}
-use Rattle.checker.proofs.Checks.{one-taken, one-refused, within-next}
+use Rattle.checker.proofs.Checks.{counted-fits, one-taken, one-refused}
 use borrow.Author.Needs.{needs}
 use Rattle.checker.proofs.single.check_cover.Statement.{statement}
 use Rattle.checker.proofs.single.check_cover.Tie as tie
@@ -15,8 +19,22 @@ exact-cover-requires c κs = search needs
 enum-known-r : tie.Need-enum-known-r
 enum-known-r c = search needs
 
-add-t12 : tie.Need-add-t12
-add-t12 c = search needs
+-- the links are a number of 16 bits
+small : (c : tie.After-known-told) → c .before .r .given .0 .1 .0 < 65536
+small c = omega (arith, c .known-told .given)
+
+-- what the exact test says of the cover
+held : (c : tie.After-r) → let a = c .before .before .before .before .before .args in parsed (c .r .given .0 .1 .0) (c .r .given .0 .0) ≡ readCover (certificateBuffer (a .cert .now)) (membersFrom (a .cert .now) (a .variables) (a .starts .now)) (located (a .state) (shapeIn (a .variables) (a .s .now))) (a .t .at)
+held c = ap coverAnswerOf (sym (c .r .given .1)) ∙ c .before .before .exact-cover .ensures
+
+add-t13 : tie.Need-add-t13
+add-t13 c = let s = c .before .before .before .before .before .before .before in omega (arith, counted-fits (s .args .cert .now) (s .args .t) (s .pre))
+
+cast-t14 : tie.Need-cast-t14
+cast-t14 c = search needs
+
+add-t15 : tie.Need-add-t15
+add-t15 c = let s = c .before .before .before .before .before .before .before in omega (arith, counted-fits (s .args .cert .now) (s .args .t) (s .pre), small (c .before))
 
 enum-known-r-2 : tie.Need-enum-known-r-2
 enum-known-r-2 c = search needs
@@ -24,12 +42,7 @@ enum-known-r-2 c = search needs
 returns : tie.Need-returns
 returns c =
     let s = c .before .before .before .before .before .before .before in
-    let a = s .args in
-    let ms = membersFrom (a .cert .now) (a .variables) (a .starts .now) in
-    let o = located (a .state) (shapeIn (a .variables) (a .s .now)) in
-    let next = c .before .before .r .given .0 .0 in
-    let e = ap reachedOf (sym (c .before .before .r .given .1)) ∙ c .before .before .before .before .exact-cover .ensures in
-    (one-taken (a .cert .now) ms o (a .t) next e, within-next (a .cert .now) ms o (a .t) (s .pre) next e)
+    one-taken (s .args .cert .now) _ _ (s .args .t) _ _ (held (c .before .before)) (s .pre) (small (c .before))
 
 returns-2 : tie.Need-returns-2
 returns-2 c =
@@ -37,7 +50,8 @@ returns-2 c =
     let ms = membersFrom (a .cert .now) (a .variables) (a .starts .now) in
     let o = located (a .state) (shapeIn (a .variables) (a .s .now)) in
     let v = c .before .r2 .given .0 in
-    (one-refused (a .cert .now) ms o (a .t) (v .0) (v .1 .0) (ap reachedOf (sym (c .before .r2 .given .1)) ∙ c .before .before .before .exact-cover .ensures), tt)
+    (one-refused (a .cert .now) ms o (a .t) (v .0) (v .1 .0) (ap coverAnswerOf (sym (c .before .r2 .given .1)) ∙ c .before .before .before .exact-cover .ensures), tt)
 
 pub check-cover-spec : {M : Type 1} → statement M
-check-cover-spec = tie.close (tie.spec exact-cover-requires enum-known-r add-t12 enum-known-r-2 returns returns-2)
+check-cover-spec =
+    tie.close (tie.spec exact-cover-requires enum-known-r add-t13 cast-t14 add-t15 enum-known-r-2 returns returns-2)

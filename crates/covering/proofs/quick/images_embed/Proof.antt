@@ -49,7 +49,7 @@ returns-3 c = λ z.
     let h = c .before .before .before .before .before .before .before .before .before .before .cells-held .ensures in
     let t = c .before .before .before .before .before .before .before .read-and-mark .ensures .whole (not-false _ (c .before .before .before .before .before .before .if1 .left)) in
     let l = taken-linking _ _ _ _ _ w (sym (h .2)) _ _ e _ _ t in
-    taken-embed _ _ _ _ _ w (sym (h .2)) _ _ e _ _ t (c .before .before .before .before .quick-vars .ensures (not-false _ (c .before .before .before .if2 .left))) (c .quick-links .ensures _ _ l z)
+    taken-embed _ _ _ _ _ w (sym (h .2)) _ _ e _ _ t (c .before .before .before .before .quick-vars .ensures (not-false _ (c .before .before .before .if2 .left))) _ (c .quick-links .ensures _ _ l z)
 
 pub images-embed-spec : {M : Type 1} → statement M
 images-embed-spec =

@@ -1,4 +1,4 @@
--- The loop follows the paths in turn, as `path_fails` does. The image of a place that the member has is an end, so what is met there is one. A link
+-- The loop follows the paths in turn, as `follow_paths` does. The image of a place that the member has is an end, so what is met there is one. A link
 -- that stands there at once is a path of one step (`follow-direct`).
 use Prim.Native.Nat.{ℕ, _-_, _≤_}
 use mathlib.Core.Logic.{⊎-elim}
@@ -8,19 +8,19 @@ use Rattle.shape.specs.Shape.{Shape}
 use Rattle.covering.specs.Marks.{Linking}
 use Rattle.covering.proofs.Follow.{follow-direct}
 use Rattle.covering.proofs.Images.{image-read, image-stops}
-use Rattle.covering.proofs.Links.{Fitting, fit-none, fit-all, fit-skip, fit-walk, fit-walked, fit-good}
+use Rattle.covering.proofs.Links.{Fitting, fit-none, fit-all, fit-skip, fit-walk, fit-walked, walked-few, fit-good}
 use borrow.Author.Needs.{needs}
 use Rattle.covering.proofs.quick.quick_links.Statement.{statement}
 use Rattle.covering.proofs.quick.quick_links.Tie as tie
 
 abbrev Inv-loop : tie.InvT-loop
-Inv-loop cert first count images marks₀ s i₀ marks i =
+Inv-loop cert first count images marks₀ s links₀ i₀ marks links i =
     (i ≤ count)
     × ((member covered : Shape) (l : Linking member covered cert first count images marks₀ s)
-    → Fitting member covered cert first count images marks₀ s l marks i)
+    → Fitting member covered cert first count images marks₀ s l marks i links)
 
 abbrev μ-loop : tie.MeasureT-loop
-μ-loop cert first count images marks₀ s i₀ marks i = count - i
+μ-loop cert first count images marks₀ s links₀ i₀ marks links i = count - i
 
 loop-holds : tie.Need-loop-holds Inv-loop μ-loop
 loop-holds c = (omega arith, λ m p l. fit-none _ _ _ _ _ _ _ _ l)
@@ -53,17 +53,23 @@ element-copy-out-if3 : tie.Need-element-copy-out-if3 Inv-loop μ-loop
 element-copy-out-if3 c =
     let (m, p, l) = c .before .before .before .before .before .before .before .before .before .pre in
     let f = c .before .before .before .before .before .before .before .loop .inv .1 m p l in
-    let w = fit-walk _ _ _ _ _ _ _ _ l _ _ f (omega arith) _ (c .before .before .before .before .wide .ensures .0) _ (c .wide2 .ensures .0) in
+    let w = fit-walk _ _ _ _ _ _ _ _ l _ _ _ f (omega arith) _ (c .before .before .before .before .wide .ensures .0) _ (c .wide2 .ensures .0) in
     omega (arith, w .high, l .linked .fit)
 
 element-copy-out-if3-2 : tie.Need-element-copy-out-if3-2 Inv-loop μ-loop
 element-copy-out-if3-2 c = let (m, p, l) = c .before .before .before .before .before .before .before .before .before .before .pre in omega (arith, l .images .few)
 
+add-links : tie.Need-add-links Inv-loop μ-loop
+add-links c =
+    let (m, p, l) = c .before .before .before .before .before .before .before .before .before .before .before .before .pre in
+    let f = c .before .before .before .before .before .before .before .before .before .before .loop .inv .1 m p l in
+    omega (arith, f .few, l .images .few)
+
 element-copy-out-wide-2 : tie.Need-element-copy-out-wide-2 Inv-loop μ-loop
 element-copy-out-wide-2 c =
     let (m, p, l) = c .before .before .before .before .before .before .before .before .before .before .before .before .before .pre in
     let f = c .before .before .before .before .before .before .before .before .before .before .before .loop .inv .1 m p l in
-    let w = fit-walk _ _ _ _ _ _ _ _ l _ _ f (omega arith) _ (c .before .before .before .before .before .before .before .before .wide .ensures .0) _ (c .before .before .before .before .wide2 .ensures .0) in
+    let w = fit-walk _ _ _ _ _ _ _ _ l _ _ _ f (omega arith) _ (c .before .before .before .before .before .before .before .before .wide .ensures .0) _ (c .before .before .before .before .wide2 .ensures .0) in
     omega (arith, w .high, l .linked .fit)
 
 wide-requires-3 : tie.Need-wide-requires-3 Inv-loop μ-loop
@@ -81,6 +87,14 @@ wide-requires-4 c κs = search needs
 returns-2 : tie.Need-returns-2 Inv-loop μ-loop
 returns-2 c = λ m p l z. let v : _≡_ {A = ℕ} 0 1 = cc in absurd (omega arith)
 
+-- each of at most 12 walks adds at most 29
+add-links-2 : tie.Need-add-links-2 Inv-loop μ-loop
+add-links-2 c =
+    let (m, p, l) = c .before .before .before .before .before .before .before .before .before .before .before .before .before .before .before .before .before .before .before .before .before .pre in
+    let f = c .before .before .before .before .before .before .before .before .before .before .before .before .before .before .before .before .before .before .before .loop .inv .1 m p l in
+    let most = walked-few _ _ _ _ _ _ _ _ l _ _ _ f _ _ (c .before .before .before .before .before .walk .ensures .1) in
+    omega (arith, f .few, most, l .images .few)
+
 add-i : tie.Need-add-i Inv-loop μ-loop
 add-i c = search needs
 
@@ -96,26 +110,27 @@ loop-again c = (
       let images = c .before .before .before .before .before .before .args .images .now in
       let q = c .before .wide .result in
       ⊎-elim
-      (λ (n, b, _, s, _, _, _, _, _, x, w, _, t, z, y).
-      let v = fit-walked _ _ _ _ _ _ _ _ l _ _ f (omega arith) _ e _ (s .ensures .0) _ _ _ (x .ensures .0) (w .ensures .0) (w .ensures .1) in
+      (λ (n, b, _, s, _, _, d, y, a).
       let stop = image-stops _ _ images (l .images) q (omega (arith, b .left)) in
       let read = image-read images q (omega (arith, b .left, l .images .few)) in
-      rw y
-      (fit-good _ _ _ _ _ _ _ _ l _ _ f (omega arith) _ e _ (s .ensures .0) (n .taken) _ (t .ensures .0 ∙ sym read) _ _ v (z .left)
-      (rw (z .left, t .ensures .0, ← read) stop)))
+      let w = fit-walk _ _ _ _ _ _ _ _ l _ _ _ f (omega arith) _ e _ (s .ensures .0) in
+      let v = follow-direct _ _ _ _ _ _ w _ (d .taken ∙ sym read) stop in
+      rw (y, a) (fit-good _ _ _ _ _ _ _ _ l _ _ _ f (omega arith) _ e _ (s .ensures .0) (n .taken) _ refl _ _ _ v refl stop (omega arith)))
       (⊎-elim
-      (λ (n, b, _, s, _, _, d, y).
+      (λ (n, b, _, s, _, _, _, _, _, x, w, _, t, _, z, _, y, a).
+      let v = fit-walked _ _ _ _ _ _ _ _ l _ _ _ f (omega arith) _ e _ (s .ensures .0) _ _ _ _ (x .ensures .0) (w .ensures .0) (w .ensures .1) (w .ensures .2) in
+      let most = walked-few _ _ _ _ _ _ _ _ l _ _ _ f _ _ (w .ensures .1) in
       let stop = image-stops _ _ images (l .images) q (omega (arith, b .left)) in
       let read = image-read images q (omega (arith, b .left, l .images .few)) in
-      let w = fit-walk _ _ _ _ _ _ _ _ l _ _ f (omega arith) _ e _ (s .ensures .0) in
-      let v = follow-direct _ _ _ _ _ _ w _ (d .left ∙ sym read) stop in
-      rw y (fit-good _ _ _ _ _ _ _ _ l _ _ f (omega arith) _ e _ (s .ensures .0) (n .taken) _ refl _ _ v refl stop))
-      (λ (n, y). fit-skip _ _ _ _ _ _ _ _ l _ _ f (omega arith) _ e _ y (n .left)))
+      rw (y, a)
+      (fit-good _ _ _ _ _ _ _ _ l _ _ _ f (omega arith) _ e _ (s .ensures .0) (n .taken) _ (t .ensures .0 ∙ sym read) _ _ _ v (z .left)
+      (rw (z .left, t .ensures .0, ← read) stop) most))
+      (λ (n, y, a). rw a (fit-skip _ _ _ _ _ _ _ _ l _ _ _ f (omega arith) _ e _ y (n .left))))
       (c .if1 .came),
 )
 
 returns-3 : tie.Need-returns-3 Inv-loop μ-loop
-returns-3 c = λ m p l _. fit-all _ _ _ _ _ _ _ _ l _ _ (c .before .loop .inv .1 m p l) (omega arith)
+returns-3 c = λ m p l _. fit-all _ _ _ _ _ _ _ _ l _ _ _ (c .before .loop .inv .1 m p l) (omega arith)
 
 pub quick-links-spec : {M : Type 1} → statement M
 quick-links-spec =
@@ -134,12 +149,14 @@ quick-links-spec =
     wide-requires-2
     element-copy-out-if3
     element-copy-out-if3-2
+    add-links
     element-copy-out-wide-2
     wide-requires-3
     walk-requires
     element-copy-out-wide-3
     wide-requires-4
     returns-2
+    add-links-2
     add-i
     loop-less
     loop-again

@@ -2,7 +2,7 @@
 use mathlib.Core.Path.{_∙_, refl, sym}
 use native.Mathlib.Omega.{arith}
 use Rattle.lists.proofs.Lowest.{found-within}
-use Rattle.covering.proofs.Whole.{answer-state, images-in, linking-read, marks-cells, image-found, variable-found, path-found, nothing-found, first-failing}
+use Rattle.covering.proofs.Whole.{answer-state, images-in, linking-read, marks-cells, image-found, variable-found, path-found, nothing-found, links-told, first-failing}
 use borrow.Author.Tests.{not-true, not-false}
 use borrow.Author.Needs.{needs}
 use Rattle.covering.proofs.rules.cover_answer.Statement.{statement}
@@ -12,7 +12,7 @@ shared-slice-read-if1 : tie.Need-shared-slice-read-if1
 shared-slice-read-if1 c = search needs
 
 returns : tie.Need-returns
-returns c = answer-state _ _ _ _ _ (c .before .before .before .pre) _ (c .if1 .taken)
+returns c = (answer-state _ _ _ _ _ (c .before .before .before .pre) _ (c .if1 .taken), tt)
 
 add-wide : tie.Need-add-wide
 add-wide c = search needs
@@ -29,8 +29,8 @@ mark-images-requires c κs = images-in _ _ _ _ _ (c .before .before .before .bef
 image-twice-requires : tie.Need-image-twice-requires
 image-twice-requires c κs = images-in _ _ _ _ _ (c .before .before .before .before .before .before .before .before .pre) _ (c .before .before .before .wide .ensures .0)
 
-cast-t21 : tie.Need-cast-t21
-cast-t21 c =
+cast-t22 : tie.Need-cast-t22
+cast-t22 c =
     let t = c .before .before .before .before .before .before .before .before .before .pre in
     omega (arith, c .before .before .before .before .wide .ensures .0, t .images .few, found-within _ _ _ (c .image-twice .ensures))
 
@@ -39,7 +39,7 @@ returns-2 c =
     let t = c .before .before .before .before .before .before .before .before .before .pre in
     let read = c .before .before .before .before .wide .ensures .0 in
     let same = c .before .before .before .before .before .before .if1 .left in
-    image-found _ _ _ _ _ t _ read _ same _ (sym (c .before .before .mark-images .ensures .0) ∙ not-true _ (c .before .if2 .taken)) (c .image-twice .ensures)
+    (image-found _ _ _ _ _ t _ read _ same _ (sym (c .before .before .mark-images .ensures .0) ∙ not-true _ (c .before .if2 .taken)) (c .image-twice .ensures), tt)
 
 add-variable-elsewhere : tie.Need-add-variable-elsewhere
 add-variable-elsewhere c = search needs
@@ -47,27 +47,27 @@ add-variable-elsewhere c = search needs
 variable-elsewhere-requires : tie.Need-variable-elsewhere-requires
 variable-elsewhere-requires c κs = search needs
 
-add-t23 : tie.Need-add-t23
-add-t23 c = search needs
+add-t24 : tie.Need-add-t24
+add-t24 c = search needs
 
-cast-t24 : tie.Need-cast-t24
-cast-t24 c = search needs
+cast-t25 : tie.Need-cast-t25
+cast-t25 c = search needs
 
 returns-3 : tie.Need-returns-3
 returns-3 c =
     let t = c .before .before .before .before .before .before .before .before .before .before .pre in
     let read = c .before .before .before .before .before .wide .ensures .0 in
     let same = c .before .before .before .before .before .before .before .if1 .left in
-    variable-found _ _ _ _ _ t _ read _ same (sym (c .before .before .before .mark-images .ensures .0) ∙ not-false _ (c .before .before .if2 .left)) _ (c .before .variable-elsewhere .ensures) (c .if3 .taken)
+    (variable-found _ _ _ _ _ t _ read _ same (sym (c .before .before .before .mark-images .ensures .0) ∙ not-false _ (c .before .before .if2 .left)) _ (c .before .variable-elsewhere .ensures) (c .if3 .taken), tt)
 
-add-path-fails : tie.Need-add-path-fails
-add-path-fails c = search needs
+add-follow-paths : tie.Need-add-follow-paths
+add-follow-paths c = search needs
 
-add-path-fails-2 : tie.Need-add-path-fails-2
-add-path-fails-2 c = search needs
+add-follow-paths-2 : tie.Need-add-follow-paths-2
+add-follow-paths-2 c = search needs
 
-path-fails-requires : tie.Need-path-fails-requires
-path-fails-requires c κs =
+follow-paths-requires : tie.Need-follow-paths-requires
+follow-paths-requires c κs =
     let t = c .before .before .before .before .before .before .before .before .before .before .before .pre in
     let read = c .before .before .before .before .before .before .wide .ensures .0 in
     (_, _, linking-read _ _ _ _ _ t _ read _ (c .before .before .before .before .mark-images .ensures .1))
@@ -78,7 +78,7 @@ broken-path-requires c κs =
     let read = c .before .before .before .before .before .before .before .before .before .wide .ensures .0 in
     let marked = c .before .before .before .before .before .before .before .mark-images .ensures .1 in
     let l = linking-read _ _ _ _ _ t _ read _ marked in
-    let i = first-failing _ _ _ _ _ t _ read _ (c .before .before .path-fails .ensures _ _ l) (c .before .if4 .taken) in
+    let i = first-failing _ _ _ _ _ t _ read _ (c .before .before .follow-paths .ensures _ _ l .0) (c .before .if4 .taken) in
     (t, marks-cells _ _ _ _ _ t _ read _ marked, omega (arith, read), i)
 
 returns-4 : tie.Need-returns-4
@@ -86,7 +86,7 @@ returns-4 c =
     let t = c .before .before .before .before .before .before .before .before .before .before .before .before .before .before .before .pre in
     let read = c .before .before .before .before .before .before .before .before .before .before .wide .ensures .0 in
     let same = c .before .before .before .before .before .before .before .before .before .before .before .before .if1 .left in
-    path-found _ _ _ _ _ t _ read _ same (sym (c .before .before .before .before .before .before .before .before .mark-images .ensures .0) ∙ not-false _ (c .before .before .before .before .before .before .before .if2 .left)) _ (c .before .before .before .before .before .before .variable-elsewhere .ensures) (omega arith) _ (c .broken-path .ensures)
+    (path-found _ _ _ _ _ t _ read _ same (sym (c .before .before .before .before .before .before .before .before .mark-images .ensures .0) ∙ not-false _ (c .before .before .before .before .before .before .before .if2 .left)) _ (c .before .before .before .before .before .before .variable-elsewhere .ensures) (omega arith) _ (c .broken-path .ensures), tt)
 
 returns-5 : tie.Need-returns-5
 returns-5 c =
@@ -94,7 +94,8 @@ returns-5 c =
     let read = c .before .before .before .before .before .before .before .before .wide .ensures .0 in
     let same = c .before .before .before .before .before .before .before .before .before .before .if1 .left in
     let l = linking-read _ _ _ _ _ t _ read _ (c .before .before .before .before .before .before .mark-images .ensures .1) in
-    nothing-found _ _ _ _ _ t _ read _ same (sym (c .before .before .before .before .before .before .mark-images .ensures .0) ∙ not-false _ (c .before .before .before .before .before .if2 .left)) _ (c .before .before .before .before .variable-elsewhere .ensures) (omega arith) _ (c .before .path-fails .ensures _ _ l) (omega arith)
+    let paths = c .before .follow-paths .ensures _ _ l .1 (omega arith) in
+    (nothing-found _ _ _ _ _ t _ read _ same (sym (c .before .before .before .before .before .before .mark-images .ensures .0) ∙ not-false _ (c .before .before .before .before .before .if2 .left)) _ (c .before .before .before .before .variable-elsewhere .ensures) (omega arith) _ paths, links-told _ _ _ _ _ t _ read _ paths)
 
 pub cover-answer-spec : {M : Type 1} → statement M
 cover-answer-spec =
@@ -107,16 +108,16 @@ cover-answer-spec =
     wide-requires
     mark-images-requires
     image-twice-requires
-    cast-t21
+    cast-t22
     returns-2
     add-variable-elsewhere
     variable-elsewhere-requires
-    add-t23
-    cast-t24
+    add-t24
+    cast-t25
     returns-3
-    add-path-fails
-    add-path-fails-2
-    path-fails-requires
+    add-follow-paths
+    add-follow-paths-2
+    follow-paths-requires
     broken-path-requires
     returns-4
     returns-5)
