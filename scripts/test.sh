@@ -3,8 +3,6 @@
 set -euo pipefail
 cd "$(dirname "$0")/.."
 mkdir -p build
-# Four at a time, on two cores too: rt starts the next crates or edits when all that it has started are done.
-export RT_JOBS="${RT_JOBS:-4}"
 
 rt ci | tee build/ci.log
 rt fmt --check
