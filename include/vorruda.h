@@ -60,6 +60,10 @@ uint32_t vorruda_write_numbers(const uint64_t *numbers, size_t count,
  *
  * A variable, or the link of a used cell, stands at # (null), at * (dangling) or at a used cell.
  * The empty heap of V variables has every variable at * and zeros behind them.
+ *
+ * A used cell may have a value, from 0 to 65,535. Values stand beside the bytes, as 64 numbers:
+ *
+ *   values[0 .. 63]    v + 1 where cell 0 to 63 has the value v, 0 where it has none
  */
 
 #define VORRUDA_HEAP_BYTES     137
@@ -83,17 +87,32 @@ uint32_t vorruda_write_numbers(const uint64_t *numbers, size_t count,
 #define VORRUDA_NEW       6 /* new(a)       always; b is 0                                  */
 #define VORRUDA_DELETE    7 /* delete(a)    a at a cell; b is 0                             */
 
+/* Kinds that test or write values of cells. The variables named must be at cells. */
+#define VORRUDA_EQUAL_VALUE 8  /* a's value = b's value      both have one, and they are equal   */
+#define VORRUDA_BELOW_VALUE 9  /* a's value < b's value      both have one, a's below b's        */
+#define VORRUDA_COPY        10 /* a's value := b's value     b's cell has one                    */
+#define VORRUDA_LARGER      11 /* a's value := a larger one  b's cell has one, below `value`     */
+#define VORRUDA_SMALLER     12 /* a's value := a smaller one b's cell has one, above `value`     */
+#define VORRUDA_READ        13 /* a's value := any value     b is 0                              */
+
 #define VORRUDA_BLOCKED   100 /* the operation isn't enabled; no refusal */
-#define VORRUDA_BAD_HEAP  13  /* not 137 bytes, or not a heap as described above */
+#define VORRUDA_BAD_HEAP  13  /* not 137 bytes, not 64 values, or not a heap as described above */
 #define VORRUDA_BAD_STEP  14  /* no such kind, or an operand that it doesn't take */
 #define VORRUDA_HEAP_FULL 15  /* new with all 64 cells used */
 
-/* One step. `new` takes the lowest unused cell and links it to *; `delete` frees the cell, and
- * every variable and link that stood at it stands at * afterwards.
- *   0: moved; the bytes are the heap after the step.
+/* One step. `new` takes the lowest unused cell, links it to * and gives it no value; `delete` frees
+ * the cell, its value goes with it, and every variable and link that stood at it stands at *
+ * afterwards. VORRUDA_LARGER, VORRUDA_SMALLER and VORRUDA_READ write `value`, which the other kinds
+ * ignore.
+ *   0: moved; heap and values are those after the step.
  *   VORRUDA_BLOCKED: not enabled.
  *   VORRUDA_BAD_HEAP, VORRUDA_BAD_STEP, VORRUDA_HEAP_FULL: refused, by the first that applies.
- * Where it isn't 0, the bytes stay as they are. */
+ * Where it isn't 0, heap and values stay as they are. */
+uint32_t vorruda_step_values(uint8_t *heap, size_t heap_len, uint32_t *values, size_t values_len,
+                             uint32_t kind, uint32_t a, uint32_t b, uint16_t value);
+
+/* The same on a heap whose cells have no values, by VORRUDA_EQUAL to VORRUDA_DELETE; any other kind
+ * is VORRUDA_BAD_STEP. */
 uint32_t vorruda_step(uint8_t *heap, size_t heap_len, uint32_t kind, uint32_t a, uint32_t b);
 
 /* ---- Checker ----------------------------------------------------------------------------------
@@ -120,9 +139,16 @@ uint32_t vorruda_step(uint8_t *heap, size_t heap_len, uint32_t kind, uint32_t a,
 #define VORRUDA_COVER           9  /* a cover reads but doesn't hold */
 #define VORRUDA_CERT_LEFT       10 /* bytes are left after the last cover */
 
-/* Checks a certificate against a job; both are only read.
+/* Files of version 2 have facts, that the value of one cell of a shape is below or equal to that of
+ * another, and transitions that test or write values. Tried after VORRUDA_JOB_LEFT, and before
+ * anything in the certificate past its version: */
+
+#define VORRUDA_VERSIONS_DIFFER 20 /* job and certificate are of different versions */
+
+/* Checks a certificate against a job, both of version 1 or both of version 2; both are only read.
  *   0: accepted.
- *   VORRUDA_JOB_LENGTH to VORRUDA_CERT_LEFT: refused, by the first that applies.
+ *   VORRUDA_JOB_LENGTH to VORRUDA_CERT_LEFT, VORRUDA_VERSIONS_DIFFER: refused, by the first that
+ *      applies.
  * A call needs less than 4 KiB of stack. */
 uint32_t vorruda_check(const uint8_t *job, size_t job_len, const uint8_t *cert, size_t cert_len);
 
@@ -134,6 +160,7 @@ uint32_t vorruda_check(const uint8_t *job, size_t job_len, const uint8_t *cert, 
 #define VORRUDA_RULE_VARIABLE 3 /* a variable, from 1, stands elsewhere */
 #define VORRUDA_RULE_LINK     4 /* the link of a cell misses */
 #define VORRUDA_RULE_PATH     5 /* the path of a cell shares a cell with that of a lower one */
+#define VORRUDA_RULE_FACT     6 /* a cell is the first of a fact that does not follow for the images */
 
 /* The same as vorruda_check, with what belongs to the number.
  *   0: out[0], out[1] and out[2] are how many forbidden shapes, members and covers there are;
@@ -143,7 +170,7 @@ uint32_t vorruda_check(const uint8_t *job, size_t job_len, const uint8_t *cert, 
  *      out[3] is 0.
  *   Other refusals: out[0] is the place, out[1], out[2] and out[3] are 0.
  * The place is the first byte of the number, the member (8) or the cover (9); the first byte left (5,
- * 10); 0 for a length. out has four entries. */
+ * 10); 0 for a length or for versions that differ (20). out has four entries. */
 uint32_t vorruda_verdict(const uint8_t *job, size_t job_len, const uint8_t *cert, size_t cert_len,
                          uint64_t *out, size_t out_len);
 

@@ -6,6 +6,7 @@ use crate::reference::certificate::MOST_MEMBERS;
 use crate::reference::job::{self, Job, Transition, MOST_TRANSITIONS};
 use crate::reference::operation::{Operation, ASSIGN, DELETE, DIFFERENT, EQUAL, LOAD, STORE};
 use crate::reference::shape as reference;
+use crate::reference::version::Version;
 use crate::search::covers::certificate_of;
 
 /// The state that all members are at; no transition touches the start.
@@ -46,6 +47,7 @@ pub fn pair(
 ) -> Pair {
     let round = operations.iter().cycle().take(transitions);
     let job = Job {
+        version: Version::One,
         variables: variables as u64,
         states: 2,
         start: START,

@@ -22,4 +22,5 @@ pub mod search;
 pub mod stack;
 pub mod sweep;
 pub mod text;
+pub mod value_extremes;
 pub mod verdict;

@@ -21,6 +21,16 @@ extern "C" {
         out_len: usize,
     ) -> u32;
     fn vorruda_step(heap: *mut u8, heap_len: usize, kind: u32, a: u32, b: u32) -> u32;
+    fn vorruda_step_values(
+        heap: *mut u8,
+        heap_len: usize,
+        values: *mut u32,
+        values_len: usize,
+        kind: u32,
+        a: u32,
+        b: u32,
+        value: u16,
+    ) -> u32;
     fn vorruda_check(job: *const u8, job_len: usize, cert: *const u8, cert_len: usize) -> u32;
     fn vorruda_verdict(
         job: *const u8,
@@ -106,6 +116,28 @@ pub fn write_numbers(numbers: &[u64], bytes: &mut [u8], out: &mut [u64]) -> u32 
 pub fn step(heap: &mut [u8], kind: u32, a: u32, b: u32) -> u32 {
     // SAFETY: the pointer goes with the length of the slice that it came from.
     unsafe { vorruda_step(lent_mut(heap), heap.len(), kind, a, b) }
+}
+
+/// A step of a kind with its operands, on a heap with values.
+pub fn step_values(
+    heap: &mut [u8],
+    values: &mut [u32],
+    (kind, a, b): (u32, u32, u32),
+    value: u16,
+) -> u32 {
+    // SAFETY: each pointer goes with the length of the slice that it came from.
+    unsafe {
+        vorruda_step_values(
+            lent_mut(heap),
+            heap.len(),
+            lent_mut(values),
+            values.len(),
+            kind,
+            a,
+            b,
+            value,
+        )
+    }
 }
 
 pub fn check(job: &[u8], certificate: &[u8]) -> u32 {

@@ -3,6 +3,7 @@
 
 use crate::draw::{self, standing};
 use crate::reference::cover::{cover_at, CoverRead, Reason};
+use crate::reference::facts::{Fact, Relation};
 use crate::reference::heap::Place;
 use crate::reference::job::Located;
 use crate::reference::operation::{Operation, DELETE};
@@ -72,6 +73,18 @@ impl<'a> RefusedCover<'a> {
                 let (lower, shared) = map.shared(name).expect("a lower cell's path meets it");
                 format!(
                     "The paths of cells {lower} and {name} share cell {shared} of the covered shape."
+                )
+            }
+            Rule::Fact => {
+                let fact = map.missing().expect("a fact is missing");
+                let told = told(fact.renamed(|cell| map.images[cell]));
+                let Fact { i, j, .. } = fact;
+                let images = match i == j {
+                    true => format!("the image of cell {i}"),
+                    false => format!("the images of cells {i} and {j}"),
+                };
+                format!(
+                    "A fact is missing: it isn't told of the covered shape that {told}, {images}."
                 )
             }
         }
@@ -151,6 +164,16 @@ impl<'a> RefusedCover<'a> {
     }
 }
 
+/// A fact in words.
+fn told(fact: Fact) -> String {
+    let Fact { relation, i, j } = fact;
+    match relation {
+        Relation::Below => format!("cell {i} is below cell {j}"),
+        Relation::Equal if i == j => format!("there is a value in cell {i}"),
+        Relation::Equal => format!("cell {i} equals cell {j}"),
+    }
+}
+
 #[cfg(test)]
 mod tests {
     use super::*;
@@ -159,6 +182,7 @@ mod tests {
     use crate::reference::checker::check;
     use crate::reference::job::Job;
     use crate::reference::shape::Shape;
+    use crate::reference::version::Version;
     use crate::routine::parse;
 
     /// c and e are linked to d, f to a ring.
@@ -177,6 +201,7 @@ made  x at c, c -> d, d -> #, e -> d, f -> g, g -> g
     fn assert_said(state: u64, shape: Shape, images: &[usize], rule: &str, how: &str) {
         let routine = parse(ROUTINE).unwrap();
         let certificate = Certificate {
+            version: Version::One,
             members: vec![Located { state, shape }],
             covers: vec![Cover {
                 member: 0,
@@ -294,7 +319,12 @@ made  x at c, c -> d, d -> #, e -> d, f -> g, g -> g
                 images: vec![1, 0],
             },
         ];
-        let bytes = Certificate { members, covers }.bytes();
+        let certificate = Certificate {
+            version: Version::One,
+            members,
+            covers,
+        };
+        let bytes = certificate.bytes();
         let verdict = check(&routine.job.bytes(), &bytes);
         let refused = RefusedCover::of(&routine, &bytes, &verdict).expect("a cover is refused");
         let expected = "
@@ -336,6 +366,7 @@ gone  x at *, y at *, z at *
             images: Vec::new(),
         };
         let certificate = Certificate {
+            version: Version::One,
             members: vec![forbidden, before, elsewhere],
             covers: [0, 1, 1, 1, 1, 1, 2].map(of).to_vec(),
         };
@@ -355,8 +386,10 @@ By member 2, at made:
     /// Whatever is broken, the sentence of its rule is said of it.
     #[test]
     fn all_that_is_broken_has_words() {
-        let mut said = [0; 5];
-        for Pair { job, certificate } in broken_pairs(0x16_5eed).take(1_000) {
+        let mut said = [0; 6];
+        let of_version = |version| broken_pairs(version, 0x16_5eed).take(1_000);
+        let pairs = of_version(Version::One).chain(of_version(Version::Two));
+        for Pair { job, certificate } in pairs {
             let verdict = check(&job, &certificate);
             let routine = Routine::of_job(Job::read(&job).unwrap());
             if let Some(refused) = RefusedCover::of(&routine, &certificate, &verdict) {
@@ -367,6 +400,7 @@ By member 2, at made:
                     "elsewhere",
                     "misses",
                     "share",
+                    "A fact is missing",
                 ];
                 let how = refused.how();
                 assert!(how.contains(words[rule - 1]), "{verdict}: {how}");

@@ -9,11 +9,17 @@ use crate::draw::standing;
 use crate::extremes::{pair, shape};
 use crate::pairs::Pair;
 use crate::reference::heap::Place;
-use crate::reference::operation::{operation, Operation, KINDS};
+use crate::reference::operation::{operation, Operation, KINDS, VALUE_KINDS};
+use crate::reference::predecessor::predecessors as predecessors_with_facts;
+use crate::reference::shape as reference;
 use crate::routine::words;
+use crate::value_extremes::{self, all_equal, in_order};
 
 const MOST_COVERS: usize = 60_000;
 const MEMBERS: usize = 64;
+
+/// Those with facts take more room.
+const VALUED_MEMBERS: usize = 8;
 
 /// The variables that an operation names stand as they do; the third is at #.
 const VARIABLES: usize = 3;
@@ -56,23 +62,68 @@ pub fn pairs(visits: usize) -> Vec<(String, Pair)> {
 }
 
 fn of_frame(frame: &Frame, visits: usize) -> Vec<(String, Pair)> {
-    let places = [&[NOWHERE, NULL, DANGLING], frame.tried].concat();
     let mut pairs = Vec::new();
     for (a_operand, b_operand) in [(1, 2), (1, 1), (1, 0), (0, 1)] {
-        for &a in &places {
-            let others = if b_operand == 2 { &places[..] } else { &[NULL] };
-            for &b in others {
-                let member = shape(&[a.into(), b.into(), 1], frame.links);
-                let operations = KINDS
+        for (a, b) in standing_ways(frame, b_operand) {
+            let member = shape(&[a.into(), b.into(), 1], frame.links);
+            let operations =
+                KINDS.filter_map(|kind| operation(kind, a_operand, b_operand, VARIABLES as u64));
+            pairs.extend(operations.map(|operation| {
+                let name = format!("{}, {}", description(operation, a, b), frame.name);
+                (name, undone(operation, &member, visits))
+            }));
+        }
+    }
+    pairs
+}
+
+/// Where the first two variables are tried; the second is at # unless it is the second operand.
+fn standing_ways(frame: &Frame, b_operand: u64) -> Vec<(u8, u8)> {
+    let places = [&[NOWHERE, NULL, DANGLING], frame.tried].concat();
+    let others = if b_operand == 2 { &places[..] } else { &[NULL] };
+    let with_others = |&a: &u8| others.iter().map(move |&b| (a, b));
+    places.iter().flat_map(with_others).collect()
+}
+
+/// The same for the operations that test or write values, on cells that are in order and on cells that
+/// are all equal.
+pub fn value_pairs(visits: usize) -> Vec<(String, Pair)> {
+    let of_frame = |frame| value_pairs_of(frame, visits);
+    FRAMES.iter().flat_map(of_frame).collect()
+}
+
+fn value_pairs_of(frame: &Frame, visits: usize) -> Vec<(String, Pair)> {
+    let facts = match frame.links.is_empty() {
+        true => vec![("no facts", Vec::new())],
+        false => vec![("in order", in_order()), ("all equal", all_equal())],
+    };
+    let mut pairs = Vec::new();
+    for (a_operand, b_operand) in [(1, 2), (1, 1), (1, 0)] {
+        for (a, b) in standing_ways(frame, b_operand) {
+            for (told, facts) in &facts {
+                let member = reference::Shape::of_codes(&[a.into(), b.into(), 1], frame.links);
+                let member = member.with_facts(facts.clone());
+                let operations = VALUE_KINDS
                     .filter_map(|kind| operation(kind, a_operand, b_operand, VARIABLES as u64));
                 pairs.extend(operations.map(|operation| {
-                    let name = format!("{}, {}", description(operation, a, b), frame.name);
-                    (name, undone(operation, &member, visits))
+                    let what = description(operation, a, b);
+                    let name = format!("{what}, {}, {told}", frame.name);
+                    (name, undone_with_values(operation, &member, visits))
                 }));
             }
         }
     }
     pairs
+}
+
+/// Enough members and transitions for the wanted visits. A member that covers all comes first.
+fn undone_with_values(operation: Operation, member: &reference::Shape, visits: usize) -> Pair {
+    let all = value_extremes::anything(VARIABLES);
+    let before = |shape: &reference::Shape| predecessors_with_facts(shape, operation).len();
+    let made = before(member).max(before(&all));
+    let visits = visits.min(MOST_COVERS / made.max(1));
+    let members = VALUED_MEMBERS.min(visits);
+    value_extremes::pair(operation, visits / members, &all, (member, members - 1))
 }
 
 /// Enough members and transitions for the wanted visits. A member that covers all comes first.
@@ -111,6 +162,18 @@ mod tests {
     use super::*;
     use crate::baseline::checker::check;
     use crate::verdict::Verdict;
+
+    #[test]
+    fn those_with_values_are_accepted() {
+        for (visits, turns) in [(2, 1), (300, 9)] {
+            let pairs = value_pairs(visits);
+            assert!(pairs.len() > 500, "only {}", pairs.len());
+            for (name, pair) in pairs.into_iter().step_by(turns) {
+                let verdict = check(&pair.job, &pair.certificate);
+                assert!(matches!(verdict, Verdict::Accepted(_)), "{name}: {verdict}");
+            }
+        }
+    }
 
     #[test]
     fn all_are_accepted() {

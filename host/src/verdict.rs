@@ -15,10 +15,22 @@ pub enum Rule {
     Link = 4,
     /// Two paths share a cell.
     Path = 5,
+    /// A fact is missing.
+    Fact = 6,
 }
 
 impl Rule {
-    pub const ALL: [Rule; 5] = [
+    pub const ALL: [Rule; 6] = [
+        Rule::State,
+        Rule::Image,
+        Rule::Variable,
+        Rule::Link,
+        Rule::Path,
+        Rule::Fact,
+    ];
+
+    /// Those that can be broken where shapes have no facts.
+    pub const WITHOUT_FACTS: [Rule; 5] = [
         Rule::State,
         Rule::Image,
         Rule::Variable,
@@ -32,7 +44,7 @@ impl Rule {
 pub struct Broken {
     pub rule: Rule,
     /// The lowest cell, from 0, or variable, from 1; of two cells that share a path the higher one;
-    /// 0 for the state.
+    /// of a fact the first one; 0 for the state.
     pub name: u8,
 }
 
@@ -171,12 +183,12 @@ mod tests {
     }
 
     #[test]
-    fn rules_are_numbered_from_1_to_5() {
-        for rule in 1..=5 {
+    fn rules_are_numbered_from_1_to_6() {
+        for rule in 1..=6 {
             let broken = Broken::of_numbers(rule, 13).expect("there is such a rule");
             assert_eq!(broken.numbers(), [rule, 13]);
         }
-        for (rule, name) in [(0, 0), (6, 0), (259, 0), (3, 256)] {
+        for (rule, name) in [(0, 0), (7, 0), (259, 0), (3, 256)] {
             assert_eq!(Broken::of_numbers(rule, name), None);
         }
     }

@@ -43,6 +43,7 @@ fn heap_of(shape: &Shape) -> Heap {
             .map(place)
             .enumerate()
             .collect::<BTreeMap<_, _>>(),
+        values: Default::default(),
     }
 }
 

@@ -9,6 +9,7 @@ use vorruda_host::reference::heap::{Heap, Place};
 use vorruda_host::reference::job::{Job, Located};
 use vorruda_host::reference::ready::Set;
 use vorruda_host::reference::shape::Shape;
+use vorruda_host::reference::version::Version;
 
 /// All heaps of one or two variables and so many cells.
 fn heaps(variables: usize, cells: usize) -> Vec<Heap> {
@@ -30,6 +31,7 @@ fn heaps(variables: usize, cells: usize) -> Vec<Heap> {
             .copied()
             .enumerate()
             .collect::<BTreeMap<_, _>>(),
+        values: Default::default(),
     };
     lists.iter().map(heap).collect()
 }
@@ -54,6 +56,7 @@ fn added(variables: usize, set: Set) -> Vec<Shape> {
         shape: Shape::of_codes(&vec![0; variables], &[]),
     };
     let job = Job {
+        version: Version::One,
         variables: variables as u64,
         states: 1,
         start: 0,

@@ -21,11 +21,14 @@ use Rattle.graph.proofs.Extend.{extend-unlinked}
 use Rattle.graph.proofs.Paths.{path-linked, place-off-path}
 use Rattle.graph.proofs.Proper.{Proper, IsPlace, Closed, dangling-place, distinct-places}
 use Rattle.graph.proofs.Update.{update-same, update-other, update-cases}
+use Rattle.facts.specs.Facts.{Follows}
 use Rattle.shape.specs.Placing.{setVarIn, fresh, grow}
 use Rattle.shape.specs.Shape.{Shape, varAt, linkAt, size, shapeGraph, heapGraph, SatisfiesOne}
+use Rattle.facts.proofs.Meets.{meets-kept}
 use Rattle.shape.proofs.Laws.{shape-proper, link-map, link-unlinked, length-snoc, var-set-same, var-set-other}
 use Rattle.run.proofs.WellFormed.{WellFormed, heap-proper, after-formed}
-use Rattle.backward.specs.Predecessors.{forget, forgetLinks, stood, varsBefore, withVars, predecessors}
+use Rattle.backward.specs.Predecessors.{forget, forgetLinks, stood, varsBefore, withVars, before}
+use Rattle.backward.proofs.Both.{value-kept}
 
 pub forget-below : (k p : ℕ) → p < k → forget p < k
 forget-below k p b = cond-cases (λ q. q < k) (r-eq p dangling) (λ _. omega arith) (λ _. b)
@@ -69,8 +72,8 @@ chosen-at case (p ∷ ps) zero z = refl
 chosen-at case (p ∷ ps) (suc i) z = chosen-at (λ i. case (suc i)) ps i (λ i. z (suc i))
 
 pub step-delete : (h : Heap) (s : Shape) (f : ℕ → ℕ) → WellFormed h → Closed (shapeGraph s) → (a : ℕ) → a ≢ 0 → a ≤ length (s .vars)
-    → IsCell h (h .var a) → Embeds (shapeGraph s) (heapGraph (after (delete a) 0 h)) f → SatisfiesOne h (predecessors (delete a) s)
-step-delete h s f w cl a nz la l0 e = (t, listed, (f₁, record { images = e₁ .images; vars = vars; paths = e₁ .paths }))
+    → IsCell h (h .var a) → Embeds (shapeGraph s) (heapGraph (after (delete a) 0 h)) f → SatisfiesOne h (before (delete a) s)
+step-delete h s f w cl a nz la l0 e = (t, listed, (f₁, record { images = e₁ .images; vars = vars; paths = e₁ .paths; facts = e₁ .facts }))
   where
     -- the cell that goes, and the fresh cell of the shape, which stands for it
     y : ℕ
@@ -100,10 +103,10 @@ step-delete h s f w cl a nz la l0 e = (t, listed, (f₁, record { images = e₁ 
     s₀ = forgetLinks s
 
     g₀ : Graph
-    g₀ = record { Cell = shapeGraph s₀ .Cell; link = linkAt s₀; var = λ v. nowhere }
+    g₀ = record { Cell = shapeGraph s₀ .Cell; link = linkAt s₀; var = λ v. nowhere; fact = Follows (s .facts) }
 
     g₁ : Graph
-    g₁ = record { Cell = shapeGraph (grow s₀) .Cell; link = linkAt (grow s₀); var = update (λ v. nowhere) a k }
+    g₁ = record { Cell = shapeGraph (grow s₀) .Cell; link = linkAt (grow s₀); var = update (λ v. nowhere) a k; fact = Follows (s .facts) }
 
     -- the links of s₀ are those of s that are not at *
     link₀ : (c : ℕ) → linkAt s₀ c ≡ forget (linkAt s c)
@@ -128,6 +131,7 @@ step-delete h s f w cl a nz la l0 e = (t, listed, (f₁, record { images = e₁ 
           link-place = λ c z.
               let (n, _, o) = was-link c z in
               subst (IsPlace g₀) (sym o) (λ i j. up (linkAt s c) (cl .link-place c n i j));
+          fact-cells = λ k p q i. let (m, n) = cl .fact-cells k p q i in (up p m, up q n);
         }
 
     -- only * goes to *
@@ -179,6 +183,7 @@ step-delete h s f w cl a nz la l0 e = (t, listed, (f₁, record { images = e₁ 
             no-image = λ c x d z m k. e .paths .no-image c x d (was-link c z .0) m (back d k);
             unshared = λ c d x z z′. e .paths .unshared c d x (was-link c z .0) (was-link d z′ .0);
           };
+          facts = λ k p q i. meets-kept (h .value) (h′ .value) k (f p) (f q) (value-kept (h .value) y (f p)) (value-kept (h .value) y (f q)) (e .facts k p q i);
         }
 
     cells₁ : (c : ℕ) → g₁ .Cell c → (c ≡ k) ⊎ g₀ .Cell c
@@ -192,7 +197,7 @@ step-delete h s f w cl a nz la l0 e = (t, listed, (f₁, record { images = e₁ 
     e₁ : Embeds g₁ (heapGraph h) f₁
     e₁ =
         extend-unlinked g₀ g₁ (heapGraph h) f k y (record { low = λ c m. m .0; linked = shape-proper s₀ .linked }) (heap-proper h (w .low)) cl₀ e₀
-        (λ (i, j). absurd (omega (arith, same-size))) (omega arith) cells₁ l0 (λ d m z. e .images .cells d (back d m) (ap (h′ .link) z ∙ gone))
+        (λ (i, j). absurd (omega (arith, same-size))) (omega arith) cells₁ l0 (λ d m z. e .images .cells d (back d m) (ap (h′ .link) z ∙ gone)) (λ _ _ _ i. i)
         (link-unlinked (s₀ .links))
         (λ c z m. path-linked (shapeGraph s) (heapGraph h′) f wp cl e c (was-link c z .0) y (List·Memᴰ·tail m) gone) a
         (update-same (λ v. nowhere) a k a refl) (λ u n. update-other (λ v. nowhere) a k u n) refl
@@ -232,7 +237,7 @@ step-delete h s f w cl a nz la l0 e = (t, listed, (f₁, record { images = e₁ 
         distinct-places (shapeGraph s) (heapGraph h′) f wp (e .images) (varAt s a) dangling (cl .var-place a i) (dangling-place (shapeGraph s))
         (sym (e .vars a i) ∙ if-pos (ℕ-discrete y y) refl dangling y ∙ sym (e .images .dangling-fixed))
 
-    listed : t ∈ predecessors (delete a) s
+    listed : t ∈ before (delete a) s
     listed =
         subst (λ l. t ∈ l)
         (sym (cond-true (eqb (varAt s a) nowhere || eqb (varAt s a) dangling) _ _ (r-or (r-eq (varAt s a) nowhere) (r-eq (varAt s a) dangling) .tests at-a)))

@@ -14,13 +14,13 @@ use denote.Enum.Declared.{tagOf}
 use types.Run.{OneOf}
 use Rattle.stepper.proofs.Outcome.{the-type}
 use Rattle.lists.specs.Test.{allFrom}
-use Rattle.lists.proofs.Test.{and-left, all-done}
+use Rattle.lists.proofs.Test.{and-left, and-right, all-done}
 use Rattle.stepper.specs.Step.{outcomeCode, Steps}
 use Rattle.stepper.specs.declared.Heap64.{Heap64}
 use Rattle.stepper.specs.declared.Outcome.{Outcome}
 use Rattle.stepper.specs.declared.Outcome.the-variants.{Moved, Blocked, Refused}
 use Rattle.stepper.specs.declared.Stepped.{Stepped}
-use Rattle.heapbytes.specs.HeapBytes.{readable, heapFrom, bytesAfter, StepsBytes}
+use Rattle.heapbytes.specs.HeapBytes.{readable, heapFrom, bytesAfter, valuesAfter, StepsBytes}
 
 -- ---- the marks, tested so far
 
@@ -50,35 +50,48 @@ module _ (bytes : List ℕ) (i largest : ℕ) where
   pub marks-done : 64 ≤ i → ltb largest 2 ≡ ltb largest 2 && allFrom (64 - i) i (markFits bytes)
   marks-done h = rw (all-done (markFits bytes) 64 i h) (sym (and-true (ltb largest 2)))
 
-module _ (bytes : List ℕ) where
-  pub other-length : (length bytes ≡ 137 → ⊥) → false ≡ readable bytes
+module _ (bytes values : List ℕ) where
+  pub other-count : (length values ≡ 64 → ⊥) → false ≡ readable bytes values
   unfolding readable
-  other-length n = simp (ne-eqb (length bytes) 137 n)
+  other-count n = simp (ne-eqb (length values) 64 n)
 
-  pub readable-marks : length bytes ≡ 137 → allFrom 64 0 (markFits bytes) ≡ readable bytes
+  pub other-length : length values ≡ 64 → (length bytes ≡ 137 → ⊥) → false ≡ readable bytes values
   unfolding readable
-  readable-marks e = simp (eq-eqb (length bytes) 137 e)
+  other-length c n = simp (eq-eqb (length values) 64 c, ne-eqb (length bytes) 137 n)
 
-  pub readable-length : readable bytes ≡ true → length bytes ≡ 137
+  pub readable-marks : length values ≡ 64 → length bytes ≡ 137 → allFrom 64 0 (markFits bytes) ≡ readable bytes values
   unfolding readable
-  readable-length e = eqb-true (length bytes) 137 (and-left (eqb (length bytes) 137) (allFrom 64 0 (markFits bytes)) e)
+  readable-marks c e = simp (eq-eqb (length values) 64 c, eq-eqb (length bytes) 137 e)
+
+  pub readable-count : readable bytes values ≡ true → length values ≡ 64
+  unfolding readable
+  readable-count e = eqb-true (length values) 64 (and-left (eqb (length values) 64) (eqb (length bytes) 137 && allFrom 64 0 (markFits bytes)) e)
+
+  pub readable-length : readable bytes values ≡ true → length bytes ≡ 137
+  unfolding readable
+  readable-length e =
+      eqb-true (length bytes) 137
+      (and-left (eqb (length bytes) 137) (allFrom 64 0 (markFits bytes))
+      (and-right (eqb (length values) 64) (eqb (length bytes) 137 && allFrom 64 0 (markFits bytes)) e))
 
 -- ---- the call's promise, by its outcome
 
-module _ (bytes : List ℕ) (kind a b : ℕ) where
-  pub unread : readable bytes ≡ false → StepsBytes bytes kind a b 13 bytes
-  unread e = record { unreadable = λ z. (refl, refl); stepped = λ z. let q : _≡_ {A = ℕ} 0 1 = cc in absurd (omega arith) }
+module _ (bytes values : List ℕ) (kind a b value : ℕ) where
+  pub unread : readable bytes values ≡ false → StepsBytes bytes values kind a b value 13 bytes values
+  unread e = record { unreadable = λ z. (refl, refl, refl); stepped = λ z. let q : _≡_ {A = ℕ} 0 1 = cc in absurd (omega arith) }
 
-  module _ (e : readable bytes ≡ true) (t : Heap64) (t-is : t ≡ heapFrom bytes) (s : Stepped) (steps : Steps t kind a b s) where
-    pub done : (code : ℕ) (after : List ℕ) → code ≡ outcomeCode (s .outcome) → after ≡ bytesAfter (s .outcome) (s .heap) bytes → StepsBytes bytes kind a b code after
-    done code after c f =
+  module _ (e : readable bytes values ≡ true) (t : Heap64) (t-is : t ≡ heapFrom bytes values) (s : Stepped) (steps : Steps t kind a b value s) where
+    pub done : (code : ℕ) (bytes′ values′ : List ℕ) → code ≡ outcomeCode (s .outcome) → bytes′ ≡ bytesAfter (s .outcome) (s .heap) bytes
+        → values′ ≡ valuesAfter (s .outcome) (s .heap) values → StepsBytes bytes values kind a b value code bytes′ values′
+    done code bytes′ values′ c f g =
         record {
           unreadable = λ z. let q : _≡_ {A = ℕ} 0 1 = cc in absurd (omega arith);
-          stepped = λ z. (s, subst (λ u. Steps u kind a b s) t-is steps, c, f);
+          stepped = λ z. (s, subst (λ u. Steps u kind a b value s) t-is steps, c, f, g);
         }
 
--- an outcome other than the first, moved, leaves the bytes
-pub left : (o : Outcome) → OneOf (1 ∷ 2 ∷ []) (tagOf the-type o) → (t : Heap64) (bytes : List ℕ) → bytes ≡ bytesAfter o t bytes
-left Moved k t bytes = ⊎-elim (λ w. absurd (omega arith)) (λ w. absurd (omega arith)) k
-left Blocked k t bytes = refl
-left (Refused r) k t bytes = refl
+-- an outcome other than the first, moved, leaves the bytes and the numbers
+pub left : (o : Outcome) → OneOf (1 ∷ 2 ∷ []) (tagOf the-type o) → (t : Heap64) (bytes values : List ℕ)
+    → (bytes ≡ bytesAfter o t bytes) × (values ≡ valuesAfter o t values)
+left Moved k t bytes values = ⊎-elim (λ w. absurd (omega arith)) (λ w. absurd (omega arith)) k
+left Blocked k t bytes values = (refl, refl)
+left (Refused r) k t bytes values = (refl, refl)

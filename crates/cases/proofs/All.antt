@@ -5,9 +5,10 @@ use Prim.Native.Nat.{ℕ, suc, _<_}
 use native.Mathlib.Omega.{arith}
 use lib.ListN.{length, getD}
 use Rattle.lists.specs.Test.{allFrom, lowest}
-use Rattle.lists.proofs.List.{every-cons, getD-mem}
+use Rattle.lists.proofs.List.{every-none, every-cons, getD-mem}
 use Rattle.heap.specs.Place.{cell}
 use Rattle.graph.proofs.Proper.{Closed}
+use Rattle.facts.specs.Facts.{FactOf}
 use Rattle.shape.specs.Shape.{Shape, AllBelow, shapeGraph}
 use Rattle.shape.proofs.InRange.{in-range-closed}
 use Rattle.run.specs.Run.{Located}
@@ -16,9 +17,10 @@ use Rattle.cover.proofs.Answer.{answer-holds}
 use Rattle.number.specs.Number.{numberIn}
 use Rattle.number.specs.Range.{AtMost}
 use Rattle.format.specs.Parser.{many, each, readAs, end}
-use Rattle.format.specs.Job.{readShape, readLocated, readTransition, readJob, readWholeJob}
-use Rattle.format.specs.Certificate.{readMember, readMembers, readCover}
+use Rattle.format.specs.Job.{readFact, factsAfter, readFacts, readShape, readLocated, readTransition, readJob, readWholeJob}
+use Rattle.format.specs.Certificate.{readMember, readMembers, readCoverBy}
 use Rattle.format.specs.Verdict.{readCertificate, readBoth, verdict}
+use Rattle.cases.specs.Values.{valueRows}
 use Rattle.cases.specs.Rows.{P10, P11, shape, twoLinks, oneLink, fourCells, twoLinksFollowed, rows, Conjunction}
 
 below : (k : ℕ) (l : List ℕ) → AtMost k l → AllBelow (suc k) l
@@ -33,6 +35,7 @@ closed n links long codes =
       variables-number = refl;
       cells = omega arith;
       vars = every-cons (λ x. x < cell (length links)) (omega arith) (λ x i. absurd (List·Memᴰ·not-nil i));
+      facts = every-none (FactOf (length links));
       links = rw long (below (suc (suc n)) links codes);
     })
 
@@ -48,7 +51,7 @@ unfolding allFrom lowest
 P10-holds e =
     let z : _≡_ {A = Answer} (broken 5 1) holds =
     answer-holds (at-0 twoLinks) (0 ∷ 1 ∷ 3 ∷ []) (at-0 fourCells) (closed 3 (5 ∷ 5 ∷ 0 ∷ []) refl (omega arith)) refl
-    (images-below 3 (0 ∷ 1 ∷ 3 ∷ []) (omega arith)) .1 (refl, e) in
+    (images-below 3 (0 ∷ 1 ∷ 3 ∷ []) (omega arith)) (every-none (FactOf 3)) (every-none (FactOf 4)) .1 (refl, e) in
     let q : _≡_ {A = ℕ} 0 1 = cc in
     omega arith
 
@@ -56,14 +59,19 @@ P11-holds : P11
 unfolding allFrom lowest
 P11-holds =
     answer-holds (at-0 oneLink) (0 ∷ 3 ∷ []) (at-0 fourCells) (closed 2 (4 ∷ 0 ∷ []) refl (omega arith)) refl
-    (images-below 3 (0 ∷ 3 ∷ []) (omega arith)) .0 refl .1
+    (images-below 3 (0 ∷ 3 ∷ []) (omega arith)) (every-none (FactOf 2)) (every-none (FactOf 4)) .0 refl .1
 
 -- the rows
 pub all-rows : Conjunction rows
-unfolding allFrom lowest numberIn many each readAs end readShape readLocated readTransition readJob readWholeJob readMember readMembers readCover readCertificate readBoth verdict
+unfolding allFrom lowest numberIn many each readAs end readShape readFacts readLocated readTransition readJob readWholeJob readMember readMembers readCoverBy readCertificate readBoth verdict
 all-rows = (refl, (refl, (refl, (refl, (refl, (refl, (refl, (refl, (refl, (P10-holds, (P11-holds, (refl, (refl, (refl, tt))))))))))))))
 
 -- links followed, by the same computation
 pub links-followed : twoLinksFollowed
-unfolding allFrom lowest numberIn many each readAs end readShape readLocated readTransition readJob readWholeJob readMember readMembers readCover readCertificate readBoth verdict
+unfolding allFrom lowest numberIn many each readAs end readShape readFacts readLocated readTransition readJob readWholeJob readMember readMembers readCoverBy readCertificate readBoth verdict
 links-followed = refl
+
+-- values in the cells
+pub all-values : Conjunction valueRows
+unfolding allFrom lowest numberIn many each readAs end readFact factsAfter readShape readFacts readLocated readTransition readJob readWholeJob readMember readMembers readCoverBy readCertificate readBoth verdict
+all-values = (refl, (refl, (refl, (refl, (refl, (refl, (refl, (refl, (refl, (refl, (refl, (refl, tt))))))))))))

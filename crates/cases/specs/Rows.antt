@@ -19,7 +19,7 @@ abbrev pub J : ℕ → List ℕ
 J kind = 1 ∷ 1 ∷ 2 ∷ 0 ∷ 1 ∷ 0 ∷ kind ∷ 1 ∷ 0 ∷ 1 ∷ 1 ∷ 1 ∷ 0 ∷ 1 ∷ []
 
 abbrev pub shape : List ℕ → List ℕ → Shape
-shape vars links = record { vars = vars; links = links }
+shape vars links = record { vars = vars; links = links; facts = [] }
 
 abbrev pub predecessorsNamed : Option Op → Shape → List Shape
 predecessorsNamed none s = []

@@ -1,16 +1,18 @@
 -- Following the index from one transition into a state to the next.
-use mathlib.Core.List.{List, _++_}
+use mathlib.Core.List.{List, _++_, map-append}
 use mathlib.Core.Path.{_≡_, sym, _∙_}
 use Prim.Native.Nat.{ℕ, zero, suc, _+_, _-_, _≤_, _<_}
 use native.Mathlib.Omega.{arith}
 use lib.ListN.{getD}
 use Rattle.run.specs.Run.{Located}
+use Rattle.format.specs.Certificate.{readCover}
+use Rattle.format.specs.Parser.{certificateBuffer}
 use Rattle.transitions.specs.Index.{nextInto, Follows}
 use Rattle.checker.proofs.Into.{before, owedFrom, FirstInto, none-into, some-into}
 use Rattle.reader.specs.declared.Header.{Header}
 use Rattle.verdict.specs.declared.Refusal.{Refusal}
 use Rattle.checker.specs.Jobs.{transitionIn, toState, owedBy}
-use Rattle.checker.specs.Checking.{Within, ChecksAll}
+use Rattle.checker.specs.Checking.{Within, coversOf, ChecksAll}
 use Rattle.checker.specs.declared.checked.Checked.{Checked}
 use Rattle.checker.specs.declared.checked.Checked.the-variants.{Upto, Refused}
 use Rattle.checker.specs.declared.checked.Position.{Position}
@@ -30,7 +32,7 @@ pub record Chain (job : List ℕ) (h : Header) (cert : List ℕ) (ms : List Loca
   pub passed : ℕ
   pub inside : passed ≤ h .transitions
   pub named : k ≡ nextInto (toState job h) (m .state) (h .transitions - passed) passed
-  pub progress : Progress cert ms (owedBy job h m) from (owedFrom (transitionIn job h) m (h .transitions - passed) passed) t
+  pub progress : Progress cert (coversOf cert ms (owedBy job h m)) from (coversOf cert ms (owedFrom (transitionIn job h) m (h .transitions - passed) passed)) t
 
 module _ {job : List ℕ} {h : Header} {cert : List ℕ} {ms : List Located} {m : Located} {from : Position} where
   pub chain-begin : {k : ℕ} → k ≡ nextInto (toState job h) (m .state) (h .transitions) 0 → Within cert from → Chain job h cert ms m from k from
@@ -60,14 +62,14 @@ module _ {job : List ℕ} {h : Header} {cert : List ℕ} {ms : List Located} {m 
     pub chain-below : k - 1 < h .transitions
     chain-below = omega (arith, first .below, c .inside)
 
-    left : Progress cert ms (owedBy job h m) from (here ++ rest) t
+    left : Progress cert (coversOf cert ms (owedBy job h m)) from (coversOf cert ms here ++ coversOf cert ms rest) t
     left =
         let same : c .passed + (h .transitions - c .passed) - suc (k - 1) ≡ h .transitions - suc (k - 1) = omega (arith, c .inside) in
-        rw same at (rw (first .owes) at (c .progress))
+        rw (map-append (readCover (certificateBuffer cert) ms) here rest) at (rw same at (rw (first .owes) at (c .progress)))
 
     module _ {g : Checked} (taken : ChecksAll cert ms here t g) where
       pub chain-halt : {r : Refusal} {place : ℕ} → g ≡ Refused r place → ChecksAll cert ms (owedBy job h m) from g
-      chain-halt e = halt here rest left taken e
+      chain-halt e = halt (coversOf cert ms here) (coversOf cert ms rest) left taken e
 
       pub chain-more : (index : List ℕ) → Follows (toState job h) (h .transitions) 0 index → {u : Position} → g ≡ Upto u
           → Chain job h cert ms m from (getD index (63 + k) 0) u
@@ -77,7 +79,7 @@ module _ {job : List ℕ} {h : Header} {cert : List ℕ} {ms : List Located} {m 
             passed = suc (k - 1);
             inside = chain-below;
             named = rw (← first .into) (follows (k - 1) (omega arith) chain-below);
-            progress = advance here rest left taken e;
+            progress = advance (coversOf cert ms here) (coversOf cert ms rest) left taken e;
           }
 
     pub chain-less : (index : List ℕ) → Follows (toState job h) (h .transitions) 0 index → leftFrom (h .transitions) (getD index (63 + k) 0) < leftFrom (h .transitions) k

@@ -6,15 +6,16 @@ use lib.ListN.{length}
 use native.Mathlib.Nat.{mod-lt, div-add-mod'}
 use native.Mathlib.Omega.{arith}
 use Rattle.run.specs.Run.{Located}
-use Rattle.format.specs.Certificate.{readCover}
+use Rattle.undoing.specs.Rowed.{Rowed}
+use Rattle.factrows.specs.Rows.{rowsTest}
 use Rattle.format.specs.Parser.{parsed, fault, certificateBuffer}
 use Rattle.verdict.specs.Verdict.{reasonOf}
 use Rattle.verdict.specs.declared.Refusal.{Refusal}
-use Rattle.checker.specs.Checking.{Tally, oneMore, checkAll, tallyOf, checkedOf, Within, ChecksAll}
+use Rattle.checker.specs.Checking.{Tally, oneMore, takeAll, tallyOf, checkedOf, located, coverRowed, Within, Checks}
 use Rattle.checker.specs.declared.checked.Checked.the-variants.{Upto, Refused}
 use Rattle.checker.specs.declared.checked.Position.{Position}
 use Rattle.checker.proofs.CoverPlace.{cover-place}
-use Rattle.checker.proofs.Checking.{checkAll-one}
+use Rattle.checker.proofs.Checking.{take-one}
 
 -- there is room to count one more, with its links
 pub counted-fits : (cert : List ℕ) (t : Position) → Within cert t → t .counted + 4294967296 + 65535 < 18446744073709551616
@@ -23,15 +24,15 @@ counted-fits cert t w =
     let rest : t .counted % 4294967296 < 4294967296 = mod-lt (t .counted) (omega arith) in
     omega (arith, w .counted, w .inside, w .fits)
 
-module _ (cert : List ℕ) (ms : List Located) where
+module _ (cert : List ℕ) (ms : List Located) (state : ℕ) where
   -- one cover
-  module _ (o : Located) (t : Position) where
-    module _ (links next : ℕ) (e : parsed links next ≡ readCover (certificateBuffer cert) ms o (t .at)) (w : Within cert t) (small : links < 65536) where
+  module _ (o : Rowed) (t : Position) where
+    module _ (links next : ℕ) (e : parsed links next ≡ coverRowed cert ms state o (t .at)) (w : Within cert t) (small : links < 65536) where
       abbrev further : Position
       further = record { at = next; counted = t .counted + 4294967296 + links }
 
       place : (t .at < next) × (next ≤ length cert)
-      place = cover-place (certificateBuffer cert) ms o (t .at) (sym e)
+      place = cover-place (certificateBuffer cert) (rowsTest (o .rows)) ms (located state (o .shape)) (t .at) (sym e)
 
       -- 65,535 links for each of 65,536 covers are less than 2^32
       links-room : tallyOf t .links + links < 4294967296
@@ -45,9 +46,9 @@ module _ (cert : List ℕ) (ms : List Located) where
           let rest : further .counted % 4294967296 < 4294967296 = mod-lt (further .counted) (omega arith) in
           ap₂ (λ (c k : ℕ). record { covers = c; links = k }) (omega (arith, links-room)) (omega (arith, links-room))
 
-      pub one-taken : ChecksAll cert ms (o ∷ []) t (Upto further)
+      pub one-taken : Checks cert ms state (o ∷ []) t (Upto further)
       one-taken = (
-        rw (checkAll-one cert ms o (tallyOf t) (t .at), ← e, parts) refl,
+        rw (take-one (coverRowed cert ms state o) (tallyOf t) (t .at), ← e, parts) refl,
         record {
           counted = omega (arith, ap (λ (n : Tally). n .covers) parts, w .counted, place .0);
           linked = omega (arith, ap (λ (n : Tally). n .covers) parts, ap (λ (n : Tally). n .links) parts, w .linked);
@@ -56,6 +57,6 @@ module _ (cert : List ℕ) (ms : List Located) where
         },
       )
 
-    pub one-refused : (r : Refusal) (place : ℕ) → fault (reasonOf r) place ≡ readCover (certificateBuffer cert) ms o (t .at)
-        → checkedOf (Refused r place) ≡ checkAll cert ms (o ∷ []) (tallyOf t) (t .at)
-    one-refused r place e = rw (checkAll-one cert ms o (tallyOf t) (t .at), ← e) refl
+    pub one-refused : (r : Refusal) (place : ℕ) → fault (reasonOf r) place ≡ coverRowed cert ms state o (t .at)
+        → checkedOf (Refused r place) ≡ takeAll (coverRowed cert ms state o ∷ []) (tallyOf t) (t .at)
+    one-refused r place e = rw (take-one (coverRowed cert ms state o) (tallyOf t) (t .at), ← e) refl

@@ -3,7 +3,10 @@ pub mod CoverPlace
 pub mod Lists
 pub mod Checking
 pub mod Checks
+pub mod Rowed
+pub mod Entry
 pub mod ChoiceLoop
+pub mod Given
 pub mod Helper
 pub mod Operands
 pub mod Into

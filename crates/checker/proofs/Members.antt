@@ -20,5 +20,5 @@ from-table cert variables starts t = same-on (memberAt cert variables) (locatedA
     stands : (i : ℕ) → i < length starts → memberAt cert variables (getD starts i 0) ≡ locatedAt cert variables (getD starts i 0)
     stands i b =
         let e = t .entry i b in
-        rw (is-whole cert variables (getD starts i 0) (record { variables-most = omega (arith, t .variables-most); cells = e .cells; inside = e .inside }))
+        rw (is-whole cert variables (getD starts i 0) (record { variables-most = omega (arith, t .variables-most); cells = e .cells; inside = e .inside; facts-inside = e .facts-inside }))
         refl

@@ -30,11 +30,11 @@ use Rattle.verdict.specs.declared.Counts.{Counts as CountsAnswer}
 use Rattle.verdict.specs.declared.Verdict.{Verdict as Answer}
 use Rattle.verdict.specs.declared.Verdict.the-variants.{Accepted}
 use Rattle.checker.specs.Jobs.{fileIn, readCovers}
-use Rattle.checker.specs.Checking.{Tally, noCovers, checkAll, tallyOf, checkedOf}
+use Rattle.checker.specs.Checking.{Tally, noCovers, takeAll, tallyOf, checkedOf, coversOf}
 use Rattle.checker.specs.declared.checked.Checked.{Checked}
 use Rattle.checker.specs.declared.checked.Checked.the-variants.{Upto, Refused}
 use Rattle.checker.specs.declared.checked.Position.{Position}
-use Rattle.checker.proofs.Checking.{more, checkAll-each}
+use Rattle.checker.proofs.Checking.{more, take-each}
 
 -- ---- lengths
 
@@ -43,19 +43,19 @@ fits-most s e = let h = ltb-true (length s) 65537 (and-right (leb 1 (length s)) 
 
 -- ---- the covers
 
-module _ (cert : List ℕ) (j : Job) (ms : List Located) (at : ℕ) (g : Checked) (taken : checkedOf g ≡ checkAll cert ms (owed j ms) noCovers at) where
+module _ (cert : List ℕ) (j : Job) (ms : List Located) (at : ℕ) (g : Checked) (taken : checkedOf g ≡ takeAll (coversOf cert ms (owed j ms)) noCovers at) where
   -- what is read after the covers, given their links
   abbrev after : ℕ → Parser Counts
   after links place = onward (end (certificateBuffer cert) place) (λ u next. parsed (countsOf j ms links) next)
 
-  by-each : (r : Parsed (List ℕ)) → checkedOf g ≡ onward r (λ ls next. parsed (more cert ms (owed j ms) noCovers ls) next)
+  by-each : (r : Parsed (List ℕ)) → checkedOf g ≡ onward r (λ ls next. parsed (more (owed j ms) noCovers ls) next)
       → ((why : Refusal) (place : ℕ) → g ≡ Refused why place → onward r (λ ls. after (sum ls)) ≡ fault (reasonOf why) place)
       × ((t : Position) → g ≡ Upto t → (tallyOf t .covers ≡ length (owed j ms)) × (onward r (λ ls. after (sum ls)) ≡ after (tallyOf t .links) (t .at)))
   by-each (parsed ls next) e = (
     (λ why place g-is. let z : _≡_ {A = ℕ} 0 1 = cc (ap checkedOf g-is) in absurd (omega arith)),
     (λ t g-is.
-        let f : _≡_ {A = Parsed Tally} (parsed (tallyOf t) (t .at)) (parsed (more cert ms (owed j ms) noCovers ls) next) = sym (ap checkedOf g-is) ∙ e in
-        let tally-is : tallyOf t ≡ more cert ms (owed j ms) noCovers ls = cc in
+        let f : _≡_ {A = Parsed Tally} (parsed (tallyOf t) (t .at)) (parsed (more (owed j ms) noCovers ls) next) = sym (ap checkedOf g-is) ∙ e in
+        let tally-is : tallyOf t ≡ more (owed j ms) noCovers ls = cc in
         let at-is : t .at ≡ next = cc in
         let covers-is = ap (λ (n : Tally). n .covers) tally-is in
         let links-is : tallyOf t .links ≡ sum ls = ap (λ (n : Tally). n .links) tally-is ∙ omega arith in
@@ -74,13 +74,13 @@ module _ (cert : List ℕ) (j : Job) (ms : List Located) (at : ℕ) (g : Checked
   unfolding readCovers
   covers-refused why place g-is =
       let r = each (readCover (certificateBuffer cert) ms) (owed j ms) at in
-      sym (ap conclude (by-each r (taken ∙ checkAll-each cert ms (owed j ms) noCovers at) .0 why place g-is))
+      sym (ap conclude (by-each r (taken ∙ take-each (readCover (certificateBuffer cert) ms) (owed j ms) noCovers at) .0 why place g-is))
 
   module _ (t : Position) (g-is : g ≡ Upto t) where
     -- all covers were taken
     reached : (tallyOf t .covers ≡ length (owed j ms)) × (readCovers cert j ms at ≡ after (tallyOf t .links) (t .at))
     unfolding readCovers
-    reached = by-each (each (readCover (certificateBuffer cert) ms) (owed j ms) at) (taken ∙ checkAll-each cert ms (owed j ms) noCovers at) .1 t g-is
+    reached = by-each (each (readCover (certificateBuffer cert) ms) (owed j ms) at) (taken ∙ take-each (readCover (certificateBuffer cert) ms) (owed j ms) noCovers at) .1 t g-is
 
     pub covers-left : t .at < length cert → refused (refusal 10) (t .at) ≡ conclude (readCovers cert j ms at)
     unfolding end
@@ -103,9 +103,9 @@ module _ (cert : List ℕ) (f : JobFile) where
 
   -- the members are read and tested, then the covers are
   in-turn : readCertificate (certificateBuffer cert) f 0
-      ≡ onward (readTested (certificateBuffer cert) (f .job .variables) (f .states) (f .job .start) 0) covers
+      ≡ onward (readTested (certificateBuffer cert) (f .version) (f .job .variables) (f .states) (f .job .start) 0) covers
   unfolding readCertificate readTested readCovers
-  in-turn = go (readMembers (certificateBuffer cert) (f .job .variables) (f .states) 0)
+  in-turn = go (readMembers (certificateBuffer cert) (f .version) (f .job .variables) (f .states) 0)
     where
       go : (r : Parsed (List Member)) → onward r (λ ms at. onward (each (testStart (f .job .start)) ms at) (λ us. covers ms))
           ≡ onward (onward r (tested (f .job .start))) covers
@@ -117,12 +117,12 @@ module _ (cert : List ℕ) (f : JobFile) where
       go (fault why place) = refl
 
   pub certificate-refused : (why : Reason) (place : ℕ)
-      → readTested (certificateBuffer cert) (f .job .variables) (f .states) (f .job .start) 0 ≡ fault why place
+      → readTested (certificateBuffer cert) (f .version) (f .job .variables) (f .states) (f .job .start) 0 ≡ fault why place
       → refused why place ≡ conclude (readCertificate (certificateBuffer cert) f 0)
   certificate-refused why place e = rw (in-turn, e) refl
 
   pub certificate-members : (ms : List Member) (next : ℕ)
-      → readTested (certificateBuffer cert) (f .job .variables) (f .states) (f .job .start) 0 ≡ parsed ms next
+      → readTested (certificateBuffer cert) (f .version) (f .job .variables) (f .states) (f .job .start) 0 ≡ parsed ms next
       → covers ms next ≡ readCertificate (certificateBuffer cert) f 0
   certificate-members ms next e = rw (in-turn, e) refl
 
@@ -131,6 +131,7 @@ module _ (cert : List ℕ) (f : JobFile) where
 pub file-is : (job : List ℕ) (h : Header) (d : JobRead job h) → d .file ≡ fileIn job h
 file-is job h d =
     λ k. record {
+      version = d .version-is k;
       states = d .states-are k;
       job =
           record {

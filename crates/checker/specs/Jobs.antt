@@ -9,7 +9,7 @@ use Rattle.format.specs.Conditions.{countsOf}
 use Rattle.format.specs.JobNumbers.{JobFile}
 use Rattle.format.specs.Parser.{Parser, _>>=_, _>>_, return, each, certificateBuffer, end}
 use Rattle.format.specs.Verdict.{Counts}
-use Rattle.layout.specs.Entries.{entriesAt}
+use Rattle.layout.specs.Entries.{versionOf, entriesAt}
 use Rattle.layout.specs.Transitions.{transitionAt}
 use Rattle.reader.specs.Transitions.{transitionsIn}
 use Rattle.reader.specs.declared.Header.{Header}
@@ -25,6 +25,7 @@ module _ (job : List ℕ) (h : Header) where
   abbrev pub fileIn : JobFile
   fileIn =
       record {
+        version = versionOf job;
         states = h .states;
         job =
             record {

@@ -1,4 +1,4 @@
-// Kinds 1 to 5: the shape under work, changed in place.
+// Kinds 1 to 5, and 8 to 13, which change facts alone: the shape under work, changed in place.
 use kinds::ASSIGN;
 use kinds::STORE;
 use place::FIRST_CELL;
@@ -49,6 +49,9 @@ pub(crate) fn undo(variables: usize, kind: u8, a: u8, b: u8, s: &mut [u8; 28])
     ensures { λ r. ⌜ now (s .exit) ≡ undoneIn variables kind a b (now (s .entry)) ⌝ }
 {
     if kind < ASSIGN {
+        return;
+    }
+    if STORE < kind {
         return;
     }
     let to = 17 + a as usize;

@@ -2,6 +2,7 @@
 use crate::checked::COVER;
 use crate::checked::Checked;
 use crate::owed::check_owed;
+use layout::version_of;
 use reader::Header;
 use reader::JobAnswer;
 use reader::MembersAnswer;
@@ -29,6 +30,7 @@ mod change;
 mod checked;
 mod choices;
 mod owed;
+mod quickly;
 mod removal;
 mod single;
 mod wanted;
@@ -71,7 +73,8 @@ fn check_certificate(job: &[u8], h: Header, cert: &[u8]) -> Verdict
     ensures { λ r. ⌜ verdictOf r ≡ conclude (readCertificate (certificateBuffer (now (cert .entry))) (fileIn (now (job .entry)) h) 0) ⌝ }
 {
     let mut starts = [0u16; 512];
-    let r = read_members(cert, h.variables, h.states, h.start, &mut starts);
+    let version = version_of(job);
+    let r = read_members(cert, version, h.variables, h.states, h.start, &mut starts);
     match r {
         MembersAnswer::Refused(why, place) => Verdict::Refused(why, place),
         MembersAnswer::Members(members, at) => {

@@ -3,24 +3,38 @@ use crate::checked::Checked;
 use crate::checked::Position;
 use crate::choices::check_first_choices;
 use crate::choices::with_helper;
+use crate::quickly::check_first_quickly;
 use crate::removal::check_cases;
 use crate::single::check_cover;
+use factrows::is_consistent;
+use kinds::BELOW_VALUE;
+use kinds::DELETE;
+use kinds::NEW;
 use kinds::STORE;
+use layout::entry_end;
+use layout::load_facts;
 use layout::load_shape;
+use layout::version_of;
 use reader::Header;
 use transitions::Transition;
 use transitions::index_transitions;
 use transitions::transition_named;
-ghost use mathlib.Core.Bool.{true};
+ghost use mathlib.Core.Bool.{true, _||_, _&&_};
+ghost use mathlib.Core.List.{map};
 ghost use mathlib.Core.Path.{_≡_};
 ghost use Prim.Native.Nat.{_+_, _≤_, _<_};
+ghost use lib.Dec.{eqb};
 ghost use lib.ListN.{length, getD};
 ghost use Rattle.lists.specs.List.{concatMap};
 ghost use Rattle.heap.specs.Operation.{kindOf};
-ghost use Rattle.backward.specs.Predecessors.{predecessors};
+ghost use Rattle.backward.specs.Predecessors.{before};
 ghost use Rattle.cover.specs.Cover.{owed};
 ghost use Rattle.checker.specs.Jobs.{toState, fileIn, owedBy};
-ghost use Rattle.checker.specs.Checking.{noCovers, checkAll, checkedOf, Within, ChecksAll, Checks};
+ghost use Rattle.checker.specs.Checking.{noCovers, takeAll, checkedOf, located, coversOf, Within, ChecksAll, OwnVersion};
+ghost use Rattle.shape.specs.Shape.{Shape};
+ghost use Rattle.undoing.specs.Rowed.{Settled, rowed};
+ghost use Rattle.factrows.specs.Rows.{noFacts, isConsistent};
+ghost use Rattle.layout.specs.Loading.{loadedFacts};
 ghost use Rattle.layout.specs.Members.{membersFrom};
 ghost use Rattle.kinds.specs.Kinds.{allowed};
 ghost use Rattle.layout.specs.ShapeArray.{cellCount, shapeIn, ShapeArray};
@@ -48,16 +62,31 @@ pub(crate) fn check_forbidden(
     while i < bads {
         let mut s = [0u8; 28];
         load_shape(job, at, variables, &mut s);
-        let n = s[0] as usize;
-        let g = check_cover(cert, starts, variables, job[at], &s, t);
+        let mut facts = [0u16; 28];
+        load_facts(job, at, variables, &mut facts);
+        let g = check_cover(cert, starts, variables, job[at], &s, &facts, t);
         let Checked::Upto(u) = g else {
             return g;
         };
         t = u;
-        at += 2 + variables + n;
+        at = entry_end(job, at, variables);
         i += 1;
     }
     Checked::Upto(t)
+}
+
+// Whether a kind is 6 (new) or 7 (delete).
+fn is_removal(kind: u8) -> bool
+    ensures { λ r. ⌜ r ≡ (eqb kind 6 || eqb kind 7) ⌝ }
+{
+    kind == NEW || kind == DELETE
+}
+
+// Whether one variable is tested to be below itself, which has no predecessor: that is seen before any placing.
+fn is_below_itself(kind: u8, a: u8, b: u8) -> bool
+    ensures { λ r. ⌜ r ≡ (eqb kind 9 && eqb a b) ⌝ }
+{
+    kind == BELOW_VALUE && a == b
 }
 
 // Covers of the predecessors of a shape by a transition.
@@ -67,16 +96,39 @@ fn check_transition(
     variables: usize,
     by: Transition,
     s: &[u8; 28],
+    facts: &[u16; 28],
     t: Position,
 ) -> Checked
-    requires { ⌜ (allowed variables (by .kind) (by .a) (by .b) ≡ true) × (variables ≤ 8) × (ShapeArray variables (now s)) × (cellCount (now s) ≤ 12) × (Within (now cert) t) ⌝ }
-    ensures { λ r. ⌜ Checks (now (cert .entry)) (membersFrom (now (cert .entry)) variables (now (starts .entry))) (by .from) (predecessors (opOf (kindOf (by .kind)) (by .a) (by .b)) (shapeIn variables (now (s .entry)))) t r ⌝ }
+    requires { ⌜ (allowed variables (by .kind) (by .a) (by .b) ≡ true) × (variables ≤ 8) × (ShapeArray variables (now s)) × (cellCount (now s) ≤ 12) × (OwnVersion (now cert) (now facts)) × (Within (now cert) t) × ((whole : Shape) × Settled (rowed (now facts) (shapeIn variables (now s))) whole) ⌝ }
+    ensures { λ r. ⌜ ((whole : Shape) → Settled (rowed (now (facts .entry)) (shapeIn variables (now (s .entry)))) whole → ChecksAll (now (cert .entry)) (membersFrom (now (cert .entry)) variables (now (starts .entry))) (map (located (by .from)) (before (opOf (kindOf (by .kind)) (by .a) (by .b)) whole)) t r) ⌝ }
 {
-    if STORE < by.kind {
-        return check_cases(cert, starts, variables, by, s, t);
+    if by.kind <= STORE {
+        if version_of(cert) != 2 {
+            let placed = with_helper(variables, by);
+            return check_first_quickly(cert, starts, variables, placed, s, facts, t);
+        }
+    }
+    if is_removal(by.kind) {
+        return check_cases(cert, starts, variables, by, s, facts, t);
+    }
+    if is_below_itself(by.kind, by.a, by.b) {
+        return Checked::Upto(t);
     }
     let placed = with_helper(variables, by);
-    check_first_choices(cert, starts, variables, placed, s, t)
+    check_first_choices(cert, starts, variables, placed, s, facts, t)
+}
+
+// Loads the facts of the member at a place, and all that follows from them, into empty rows. Whether no cell is then below itself. Version 1 has none.
+fn settle_facts(cert: &[u8], at: usize, variables: usize, facts: &mut [u16; 28]) -> bool
+    requires { ⌜ now facts ≡ noFacts ⌝ }
+    ensures is { λ r. ⌜ r ≡ isConsistent (loadedFacts (now (cert .entry)) variables at) ⌝ }
+    ensures facts { λ r. ⌜ now (facts .exit) ≡ loadedFacts (now (cert .entry)) variables at ⌝ }
+{
+    if version_of(cert) != 2 {
+        return true;
+    }
+    load_facts(cert, at, variables, facts);
+    is_consistent(facts)
 }
 
 // Covers of the predecessors of member m, by each transition into its state.
@@ -99,10 +151,14 @@ fn check_member(
     }
     let mut s = [0u8; 28];
     load_shape(cert, at, h.variables, &mut s);
+    let mut facts = [0u16; 28];
+    if !settle_facts(cert, at, h.variables, &mut facts) {
+        return Checked::Upto(from);
+    }
     let mut t = from;
     while 0 < k {
         let by = transition_named(job, h.transitions_at, k);
-        let g = check_transition(cert, starts, h.variables, by, &s, t);
+        let g = check_transition(cert, starts, h.variables, by, &s, &facts, t);
         let Checked::Upto(u) = g else {
             return g;
         };
@@ -140,8 +196,12 @@ pub(crate) fn check_members(
 // Covers of all that is owed, from a place of the certificate on.
 pub(crate) fn check_owed(job: &[u8], h: Header, cert: &[u8], starts: &[u16], at: usize) -> Checked
     requires { ⌜ (JobRead (now job) h) × (Table (now cert) (h .variables) (now starts)) × (at ≤ length (now cert)) × (length (now cert) ≤ 65536) ⌝ }
-    ensures { λ r. ⌜ checkedOf r ≡ checkAll (now (cert .entry)) (membersAt (now (cert .entry)) (h .variables) (now (starts .entry))) (owed (fileIn (now (job .entry)) h .job) (membersAt (now (cert .entry)) (h .variables) (now (starts .entry)))) noCovers at ⌝ }
+    ensures { λ r. ⌜ checkedOf r ≡ takeAll (coversOf (now (cert .entry)) (membersAt (now (cert .entry)) (h .variables) (now (starts .entry))) (owed (fileIn (now (job .entry)) h .job) (membersAt (now (cert .entry)) (h .variables) (now (starts .entry))))) noCovers at ⌝ }
 {
+    // never so: said for the compiler, so that tests of it in the loops go
+    if 8 < h.variables {
+        return Checked::Upto(Position { at, counted: 0 });
+    }
     let mut index = [0u16; 320];
     index_transitions(job, h.transitions_at, h.transitions, &mut index);
     let from = Position { at, counted: 0 };

@@ -8,15 +8,16 @@ use lib.ListN.{length, getD}
 use Rattle.lists.specs.Test.{allFrom, lowest}
 use Rattle.lists.proofs.Reflect.{r-eq, r-not, r-iff}
 use Rattle.heap.specs.Place.{nowhere, cell}
-use Rattle.graph.specs.Graph.{Graph, Images, Vars, Embeds}
+use Rattle.graph.specs.Graph.{Graph, Images, Vars, Paths, Embeds}
 use Rattle.graph.proofs.Proper.{Closed}
+use Rattle.facts.specs.Facts.{FactsOf}
 use Rattle.shape.specs.Shape.{linkAt, size, shapeGraph}
 use Rattle.shape.proofs.Laws.{var-within, shape-proper}
 use Rattle.run.specs.Run.{Located}
-use Rattle.cover.specs.Rules.{ImageTwice, VariableElsewhere, Path, LinkMisses, SharedPath, Breaks, wrong-state, image-twice, variable-elsewhere, link-misses, shared-path}
-use Rattle.cover.specs.Test.{imageMap, imageOnce, varFits, linkMeets, pathUnshared, Answer, holds, broken, ofCells, ofVariables, ofStates, coverRules, coverAnswer}
+use Rattle.cover.specs.Rules.{ImageTwice, VariableElsewhere, Path, LinkMisses, SharedPath, FactMissing, Breaks, wrong-state, image-twice, variable-elsewhere, link-misses, shared-path, fact-missing}
+use Rattle.cover.specs.Test.{imageMap, imageOnce, varFits, linkMeets, pathUnshared, factsIn, closedIn, Answer, holds, broken, ofCells, ofVariables, ofStates, coverRules, coverAnswer}
 use Rattle.cover.proofs.First.{Says, Decides, Kept, Rules, kept-next, first-broken, says-exactly}
-use Rattle.cover.proofs.Embeds.{stable, decide-image, decide-var, decide-link, decide-shared, has-path, images-kept, vars-kept, paths-kept, images-break, vars-break, path-of, shared-break}
+use Rattle.cover.proofs.Embeds.{stable, decide-image, decide-var, decide-link, decide-shared, decide-fact, has-path, images-kept, vars-kept, paths-kept, facts-kept, images-break, vars-break, path-of, shared-break, facts-break}
 
 -- P is so of n, and of none lower
 abbrev pub LowestSuch : (ℕ → Type 0) → ℕ → Type 0
@@ -39,14 +40,19 @@ module _ {m : Located} {images : List ℕ} {o : Located} where
   by-path : {i : ℕ} → Breaks m images o 5 i → SharedPath (shapeGraph (m .shape)) (shapeGraph (o .shape)) (imageMap images) i
   by-path (shared-path _ b) = b
 
-  numbers : {r n : ℕ} → Breaks m images o r n → (1 ≤ r) × (r ≤ 5)
+  by-fact : {i : ℕ} → Breaks m images o 6 i → FactMissing (shapeGraph (m .shape)) (shapeGraph (o .shape)) (imageMap images) (m .shape .facts) i
+  by-fact (fact-missing _ b) = b
+
+  numbers : {r n : ℕ} → Breaks m images o r n → (1 ≤ r) × (r ≤ 6)
   numbers (wrong-state _) = (omega arith, omega arith)
   numbers (image-twice _ _) = (omega arith, omega arith)
   numbers (variable-elsewhere _ _) = (omega arith, omega arith)
   numbers (link-misses _ _) = (omega arith, omega arith)
   numbers (shared-path _ _) = (omega arith, omega arith)
+  numbers (fact-missing _ _) = (omega arith, omega arith)
 
-module _ (m : Located) (images : List ℕ) (o : Located) (cl : Closed (shapeGraph (m .shape))) (number : length images ≡ size (m .shape)) (below : (i : ℕ) → i < size (m .shape) → getD images i 0 < size (o .shape)) where
+module _ (m : Located) (images : List ℕ) (o : Located) (cl : Closed (shapeGraph (m .shape))) (number : length images ≡ size (m .shape)) (below : (i : ℕ) → i < size (m .shape) → getD images i 0 < size (o .shape))
+    (of-member : FactsOf (size (m .shape)) (m .shape .facts)) (of-covered : FactsOf (size (o .shape)) (o .shape .facts)) where
   abbrev f : ℕ → ℕ
   f = imageMap images
 
@@ -71,8 +77,8 @@ module _ (m : Located) (images : List ℕ) (o : Located) (cl : Closed (shapeGrap
   var-within-names zero (z, n) = absurd (n refl)
   var-within-names (suc v) (z, n) = let b = var-within (m .shape .vars) (suc v) z in (omega arith, omega arith)
 
-  rules : Rules B 1 (coverRules m images o)
-  rules = (λ _. states, (λ _. images-used, (λ _. variables, (λ _. links, (paths, no-others)))))
+  rules : Rules B 1 (coverRules (closedIn (o .shape)) m images o)
+  rules = (λ _. states, (λ _. images-used, (λ _. variables, (λ _. links, (paths, (λ _. facts, no-others))))))
     where
       states : Decides (B 1) (ofStates m o)
       states =
@@ -114,7 +120,14 @@ module _ (m : Located) (images : List ℕ) (o : Located) (cl : Closed (shapeGrap
                 (decide-shared (m .shape) (o .shape) images cl number below (λ k b. kept 4 (omega arith) k (link-misses k b)) i);
           }
 
-      no-others : (q : ℕ) → 6 ≤ q → (k : ℕ) → ¬ B q k
+      facts : Decides (B 6) (ofCells (m .shape) (factsIn (m .shape) (o .shape) images (closedIn (o .shape))))
+      facts =
+          record {
+            within = λ i b. let (t, j, (left, _)) = by-fact b in cell-within i (subst (g .Cell) left (of-member t j .1));
+            decides = λ i _ _. r-iff (fact-missing i) by-fact (decide-fact (m .shape) (o .shape) images cl number below of-member of-covered i);
+          }
+
+      no-others : (q : ℕ) → 7 ≤ q → (k : ℕ) → ¬ B q k
       no-others q low k b = let (_, high) = numbers b in omega arith
 
   none-before : Kept B 1
@@ -122,7 +135,7 @@ module _ (m : Located) (images : List ℕ) (o : Located) (cl : Closed (shapeGrap
 
   -- what the answer says is so
   pub answer-says : Says B (coverAnswer m images o)
-  answer-says = first-broken B 1 (coverRules m images o) none-before rules
+  answer-says = first-broken B 1 (coverRules (closedIn (o .shape)) m images o) none-before rules
 
   -- the answer is the one that says so
   pub answer-exactly : (a : Answer) → (coverAnswer m images o ≡ a) ↔ Says B a
@@ -163,22 +176,30 @@ module _ (m : Located) (images : List ℕ) (o : Located) (cl : Closed (shapeGrap
     λ (s, im, v, l). kept-next B 4 (kept-4 .1 (s, im, v)) (λ i b. let (z, n) = by-link b in let (xs, q) = l i z in n xs q),
   )
 
-  kept-6 : Kept B 6 ↔ (SameState × Embeds g h f)
+  kept-6 : Kept B 6 ↔ (SameState × Images (g .Cell) (h .Cell) f × Vars (g .var) (h .var) f × Paths (g .Cell) (g .link) (h .link) f)
   kept-6 = (
     λ k.
         let (s, im, v) = kept-4 .0 (λ q b. k q (omega arith)) in (
           s,
-          record {
-            images = im;
-            vars = v;
-            paths =
-                paths-kept (m .shape) (o .shape) images cl number below (λ i b. k 4 (omega arith) i (link-misses i b))
-                (λ i b. k 5 (omega arith) i (shared-path i b));
-          },
+          im,
+          v,
+          paths-kept (m .shape) (o .shape) images cl number below (λ i b. k 4 (omega arith) i (link-misses i b))
+              (λ i b. k 5 (omega arith) i (shared-path i b)),
         ),
+    λ (s, im, v, p).
+        kept-next B 5 (kept-5 .1 (s, im, v, λ i z. (_, path-of (m .shape) (o .shape) images cl number below p (cell i) z)))
+        (λ i b. shared-break (m .shape) (o .shape) images cl number below p i (by-path b)),
+  )
+
+  kept-7 : Kept B 7 ↔ (SameState × Embeds g h f)
+  kept-7 = (
+    λ k.
+        let (s, im, v, p) = kept-6 .0 (λ q b. k q (omega arith)) in
+        let t = facts-kept (m .shape) (o .shape) images cl number below of-member of-covered (λ i b. k 6 (omega arith) i (fact-missing i b)) in
+        (s, record { images = im; vars = v; paths = p; facts = t }),
     λ (s, e).
-        kept-next B 5 (kept-5 .1 (s, e .images, e .vars, λ i z. (_, path-of (m .shape) (o .shape) images cl number below (e .paths) (cell i) z)))
-        (λ i b. shared-break (m .shape) (o .shape) images cl number below (e .paths) i (by-path b)),
+        kept-next B 6 (kept-6 .1 (s, e .images, e .vars, e .paths))
+        (λ i b. facts-break (m .shape) (o .shape) images cl number below of-member of-covered (e .facts) i (by-fact b)),
   )
 
   -- ---- what each answer means
@@ -186,8 +207,8 @@ module _ (m : Located) (images : List ℕ) (o : Located) (cl : Closed (shapeGrap
   -- "A cover holds when its member has the state .. and the images are an embedding"
   pub answer-holds : (coverAnswer m images o ≡ holds) ↔ (SameState × Embeds g h f)
   answer-holds = (
-    λ e. kept-6 .0 (λ q b. answer-exactly holds .0 e q),
-    λ k. answer-exactly holds .1 (λ r n b. let (_, high) = numbers b in kept-6 .1 k r (omega arith) n b),
+    λ e. kept-7 .0 (λ q b. answer-exactly holds .0 e q),
+    λ k. answer-exactly holds .1 (λ r n b. let (_, high) = numbers b in kept-7 .1 k r (omega arith) n b),
   )
 
   -- the earlier rules hold, this one is broken at n, and at no lower one
@@ -221,13 +242,18 @@ module _ (m : Located) (images : List ℕ) (o : Located) (cl : Closed (shapeGrap
       ↔ ((SameState × Images (g .Cell) (h .Cell) f × Vars (g .var) (h .var) f × LinksMeet) × LowestSuch (SharedPath g h f) i)
   rule-5 i = means 5 i kept-5 (λ k. by-path) shared-path
 
+  pub rule-6 : (i : ℕ)
+      → (coverAnswer m images o ≡ broken 6 i)
+      ↔ ((SameState × Images (g .Cell) (h .Cell) f × Vars (g .var) (h .var) f × Paths (g .Cell) (g .link) (h .link) f) × LowestSuch (FactMissing g h f (m .shape .facts)) i)
+  rule-6 i = means 6 i kept-6 (λ k. by-fact) fact-missing
+
 -- ---- two cases that a test cell by cell would get wrong
 
 abbrev four : Located
-four = record { state = 0; shape = record { vars = []; links = 5 ∷ 5 ∷ 6 ∷ 0 ∷ [] } }
+four = record { state = 0; shape = record { vars = []; links = 5 ∷ 5 ∷ 6 ∷ 0 ∷ []; facts = [] } }
 
 abbrev linked : List ℕ → Located
-linked links = record { state = 0; shape = record { vars = []; links = links } }
+linked links = record { state = 0; shape = record { vars = []; links = links; facts = [] } }
 
 -- the lowest cell whose image another cell has too is 0, although the images of cells 1 and 2 are the first two that are seen to be the same
 pub twice : coverAnswer (linked (0 ∷ 0 ∷ 0 ∷ 0 ∷ [])) (3 ∷ 2 ∷ 2 ∷ 3 ∷ []) four ≡ broken 2 0

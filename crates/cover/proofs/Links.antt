@@ -19,7 +19,8 @@ use Rattle.graph.proofs.Chain.{chain-distinct}
 use Rattle.graph.proofs.Paths.{path-linked, place-off-path, path-unique, one-path}
 use Rattle.graph.proofs.Proper.{Proper, Closed}
 use Rattle.shape.specs.Shape.{Shape, linkAt, size, shapeGraph}
-use Rattle.shape.proofs.Laws.{by-number, shape-proper}
+use Rattle.heap.proofs.Codes.{by-number}
+use Rattle.shape.proofs.Laws.{shape-proper}
 use Rattle.run.specs.Run.{Located}
 use Rattle.cover.specs.Cover.{Cover, AllHold}
 use Rattle.cover.specs.Lengths.{linksOn, pathLength, lengthsBelow, pathLengths, linkedCells}

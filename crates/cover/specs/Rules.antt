@@ -8,6 +8,7 @@ use Prim.Native.Nat.{ℕ, _<_}
 use Rattle.lists.specs.List.{_∈_}
 use Rattle.heap.specs.Place.{nowhere, cell}
 use Rattle.graph.specs.Graph.{Chain, Graph}
+use Rattle.facts.specs.Facts.{Fact}
 use Rattle.shape.specs.Shape.{shapeGraph}
 use Rattle.run.specs.Run.{Located}
 use Rattle.cover.specs.Test.{imageMap}
@@ -38,6 +39,10 @@ module _ (g h : Graph) (f : ℕ → ℕ) where
   SharedPath i =
       (j : ℕ) × (xs : List ℕ) × (ys : List ℕ) × (x : ℕ) × (j < i) × Path (cell i) xs × Path (cell j) ys × (x ∈ xs) × (x ∈ ys)
 
+  -- document 02, Wish 6, "named by its i": of the facts listed, one whose first cell is cell i does not hold of the images
+  abbrev pub FactMissing : List Fact → ℕ → Type 0
+  FactMissing facts i = (t : Fact) × (t ∈ facts) × ((t .left ≡ cell i) × (¬ h .fact (t .kind) (f (t .left)) (f (t .right))))
+
 -- the rule with a number is broken at a name, in a cover of o by the member m
 pub data Breaks (m : Located) (images : List ℕ) (o : Located) : ℕ → ℕ → Type 0 where
   -- "1 wrong state", "for 1 the name is 0"
@@ -50,6 +55,8 @@ pub data Breaks (m : Located) (images : List ℕ) (o : Located) : ℕ → ℕ �
   link-misses : (i : ℕ) → LinkMisses (shapeGraph (m .shape)) (shapeGraph (o .shape)) (imageMap images) i → Breaks m images o 4 i
   -- "5 a shared path"
   shared-path : (i : ℕ) → SharedPath (shapeGraph (m .shape)) (shapeGraph (o .shape)) (imageMap images) i → Breaks m images o 5 i
+  -- Wish 6: "each fact listed for a member must be among the closed facts of the covered shape (else rule 6 ..)"
+  fact-missing : (i : ℕ) → FactMissing (shapeGraph (m .shape)) (shapeGraph (o .shape)) (imageMap images) (m .shape .facts) i → Breaks m images o 6 i
 
 -- "The first in this order counts, and within it the lowest cell or variable, which is also named": the rule r is broken at n, and
 -- neither it at a lower name nor a rule before it

@@ -12,7 +12,7 @@ use Rattle.lists.proofs.List.{mem?}
 use Rattle.lists.proofs.Reflect.{is-true, passes, r-absent, r-disjoint}
 use Rattle.heap.specs.Codes.{linkIn}
 use Rattle.heap.specs.Place.{nowhere, cell}
-use Rattle.shape.proofs.Laws.{CellOf, by-number}
+use Rattle.heap.proofs.Codes.{CellOf, by-number}
 use Rattle.cover.specs.Test.{stops}
 use Rattle.marks.specs.Marks.{Walk, markIn, cellsIn, walkedFrom, walked}
 use Rattle.marks.proofs.Walks.{frees, frees-most, frees-less, mark-read, mark-past, mark-in, walk-more, walk-met}

@@ -18,8 +18,19 @@ use Rattle.covering.specs.Images.{imageIn}
 
 module _ (count n : ℕ) (codes : List ℕ) (m : ImageCodes count n codes) where
   -- a cell without an image
-  no-image : (i : ℕ) → count ≤ i → cell (getD (imagesIn count codes) i 0) ≡ cell 0
-  no-image i b = ap cell (List·getD-eq-default (imagesIn count codes) 0 (omega (arith, images-length count n codes m)))
+  no-image : (i : ℕ) → count ≤ i → getD (imagesIn count codes) i 0 ≡ 0
+  no-image i b = List·getD-eq-default (imagesIn count codes) 0 (omega (arith, images-length count n codes m))
+
+  pub image-beyond : (i : ℕ) → 12 ≤ i → getD (imagesIn count codes) i 0 ≡ 0
+  image-beyond i b = no-image i (omega (arith, m .few))
+
+  -- a cell that a member may have
+  pub image-coded : (i : ℕ) → i < 12 → getD codes (i + 3) 0 ≡ cell (getD (imagesIn count codes) i 0)
+  image-coded i b = go (decLt i count)
+    where
+      go : Dec (i < count) → getD codes (i + 3) 0 ≡ cell (getD (imagesIn count codes) i 0)
+      go (yes c) = sym (image-at count n codes m i c)
+      go (no c) = m .rest i (omega arith) b ∙ sym (ap cell (no-image i (omega arith)))
 
   -- the array is the map of places
   pub image-of : (p : ℕ) → imageIn codes p ≡ imageMap (imagesIn count codes) p
@@ -27,15 +38,14 @@ module _ (count n : ℕ) (codes : List ℕ) (m : ImageCodes count n codes) where
   image-of zero = m .nowhere-fixed
   image-of (suc zero) = m .null-fixed
   image-of (suc (suc zero)) = m .dangling-fixed
-  image-of (suc (suc (suc i))) = go (decLt i 12) (decLt i count)
+  image-of (suc (suc (suc i))) = go (decLt i 12)
     where
       swap : i + 3 ≡ cell i
       swap = omega arith
 
-      go : Dec (i < 12) → Dec (i < count) → cond (ltb (cell i) 15) (getD codes (cell i) 0) (cell 0) ≡ cell (getD (imagesIn count codes) i 0)
-      go (yes b) (yes c) = rw (lt-ltb (cell i) 15 (omega arith)) (rw swap at (sym (image-at count n codes m i c)))
-      go (yes b) (no c) = rw (lt-ltb (cell i) 15 (omega arith)) ((rw swap at (m .rest i (omega arith) b)) ∙ sym (no-image i (omega arith)))
-      go (no b) c = rw (le-ltb (cell i) 15 (omega arith)) (sym (no-image i (omega (arith, m .few))))
+      go : Dec (i < 12) → cond (ltb (cell i) 15) (getD codes (cell i) 0) (cell 0) ≡ cell (getD (imagesIn count codes) i 0)
+      go (yes b) = rw (lt-ltb (cell i) 15 (omega arith)) (rw swap at (image-coded i b))
+      go (no b) = rw (le-ltb (cell i) 15 (omega arith)) (sym (ap cell (image-beyond i (omega arith))))
 
   -- the image of a place that the member has is an end
   pub image-stops : (p : ℕ) → p < cell count → stops (imagesIn count codes) (imageIn codes p) ≡ true

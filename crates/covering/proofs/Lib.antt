@@ -3,6 +3,7 @@ pub mod Marks
 pub mod Follow
 pub mod Ends
 pub mod Images
+pub mod Facts
 pub mod Marking
 pub mod Twice
 pub mod Paths

@@ -12,7 +12,7 @@ use Rattle.number.proofs.Reading.{one-byte}
 use Rattle.lists.specs.Test.{lowest}
 use Rattle.heap.specs.Place.{cell}
 use Rattle.shape.specs.Shape.{Shape, size}
-use Rattle.cover.specs.Test.{coverAnswer}
+use Rattle.cover.specs.Test.{answerBy}
 use Rattle.layout.specs.Entries.{locatedAt, Whole}
 use Rattle.layout.specs.ShapeArray.{shapeIn}
 use Rattle.covering.specs.Answer.{Tested}
@@ -24,6 +24,7 @@ use Rattle.marks.proofs.Images.{marking-read, was-free, was-marked}
 use Rattle.covering.specs.Quick.{ImagesMarked, ReadAndMarked, ImagesEmbed}
 use Rattle.covering.proofs.Marking.{Marking, marking-none, marking-once, marking-more, marks-again}
 use Rattle.coverreader.proofs.ReadImages.{images-snoc, Reading, reading-none, reading-all, reading-more}
+use Rattle.covering.proofs.Facts.{bare-holds}
 use Rattle.covering.proofs.Whole.{linking-read, answer-whole}
 
 module _ (cert : List ℕ) (first n count : ℕ) where
@@ -92,15 +93,17 @@ module _ (cert : List ℕ) (variables start n : ℕ) (s : List ℕ) (whole : Who
   pub taken-linking : Linking member (shapeIn variables s) cert (start + 2 + variables) count codes marks s
   taken-linking = linking-read cert variables start codes s tested count read marks (t .marked)
 
-  pub taken-embed : lowest variables 0 (varFitsIn cert (start + 2) codes s) ≡ none
+  pub taken-embed : member .facts ≡ [] → lowest variables 0 (varFitsIn cert (start + 2) codes s) ≡ none
       → (links : ℕ) → PathsFit member (shapeIn variables s) (imagesIn count codes) count links → ImagesEmbed cert start variables first count s links
-  taken-embed vars links paths =
+  taken-embed bare vars links paths =
+      let cells = getD cert (start + 1) 0 in
       record {
         codes = codes;
         read = rw held (t .read);
         counted = paths .counted;
-        holds = λ covered shape-is state-is.
+        holds = λ among covered shape-is state-is.
             rw read
-            (ap (coverAnswer (locatedAt cert variables start) (imagesIn (getD cert (start + 1) 0) codes)) (λ i. record { state = state-is i; shape = shape-is i })
-            ∙ sym (answer-whole cert variables start codes s tested (getD cert start 0) refl (rw read at (t .apart)) vars (rw read at (paths .fit))));
+            (ap (answerBy among (locatedAt cert variables start) (imagesIn cells codes)) (λ i. record { state = state-is i; shape = shape-is i })
+            ∙ sym (answer-whole cert variables start codes s tested among (getD cert start 0) refl (rw read at (t .apart)) vars (rw read at (paths .fit))
+            (bare-holds member (shapeIn variables s) (imagesIn cells codes) among bare cells)));
       }

@@ -12,7 +12,7 @@ use Rattle.lists.proofs.List.{every-cons, every-snoc, Distinct, distinct-snoc, 
 use Rattle.lists.proofs.Reflect.{is-false, passes, fails, r-lt, r-disjoint}
 use Rattle.heap.specs.Codes.{linkIn}
 use Rattle.heap.specs.Place.{nowhere, cell}
-use Rattle.shape.proofs.Laws.{CellOf}
+use Rattle.heap.proofs.Codes.{CellOf}
 use Rattle.cover.specs.Test.{isImage, stops, walkEnd, walked}
 use Rattle.covering.specs.Marks.{endFrom, pathFrom}
 

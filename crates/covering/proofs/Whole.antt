@@ -1,5 +1,5 @@
 -- The test of a member in a buffer against a shape in an array, part by part.
-use mathlib.Core.Bool.{true, false, _||_, not}
+use mathlib.Core.Bool.{Bool, true, false, _||_, not}
 use mathlib.Core.List.{List, []}
 use mathlib.Core.Logic.{_≢_}
 use mathlib.Core.Option.{Option, some, none}
@@ -18,10 +18,10 @@ use Rattle.lists.proofs.Test.{all-at, all-made}
 use Rattle.heap.specs.Place.{cell}
 use Rattle.shape.specs.Shape.{Shape, varAt, size}
 use Rattle.run.specs.Run.{Located}
-use Rattle.cover.specs.Test.{imageMap, imageOnce, varFits, linkMeets, pathUnshared, Answer, holds, broken, orElse, coverAnswer, linksFollowed}
+use Rattle.cover.specs.Test.{imageMap, imageOnce, varFits, linkMeets, pathUnshared, factsIn, Answer, holds, broken, orElse, answerBy, linksFollowed}
 use Rattle.layout.specs.ShapeArray.{cellCount, linksIn, shapeIn}
 use Rattle.layout.specs.Entries.{locatedAt}
-use Rattle.covering.specs.Answer.{Tested, pathsAnswer}
+use Rattle.covering.specs.Answer.{Tested, lastAnswer}
 use Rattle.coverreader.specs.Images.{imagesIn, ImageCodes}
 use Rattle.covering.specs.Images.{imageIn, onceAt, once, varFitsIn, pathFits, PathsFit}
 use Rattle.covering.specs.Marks.{Marks, LinksIn, Linking}
@@ -87,14 +87,20 @@ module _ (cert : List ℕ) (variables start : ℕ) (codes s : List ℕ) (t : Tes
       sym (image-of cells n codes (t .images) (getD cert (start + 2 + i) 0)) in
       rw (← member-var i b, have, want) refl
 
-  -- ---- the answer, rule by rule
+  -- ---- the answer, rule by rule; a test tells the facts of the covered shape
 
-  module _ (state : ℕ) where
+  module _ (among : ℕ → ℕ → ℕ → Bool) (state : ℕ) where
     abbrev of-shape : Located
     of-shape = record { state = state; shape = covered }
 
+    abbrev answer : Answer
+    answer = answerBy among (locatedAt cert variables start) images of-shape
+
+    abbrev missing : Option ℕ
+    missing = lowest cells 0 (factsIn member covered images among)
+
     abbrev byPaths : Answer
-    byPaths = pathsAnswer member covered images cells
+    byPaths = lastAnswer member covered images cells missing
 
     abbrev byVariables : Answer
     byVariables = orElse 3 (next (lowest variables 0 (varFitsIn cert (start + 2) codes s))) byPaths
@@ -114,24 +120,25 @@ module _ (cert : List ℕ) (variables start : ℕ) (codes s : List ℕ) (t : Tes
         ∙ lowest-next (varFits member covered images) variables 0
         ∙ ap next (lowest-same (λ i. varFits member covered images (suc i)) (varFitsIn cert (start + 2) codes s) variables 0 (λ i _ b. var-same i (omega arith)))
 
-    answer-parts : coverAnswer (locatedAt cert variables start) images of-shape
-        ≡ orElse 1 (lowest 1 0 (λ _. eqb (getD cert start 0) state)) byImages
+    answer-parts : answer ≡ orElse 1 (lowest 1 0 (λ _. eqb (getD cert start 0) state)) byImages
     answer-parts =
         ap (orElse 1 (lowest 1 0 (λ _. eqb (getD cert start 0) state)))
-        (ap₂ (orElse 2) twice-same (ap₂ (orElse 3) vars-same (ap (λ (k : ℕ). pathsAnswer member covered images k) member-size)))
+        (ap₂ (orElse 2) twice-same
+        (ap₂ (orElse 3) vars-same
+        (ap (λ (k : ℕ). lastAnswer member covered images k (lowest k 0 (factsIn member covered images among))) member-size)))
 
-    pub answer-state : getD cert start 0 ≢ state → broken 1 0 ≡ coverAnswer (locatedAt cert variables start) images of-shape
+    pub answer-state : getD cert start 0 ≢ state → broken 1 0 ≡ answer
     unfolding lowest
     answer-state d = sym (answer-parts ∙ rw (ne-eqb (getD cert start 0) state d) refl)
 
     module _ (same : getD cert start 0 ≡ state) where
-      from-images : coverAnswer (locatedAt cert variables start) images of-shape ≡ byImages
+      from-images : answer ≡ byImages
       unfolding lowest
       from-images = answer-parts ∙ rw (eq-eqb (getD cert start 0) state same) refl
 
       -- where two images are the same, one is found
       pub answer-image : (i : ℕ) → once images ≡ false → i ≡ numberOr cells (lowest cells 0 (onceAt images))
-          → broken 2 i ≡ coverAnswer (locatedAt cert variables start) images of-shape
+          → broken 2 i ≡ answer
       answer-image i a e = sym (from-images ∙ ap (λ o. orElse 2 o byVariables) (found (decLt i cells)))
         where
           found : Dec (i < cells) → lowest cells 0 (onceAt images) ≡ some i
@@ -145,7 +152,7 @@ module _ (cert : List ℕ) (variables start : ℕ) (codes s : List ℕ) (t : Tes
               cc
 
       module _ (a : once images ≡ true) where
-        from-variables : coverAnswer (locatedAt cert variables start) images of-shape ≡ byVariables
+        from-variables : answer ≡ byVariables
         from-variables =
             let long = images-length cells n codes (t .images) in
             let no-twice : lowest cells 0 (onceAt images) ≡ none =
@@ -153,30 +160,37 @@ module _ (cert : List ℕ) (variables start : ℕ) (codes s : List ℕ) (t : Tes
             from-images ∙ ap (λ o. orElse 2 o byVariables) no-twice
 
         pub answer-variable : (v : ℕ) → lowest variables 0 (varFitsIn cert (start + 2) codes s) ≡ some v
-            → broken 3 (v + 1) ≡ coverAnswer (locatedAt cert variables start) images of-shape
+            → broken 3 (v + 1) ≡ answer
         answer-variable v e = rw (add-one v) (sym (from-variables ∙ ap (λ o. orElse 3 (next o) byPaths) e))
 
         module _ (b : lowest variables 0 (varFitsIn cert (start + 2) codes s) ≡ none) where
-          pub answer-paths : byPaths ≡ coverAnswer (locatedAt cert variables start) images of-shape
+          pub answer-paths : byPaths ≡ answer
           answer-paths = sym (from-variables ∙ ap (λ o. orElse 3 (next o) byPaths) b)
 
-          pub answer-whole : lowest cells 0 (pathFits member covered images) ≡ none
-              → holds ≡ coverAnswer (locatedAt cert variables start) images of-shape
-          answer-whole e =
-              let (meet, apart) = lowest-both (linkMeets member covered images) (pathUnshared member covered images) cells e in
-              ap₂ (λ o u. orElse 4 o (orElse 5 u holds)) (sym meet) (sym apart) ∙ answer-paths
+          module _ (e : lowest cells 0 (pathFits member covered images) ≡ none) where
+            from-facts : orElse 6 missing holds ≡ answer
+            from-facts =
+                let (meet, apart) = lowest-both (linkMeets member covered images) (pathUnshared member covered images) cells e in
+                ap₂ (λ o u. orElse 4 o (orElse 5 u (orElse 6 missing holds))) (sym meet) (sym apart) ∙ answer-paths
 
-  -- ---- the last two rules, where the path of cell i is the first that fails
+            pub answer-fact : (i : ℕ) → missing ≡ some i → broken 6 i ≡ answer
+            answer-fact i z = ap (λ o. orElse 6 o holds) (sym z) ∙ from-facts
 
-  pub paths-miss : (j : ℕ) → lowest cells 0 (linkMeets member covered images) ≡ some j → broken 4 j ≡ pathsAnswer member covered images cells
-  paths-miss j e = sym (ap (λ o. orElse 4 o (orElse 5 (lowest cells 0 (pathUnshared member covered images)) holds)) e)
+            pub answer-whole : missing ≡ none → holds ≡ answer
+            answer-whole z = ap (λ o. orElse 6 o holds) (sym z) ∙ from-facts
 
-  pub paths-share : (i : ℕ) → lowest cells 0 (pathFits member covered images) ≡ some i → lowest cells 0 (linkMeets member covered images) ≡ none
-      → broken 5 i ≡ pathsAnswer member covered images cells
-  paths-share i e meet =
-      let apart : lowest cells 0 (pathUnshared member covered images) ≡ some i =
-      sym (lowest-second (linkMeets member covered images) (pathUnshared member covered images) cells meet) ∙ e in
-      sym (ap₂ (λ o u. orElse 4 o (orElse 5 u holds)) meet apart)
+  -- ---- the two rules of paths, where the path of cell i is the first that fails
+
+  module _ (missing : Option ℕ) where
+    paths-miss : (j : ℕ) → lowest cells 0 (linkMeets member covered images) ≡ some j → broken 4 j ≡ lastAnswer member covered images cells missing
+    paths-miss j e = sym (ap (λ o. orElse 4 o (orElse 5 (lowest cells 0 (pathUnshared member covered images)) (orElse 6 missing holds))) e)
+
+    paths-share : (i : ℕ) → lowest cells 0 (pathFits member covered images) ≡ some i → lowest cells 0 (linkMeets member covered images) ≡ none
+        → broken 5 i ≡ lastAnswer member covered images cells missing
+    paths-share i e meet =
+        let apart : lowest cells 0 (pathUnshared member covered images) ≡ some i =
+        sym (lowest-second (linkMeets member covered images) (pathUnshared member covered images) cells meet) ∙ e in
+        sym (ap₂ (λ o u. orElse 4 o (orElse 5 u (orElse 6 missing holds))) meet apart)
 
   -- ---- the tests in turn, where the number of the member's cells has been read
 
@@ -203,27 +217,34 @@ module _ (cert : List ℕ) (variables start : ℕ) (codes s : List ℕ) (t : Tes
     pub marks-cells : (marks : List ℕ) → Marks (imagesIn count codes) [] marks → Marks images [] marks
     marks-cells marks m = rw read at m
 
-    module _ (state : ℕ) (same : getD cert start 0 ≡ state) where
+    module _ (among : ℕ → ℕ → ℕ → Bool) (state : ℕ) (same : getD cert start 0 ≡ state) where
       pub image-found : (i : ℕ) → once (imagesIn count codes) ≡ false → i ≡ numberOr count (lowest count 0 (onceAt (imagesIn count codes)))
-          → broken 2 i ≡ coverAnswer (locatedAt cert variables start) images (of-shape state)
-      image-found i a e = answer-image state same i (rw read at a) (rw read at e)
+          → broken 2 i ≡ answer among state
+      image-found i a e = answer-image among state same i (rw read at a) (rw read at e)
 
       module _ (a : once (imagesIn count codes) ≡ true) where
         pub variable-found : (v : ℕ) → v ≡ numberOr variables (lowest variables 0 (varFitsIn cert (start + 2) codes s)) → v < variables
-            → broken 3 (v + 1) ≡ coverAnswer (locatedAt cert variables start) images (of-shape state)
-        variable-found v e b = answer-variable state same (rw read at a) v (found-at (varFitsIn cert (start + 2) codes s) variables v e b)
+            → broken 3 (v + 1) ≡ answer among state
+        variable-found v e b = answer-variable among state same (rw read at a) v (found-at (varFitsIn cert (start + 2) codes s) variables v e b)
 
         module _ (v : ℕ) (e : v ≡ numberOr variables (lowest variables 0 (varFitsIn cert (start + 2) codes s))) (b : variables ≤ v) where
           no-variable : lowest variables 0 (varFitsIn cert (start + 2) codes s) ≡ none
           no-variable = found-none (varFitsIn cert (start + 2) codes s) variables v e b
 
-          pub path-found : (r : Answer) → r ≡ pathsAnswer member covered images cells
-              → r ≡ coverAnswer (locatedAt cert variables start) images (of-shape state)
-          path-found r h = h ∙ answer-paths state same (rw read at a) no-variable
+          pub path-found : (r : Answer) → ((missing : Option ℕ) → r ≡ lastAnswer member covered images cells missing) → r ≡ answer among state
+          path-found r h = h (missing among state) ∙ answer-paths among state same (rw read at a) no-variable
 
-          pub nothing-found : (links : ℕ) → PathsFit member covered (imagesIn count codes) count links
-              → holds ≡ coverAnswer (locatedAt cert variables start) images (of-shape state)
-          nothing-found links paths = answer-whole state same (rw read at a) no-variable (rw read at (paths .fit))
+          module _ (links : ℕ) (paths : PathsFit member covered (imagesIn count codes) count links) (i : ℕ)
+              (h : i ≡ numberOr count (lowest count 0 (factsIn member covered (imagesIn count codes) among))) where
+            pub fact-found : i < count → broken 6 i ≡ answer among state
+            fact-found c =
+                answer-fact among state same (rw read at a) no-variable (rw read at (paths .fit)) i
+                (found-at (factsIn member covered images among) cells i (rw read at h) (omega arith))
+
+            pub nothing-found : count ≤ i → holds ≡ answer among state
+            nothing-found c =
+                answer-whole among state same (rw read at a) no-variable (rw read at (paths .fit))
+                (found-none (factsIn member covered images among) cells i (rw read at h) (omega arith))
 
     -- the links followed where every path fits
     pub links-told : (links : ℕ) → PathsFit member covered (imagesIn count codes) count links → links ≡ linksFollowed member covered images
@@ -235,8 +256,9 @@ module _ (cert : List ℕ) (variables start : ℕ) (codes s : List ℕ) (t : Tes
     first-failing i h c = found-at (pathFits member covered images) cells i (rw read at h) (omega arith)
 
     module _ (j : ℕ) (e : j ≡ numberOr count (lowest count 0 (linkMeets member covered (imagesIn count codes)))) where
-      pub miss-found : j < count → broken 4 j ≡ pathsAnswer member covered images cells
-      miss-found b = paths-miss j (found-at (linkMeets member covered images) cells j (rw read at e) (omega arith))
+      pub miss-found : (missing : Option ℕ) → j < count → broken 4 j ≡ lastAnswer member covered images cells missing
+      miss-found missing b = paths-miss missing j (found-at (linkMeets member covered images) cells j (rw read at e) (omega arith))
 
-      pub share-found : (i : ℕ) → lowest cells 0 (pathFits member covered images) ≡ some i → count ≤ j → broken 5 i ≡ pathsAnswer member covered images cells
-      share-found i h b = paths-share i h (found-none (linkMeets member covered images) cells j (rw read at e) (omega arith))
+      pub share-found : (missing : Option ℕ) (i : ℕ) → lowest cells 0 (pathFits member covered images) ≡ some i → count ≤ j
+          → broken 5 i ≡ lastAnswer member covered images cells missing
+      share-found missing i h b = paths-share missing i h (found-none (linkMeets member covered images) cells j (rw read at e) (omega arith))

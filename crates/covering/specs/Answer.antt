@@ -1,5 +1,6 @@
 -- The exact test of one cover: what is tested, and the answer of the code as that of the definitions.
 use mathlib.Core.List.{List}
+use mathlib.Core.Option.{Option}
 use mathlib.Core.Path.{_≡_}
 use Prim.Native.Nat.{ℕ, _+_}
 use lib.ListN.{getD}
@@ -46,7 +47,8 @@ pub record Tested (cert : List ℕ) (variables start : ℕ) (codes s : List ℕ)
   pub whole : Whole cert variables start
   pub images : ImageCodes (getD cert (start + 1) 0) (size (shapeIn variables s)) codes
 
--- what the last two rules say
-abbrev pub pathsAnswer : Shape → Shape → List ℕ → ℕ → Answer
-pathsAnswer member covered images count =
-    orElse 4 (lowest count 0 (linkMeets member covered images)) (orElse 5 (lowest count 0 (pathUnshared member covered images)) holds)
+-- what the last three rules say: the two of paths, and that of facts, whose lowest cell is given
+abbrev pub lastAnswer : Shape → Shape → List ℕ → ℕ → Option ℕ → Answer
+lastAnswer member covered images count missing =
+    let shared = lowest count 0 (pathUnshared member covered images) in
+    orElse 4 (lowest count 0 (linkMeets member covered images)) (orElse 5 shared (orElse 6 missing holds))

@@ -5,7 +5,7 @@ use mathlib.Core.Path.{_≡_}
 use Prim.Native.Nat.{ℕ, _+_}
 use Rattle.shape.specs.Shape.{size}
 use Rattle.run.specs.Run.{Located}
-use Rattle.cover.specs.Test.{Answer, coverAnswer, linksFollowed}
+use Rattle.cover.specs.Test.{Answer, answerBy, linksFollowed}
 use Rattle.verdict.specs.declared.Reached.the-variants.{At}
 use Rattle.layout.specs.Entries.{locatedAt}
 use Rattle.layout.specs.ShapeArray.{shapeIn}
@@ -31,6 +31,7 @@ pub record ReadAndMarked (cert : List ℕ) (first n count : ℕ) (r : Bool) (cod
 pub record ImagesEmbed (cert : List ℕ) (start variables first count : ℕ) (s : List ℕ) (links : ℕ) : Type 0 where
   pub codes : List ℕ
   pub read : ImagesRead cert first (size (shapeIn variables s)) count (At (first + count)) codes
-  pub holds : (covered : Located) → covered .shape ≡ shapeIn variables s → covered .state ≡ locatedAt cert variables start .state
-      → coverAnswer (locatedAt cert variables start) (imagesIn count codes) covered ≡ Answer.holds
+  pub holds : (among : ℕ → ℕ → ℕ → Bool) (covered : Located) → covered .shape ≡ shapeIn variables s
+      → covered .state ≡ locatedAt cert variables start .state
+      → answerBy among (locatedAt cert variables start) (imagesIn count codes) covered ≡ Answer.holds
   pub counted : links ≡ linksFollowed (locatedAt cert variables start .shape) (shapeIn variables s) (imagesIn count codes)

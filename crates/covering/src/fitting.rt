@@ -1,4 +1,8 @@
-// Whether images embed a member in a shape: the tests of images, variables and paths, exact whatever the bytes are.
+// Whether images embed a member in a shape: the tests of images, variables, paths and facts, exact whatever the bytes are.
+use factrows::first_missing;
+use factrows::holds_all;
+use layout::fact_span;
+use layout::version_of;
 use marks::clear;
 use marks::is_stop;
 use marks::mark_image;
@@ -6,10 +10,13 @@ use marks::walk;
 use number::wide;
 ghost use mathlib.Core.List.{[]};
 ghost use mathlib.Core.Path.{_≡_};
-ghost use Prim.Native.Nat.{_+_, _≤_, _<_};
+ghost use Prim.Native.Nat.{ℕ, _+_, _≤_, _<_};
 ghost use lib.ListN.{length};
 ghost use Rattle.lists.specs.Test.{lowest, numberOr};
 ghost use Rattle.shape.specs.Shape.{Shape};
+ghost use Rattle.cover.specs.Test.{factsIn};
+ghost use Rattle.factrows.specs.Rows.{rowsTest};
+ghost use Rattle.layout.specs.Entries.{locatedAt, Whole};
 ghost use Rattle.coverreader.specs.Images.{imagesIn, ImageCodes};
 ghost use Rattle.covering.specs.Images.{imageIn, once, varFitsIn, pathFits, PathsFit};
 ghost use Rattle.covering.specs.Marks.{Marks, Linking};
@@ -107,4 +114,30 @@ pub(crate) fn follow_paths(
         fails: count,
         links,
     }
+}
+
+// The lowest cell, of so many, that is the first of a fact listed for the member which the rows do not have of the images; as many as there are where they
+// have each. Version 1 has none.
+pub(crate) fn fact_missing(
+    cert: &[u8],
+    start: usize,
+    variables: usize,
+    cells: usize,
+    images: &[u8; 15],
+    facts: &[u16; 28],
+) -> usize
+    requires { ⌜ (Whole (now cert) variables start) × ((n : ℕ) × ImageCodes cells n (now images)) ⌝ }
+    ensures { λ r. ⌜ ((covered : Shape) → r ≡ numberOr cells (lowest cells 0 (factsIn (locatedAt (now (cert .entry)) variables start .shape) covered (imagesIn cells (now (images .entry))) (rowsTest (now (facts .entry)))))) ⌝ }
+{
+    if version_of(cert) != 2 {
+        return cells;
+    }
+    let span = fact_span(cert, start, variables);
+    let first = span.first;
+    let end = span.end;
+    let listed = &cert[first..end];
+    if holds_all(facts, listed, images) {
+        return cells;
+    }
+    first_missing(facts, listed, images, cells)
 }

@@ -4,13 +4,15 @@ use crate::rules::Answer;
 use crate::rules::cover_answer;
 use coverreader::CoverRead;
 use coverreader::read_cover;
-use number::Read;
-use number::read_number;
+use layout::version_of;
 use number::wide;
 use verdict::Refusal;
+ghost use mathlib.Core.Bool.{Bool};
 ghost use mathlib.Core.Logic.{_≢_};
 ghost use mathlib.Core.Path.{_≡_};
-ghost use Rattle.format.specs.Certificate.{readCover};
+ghost use Prim.Native.Nat.{ℕ};
+ghost use Rattle.factrows.specs.Rows.{rowsTest};
+ghost use Rattle.format.specs.Certificate.{readCoverBy};
 ghost use Rattle.format.specs.Parser.{parsed, certificateBuffer};
 ghost use Rattle.layout.specs.ShapeArray.{shapeIn};
 ghost use Rattle.layout.specs.Members.{membersFrom};
@@ -36,7 +38,7 @@ fn refused(read: CoverRead) -> CoverAnswer
     }
 }
 
-// Checks the cover at a place by the exact test, of a shape at a state: the place after it and the links followed, or a refusal.
+// Checks the cover at a place by the exact test, of a shape at a state, with the rows of its facts: the place after it and the links followed, or a refusal.
 pub fn exact_cover(
     cert: &[u8],
     starts: &[u16],
@@ -44,8 +46,9 @@ pub fn exact_cover(
     at: usize,
     state: u8,
     s: &[u8; 28],
+    facts: &[u16; 28],
 ) -> CoverAnswer
-    ensures { λ r. ⌜ coverAnswerOf r ≡ readCover (certificateBuffer (now (cert .entry))) (membersFrom (now (cert .entry)) variables (now (starts .entry))) (record { state = state; shape = shapeIn variables (now (s .entry)) }) at ⌝ }
+    ensures { λ r. ⌜ coverAnswerOf r ≡ readCoverBy (certificateBuffer (now (cert .entry))) (rowsTest (now (facts .entry))) (membersFrom (now (cert .entry)) variables (now (starts .entry))) (record { state = state; shape = shapeIn variables (now (s .entry)) }) at ⌝ }
 {
     let reading = read_cover(cert, starts, variables, at, s);
     let r = reading.answer;
@@ -54,7 +57,7 @@ pub fn exact_cover(
     };
     let start = starts[m] as usize;
     let images = reading.images;
-    let answer = cover_answer(cert, start, variables, state, &images, s);
+    let answer = cover_answer(cert, start, variables, state, &images, s, facts);
     match answer {
         Answer::Holds(links) => CoverAnswer::Holds(next, links),
         Answer::Breaks(broken) => CoverAnswer::Refused(Refusal::CoverFails(broken), at),
@@ -70,7 +73,8 @@ pub struct QuickCover {
 // The cover is left to `exact_cover`.
 const LEFT: QuickCover = QuickCover { next: 0, links: 0 };
 
-// A quick test of the cover at a place. An entry of 9 variables and 12 cells has 23 bytes.
+// A quick test of the cover at a place, in version 1. An entry of 9 variables and 12 cells has 23 bytes. The member's number is read here if it is of one
+// byte or two: a call would cost each cover.
 pub fn quick_cover(
     cert: &[u8],
     starts: &[u16],
@@ -79,12 +83,30 @@ pub fn quick_cover(
     state: u8,
     s: &[u8; 28],
 ) -> QuickCover
-    ensures { λ r. ⌜ (r .next ≢ 0 → readCover (certificateBuffer (now (cert .entry))) (membersFrom (now (cert .entry)) variables (now (starts .entry))) (record { state = state; shape = shapeIn variables (now (s .entry)) }) at ≡ parsed (r .links) (r .next)) ⌝ }
+    ensures { λ r. ⌜ ((among : ℕ → ℕ → ℕ → Bool) → r .next ≢ 0 → readCoverBy (certificateBuffer (now (cert .entry))) among (membersFrom (now (cert .entry)) variables (now (starts .entry))) (record { state = state; shape = shapeIn variables (now (s .entry)) }) at ≡ parsed (r .links) (r .next)) ⌝ }
 {
-    let r = read_number(cert, at);
-    let Read::Number(m, first) = r else {
+    if version_of(cert) == 2 {
         return LEFT;
-    };
+    }
+    if cert.len() < 2 {
+        return LEFT;
+    }
+    if cert.len() - 2 < at {
+        return LEFT;
+    }
+    let mut m = wide(cert[at]);
+    let mut first = at + 1;
+    if 128 <= m {
+        let high = wide(cert[at + 1]);
+        if high == 0 {
+            return LEFT;
+        }
+        if 128 <= high {
+            return LEFT;
+        }
+        m = m - 128 + high * 128;
+        first = at + 2;
+    }
     if starts.len() <= m {
         return LEFT;
     }

@@ -6,13 +6,14 @@ use marks::mark_image;
 use marks::walk;
 use number::wide;
 ghost use mathlib.Core.Bool.{true};
+ghost use mathlib.Core.List.{[]};
 ghost use mathlib.Core.Option.{none};
 ghost use mathlib.Core.Path.{_≡_};
 ghost use Prim.Native.Nat.{_+_, _≤_};
 ghost use lib.ListN.{length, getD};
 ghost use Rattle.lists.specs.Test.{lowest};
 ghost use Rattle.shape.specs.Shape.{Shape};
-ghost use Rattle.layout.specs.Entries.{Whole};
+ghost use Rattle.layout.specs.Entries.{locatedAt, Whole};
 ghost use Rattle.coverreader.specs.Images.{imagesIn, ImageCodes};
 ghost use Rattle.covering.specs.Images.{varFitsIn, PathsFit};
 ghost use Rattle.covering.specs.Marks.{Linking};
@@ -131,7 +132,7 @@ pub(crate) fn images_embed(
     count: usize,
     s: &[u8; 28],
 ) -> QuickTest
-    requires { ⌜ (Whole (now cert) variables start) × (count ≡ getD (now cert) (start + 1) 0) × (first + count ≤ length (now cert)) ⌝ }
+    requires { ⌜ (Whole (now cert) variables start) × (locatedAt (now cert) variables start .shape .facts ≡ []) × (count ≡ getD (now cert) (start + 1) 0) × (first + count ≤ length (now cert)) ⌝ }
     ensures { λ r. ⌜ (r .accepts ≡ true → ImagesEmbed (now (cert .entry)) start variables first count (now (s .entry)) (r .links)) ⌝ }
 {
     let n = cells_held(s);

@@ -1,4 +1,5 @@
 // The exact test of one cover, rule by rule in document 02's order, and what it names where a rule is broken.
+use crate::fitting::fact_missing;
 use crate::fitting::follow_paths;
 use crate::fitting::image_of;
 use crate::fitting::mark_images;
@@ -6,22 +7,24 @@ use crate::fitting::variable_elsewhere;
 use marks::stop_from;
 use number::wide;
 use verdict::Broken;
+use verdict::FACT_MISSING;
 use verdict::IMAGE_TWICE;
 use verdict::LINK_MISSES;
 use verdict::SHARED_PATH;
 use verdict::VARIABLE_ELSEWHERE;
 use verdict::WRONG_STATE;
 ghost use mathlib.Core.List.{[]};
-ghost use mathlib.Core.Option.{some};
+ghost use mathlib.Core.Option.{Option, some};
 ghost use mathlib.Core.Path.{_≡_};
-ghost use Prim.Native.Nat.{_+_, _<_};
+ghost use Prim.Native.Nat.{ℕ, _+_, _<_};
 ghost use lib.ListN.{getD};
 ghost use Rattle.lists.specs.Test.{lowest, numberOr};
 ghost use Rattle.shape.specs.Shape.{Shape};
-ghost use Rattle.cover.specs.Test.{linkMeets, coverAnswer, linksFollowed};
+ghost use Rattle.cover.specs.Test.{linkMeets, answerBy, linksFollowed};
+ghost use Rattle.factrows.specs.Rows.{rowsTest};
 ghost use Rattle.layout.specs.Entries.{locatedAt};
 ghost use Rattle.layout.specs.ShapeArray.{shapeIn};
-ghost use Rattle.covering.specs.Answer.{brokenOf, answerOf, LinksTold, Tested, pathsAnswer};
+ghost use Rattle.covering.specs.Answer.{brokenOf, answerOf, LinksTold, Tested, lastAnswer};
 ghost use Rattle.coverreader.specs.Images.{imagesIn, ImageCodes};
 ghost use Rattle.covering.specs.Images.{onceAt, pathFits};
 ghost use Rattle.covering.specs.Marks.{Marks, Linking};
@@ -92,7 +95,7 @@ fn link_misses(
 }
 
 // What rules 4 and 5 say, where the path of cell i is the first that fails: a link that misses, of any cell, comes before a shared path. No path has
-// used a cell in these marks.
+// used a cell in these marks. Rule 6 comes later, whatever it says.
 fn broken_path(
     cert: &[u8],
     start: usize,
@@ -103,7 +106,7 @@ fn broken_path(
     i: usize,
 ) -> Broken
     requires { ⌜ (Tested (now cert) variables start (now images) (now s)) × (Marks (imagesIn (getD (now cert) (start + 1) 0) (now images)) [] (now marks)) × (i < getD (now cert) (start + 1) 0) × (lowest (getD (now cert) (start + 1) 0) 0 (pathFits (locatedAt (now cert) variables start .shape) (shapeIn variables (now s)) (imagesIn (getD (now cert) (start + 1) 0) (now images))) ≡ some i) ⌝ }
-    ensures { λ r. ⌜ brokenOf r ≡ pathsAnswer (locatedAt (now (cert .entry)) variables start .shape) (shapeIn variables (now (s .entry))) (imagesIn (getD (now (cert .entry)) (start + 1) 0) (now (images .entry))) (getD (now (cert .entry)) (start + 1) 0) ⌝ }
+    ensures { λ r. ⌜ ((missing : Option ℕ) → brokenOf r ≡ lastAnswer (locatedAt (now (cert .entry)) variables start .shape) (shapeIn variables (now (s .entry))) (imagesIn (getD (now (cert .entry)) (start + 1) 0) (now (images .entry))) (getD (now (cert .entry)) (start + 1) 0) missing) ⌝ }
 {
     let cells = wide(cert[start + 1]);
     let missing = link_misses(cert, start + 2 + variables, cells, images, marks, s);
@@ -119,7 +122,7 @@ fn broken_path(
     }
 }
 
-// What the test of a cover says: of a shape at a state, by the member that starts at a place.
+// What the test of a cover says: of a shape at a state, with the rows of its facts, by the member that starts at a place.
 pub(crate) fn cover_answer(
     cert: &[u8],
     start: usize,
@@ -127,9 +130,10 @@ pub(crate) fn cover_answer(
     state: u8,
     images: &[u8; 15],
     s: &[u8; 28],
+    facts: &[u16; 28],
 ) -> Answer
     requires { ⌜ Tested (now cert) variables start (now images) (now s) ⌝ }
-    ensures answer { λ r. ⌜ answerOf r ≡ coverAnswer (locatedAt (now (cert .entry)) variables start) (imagesIn (getD (now (cert .entry)) (start + 1) 0) (now (images .entry))) (record { state = state; shape = shapeIn variables (now (s .entry)) }) ⌝ }
+    ensures answer { λ r. ⌜ answerOf r ≡ answerBy (rowsTest (now (facts .entry))) (locatedAt (now (cert .entry)) variables start) (imagesIn (getD (now (cert .entry)) (start + 1) 0) (now (images .entry))) (record { state = state; shape = shapeIn variables (now (s .entry)) }) ⌝ }
     ensures links { λ r. ⌜ LinksTold r (linksFollowed (locatedAt (now (cert .entry)) variables start .shape) (shapeIn variables (now (s .entry))) (imagesIn (getD (now (cert .entry)) (start + 1) 0) (now (images .entry)))) ⌝ }
 {
     if cert[start] != state {
@@ -159,6 +163,13 @@ pub(crate) fn cover_answer(
     let i = paths.fails;
     if i < cells {
         return Answer::Breaks(broken_path(cert, start, variables, images, &marks, s, i));
+    }
+    let missing = fact_missing(cert, start, variables, cells, images, facts);
+    if missing < cells {
+        return Answer::Breaks(Broken {
+            rule: FACT_MISSING,
+            name: missing as u8,
+        });
     }
     Answer::Holds(paths.links)
 }

@@ -12,7 +12,7 @@ use Rattle.number.specs.Number.{numberAt}
 use Rattle.number.specs.declared.Read.the-variants.{Number, Unreadable}
 use Rattle.lists.specs.Test.{lowest}
 use Rattle.shape.specs.Shape.{size}
-use Rattle.format.specs.Certificate.{readCover}
+use Rattle.format.specs.Certificate.{readCoverBy}
 use Rattle.format.specs.Parser.{certificateBuffer, many}
 use Rattle.format.proofs.Parsing.{read-outside, read-complete}
 use Rattle.verdict.specs.declared.Reached.{Reached}
@@ -34,10 +34,10 @@ module _ (cert : List ℕ) (variables : ℕ) (starts : List ℕ) (at n : ℕ) wh
   Is r codes = CoverIs cert variables starts at n r codes
 
   pub cover-unreadable : (place : ℕ) → numberAt cert at ≡ Unreadable place → Is (NotRead CertificateUnreadable at) noImages
-  unfolding readCover
+  unfolding readCoverBy
   cover-unreadable place e =
       record {
-        reads = λ covered s z. rw (read-unreadable cert (getElem? (membersFrom cert variables starts)) at place e) refl;
+        reads = λ among covered s z. rw (read-unreadable cert (getElem? (membersFrom cert variables starts)) at place e) refl;
         numbers = λ m next y. let x : _≡_ {A = ℕ} 0 1 = cc in absurd (omega arith);
         member = λ m next y. let x : _≡_ {A = ℕ} 0 1 = cc in absurd (omega arith);
         whole = λ m next y. let x : _≡_ {A = ℕ} 0 1 = cc in absurd (omega arith);
@@ -47,10 +47,10 @@ module _ (cert : List ℕ) (variables : ℕ) (starts : List ℕ) (at n : ℕ) wh
 
   module _ (m next : ℕ) (e : numberAt cert at ≡ Number m next) where
     pub cover-outside : length starts ≤ m → Is (NotRead CertificateRange at) noImages
-    unfolding readCover
+    unfolding readCoverBy
     cover-outside b =
         record {
-          reads = λ covered s z.
+          reads = λ among covered s z.
               rw (read-outside (certificateBuffer cert) (getElem? (membersFrom cert variables starts)) at m next e
               (no-element (memberAt cert variables) starts m b)) refl;
           numbers = λ m next y. let x : _≡_ {A = ℕ} 0 1 = cc in absurd (omega arith);
@@ -68,10 +68,10 @@ module _ (cert : List ℕ) (variables : ℕ) (starts : List ℕ) (at n : ℕ) wh
       member-some = element (memberAt cert variables) starts m b
 
       pub cover-absent : isWhole cert variables start ≡ false → Is (NotRead (CoverFails (record { rule = 1; name = 0 })) at) noImages
-      unfolding readCover many lowest
+      unfolding readCoverBy many lowest
       cover-absent o =
           record {
-            reads = λ covered s z.
+            reads = λ among covered s z.
                 let other : 256 ≡ covered .state → ⊥ = λ y. omega arith in
                 rw (
                   read-complete (certificateBuffer cert) (getElem? (membersFrom cert variables starts)) at m next _ e member-some,
@@ -97,10 +97,10 @@ module _ (cert : List ℕ) (variables : ℕ) (starts : List ℕ) (at n : ℕ) wh
             (omega (arith, length-drop (start + 2 + variables) cert, whole cert variables start w .inside)))
 
         pub cover-refused : (r : Refusal) (place : ℕ) → q ≡ Refused r place → Is (NotRead r place) noImages
-        unfolding readCover
+        unfolding readCoverBy
         cover-refused r place y =
             record {
-              reads = λ covered s z.
+              reads = λ among covered s z.
                   rw (
                     read-complete (certificateBuffer cert) (getElem? (membersFrom cert variables starts)) at m next _ e member-is,
                     member-size,
@@ -116,10 +116,10 @@ module _ (cert : List ℕ) (variables : ℕ) (starts : List ℕ) (at n : ℕ) wh
             }
 
         pub cover-taken : (end : ℕ) → q ≡ At end → Is (Taken m end) codes
-        unfolding readCover
+        unfolding readCoverBy
         cover-taken end y =
             record {
-              reads = λ covered s z.
+              reads = λ among covered s z.
                   rw (
                     read-complete (certificateBuffer cert) (getElem? (membersFrom cert variables starts)) at m next _ e member-is,
                     member-size,

@@ -1,5 +1,6 @@
 -- One cover as it is read: "A cover is a member number below N and one image for each of its cells, below the number of cells of the covered
 -- shape."
+use mathlib.Core.Bool.{Bool}
 use mathlib.Core.List.{List}
 use mathlib.Core.Path.{_≡_}
 use Prim.Native.Nat.{ℕ, _+_, _<_}
@@ -8,8 +9,8 @@ use Rattle.number.specs.Number.{numberAt}
 use Rattle.number.specs.declared.Read.the-variants.{Number}
 use Rattle.shape.specs.Shape.{size}
 use Rattle.run.specs.Run.{Located}
-use Rattle.cover.specs.Test.{coverAnswer, linksFollowed}
-use Rattle.format.specs.Certificate.{judge, readCover}
+use Rattle.cover.specs.Test.{answerBy, linksFollowed}
+use Rattle.format.specs.Certificate.{judge, readCoverBy}
 use Rattle.format.specs.Parser.{Parsed, parsed, fault, many, ranged, certificateBuffer}
 use Rattle.verdict.specs.Verdict.{reasonOf}
 use Rattle.verdict.specs.declared.Refusal.{Refusal}
@@ -36,18 +37,18 @@ module _ (cert : List ℕ) (variables : ℕ) (starts : List ℕ) where
   abbrev pub cellsAt : ℕ → ℕ
   cellsAt m = getD cert (getD starts m 0 + 1) 0
 
-  -- what becomes of the cover at a place, once it is read: it is refused, or judged, with the links followed
-  abbrev pub coverOf : ℕ → Located → CoverRead → List ℕ → Parsed ℕ
-  coverOf at covered (Taken m next) codes =
+  -- what becomes of the cover at a place, once it is read: it is refused, or judged, with the links followed; a test tells the facts of the covered shape
+  abbrev pub coverOf : (ℕ → ℕ → ℕ → Bool) → ℕ → Located → CoverRead → List ℕ → Parsed ℕ
+  coverOf among at covered (Taken m next) codes =
       let member = locatedAt cert variables (getD starts m 0) in
       let images = imagesIn (cellsAt m) codes in
-      judge (coverAnswer member images covered) (linksFollowed (member .shape) (covered .shape) images) at next
-  coverOf at covered (NotRead r place) codes = fault (reasonOf r) place
+      judge (answerBy among member images covered) (linksFollowed (member .shape) (covered .shape) images) at next
+  coverOf among at covered (NotRead r place) codes = fault (reasonOf r) place
 
   -- a cover that was read, with its member's number and its images, or refused
   pub record CoverIs (at n : ℕ) (r : CoverRead) (codes : List ℕ) : Type 0 where
-    pub reads : (covered : Located) → covered .state < 256 → size (covered .shape) ≡ n
-        → coverOf at covered r codes ≡ readCover (certificateBuffer cert) (membersFrom cert variables starts) covered at
+    pub reads : (among : ℕ → ℕ → ℕ → Bool) (covered : Located) → covered .state < 256 → size (covered .shape) ≡ n
+        → coverOf among at covered r codes ≡ readCoverBy (certificateBuffer cert) among (membersFrom cert variables starts) covered at
     pub numbers : (m next : ℕ) → r ≡ Taken m next
         → (mid : ℕ) × (numberAt cert at ≡ Number m mid) × (many (cellsAt m) (ranged (certificateBuffer cert) 0 n) mid ≡ parsed (imagesIn (cellsAt m) codes) next)
     pub member : (m next : ℕ) → r ≡ Taken m next → m < length starts

@@ -14,7 +14,10 @@ use Rattle.graph.specs.Follow.{follow}
 use Rattle.graph.specs.Graph.{Graph, Embeds}
 use Rattle.graph.proofs.Proper.{IsPlace, Closed}
 use Rattle.shape.specs.Shape.{Shape, linkAt, size, shapeGraph, heapGraph}
-use Rattle.shape.proofs.Laws.{CellOf, by-number, shape-proper}
+use Rattle.heap.proofs.Codes.{CellOf, by-number}
+use Rattle.facts.specs.Facts.{Follows}
+use Rattle.facts.proofs.Closing.{none-follows}
+use Rattle.shape.proofs.Laws.{shape-proper}
 use Rattle.run.proofs.WellFormed.{WellFormed, heap-proper}
 use Rattle.forbidden.specs.Meets.{Meets}
 use Rattle.forbidden.specs.Sets.{only, standingAt, ending, looping, notList}
@@ -25,19 +28,20 @@ use Rattle.graph.proofs.Unmet.{unmet}
 abbrev pub Inside : ℕ → ℕ → ℕ → Type 0
 Inside m bad r = (nowhere < r) × (r < cell m) × (r ≢ bad)
 
--- x alone has a place, each cell has a link, and none of these is at `bad`
+-- x alone has a place, each cell has a link, none of these is at `bad`, and there are no facts
 pub record Base (n x bad : ℕ) (s : Shape) : Type 0 where
   pub place : ℕ
   pub only-x : s .vars ≡ only n x place
   pub inside : (r : ℕ) → r ∈ (place ∷ s .links) → Inside (size s) bad r
   pub small : size s ≤ 2
+  pub no-facts : s .facts ≡ []
 
 -- ---- the six shapes without a loose cell
 
 module _ (n x bad : ℕ) (low : bad < cell 0) where
   base : (p : ℕ) (links : List ℕ) → All (Inside (length links) bad) (p ∷ links) × (length links ≤ 2)
-      → Base n x bad (record { vars = only n x p; links = links })
-  base p links (i, j) = record { place = p; only-x = refl; inside = all-every (Inside (length links) bad) (p ∷ links) i; small = j }
+      → Base n x bad (record { vars = only n x p; links = links; facts = [] })
+  base p links (i, j) = record { place = p; only-x = refl; inside = all-every (Inside (length links) bad) (p ∷ links) i; small = j; no-facts = refl }
 
   -- p is # or *
   ending-base : (p : ℕ) → nowhere < p → p < cell 0 → p ≢ bad → (s : Shape) → s ∈ ending n x p → Base n x bad s
@@ -70,7 +74,7 @@ six-base n x s m = go (List·Memᴰ·append-cases (notList n x) m)
 module _ (h : Heap) (w : WellFormed h) (n x : ℕ) (x≢0 : x ≢ 0) (x≤n : x ≤ n) (bad : ℕ) (s : Shape) (b : Base n x bad s) (links : List ℕ)
     (longer : size s ≤ length links) (same : (c : ℕ) → linkIn links c ≡ linkAt s c) where
   g : Graph
-  g = shapeGraph (record { vars = s .vars; links = links })
+  g = shapeGraph (record { vars = s .vars; links = links; facts = s .facts })
 
   R : ℕ → Type 0
   R = Inside (size s) bad
@@ -91,14 +95,15 @@ module _ (h : Heap) (w : WellFormed h) (n x : ℕ) (x≢0 : x ≢ 0) (x≤n : x 
             (only-place n x (b .place) x≢0 x≤n g (places (b .place) (b .inside (b .place) (List·Memᴰ·head refl))) v);
         link-place = λ c l.
             rw (same c) (places (linkAt s c) (linked-inside c (shape-proper s .linked c (λ z. l (same c ∙ z)))));
+        fact-cells = λ k p q i. absurd (none-follows (subst (λ l. Follows l k p q) (b .no-facts) i));
       }
 
   steps : (r : ℕ) → R r → g .Cell r → (g .link r ≢ nowhere) × R (g .link r)
   unfolding R g
   steps r k c = let i : R (linkAt s r) = linked-inside r (c .0, k .1) in rw (same r) (omega arith, i)
 
-  pub base-unmet : (f : ℕ → ℕ) → Embeds (shapeGraph (record { vars = s .vars; links = links })) (heapGraph h) f
-      → IsPlace (shapeGraph (record { vars = s .vars; links = links })) bad → ¬ Meets h x (f bad)
+  pub base-unmet : (f : ℕ → ℕ) → Embeds (shapeGraph (record { vars = s .vars; links = links; facts = s .facts })) (heapGraph h) f
+      → IsPlace (shapeGraph (record { vars = s .vars; links = links; facts = s .facts })) bad → ¬ Meets h x (f bad)
   unfolding R g
   base-unmet f e p (k, z) =
       unmet g (heapGraph h) f (heap-proper h (w .low)) closed e R places steps bad p (λ r. r .2 refl) (b .place) start k

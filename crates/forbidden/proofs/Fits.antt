@@ -4,7 +4,7 @@ use mathlib.Core.Logic.{_≢_}
 use mathlib.Core.Path.{_≡_, refl, sym, ap, _∙_, subst}
 use Prim.Native.Nat.{ℕ, _≤_}
 use Rattle.lists.specs.List.{_∈_}
-use Rattle.lists.proofs.List.{cut, Distinct}
+use Rattle.lists.proofs.List.{every-none, cut, Distinct}
 use Rattle.heap.specs.Heap.{Heap, IsCell}
 use Rattle.heap.specs.Place.{cell}
 use Rattle.graph.specs.Graph.{Chain}
@@ -18,18 +18,18 @@ use Rattle.shape.proofs.Segments.{Segment, flat, image, Leads, segments-embed}
 
 -- a heap satisfies one of the shapes with loose cells, whose links `none` are all nowhere
 abbrev pub Fits : Heap → List ℕ → List Shape → Type 0
-Fits h none list = (s : Shape) × (s ∈ list) × Satisfies h (record { vars = s .vars; links = s .links ++ none })
+Fits h none list = (s : Shape) × (s ∈ list) × Satisfies h (record { vars = s .vars; links = s .links ++ none; facts = s .facts })
 
 -- `loose` are the segments of the loose cells. For one loose cell and for none this is said once.
 module _ (h : Heap) (w : WellFormed h) (n x : ℕ) (x≢0 : x ≢ 0) (x≤n : x ≤ n) (loose : List Segment) (none : List ℕ)
     (unlinked : (f : ℕ → ℕ) → Leads (h .link) f none loose) where
   -- x stands at p, and the cells have these segments
   fits : (p : ℕ) (links : List ℕ) (ss : List Segment) → h .var x ≡ image ss p → Distinct (flat ss) → ((c : ℕ) → c ∈ flat ss → IsCell h c)
-      → Leads (h .link) (image ss) (links ++ none) ss → Satisfies h (record { vars = only n x p; links = links ++ none })
+      → Leads (h .link) (image ss) (links ++ none) ss → Satisfies h (record { vars = only n x p; links = links ++ none; facts = [] })
   fits p links ss e d c l = (
     image ss,
-    segments-embed h (record { vars = only n x p; links = links ++ none }) ss d c l
-        (only-vars n x p x≢0 x≤n (h .var) (image ss) (w .null-fixed) refl e),
+    segments-embed h (record { vars = only n x p; links = links ++ none; facts = [] }) ss d c l
+        (only-vars n x p x≢0 x≤n (h .var) (image ss) (w .null-fixed) refl e) (every-none _),
   )
 
   -- the walk ends at p, which is # or *

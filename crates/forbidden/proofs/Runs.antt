@@ -7,7 +7,7 @@ use native.Mathlib.Omega.{arith}
 use Rattle.lists.specs.List.{_∈_}
 use Rattle.lists.proofs.List.{mem-concatMap}
 use Rattle.heap.specs.Heap.{Heap}
-use Rattle.heap.specs.Operation.{Op, equal, different, assign, load, store, new, delete, Allowed}
+use Rattle.heap.specs.Operation.{Op, equal, different, assign, load, store, new, delete, equalValue, belowValue, copy, larger, smaller, read, Allowed}
 use Rattle.heap.specs.Place.{nowhere, null, dangling, cell}
 use Rattle.shape.specs.Shape.{Shape, SatisfiesOne, Satisfies}
 use Rattle.run.specs.Run.{Transition, Located, Job, Entry, Config, run, Safe}

@@ -7,13 +7,13 @@ use Rattle.number.specs.Number.{bytesOf, numberIn}
 use Rattle.number.specs.NumberList.{encode}
 use Rattle.heap.specs.Operation.{assign, load, store}
 use Rattle.shape.specs.Shape.{Shape}
-use Rattle.format.specs.Job.{readShape, readLocated, readTransition, readJob, readWholeJob}
+use Rattle.format.specs.Job.{readShape, readFacts, readLocated, readTransition, readJob, readWholeJob}
 use Rattle.format.specs.Parser.{many, readAs, end}
 use Rattle.forbidden.specs.Sets.{notList, lostBlock, badSteps}
 use Rattle.forbidden.specs.Written.{not-list, lost-block, written, refused, rewriteFile, rewrite}
 
 abbrev codes : List ℕ → List ℕ → Shape
-codes vars links = record { vars = vars; links = links }
+codes vars links = record { vars = vars; links = links; facts = [] }
 
 four-and-six : (n x : ℕ) → (length (notList n x) ≡ 4) × (length (lostBlock n x) ≡ 6)
 four-and-six n x = (refl, refl)
@@ -50,13 +50,13 @@ J = 1 ∷ 1 ∷ 2 ∷ 0 ∷ 1 ∷ 0 ∷ 6 ∷ 1 ∷ 0 ∷ 1 ∷ 1 ∷ 1 ∷ 0 �
 J-not-list : rewrite J (not-list 1 1) 30
     ≡ written
     (1 ∷ 1 ∷ 2 ∷ 0 ∷ 1 ∷ 0 ∷ 6 ∷ 1 ∷ 0 ∷ 1 ∷ 5 ∷ 1 ∷ 0 ∷ 1 ∷ 1 ∷ 0 ∷ 2 ∷ 1 ∷ 1 ∷ 3 ∷ 2 ∷ 1 ∷ 1 ∷ 3 ∷ 3 ∷ 1 ∷ 2 ∷ 3 ∷ 4 ∷ 4 ∷ [])
-unfolding rewrite rewriteFile readWholeJob readJob readTransition readLocated readShape readAs many end numberIn encode bytesOf
+unfolding rewrite rewriteFile readWholeJob readJob readTransition readLocated readShape readFacts readAs many end numberIn encode bytesOf
 J-not-list = refl
 
 J-short : rewrite J (not-list 1 1) 29 ≡ refused 12 30
-unfolding rewrite rewriteFile readWholeJob readJob readTransition readLocated readShape readAs many end numberIn encode bytesOf
+unfolding rewrite rewriteFile readWholeJob readJob readTransition readLocated readShape readFacts readAs many end numberIn encode bytesOf
 J-short = refl
 
 J-outside : rewrite J (lost-block 2 1) 99 ≡ refused 16 0
-unfolding rewrite rewriteFile readWholeJob readJob readTransition readLocated readShape readAs many end numberIn encode bytesOf
+unfolding rewrite rewriteFile readWholeJob readJob readTransition readLocated readShape readFacts readAs many end numberIn encode bytesOf
 J-outside = refl

@@ -48,7 +48,7 @@ module _ (h : Heap) (w : WellFormed h) (n x : ℕ) (x≢0 : x ≢ 0) (x≤n : x 
       r = walk-from h w x
 
       go : Fits h [] (notList n x) ⊎ (Meets h x null × Fits h [] (ending n x null)) → SatisfiesOne h (notList n x) ⊎ Meets h x null
-      go (inl (s, m, q)) = inl (s, m, subst (λ (l : List ℕ). Satisfies h (record { vars = s .vars; links = l })) (append-nil (s .links)) q)
+      go (inl (s, m, q)) = inl (s, m, subst (λ (l : List ℕ). Satisfies h (record { vars = s .vars; links = l; facts = s .facts })) (append-nil (s .links)) q)
       go (inr (m, q)) = inr m
 
   pub six-or-met : (c : ℕ) → IsCell h c → SatisfiesOne h (lostBlock n x) ⊎ Meets h x c
@@ -92,7 +92,7 @@ module _ (h : Heap) (w : WellFormed h) (n x : ℕ) (x≢0 : x ≢ 0) (x≤n : x 
         f (cell (size s)),
         e .images .cells (cell (size s)) (omega arith, omega arith),
         base-unmet h w n x x≢0 x≤n (cell (size s)) s
-            (record { place = b .place; only-x = b .only-x; inside = λ r m. let i = b .inside r m in omega arith; small = b .small })
+            (record { place = b .place; only-x = b .only-x; inside = λ r m. let i = b .inside r m in omega arith; small = b .small; no-facts = b .no-facts })
             (s .links ++ (nowhere ∷ [])) (omega arith) (link-unlinked (s .links)) f e (λ _ _. (omega arith, omega arith)),
       )
 

@@ -7,7 +7,7 @@ use Prim.Native.Nat.{ℕ, suc, _≤_, _<_}
 use native.Mathlib.Omega.{arith}
 use lib.Dec.{ltb, T}
 use lib.ListN.{length, drop, length-append}
-use Rattle.lists.specs.List.{_∈_}
+use Rattle.lists.specs.List.{_∈_, Every}
 use Rattle.lists.proofs.List.{concatMap-mem}
 use Rattle.lists.proofs.Reflect.{Reflect, r-le, r-lt, r-and}
 use Rattle.number.specs.NumberList.{encode}
@@ -18,7 +18,7 @@ use Rattle.heap.specs.Operation.{Allowed}
 use Rattle.heap.proofs.Operands.{named-allowed}
 use Rattle.format.specs.Conditions.{Acceptable}
 use Rattle.format.specs.Job.{readWholeJob}
-use Rattle.format.specs.JobBytes.{LocatedInRange, JobInRange, IsJob}
+use Rattle.format.specs.JobBytes.{FactsInRange, LocatedInRange, JobInRange, IsJob}
 use Rattle.format.specs.JobNumbers.{JobFile, jobNumbers}
 use Rattle.format.specs.Parser.{Parsed, parsed, fault, jobBuffer}
 use Rattle.format.specs.Verdict.{fits}
@@ -29,7 +29,7 @@ use Rattle.format.proofs.Sequence.{reads-decode}
 use Rattle.format.proofs.Written.{written-job}
 use Rattle.forbidden.specs.Sets.{notList, lostBlock, atState, badStep, badStepsOf, stepsThrough, alsoForbid}
 use Rattle.forbidden.specs.Written.{ReadySet, not-list, lost-block, bad-steps, shapesOf, Guarantees, isInside, withSet, written, refused, rewriteFile, rewriteRead, rewrite, rewriteResult, outputAfter, Ready, Rewrites}
-use Rattle.forbidden.proofs.InRange.{not-list-in-range, lost-in-range, standing-in-range}
+use Rattle.forbidden.proofs.InRange.{Plain, not-list-in-range, lost-in-range, standing-in-range}
 use Rattle.forbidden.proofs.Runs.{through-range, list-at, none-lost-at, steps-at-cells, also-forbids, still-safe}
 
 -- what was read is the job that the bytes are
@@ -57,23 +57,27 @@ module _ (f : JobFile) (ok : JobInRange f) where
   shapes set = shapesOf set (f .job .variables) (f .job .transitions)
 
   operands : (t : Transition) → t ∈ f .job .transitions → Allowed (f .job .variables) (t .op)
-  operands t i = let (kind, a, b, e) = ok .transitions t i .op in named-allowed (f .job .variables) kind a b (t .op) e
+  operands t i = let (kind, a, b, (_, e)) = ok .transitions t i .op in named-allowed (f .job .variables) kind a b (t .op) e
 
   -- shapes in range at a state in range
-  at-in-range : (q : ℕ) → q < f .states → (list : List Shape) → ((s : Shape) → s ∈ list → InRange (f .job .variables) 12 s)
-      → (m : Located) → m ∈ atState q list → LocatedInRange (f .job .variables) (f .states) m
+  at-in-range : (q : ℕ) → q < f .states → (list : List Shape) → Every (Plain (f .job .variables) 12) list
+      → (m : Located) → m ∈ atState q list → LocatedInRange (f .version) (f .job .variables) (f .states) m
   at-in-range q b list h m i =
       let (s, k, e) = Memᴰ·of-map (λ s. record { state = q; shape = s }) list i in
-      subst (LocatedInRange (f .job .variables) (f .states)) e (record { state = b; shape = h s k })
+      subst (LocatedInRange (f .version) (f .job .variables) (f .states)) e (record {
+        state = b;
+        shape = h s k .0;
+        facts = subst (FactsInRange (f .version)) (sym (h s k .1)) (record { number = omega arith; rising = tt; none = λ _. refl });
+      })
 
-  step-in-range : (v : ℕ) → v ≢ 0 → v ≤ f .job .variables → (s : Shape) → s ∈ badStep (f .job .variables) v → InRange (f .job .variables) 12 s
+  step-in-range : (v : ℕ) → v ≢ 0 → v ≤ f .job .variables → (s : Shape) → s ∈ badStep (f .job .variables) v → Plain (f .job .variables) 12 s
   step-in-range v v≢0 v≤n s (List·Memᴰ·head e) =
-      subst (InRange (f .job .variables) 12) (sym e) (standing-in-range (f .job .variables) v 12 v≢0 v≤n (omega arith) null (omega arith) (omega arith))
+      subst (Plain (f .job .variables) 12) (sym e) (standing-in-range (f .job .variables) v 12 v≢0 v≤n (omega arith) null (omega arith) (omega arith))
   step-in-range v v≢0 v≤n s (List·Memᴰ·tail i) =
-      subst (InRange (f .job .variables) 12) (sym (List·Memᴰ·eq-of-singleton i))
+      subst (Plain (f .job .variables) 12) (sym (List·Memᴰ·eq-of-singleton i))
       (standing-in-range (f .job .variables) v 12 v≢0 v≤n (omega arith) dangling (omega arith) (omega arith))
 
-  pub set-in-range : (set : ReadySet) → Inside set (f .job .variables) (f .states) → (m : Located) → m ∈ shapes set → LocatedInRange (f .job .variables) (f .states) m
+  pub set-in-range : (set : ReadySet) → Inside set (f .job .variables) (f .states) → (m : Located) → m ∈ shapes set → LocatedInRange (f .version) (f .job .variables) (f .states) m
   set-in-range (not-list x q) ((a, b), c) m i =
       at-in-range q c (notList (f .job .variables) x) (not-list-in-range (f .job .variables) x 12 (omega arith) (omega arith) (omega arith)) m i
   set-in-range (lost-block x q) ((a, b), c) m i =
@@ -89,6 +93,7 @@ module _ (f : JobFile) (ok : JobInRange f) where
     pub with-in-range : length (withSet set f .job .forbidden) ≤ 64 → JobInRange (withSet set f)
     with-in-range few =
         record {
+          version = ok .version;
           variables = ok .variables;
           states = ok .states;
           start = ok .start;
@@ -98,7 +103,7 @@ module _ (f : JobFile) (ok : JobInRange f) where
           forbidden = λ m i. either m (List·Memᴰ·append-cases (f .job .forbidden) i);
         }
       where
-        either : (m : Located) → (m ∈ f .job .forbidden) ⊎ (m ∈ shapes set) → LocatedInRange (f .job .variables) (f .states) m
+        either : (m : Located) → (m ∈ f .job .forbidden) ⊎ (m ∈ shapes set) → LocatedInRange (f .version) (f .job .variables) (f .states) m
         either m (inl i) = ok .forbidden m i
         either m (inr i) = set-in-range set inside m i
 

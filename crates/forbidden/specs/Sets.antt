@@ -5,7 +5,7 @@ use mathlib.Core.List.{List, [], _∷_, _++_, map}
 use Prim.Native.Nat.{ℕ}
 use lib.ListN.{replicate}
 use Rattle.lists.specs.List.{_∈_, concatMap}
-use Rattle.heap.specs.Operation.{Op, equal, different, assign, load, store, new, delete}
+use Rattle.heap.specs.Operation.{Op, equal, different, assign, load, store, new, delete, equalValue, belowValue, copy, larger, smaller, read}
 use Rattle.heap.specs.Place.{nowhere, null, dangling, cell}
 use Rattle.shape.specs.Placing.{setVarIn, grow}
 use Rattle.shape.specs.Shape.{Shape}
@@ -17,11 +17,11 @@ only n x p = setVarIn x p (replicate n nowhere)
 
 -- no cell, x at p
 abbrev pub standingAt : ℕ → ℕ → ℕ → Shape
-standingAt n x p = record { vars = only n x p; links = [] }
+standingAt n x p = record { vars = only n x p; links = []; facts = [] }
 
 -- x at cell 0; the links of the cells
 abbrev pub linked : ℕ → ℕ → List ℕ → Shape
-linked n x links = record { vars = only n x (cell 0); links = links }
+linked n x links = record { vars = only n x (cell 0); links = links; facts = [] }
 
 -- "x at *; x's cell linked to *", and the same with #
 abbrev pub ending : ℕ → ℕ → ℕ → List Shape
@@ -54,6 +54,12 @@ stepsThrough (load a b) = b ∷ []
 stepsThrough (store a b) = a ∷ []
 stepsThrough (new a) = []
 stepsThrough (delete a) = []
+stepsThrough (equalValue a b) = []
+stepsThrough (belowValue a b) = []
+stepsThrough (copy a b) = []
+stepsThrough (larger a b) = []
+stepsThrough (smaller a b) = []
+stepsThrough (read a) = []
 
 -- "at # and then at *"
 abbrev pub badStep : ℕ → ℕ → List Shape

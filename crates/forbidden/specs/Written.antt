@@ -44,7 +44,7 @@ isInside bad-steps n states = true
 
 -- the job with the set after its own
 abbrev pub withSet : ReadySet → JobFile → JobFile
-withSet set f = record { states = f .states; job = alsoForbid (shapesOf set (f .job .variables) (f .job .transitions)) (f .job) }
+withSet set f = record { version = f .version; states = f .states; job = alsoForbid (shapesOf set (f .job .variables) (f .job .transitions)) (f .job) }
 
 -- the bytes that are written, or the number of a refusal and the value told with it
 pub data Rewritten : Type 0 where

@@ -24,10 +24,11 @@ use Rattle.format.proofs.Guarantee.{job-bytes}
 use Rattle.forbidden.specs.Written.{ReadySet, shapesOf, isInside, withSet, Rewritten, written, refused, rewriteFile, rewriteRead, rewrite}
 use Rattle.forbidden.proofs.Runs.{through-range}
 use Rattle.forbidden.proofs.Written.{read-is, Inside, r-inside}
+use Rattle.layout.specs.Entries.{versionOf}
 use Rattle.layout.specs.Transitions.{transitionAt}
 use Rattle.reader.specs.Job.{JobRead}
 use Rattle.reader.specs.declared.Header.{Header}
-use Rattle.forbidding.specs.Answers.{setOf, cellsOf, setBytes, countPlace, withCount, PointIn}
+use Rattle.forbidding.specs.Answers.{setOf, cellsOf, countBytes, setBytes, countPlace, withCount, PointIn}
 use Rattle.forbidding.specs.Put.{Put}
 use Rattle.forbidding.specs.Steps.{StepsIn}
 use Rattle.layout.proofs.Entries.{entries-number}
@@ -50,8 +51,8 @@ module _ (x q n states : ℕ) where
   pub point-there : 1 ≤ x → x ≤ n → ltb q states ≡ within 1 (suc n) x && ltb q states
   point-there l h = let m : x < suc n = omega arith in simp (le-leb 1 x l, lt-ltb x (suc n) m)
 
-  pub point-in : n ≤ 8 → states ≤ 64 → ((1 ≤ x) × (x < suc n)) × (q < states) → PointIn (record { variables = n; variable = x; state = q })
-  point-in a b ((c, d), e) = record { most = a; some = c; variable = omega arith; state = omega arith }
+  pub point-in : (version : ℕ) → n ≤ 8 → states ≤ 64 → ((1 ≤ x) × (x < suc n)) × (q < states) → PointIn (record { version = version; variables = n; variable = x; state = q })
+  point-in version a b ((c, d), e) = record { most = a; some = c; variable = omega arith; state = omega arith }
 
 -- ---- what is asked for, in one of its cases
 
@@ -60,10 +61,10 @@ module _ (job : List ℕ) (h : Header) (asked a : Asked) (e : asked ≡ a) where
   asked-inside = subst (λ (x : Asked). Inside (setOf x) (h .variables) (h .states)) e
 
   pub asked-room : (at room : ℕ) → at + length (setBytes job h (setOf asked)) ≤ room
-      → at + (length (shapesOf (setOf a) (h .variables) (transitionsIn job h)) * (2 + h .variables) + cellsOf (setOf a)) ≤ room
+      → at + (length (shapesOf (setOf a) (h .variables) (transitionsIn job h)) * (2 + h .variables + countBytes (versionOf job)) + cellsOf (setOf a)) ≤ room
   asked-room at room b =
       let size = ap (λ (x : Asked). length (setBytes job h (setOf x))) e in
-      omega (arith, set-length (setOf a) (h .variables) (transitionsIn job h))
+      omega (arith, set-length (versionOf job) (setOf a) (h .variables) (transitionsIn job h))
 
   pub asked-whole : (at room : ℕ) → at + length (setBytes job h (setOf asked)) ≤ room → at + length (setBytes job h (setOf a)) ≤ room
   asked-whole at room = subst (λ (x : Asked). at + length (setBytes job h (setOf x)) ≤ room) e
@@ -73,8 +74,8 @@ module _ (job : List ℕ) (h : Header) (asked a : Asked) (e : asked ≡ a) where
   asked-put {at} {next} {before} {after} = subst (λ (x : Asked). Put at before (setBytes job h (setOf x)) next after) (sym e)
 
 -- few shapes with few variables have few bytes
-pub product-small : (n v : ℕ) → n ≤ 64 → v ≤ 8 → n * (2 + v) ≤ 640
-product-small n v a b = let c : 2 + v ≤ 10 = omega arith in mul-le-mul a c
+pub product-small : (n entry : ℕ) → n ≤ 64 → entry ≤ 11 → n * entry ≤ 704
+product-small n entry a b = mul-le-mul a b
 
 pub cells-few : (a : Asked) → cellsOf (setOf a) ≤ 11
 cells-few (NotList x q) = omega arith
@@ -114,7 +115,7 @@ module _ (job : List ℕ) (h : Header) (r : JobRead job h) where
             let k : t ∈ r .file .job .transitions =
             subst (λ (l : List Transition). t ∈ l) (sym (r .transitions-are))
             (Memᴰ·map (λ (i : ℕ). transitionAt job (h .«transitions_at» + 5 * i)) (mem-below (h .transitions) i b)) in
-            let (kind, x, y, e) = job-is .in-range .transitions t k .op in
+            let (kind, x, y, (_, e)) = job-is .in-range .transitions t k .op in
             let (v≢0, v≤n) = through-range (r .file .job .variables) (t .op) (named-allowed (r .file .job .variables) kind x y (t .op) e) v m in
             (omega arith, omega (arith, r .variables-are));
       }
@@ -161,21 +162,22 @@ module _ (job : List ℕ) (h : Header) (r : JobRead job h) where
 
         whole-is : whole ≡ encode (jobNumbers (withSet ready (r .file)))
         whole-is =
-            ap₂ (λ (k : ℕ) (ms : List Located). withCount job h k ++ concatMap locatedNumbers ms)
+            ap (λ (version : ℕ). withCount job h (h .bads + n) ++ concatMap (locatedNumbers version) shapes) (sym (r .version-is))
+            ∙ ap₂ (λ (k : ℕ) (ms : List Located). withCount job h k ++ concatMap (locatedNumbers (r .file .version)) ms)
             (ap (λ (k : ℕ). h .bads + k) n-is ∙ sym count-is) (sym same-shapes)
             ∙ with-bytes (r .file) (job-is .in-range) job (bytes-are limit) (countPlace (h .transitions)) place-is ready
             (r-inside ready (r .file .job .variables) (r .file .states) .holds (passes _ (inside-is ∙ inside))) few-in
 
-        module _ (cells : ℕ) (cells-is : cells ≡ cellsOf ready) where
+        module _ (entry : ℕ) (entry-is : entry ≡ 2 + h .variables + countBytes (versionOf job)) (cells : ℕ) (cells-is : cells ≡ cellsOf ready) where
           -- and their number
-          pub needed-is : length job + n * (2 + h .variables) + cells ≡ length whole
+          pub needed-is : length job + n * entry + cells ≡ length whole
           needed-is =
-              ap₂ (λ (a b : ℕ). length job + a * (2 + h .variables) + b) n-is cells-is
+              ap₂ (λ (a b : ℕ). length job + a * entry + b) n-is cells-is ∙ ap (λ (k : ℕ). length job + length shapes * k + cellsOf ready) entry-is
               ∙ omega (
                 arith,
                 length-append (withCount job h (h .bads + n)) (setBytes job h ready),
                 length-set job (countPlace (h .transitions)) (h .bads + n),
-                set-length ready (h .variables) (transitionsIn job h),
+                set-length (versionOf job) ready (h .variables) (transitionsIn job h),
               )
 
           tests : answer ≡ cond (ltb room (length whole)) (refused 12 (length whole)) (written whole)
@@ -185,10 +187,10 @@ module _ (job : List ℕ) (h : Header) (r : JobRead job h) where
               ∙ simp (inside-is ∙ inside, le-ltb 64 (length (withSet ready (r .file) .job .forbidden)) few-in)
               (ap (λ (l : List ℕ). cond (ltb room (length l)) (refused 12 (length l)) (written l)) (sym whole-is))
 
-          pub too-short : room < length job + n * (2 + h .variables) + cells → answer ≡ refused 12 (length job + n * (2 + h .variables) + cells)
+          pub too-short : room < length job + n * entry + cells → answer ≡ refused 12 (length job + n * entry + cells)
           too-short b = let l = needed-is in tests ∙ simp (lt-ltb room (length whole) (omega arith)) (ap (refused 12) (sym l))
 
-          module _ (b : length job + n * (2 + h .variables) + cells ≤ room) where
+          module _ (b : length job + n * entry + cells ≤ room) where
             pub filled : answer ≡ written whole
             filled = let l = needed-is in tests ∙ simp (le-ltb room (length whole) (omega arith))
 

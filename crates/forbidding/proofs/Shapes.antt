@@ -1,8 +1,10 @@
 -- The bytes of the ready shapes.
+use mathlib.Core.Bool.{Bool, true, false, cond}
 use mathlib.Core.List.{List, [], _∷_, _++_, map}
-use mathlib.Core.Path.{_≡_, refl, sym, ap, _∙_, subst}
+use mathlib.Core.Path.{_≡_, refl, sym, ap, _∙_, subst, subst₂}
 use Prim.Native.Nat.{ℕ, zero, suc, _+_, _-_, _*_, _≤_}
 use native.Mathlib.Omega.{arith}
+use lib.Dec.{eqb}
 use lib.ListN.{length, set, take, replicate, length-append, length-set}
 use lib.Seq.{length-take-le, take-set-lt}
 use Rattle.lists.specs.List.{concatMap}
@@ -11,11 +13,11 @@ use Rattle.heap.specs.Place.{nowhere, null, dangling, cell}
 use Rattle.shape.specs.Placing.{grow}
 use Rattle.shape.specs.Shape.{size}
 use Rattle.run.specs.Run.{Transition, Located}
-use Rattle.format.specs.JobNumbers.{locatedNumbers}
+use Rattle.format.specs.JobNumbers.{factsNumbers, locatedNumbers}
 use Rattle.forbidden.specs.Sets.{only, ending, notList, lostBlock, atState, badStep, badStepsOf, badSteps, stepsThrough}
 use Rattle.forbidden.proofs.Only.{only-length}
 use Rattle.forbidden.specs.Written.{ReadySet, not-list, lost-block, bad-steps, shapesOf}
-use Rattle.forbidding.specs.Answers.{cellsOf}
+use Rattle.forbidding.specs.Answers.{cellsOf, countBytes}
 use Rattle.forbidding.specs.Put.{Put}
 use Rattle.forbidding.proofs.Putting.{put-more}
 
@@ -34,73 +36,109 @@ only-taken n (suc v) p a b c =
 pub taken-length : (n x p : ℕ) → n ≤ 8 → n ≡ length (take n (set (replicate 8 nowhere) (x - 1) p))
 taken-length n x p h = sym (length-take-le n (set (replicate 8 nowhere) (x - 1) p) (omega (arith, length-set (replicate 8 nowhere) (x - 1) p)))
 
--- a shape, put by its parts: state and number of cells, variables, links
-pub put-parts : {at m k next : ℕ} {before b₁ b₂ after : List ℕ} (q n x p : ℕ) (links : List ℕ) → 1 ≤ x → x ≤ n → n ≤ 8
-    → Put at before (q ∷ length links ∷ []) m b₁ → Put m b₁ (take n (set (replicate 8 nowhere) (x - 1) p)) k b₂ → Put k b₂ links next after
-    → Put at before (locatedNumbers (record { state = q; shape = record { vars = only n x p; links = links } })) next after
-put-parts {at} {next = next} {before = before} {after = after} q n x p links a b c i j k =
-    subst (λ (l : List ℕ). Put at before (q ∷ length links ∷ (l ++ links)) next after) (only-taken n x p a b c) (put-more i (put-more j k))
+-- the number of no facts, in a file of this version
+pub none-taken : (version count : ℕ) → count ≡ countBytes version → take count (replicate 1 nowhere) ≡ factsNumbers version []
+none-taken version count e = ap (λ k. take k (replicate 1 nowhere)) e ∙ go (eqb version 2)
+  where
+    go : (b : Bool) → take (cond b 1 0) (replicate 1 nowhere) ≡ cond b (0 ∷ []) []
+    go true = refl
+    go false = refl
+
+pub none-count : (count : ℕ) → count ≤ 1 → count ≡ length (take count (replicate 1 nowhere))
+none-count count h = sym (length-take-le count (replicate 1 nowhere) h)
+
+none-length : (version : ℕ) → length (factsNumbers version []) ≡ countBytes version
+none-length version = go (eqb version 2)
+  where
+    go : (b : Bool) → length {A = ℕ} (cond b (0 ∷ []) []) ≡ cond b 1 0
+    go true = refl
+    go false = refl
+
+-- a shape, put by its parts: state and number of cells, variables, links, the number of no facts
+pub put-parts : {at m k l next : ℕ} {before b₁ b₂ b₃ after : List ℕ} (version q n x p : ℕ) (links : List ℕ) (count : ℕ) → count ≡ countBytes version
+    → 1 ≤ x → x ≤ n → n ≤ 8 → Put at before (q ∷ length links ∷ []) m b₁ → Put m b₁ (take n (set (replicate 8 nowhere) (x - 1) p)) k b₂
+    → Put k b₂ links l b₃ → Put l b₃ (take count (replicate 1 nowhere)) next after
+    → Put at before (locatedNumbers version (record { state = q; shape = record { vars = only n x p; links = links; facts = [] } })) next after
+put-parts {at} {next = next} {before = before} {after = after} version q n x p links count e a b c i j k l =
+    subst₂ (λ (vars none : List ℕ). Put at before (q ∷ length links ∷ (vars ++ (links ++ none))) next after) (only-taken n x p a b c)
+    (none-taken version count e) (put-more i (put-more j (put-more k l)))
 
 -- ---- how many bytes shapes have together
 
--- every shape has n variables
-abbrev Variables : ℕ → List Located → Type 0
-Variables n = All (λ m. length (m .shape .vars) ≡ n)
+-- n variables and no facts
+abbrev pub Plain : ℕ → Located → Type 0
+Plain n m = (length (m .shape .vars) ≡ n) × (m .shape .facts ≡ [])
 
 abbrev cellsIn : List Located → ℕ
 cellsIn [] = 0
 cellsIn (m ∷ ms) = size (m .shape) + cellsIn ms
 
-bytes-number : (n : ℕ) (ms : List Located) → Variables n ms → length (concatMap locatedNumbers ms) ≡ length ms * (2 + n) + cellsIn ms
-bytes-number n [] a = omega arith
-bytes-number n (m ∷ ms) (e, a) =
-    let one : length (locatedNumbers m) ≡ 2 + n + size (m .shape) = omega (arith, length-append (m .shape .vars) (m .shape .links)) in
-    let more : length (m ∷ ms) * (2 + n) ≡ (2 + n) + length ms * (2 + n) = omega arith in
-    omega (arith, length-append (locatedNumbers m) (concatMap locatedNumbers ms), bytes-number n ms a)
+module _ (version n : ℕ) where
+  one-number : (m : Located) → Plain n m → length (locatedNumbers version m) ≡ 2 + n + countBytes version + size (m .shape)
+  one-number m (e, z) =
+      omega (
+        arith,
+        length-append (m .shape .vars) (m .shape .links ++ factsNumbers version (m .shape .facts)),
+        length-append (m .shape .links) (factsNumbers version (m .shape .facts)),
+        ap (λ l. length (factsNumbers version l)) z,
+        none-length version,
+      )
 
-module _ (n v q : ℕ) where
-  step-variables : Variables n (atState q (badStep n v))
-  step-variables = (only-length n v null, (only-length n v dangling, tt))
+  bytes-number : (ms : List Located) → All (Plain n) ms
+      → length (concatMap (locatedNumbers version) ms) ≡ length ms * (2 + n + countBytes version) + cellsIn ms
+  bytes-number [] a = omega arith
+  bytes-number (m ∷ ms) (e, a) =
+      let k = 2 + n + countBytes version in
+      let more : length (m ∷ ms) * k ≡ k + length ms * k = omega arith in
+      omega (arith, length-append (locatedNumbers version m) (concatMap (locatedNumbers version) ms), one-number m e, bytes-number ms a)
 
-  pub step-length : length (concatMap locatedNumbers (atState q (badStep n v))) ≡ 2 * (2 + n)
-  step-length = omega (arith, bytes-number n (atState q (badStep n v)) step-variables)
+-- the two of a step, and those of all steps, which have no cells
+step-plain : (n v q : ℕ) → All (λ m. Plain n m × (size (m .shape) ≡ 0)) (atState q (badStep n v))
+step-plain n v q = (((only-length n v null, refl), refl), (((only-length n v dangling, refl), refl), tt))
 
--- the shapes of the third set: n variables and no cells
-abbrev Flat : ℕ → Located → Type 0
-Flat n m = (length (m .shape .vars) ≡ n) × (size (m .shape) ≡ 0)
+steps-plain : (n : ℕ) (ts : List Transition) → All (λ m. Plain n m × (size (m .shape) ≡ 0)) (badSteps n ts)
+steps-plain n ts =
+    all-concat (λ m. Plain n m × (size (m .shape) ≡ 0)) (badStepsOf n) ts
+    (λ t. all-concat (λ m. Plain n m × (size (m .shape) ≡ 0)) (λ v. atState (t .from) (badStep n v)) (stepsThrough (t .op)) (λ v. step-plain n v (t .from)))
 
-steps-flat : (n : ℕ) (ts : List Transition) → All (Flat n) (badSteps n ts)
-steps-flat n ts =
-    all-concat (Flat n) (badStepsOf n) ts
-    (λ t.
-    all-concat (Flat n) (λ v. atState (t .from) (badStep n v)) (stepsThrough (t .op))
-    (λ v. ((only-length n v null, refl), ((only-length n v dangling, refl), tt))))
+flat-plain : (n : ℕ) (ms : List Located) → All (λ m. Plain n m × (size (m .shape) ≡ 0)) ms → All (Plain n) ms × (cellsIn ms ≡ 0)
+flat-plain n [] a = (tt, refl)
+flat-plain n (m ∷ ms) ((p, z), a) = let (ps, zs) = flat-plain n ms a in ((p, ps), omega arith)
 
-flat-variables : (n : ℕ) (ms : List Located) → All (Flat n) ms → Variables n ms
-flat-variables n [] a = tt
-flat-variables n (m ∷ ms) (f, a) = (f .0, flat-variables n ms a)
+pub step-length : (version n v q : ℕ) → length (concatMap (locatedNumbers version) (atState q (badStep n v))) ≡ 2 * (2 + n + countBytes version)
+step-length version n v q =
+    let (plain, none) = flat-plain n (atState q (badStep n v)) (step-plain n v q) in
+    omega (arith, bytes-number version n (atState q (badStep n v)) plain)
 
-flat-cells : (n : ℕ) (ms : List Located) → All (Flat n) ms → cellsIn ms ≡ 0
-flat-cells n [] a = refl
-flat-cells n (m ∷ ms) (f, a) = omega (arith, f .1, flat-cells n ms a)
+-- every shape of a set
+pub set-plain : (set : ReadySet) (n : ℕ) (ts : List Transition) → All (Plain n) (shapesOf set n ts)
+set-plain (not-list x q) n ts =
+    ((only-length n x dangling, refl), ((only-length n x (cell 0), refl), ((only-length n x (cell 0), refl), ((only-length n x (cell 0), refl), tt))))
+set-plain (lost-block x q) n ts = (
+  (only-length n x dangling, refl),
+  (
+    (only-length n x (cell 0), refl),
+    ((only-length n x (cell 0), refl), ((only-length n x (cell 0), refl), ((only-length n x null, refl), ((only-length n x (cell 0), refl), tt)))),
+  ),
+)
+set-plain bad-steps n ts = flat-plain n (badSteps n ts) (steps-plain n ts) .0
 
-pub set-length : (set : ReadySet) (n : ℕ) (ts : List Transition)
-    → length (concatMap locatedNumbers (shapesOf set n ts)) ≡ length (shapesOf set n ts) * (2 + n) + cellsOf set
-set-length (not-list x q) n ts =
-    bytes-number n (atState q (notList n x)) (only-length n x dangling, (only-length n x (cell 0), (only-length n x (cell 0), (only-length n x (cell 0), tt))))
-set-length (lost-block x q) n ts =
-    bytes-number n (atState q (lostBlock n x)) (
-      only-length n x dangling,
-      (only-length n x (cell 0), (only-length n x (cell 0), (only-length n x (cell 0), (only-length n x null, (only-length n x (cell 0), tt))))),
-    )
-set-length bad-steps n ts =
-    bytes-number n (badSteps n ts) (flat-variables n (badSteps n ts) (steps-flat n ts))
-    ∙ ap (λ (k : ℕ). length (badSteps n ts) * (2 + n) + k) (flat-cells n (badSteps n ts) (steps-flat n ts))
+cells-are : (set : ReadySet) (n : ℕ) (ts : List Transition) → cellsIn (shapesOf set n ts) ≡ cellsOf set
+cells-are (not-list x q) n ts = refl
+cells-are (lost-block x q) n ts = refl
+cells-are bad-steps n ts = flat-plain n (badSteps n ts) (steps-plain n ts) .1
+
+pub set-length : (version : ℕ) (set : ReadySet) (n : ℕ) (ts : List Transition)
+    → length (concatMap (locatedNumbers version) (shapesOf set n ts)) ≡ length (shapesOf set n ts) * (2 + n + countBytes version) + cellsOf set
+set-length version set n ts =
+    bytes-number version n (shapesOf set n ts) (set-plain set n ts)
+    ∙ ap (λ (k : ℕ). length (shapesOf set n ts) * (2 + n + countBytes version) + k) (cells-are set n ts)
 
 -- the six are the four with a loose cell, and two more
-pub put-lost : {at m next : ℕ} {before middle after : List ℕ} (n x q : ℕ) → Put at before (concatMap locatedNumbers (atState q (map grow (notList n x)))) m middle
-    → Put m middle (concatMap locatedNumbers (atState q (map grow (ending n x null)))) next after
-    → Put at before (concatMap locatedNumbers (atState q (lostBlock n x))) next after
-put-lost {at} {next = next} {before = before} {after = after} n x q i j =
+pub put-lost : {at m next : ℕ} {before middle after : List ℕ} (version n x q : ℕ)
+    → Put at before (concatMap (locatedNumbers version) (atState q (map grow (notList n x)))) m middle
+    → Put m middle (concatMap (locatedNumbers version) (atState q (map grow (ending n x null)))) next after
+    → Put at before (concatMap (locatedNumbers version) (atState q (lostBlock n x))) next after
+put-lost {at} {next = next} {before = before} {after = after} version n x q i j =
     subst (λ (l : List ℕ). Put at before l next after)
-    (sym (concatMap-append locatedNumbers (atState q (map grow (notList n x))) (atState q (map grow (ending n x null))))) (put-more i j)
+    (sym (concatMap-append (locatedNumbers version) (atState q (map grow (notList n x))) (atState q (map grow (ending n x null))))) (put-more i j)

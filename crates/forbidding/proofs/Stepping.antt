@@ -17,9 +17,11 @@ use Rattle.heap.proofs.Rows.{column}
 use Rattle.run.specs.Run.{Located}
 use Rattle.format.specs.JobNumbers.{locatedNumbers}
 use Rattle.forbidden.specs.Sets.{atState, stepsThrough, badStep, badStepsOf, badSteps}
+use Rattle.layout.specs.Entries.{versionOf}
 use Rattle.layout.specs.Transitions.{opOf, transitionAt, transitionsFrom}
 use Rattle.transitions.specs.Transitions.{transitionBytes}
 use Rattle.transitions.specs.declared.Transition.{Transition as Bytes}
+use Rattle.forbidding.specs.Answers.{countBytes}
 use Rattle.forbidding.specs.Put.{Put}
 use Rattle.forbidding.specs.Steps.{throughOf, StepIn}
 use Rattle.forbidding.specs.declared.steps.Through.{Through}
@@ -72,19 +74,19 @@ module _ (job : List ℕ) (at : ℕ) (t : Bytes) (t-is : t ≡ transitionBytes j
     pub shapes-none : s ≡ Nothing → badStepsOf n (transitionAt job at) ≡ []
     shapes-none e = shapes-are [] (ap throughOf e)
 
-    pub step-bytes : (v : ℕ) → s ≡ Variable v → length (concatMap locatedNumbers (badStepsOf n (transitionAt job at))) ≡ 2 * (2 + n)
-    step-bytes v e = ap (λ (l : List Located). length (concatMap locatedNumbers l)) (shapes-through v e) ∙ step-length n v (t .from)
+    pub step-bytes : (v : ℕ) → s ≡ Variable v → length (concatMap (locatedNumbers (versionOf job)) (badStepsOf n (transitionAt job at))) ≡ 2 * (2 + n + countBytes (versionOf job))
+    step-bytes v e = ap (λ (l : List Located). length (concatMap (locatedNumbers (versionOf job)) l)) (shapes-through v e) ∙ step-length (versionOf job) n v (t .from)
 
     pub put-through : {next last : ℕ} {before after : List ℕ} (v : ℕ) → s ≡ Variable v
-        → Put next before (concatMap locatedNumbers (atState (t .from) (badStep n v))) last after
-        → Put next before (concatMap locatedNumbers (badStepsOf n (transitionAt job at))) last after
+        → Put next before (concatMap (locatedNumbers (versionOf job)) (atState (t .from) (badStep n v))) last after
+        → Put next before (concatMap (locatedNumbers (versionOf job)) (badStepsOf n (transitionAt job at))) last after
     put-through {next} {last} {before} {after} v e =
-        subst (λ (l : List Located). Put next before (concatMap locatedNumbers l) last after) (sym (shapes-through v e))
+        subst (λ (l : List Located). Put next before (concatMap (locatedNumbers (versionOf job)) l) last after) (sym (shapes-through v e))
 
     pub put-nothing : (next : ℕ) (before : List ℕ) → s ≡ Nothing → next ≤ length before
-        → Put next before (concatMap locatedNumbers (badStepsOf n (transitionAt job at))) next before
+        → Put next before (concatMap (locatedNumbers (versionOf job)) (badStepsOf n (transitionAt job at))) next before
     put-nothing next before e h =
-        subst (λ (l : List Located). Put next before (concatMap locatedNumbers l) next before) (sym (shapes-none e)) (put-none next before h)
+        subst (λ (l : List Located). Put next before (concatMap (locatedNumbers (versionOf job)) l) next before) (sym (shapes-none e)) (put-none next before h)
 
     -- the variable of a step is one of the job's
     pub variable-in : (v : ℕ) → s ≡ Variable v → StepIn job n at → (1 ≤ v) × (v ≤ n)
@@ -132,13 +134,13 @@ module _ (job : List ℕ) (first count n : ℕ) where
   -- ---- putting
 
   abbrev all : List ℕ
-  all = concatMap locatedNumbers (badSteps n (transitionsFrom job first 0 count))
+  all = concatMap (locatedNumbers (versionOf job)) (badSteps n (transitionsFrom job first 0 count))
 
   pub record Putting (at : ℕ) (before : List ℕ) (next : ℕ) (after : List ℕ) (i : ℕ) : Type 0 where
     pub upto : i ≤ count
     pub done : List ℕ
     pub put : Put at before done next after
-    pub rest : done ++ concatMap locatedNumbers (left i) ≡ all
+    pub rest : done ++ concatMap (locatedNumbers (versionOf job)) (left i) ≡ all
 
   module _ (at : ℕ) (before : List ℕ) (room : at + length all ≤ length before) where
     pub steps-none : Putting at before at before 0
@@ -148,29 +150,29 @@ module _ (job : List ℕ) (first count n : ℕ) where
 
     module _ (next : ℕ) (after : List ℕ) (i : ℕ) (p : Putting at before next after i) where
       module _ (h : i < count) where
-        here-first : concatMap locatedNumbers (left i) ≡ concatMap locatedNumbers (here i) ++ concatMap locatedNumbers (left (i + 1))
-        here-first = ap (concatMap locatedNumbers) (left-more i h) ∙ concatMap-append locatedNumbers (here i) (left (i + 1))
+        here-first : concatMap (locatedNumbers (versionOf job)) (left i) ≡ concatMap (locatedNumbers (versionOf job)) (here i) ++ concatMap (locatedNumbers (versionOf job)) (left (i + 1))
+        here-first = ap (concatMap (locatedNumbers (versionOf job))) (left-more i h) ∙ concatMap-append (locatedNumbers (versionOf job)) (here i) (left (i + 1))
 
         -- there is room for this one
-        pub step-room : next + length (concatMap locatedNumbers (here i)) ≤ length after
+        pub step-room : next + length (concatMap (locatedNumbers (versionOf job)) (here i)) ≤ length after
         step-room =
             omega (
               arith,
               p .put .next-is,
               p .put .same,
               ap length (p .rest),
-              length-append (p .done) (concatMap locatedNumbers (left i)),
+              length-append (p .done) (concatMap (locatedNumbers (versionOf job)) (left i)),
               ap length here-first,
-              length-append (concatMap locatedNumbers (here i)) (concatMap locatedNumbers (left (i + 1))),
+              length-append (concatMap (locatedNumbers (versionOf job)) (here i)) (concatMap (locatedNumbers (versionOf job)) (left (i + 1))),
             )
 
-        pub steps-more : (m : ℕ) (last : List ℕ) → Put next after (concatMap locatedNumbers (here i)) m last → Putting at before m last (i + 1)
+        pub steps-more : (m : ℕ) (last : List ℕ) → Put next after (concatMap (locatedNumbers (versionOf job)) (here i)) m last → Putting at before m last (i + 1)
         steps-more m last q =
             record {
               upto = omega arith;
-              done = p .done ++ concatMap locatedNumbers (here i);
+              done = p .done ++ concatMap (locatedNumbers (versionOf job)) (here i);
               put = put-more (p .put) q;
-              rest = append-assoc (p .done) (concatMap locatedNumbers (here i)) (concatMap locatedNumbers (left (i + 1)))
+              rest = append-assoc (p .done) (concatMap (locatedNumbers (versionOf job)) (here i)) (concatMap (locatedNumbers (versionOf job)) (left (i + 1)))
                   ∙ ap (λ (l : List ℕ). p .done ++ l) (sym here-first)
                   ∙ p .rest;
             }
@@ -178,4 +180,4 @@ module _ (job : List ℕ) (first count n : ℕ) where
       pub steps-all : count ≤ i → Put at before all next after
       steps-all h =
           subst (λ (l : List ℕ). Put at before l next after)
-          (sym (append-nil (p .done)) ∙ ap (λ (l : List Located). p .done ++ concatMap locatedNumbers l) (sym (left-done i h)) ∙ p .rest) (p .put)
+          (sym (append-nil (p .done)) ∙ ap (λ (l : List Located). p .done ++ concatMap (locatedNumbers (versionOf job)) l) (sym (left-done i h)) ∙ p .rest) (p .put)

@@ -1,6 +1,8 @@
 -- The sets that are asked for and the answers, in the terms of the definitions.
+use mathlib.Core.Bool.{cond}
 use mathlib.Core.List.{List, [], _∷_}
 use Prim.Native.Nat.{ℕ, _+_, _*_, _≤_, _<_}
+use lib.Dec.{eqb}
 use lib.ListN.{length, set}
 use Rattle.lists.specs.List.{concatMap}
 use Rattle.number.specs.CallResult.{CallResult}
@@ -8,6 +10,7 @@ use Rattle.format.specs.Parser.{reasonNumber}
 use Rattle.number.specs.Number.{bytesOf}
 use Rattle.format.specs.JobNumbers.{locatedNumbers}
 use Rattle.forbidden.specs.Written.{ReadySet, not-list, lost-block, bad-steps, shapesOf}
+use Rattle.layout.specs.Entries.{versionOf}
 use Rattle.reader.specs.Transitions.{transitionsIn}
 use Rattle.reader.specs.declared.Header.{Header}
 use Rattle.verdict.specs.Verdict.{reasonOf}
@@ -45,9 +48,13 @@ cellsOf (not-list x q) = 4
 cellsOf (lost-block x q) = 11
 cellsOf bad-steps = 0
 
+-- how many bytes the number of facts of a shape has: one in version 2, else none
+abbrev pub countBytes : ℕ → ℕ
+countBytes version = cond (eqb version 2) 1 0
+
 -- the bytes of the set's shapes
 abbrev pub setBytes : List ℕ → Header → ReadySet → List ℕ
-setBytes job h set = concatMap locatedNumbers (shapesOf set (h .variables) (transitionsIn job h))
+setBytes job h set = concatMap (locatedNumbers (versionOf job)) (shapesOf set (h .variables) (transitionsIn job h))
 
 -- The place of the number of forbidden shapes after t transitions: version, V, S and the start are a byte each, T is one or two, and each
 -- transition five.

@@ -1,10 +1,12 @@
 // Writes a job again with a ready set of forbidden shapes after its own.
 use crate::put::Point;
+use crate::put::count_bytes;
 use crate::put::put_all;
 use crate::put::put_lost_block;
 use crate::put::put_not_list;
 use crate::steps::count_steps;
 use crate::steps::put_steps;
+use layout::version_of;
 use reader::Header;
 use reader::JobAnswer;
 use reader::read_job;
@@ -95,12 +97,14 @@ fn put_set(job: &[u8], h: Header, asked: Asked, bytes: &mut [u8], at: usize) -> 
     requires { ⌜ (JobRead (now job) h) × (Inside (setOf asked) (h .variables) (h .states)) × (at + length (setBytes (now job) h (setOf asked)) ≤ length (now bytes)) ⌝ }
     ensures { λ r. ⌜ Put at (now (bytes .entry)) (setBytes (now (job .entry)) h (setOf asked)) r (now (bytes .exit)) ⌝ }
 {
+    let version = version_of(job);
     let variables = h.variables;
     match asked {
         Asked::NotList(variable, state) => put_not_list(
             bytes,
             at,
             Point {
+                version,
                 variables,
                 variable,
                 state,
@@ -110,6 +114,7 @@ fn put_set(job: &[u8], h: Header, asked: Asked, bytes: &mut [u8], at: usize) -> 
             bytes,
             at,
             Point {
+                version,
                 variables,
                 variable,
                 state,
@@ -153,7 +158,8 @@ fn rewrite_read(job: &[u8], h: Header, asked: Asked, bytes: &mut [u8]) -> Rewrit
     if 64 < count {
         return Rewritten::TooMany;
     }
-    let needed = job.len() + shapes * (2 + h.variables) + cells_of(asked);
+    let entry = 2 + h.variables + count_bytes(version_of(job));
+    let needed = job.len() + shapes * entry + cells_of(asked);
     if bytes.len() < needed {
         return Rewritten::TooShort(needed);
     }

@@ -1,6 +1,7 @@
 // The transitions of a job that step through a variable.
 use crate::put::Point;
 use crate::put::put_bad_step;
+use layout::version_of;
 use transitions::transition_at;
 ghost use mathlib.Core.Path.{_≡_};
 ghost use Prim.Native.Nat.{ℕ, _+_, _≤_};
@@ -9,6 +10,7 @@ ghost use Rattle.lists.specs.List.{concatMap};
 ghost use Rattle.heap.specs.Operation.{kindOf};
 ghost use Rattle.forbidden.specs.Sets.{stepsThrough, badStepsOf, badSteps};
 ghost use Rattle.format.specs.JobNumbers.{locatedNumbers};
+ghost use Rattle.layout.specs.Entries.{versionOf};
 ghost use Rattle.layout.specs.Transitions.{opOf, transitionAt, transitionsFrom};
 ghost use Rattle.forbidding.specs.Put.{Put};
 ghost use Rattle.forbidding.specs.Steps.{throughOf, StepIn, StepsIn};
@@ -61,18 +63,20 @@ pub(crate) fn count_steps(job: &[u8], first: usize, count: usize, variables: usi
 
 // Puts those of the transition at a place.
 fn put_step(job: &[u8], from: usize, variables: usize, bytes: &mut [u8], at: usize) -> usize
-    requires { ⌜ (StepIn (now job) variables from) × (variables ≤ 8) × (at + length (concatMap locatedNumbers (badStepsOf variables (transitionAt (now job) from))) ≤ length (now bytes)) ⌝ }
-    ensures { λ r. ⌜ Put at (now (bytes .entry)) (concatMap locatedNumbers (badStepsOf variables (transitionAt (now (job .entry)) from))) r (now (bytes .exit)) ⌝ }
+    requires { ⌜ (StepIn (now job) variables from) × (variables ≤ 8) × (at + length (concatMap (locatedNumbers (versionOf (now job))) (badStepsOf variables (transitionAt (now job) from))) ≤ length (now bytes)) ⌝ }
+    ensures { λ r. ⌜ Put at (now (bytes .entry)) (concatMap (locatedNumbers (versionOf (now (job .entry)))) (badStepsOf variables (transitionAt (now (job .entry)) from))) r (now (bytes .exit)) ⌝ }
 {
     let t = transition_at(job, from);
     let step = steps_through(t.kind, t.a, t.b);
     match step {
         Through::Variable(variable) => {
+            let version = version_of(job);
             let state = t.from as usize;
             put_bad_step(
                 bytes,
                 at,
                 Point {
+                    version,
                     variables,
                     variable,
                     state,
@@ -92,8 +96,8 @@ pub(crate) fn put_steps(
     bytes: &mut [u8],
     at: usize,
 ) -> usize
-    requires { ⌜ (StepsIn (now job) variables first count) × (variables ≤ 8) × (at + length (concatMap locatedNumbers (badSteps variables (transitionsFrom (now job) first 0 count))) ≤ length (now bytes)) ⌝ }
-    ensures { λ r. ⌜ Put at (now (bytes .entry)) (concatMap locatedNumbers (badSteps variables (transitionsFrom (now (job .entry)) first 0 count))) r (now (bytes .exit)) ⌝ }
+    requires { ⌜ (StepsIn (now job) variables first count) × (variables ≤ 8) × (at + length (concatMap (locatedNumbers (versionOf (now job))) (badSteps variables (transitionsFrom (now job) first 0 count))) ≤ length (now bytes)) ⌝ }
+    ensures { λ r. ⌜ Put at (now (bytes .entry)) (concatMap (locatedNumbers (versionOf (now (job .entry)))) (badSteps variables (transitionsFrom (now (job .entry)) first 0 count))) r (now (bytes .exit)) ⌝ }
 {
     let mut next = at;
     let mut i = 0;

@@ -1,16 +1,18 @@
 -- Where what document 01 says of a refusal's number holds at a place, the verdict is that refusal.
 use mathlib.Core.Bool.{not}
 use mathlib.Core.List.{List, [], _∷_, _++_, append-nil, List·Memᴰ·head, Memᴰ·append-left, Memᴰ·append-right}
-use mathlib.Core.Logic.{inl, inr}
+use mathlib.Core.Logic.{_≢_, _⊎_, inl, inr}
 use mathlib.Core.Option.{none, some}
 use mathlib.Core.Path.{_≡_, refl, sym, ap, ap₂, subst, subst₂, _∙_}
 use Prim.Native.Nat.{ℕ, zero, suc, _≤_, _<_}
 use native.Mathlib.Omega.{arith}
-use lib.Dec.{T}
+use lib.Dec.{T, eqb}
 use lib.ListN.{length, getElem?}
 use Rattle.lists.specs.List.{_∈_, Every, concatMap, sum}
 use Rattle.lists.proofs.List.{concatMap-append}
-use Rattle.lists.proofs.Reflect.{r-le, r-lt, r-and, cond-true, cond-false}
+use Rattle.lists.proofs.Reflect.{r-eq, r-le, r-lt, r-and, cond-true, cond-false}
+use Rattle.number.specs.Number.{numberAt}
+use Rattle.number.specs.declared.Read.the-variants.{Number}
 use Rattle.shape.specs.Shape.{size, InRange}
 use Rattle.run.specs.Run.{Located}
 use Rattle.lists.proofs.List.{element-mem}
@@ -19,22 +21,25 @@ use Rattle.cover.specs.Rules.{Breaks, First}
 use Rattle.format.specs.Parser.{broken-rule, Reason, refusal, parsed, fault, Parser, onward, return, each, Buffer, within, such, readAs, ranged, jobBuffer, certificateBuffer, end}
 use Rattle.format.specs.Job.{readWholeJob}
 use Rattle.format.specs.JobNumbers.{JobFile, locatedNumbers}
-use Rattle.format.specs.Certificate.{Member, withoutPlaces, readMembers, atStart, testStart, readCover}
+use Rattle.format.specs.Certificate.{Member, withoutPlaces, readMembers, atStart, testStart, readCover, readCoverBy}
 use Rattle.format.specs.Verdict.{Counts, refused, readCertificate, readBoth, fits, verdict}
 use Rattle.format.specs.Conditions.{MembersInRange, countsOf}
-use Rattle.format.specs.JobBytes.{LocatedInRange, JobInRange}
+use Rattle.format.specs.JobBytes.{Between, LocatedInRange, JobInRange}
 use Rattle.format.specs.Numbers.{memberNumbers, coverNumbers}
-use Rattle.format.specs.Meaning.{InJob, job-number, job-range, job-left, StartSatisfied, Covered, CoverBegun, CoverDue, member-due, image-due}
-use Rattle.format.specs.Meaning.{InCertificate, member-unread, cover-unread, member-range, cover-range, member-satisfied, cover-fails, certificate-left}
+use Rattle.format.specs.Meaning.{InJob, job-number, job-range, job-left, OfMembers, StartSatisfied, Covered, CoverBegun, CoverDue, member-due, image-due}
+use Rattle.format.specs.Meaning.{InCertificate, member-unread, cover-unread, version-range, member-range, versions-differ, cover-range, member-satisfied, cover-fails, certificate-left}
 use Rattle.format.specs.Meaning.{Meaning, job-length, certificate-length, in-job, in-certificate}
-use Rattle.format.proofs.Sequence.{Reads, reads-first, reads-append, reads-split, reads-place}
-use Rattle.format.proofs.Parsing.{then, require-refuses, Faulty, faulty-map, read-complete, read-refuses, codes-exact, codes-refuses}
+use Rattle.format.proofs.Sequence.{Reads, one, reads-first, reads-append, reads-split, reads-place}
+use Rattle.format.proofs.Parsing.{then, require-refuses, Faulty, faulty-map, read-outside, read-complete, read-refuses, ranged-exact, codes-exact, codes-refuses}
 use Rattle.format.proofs.Files.{end-refuses, job-exact}
 use Rattle.format.proofs.Covers.{members-complete, r-avoids, tests-complete, judged-broken, covers-complete}
+use Rattle.format.proofs.Owed.{owed-range}
 use Rattle.format.proofs.Exact.{r-fits, job-read}
 use Rattle.format.proofs.Local.{before-reads}
-use Rattle.format.proofs.Completing.{job-faults, members-faults}
-use Rattle.format.proofs.Refusals.{member-first}
+use Rattle.format.proofs.FirstFault.{FirstFault}
+use Rattle.format.proofs.Completing.{job-faults}
+use Rattle.format.proofs.MemberFaults.{own-fault, members-faults}
+use Rattle.format.proofs.Refusals.{FactsFit, member-first}
 
 -- after those that are read, the next is refused
 each-refuses : {A B : Type 0} (p : A → Parser B) (xs : List A) (y : A) (ys : List A) (at : ℕ) {vs : List B} {mid : ℕ} {why : Reason} {place : ℕ}
@@ -93,13 +98,13 @@ module _ (certificate : List ℕ) (f : JobFile) (ok : JobInRange f) where
 
   -- members in range that the empty heap does not satisfy at the start state are read, and what comes after them decides
   to-covers : (ms : List Located) → MembersInRange f ms → Every (Avoids (f .job .start)) ms → (next : ℕ)
-      → Reads certificate 0 (memberNumbers ms) next → readCertificate s f 0 ≡ afterMembers ms next
+      → Reads certificate 0 (memberNumbers (f .version) ms) next → readCertificate s f 0 ≡ afterMembers ms next
   unfolding readCertificate
   to-covers ms oks start next r =
-      let (members, same, h₂) = members-complete s (f .job .variables) (f .states) 0 ms next r (oks .number) (oks .members) in
-      let ranges : Every (LocatedInRange (f .job .variables) (f .states)) (withoutPlaces members) = rw same (oks .members) in
+      let (members, same, h₂) = members-complete s (f .version) (f .job .variables) (f .states) 0 ms next r (ok .version) (oks .number) (oks .members) in
+      let ranges : Every (LocatedInRange (f .version) (f .job .variables) (f .states)) (withoutPlaces members) = rw same (oks .members) in
       let avoid : Every (Avoids (f .job .start)) (withoutPlaces members) = rw same start in
-      let (us, h₃) = tests-complete (f .job .variables) (f .states) (f .job .start) members ranges next avoid in
+      let (us, h₃) = tests-complete (f .version) (f .job .variables) (f .states) (f .job .start) members ranges next avoid in
       rw (h₂, h₃) (ap (λ l. afterMembers l next) same)
 
   -- ---- covers
@@ -109,11 +114,17 @@ module _ (certificate : List ℕ) (f : JobFile) (ok : JobInRange f) where
     shapes : (m : Located) → m ∈ c .members → InRange (f .job .variables) 12 (m .shape)
     shapes m i = c .members-range .members m i .shape
 
+    fits-cells : Every FactsFit (owed (f .job) (c .members))
+    fits-cells o i = owed-range f (c .members) ok (c .members-range) o i .facts
+
+    fits-done : Every FactsFit (c .done)
+    fits-done o i = fits-cells o (subst (λ (l : List Located). o ∈ l) (sym (c .owed-is)) (Memᴰ·append-left left i))
+
     covered-read : (next : ℕ) × (ls : List ℕ) × (readCertificate s f 0 ≡ afterMembers (c .members) next)
         × (each (readCover s (c .members)) (c .done) next ≡ parsed ls place)
     covered-read =
-        let (next, r₁, r₂) = reads-split (memberNumbers (c .members)) (before-reads certificate (c .before)) in
-        let (ls, h, _) = covers-complete s (f .job .variables) (c .members) shapes (c .done) (c .covers) next place r₂ (c .images) (c .hold) in
+        let (next, r₁, r₂) = reads-split (memberNumbers (f .version) (c .members)) (before-reads certificate (c .before)) in
+        let (ls, h, _) = covers-complete s (f .job .variables) (c .members) shapes (c .done) fits-done (c .covers) next place r₂ (c .images) (c .hold) in
         (next, ls, to-covers (c .members) (c .members-range) (c .start) next r₁, h)
 
   -- the next cover is refused
@@ -128,7 +139,7 @@ module _ (certificate : List ℕ) (f : JobFile) (ok : JobInRange f) where
   -- its member number is refused
   member-refused : (members : List Located) (shape : Located) (first : ℕ) (why : Reason) → readAs s (getElem? members) first ≡ fault why first
       → readCover s members shape first ≡ fault why first
-  unfolding readCover
+  unfolding readCoverBy
   member-refused members shape first why h = rw h
 
   -- a cover that is read up to a place
@@ -139,7 +150,7 @@ module _ (certificate : List ℕ) (f : JobFile) (ok : JobInRange f) where
     cover-numbers : Reads certificate first (coverNumbers (c .cover)) next
     cover-numbers =
         let r = before-reads certificate (c .reads) in
-        let (p₂, r₁, r₂) = reads-split (memberNumbers ms) r in
+        let (p₂, r₁, r₂) = reads-split (memberNumbers (f .version) ms) r in
         let one-more : concatMap coverNumbers (c .so-far .covers ++ (c .cover ∷ [])) ≡ concatMap coverNumbers (c .so-far .covers) ++ coverNumbers (c .cover) =
         concatMap-append coverNumbers (c .so-far .covers) (c .cover ∷ [])
         ∙ ap (λ (l : List ℕ). concatMap coverNumbers (c .so-far .covers) ++ l) (append-nil (coverNumbers (c .cover))) in
@@ -150,7 +161,7 @@ module _ (certificate : List ℕ) (f : JobFile) (ok : JobInRange f) where
     -- the next image is refused
     image-refused : (why : Reason) → length (c .cover .images) < size (c .member .shape) → ranged s 0 (size (c .shape .shape)) next ≡ fault why next
         → readCover s ms (c .shape) first ≡ fault why next
-    unfolding readCover
+    unfolding readCoverBy
     image-refused why fewer h =
         let (a, g₁, g₂) = reads-first cover-numbers in
         rw (
@@ -158,14 +169,19 @@ module _ (certificate : List ℕ) (f : JobFile) (ok : JobInRange f) where
           codes-refuses s (size (c .member .shape)) (size (c .shape .shape)) a (c .cover .images) next why next g₂ fewer (c .below) h,
         )
 
+    fit : FactsFit (c .shape)
+    fit =
+        fits-cells (c .so-far) (c .shape)
+        (subst (λ (l : List Located). c .shape ∈ l) (sym (c .so-far .owed-is)) (Memᴰ·append-right (c .so-far .done) (List·Memᴰ·head refl)))
+
     -- the cover breaks a rule first
     rule-refused : (rule name : ℕ) → length (c .cover .images) ≡ size (c .member .shape) → First (Breaks (c .member) (c .cover .images) (c .shape)) rule name
         → readCover s ms (c .shape) first ≡ fault (broken-rule rule name) first
-    unfolding readCover
+    unfolding readCoverBy
     rule-refused rule name long breaks =
         let (a, g₁, g₂) = reads-first cover-numbers in
         let i = element-mem ms (c .cover .member) (c .member) (c .numbered) in
-        let answer = judged-broken s (f .job .variables) ms (shapes (c .so-far)) (c .member) (c .shape) (c .cover .images) i long (c .below) rule name .1 breaks in
+        let answer = judged-broken s (f .job .variables) ms (shapes (c .so-far)) (c .member) (c .shape) (c .cover .images) i long (c .below) fit rule name .1 breaks in
         rw (
           read-complete s (getElem? ms) first (c .cover .member) a (c .member) g₁ (c .numbered),
           codes-exact s (size (c .member .shape)) (size (c .shape .shape)) .complete a (c .cover .images) next g₂ (long, c .below),
@@ -191,19 +207,47 @@ module _ (certificate : List ℕ) (f : JobFile) (ok : JobInRange f) where
 
   -- ---- members
 
+  -- a faulty number is refused, unless it is the version number, which may be the other
+  members-refused : (why : Reason) (place : ℕ) → FirstFault (OfMembers f) certificate (refusal 6) (refusal 7) why place → ¬ ((why ≡ refusal 7) × (0 ≡ place))
+      → readMembers s (f .version) (f .job .variables) (f .states) 0 ≡ fault why place
+  members-refused why place w past = by-parser (own-fault f ok s 0 why place (members-faults f ok certificate why place .1 w))
+    where
+      by-parser : (readMembers s (f .version) (f .job .variables) (f .states) 0 ≡ fault why place) ⊎ ((why ≡ refusal 7) × (0 ≡ place))
+          → readMembers s (f .version) (f .job .variables) (f .states) 0 ≡ fault why place
+      by-parser (inl h) = h
+      by-parser (inr e) = absurd (past e)
+
+  -- the version number is refused, or not the job's
+  version-refused : (n next : ℕ) → numberAt certificate 0 ≡ Number n next → ¬ Between 1 2 n
+      → readMembers s (f .version) (f .job .variables) (f .states) 0 ≡ fault (refusal 7) 0
+  unfolding readMembers
+  version-refused n next g out =
+      let none-is : such (within 1 3) n ≡ none =
+      cond-false (within 1 3 n) (some n) none (λ t. let (low, high) = r-and (r-le 1 n) (r-lt n 3) .holds t in out (low, omega arith)) in
+      rw (read-outside s (such (within 1 3)) 0 n next g none-is)
+
+  versions-refused : (n next : ℕ) → numberAt certificate 0 ≡ Number n next → Between 1 2 n → n ≢ f .version
+      → readMembers s (f .version) (f .job .variables) (f .states) 0 ≡ fault (refusal 20) 0
+  unfolding readMembers
+  versions-refused n next g (low, high) other =
+      rw (
+        ranged-exact s 1 3 .complete 0 n next (one g) (low, omega arith),
+        require-refuses (eqb n (f .version)) (refusal 20) 0 next (λ t. other (r-eq n (f .version) .holds t)),
+      )
+
   module _ {place : ℕ} (w : StartSatisfied f certificate place) where
     -- the members as they are read: the one at the place, with those before and after it
     module _ (earlier : List Member) (member : Member) (later : List Member) (earlier-is : withoutPlaces earlier ≡ w .earlier)
         (member-is : member .located ≡ w .member) (all-is : withoutPlaces (earlier ++ (member ∷ later)) ≡ w .earlier ++ (w .member ∷ w .later))
-        (h : readMembers s (f .job .variables) (f .states) 0 ≡ parsed (earlier ++ (member ∷ later)) (w .next)) where
+        (h : readMembers s (f .version) (f .job .variables) (f .states) 0 ≡ parsed (earlier ++ (member ∷ later)) (w .next)) where
       place-is : member .first ≡ place
       place-is =
           reads-place
-          (subst₂ (λ (a b : List Located). Reads certificate 0 (1 ∷ length a ∷ concatMap locatedNumbers b) (member .first)) all-is earlier-is
-          (member-first s (f .job .variables) (f .states) 0 earlier member later (w .next) h))
+          (subst₂ (λ (a b : List Located). Reads certificate 0 (f .version ∷ length a ∷ concatMap (locatedNumbers (f .version)) b) (member .first)) all-is earlier-is
+          (member-first s (f .version) (f .job .variables) (f .states) 0 earlier member later (w .next) h))
           (before-reads certificate (w .before))
 
-      range-earlier : Every (LocatedInRange (f .job .variables) (f .states)) (withoutPlaces earlier)
+      range-earlier : Every (LocatedInRange (f .version) (f .job .variables) (f .states)) (withoutPlaces earlier)
       range-earlier m i = w .members-range .members m (Memᴰ·append-left (w .member ∷ w .later) (subst (λ (l : List Located). m ∈ l) earlier-is i))
 
       avoid-earlier : Every (Avoids (f .job .start)) (withoutPlaces earlier)
@@ -212,12 +256,12 @@ module _ (certificate : List ℕ) (f : JobFile) (ok : JobInRange f) where
       test-fails : ¬ T (not (atStart (f .job .start) (member .located)))
       test-fails t =
           let ok = w .members-range .members (w .member) (Memᴰ·append-right (w .earlier) (List·Memᴰ·head refl)) in
-          r-avoids (f .job .variables) (f .states) (f .job .start) (w .member) ok .holds (rw member-is at t) (w .state) (w .satisfied)
+          r-avoids (f .version) (f .job .variables) (f .states) (f .job .start) (w .member) ok .holds (rw member-is at t) (w .state) (w .satisfied)
 
       member-fails : readCertificate s f 0 ≡ fault (refusal 8) place
       unfolding readCertificate
       member-fails =
-          let (us, h₃) = tests-complete (f .job .variables) (f .states) (f .job .start) earlier range-earlier (w .next) avoid-earlier in
+          let (us, h₃) = tests-complete (f .version) (f .job .variables) (f .states) (f .job .start) earlier range-earlier (w .next) avoid-earlier in
           let stops : each (testStart (f .job .start)) (earlier ++ (member ∷ later)) (w .next) ≡ fault (refusal 8) (member .first) =
           each-refuses (testStart (f .job .start)) earlier member later (w .next) h₃
           (require-refuses (not (atStart (f .job .start) (member .located))) (refusal 8) (member .first) (w .next) test-fails) in
@@ -226,8 +270,8 @@ module _ (certificate : List ℕ) (f : JobFile) (ok : JobInRange f) where
     start-refused : readCertificate s f 0 ≡ fault (refusal 8) place
     start-refused =
         let (members, same, h) =
-        members-complete s (f .job .variables) (f .states) 0 (w .earlier ++ (w .member ∷ w .later)) (w .next) (before-reads certificate (w .members-read))
-        (w .members-range .number) (w .members-range .members) in
+        members-complete s (f .version) (f .job .variables) (f .states) 0 (w .earlier ++ (w .member ∷ w .later)) (w .next) (before-reads certificate (w .members-read))
+        (ok .version) (w .members-range .number) (w .members-range .members) in
         let (earlier, member, later, all, earlier-is, member-is) = split-places members (w .earlier) (w .member) (w .later) same in
         member-fails earlier member later earlier-is member-is (ap withoutPlaces (sym all) ∙ same) (h ∙ ap (λ l. parsed l (w .next)) all)
 
@@ -242,8 +286,11 @@ module _ (certificate : List ℕ) (f : JobFile) (ok : JobInRange f) where
 
   certificate-refused : (why : Reason) (place : ℕ) → InCertificate f certificate why place → readCertificate s f 0 ≡ fault why place
   unfolding readCertificate
-  certificate-refused why place (member-unread at w) = rw (members-faults f ok certificate (refusal 6) at .1 (inl (refl, w)))
-  certificate-refused why place (member-range at w) = rw (members-faults f ok certificate (refusal 7) at .1 (inr (refl, w)))
+  certificate-refused why place (member-unread at w) =
+      rw (members-refused (refusal 6) at (inl (refl, w)) (λ (k, _). let z : _≡_ {A = ℕ} 6 7 = cc in omega arith))
+  certificate-refused why place (version-range n next g out) = rw (version-refused n next g out)
+  certificate-refused why place (member-range at later w) = rw (members-refused (refusal 7) at (inr (refl, w)) (λ (_, q). omega arith))
+  certificate-refused why place (versions-differ n next g range other) = rw (versions-refused n next g range other)
   certificate-refused why place (cover-unread at limit d g) = number-refused (refusal 6) at limit d (inl (refl, g))
   certificate-refused why place (cover-range at limit d n next g h) = number-refused (refusal 7) at limit d (inr (refl, (n, next, g, h)))
   certificate-refused why place (member-satisfied at w) = start-refused w

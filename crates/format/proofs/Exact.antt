@@ -24,6 +24,7 @@ use Rattle.format.specs.JobBytes.{Between, LocatedInRange, IsJob}
 use Rattle.format.proofs.Sequence.{Reads, reads-append, reads-split, reads-decode, decode-reads}
 use Rattle.format.proofs.Parsing.{then}
 use Rattle.format.proofs.Files.{end-sound, end-complete, job-exact, whole-sound, whole-complete}
+use Rattle.format.proofs.Owed.{owed-range}
 use Rattle.format.proofs.Covers.{members-sound, members-complete, tests-sound, tests-complete, covers-sound, covers-complete}
 
 pub r-fits : (s : List ℕ) → Reflect (Between 1 65536 (length s)) (fits s)
@@ -56,7 +57,7 @@ module _ (job certificate : List ℕ) (counts : Counts) where
   unfolding readBoth readCertificate
   both-sound a b last =
       then (readWholeJob (jobBuffer job) 0) _
-      (λ f next h₁. then (readMembers (certificateBuffer certificate) (f .job .variables) (f .states) 0) _
+      (λ f next h₁. then (readMembers (certificateBuffer certificate) (f .version) (f .job .variables) (f .states) 0) _
       (λ members p₂ h₂. then (each (testStart _) members p₂) _
       (λ us p₃ h₃. then (each (readCover (certificateBuffer certificate) (withoutPlaces members)) _ p₃) _
       (λ vs p₄ h₄. then (end (certificateBuffer certificate) p₄) _
@@ -64,9 +65,10 @@ module _ (job certificate : List ℕ) (counts : Counts) where
       let ms : List Located = withoutPlaces members in
       let (h₀, whole) = whole-sound (jobBuffer job) 0 f next h₁ in
       let (g₁, ok) = job-exact (jobBuffer job) .sound 0 f next h₀ in
-      let (g₂, number, oks) = members-sound (certificateBuffer certificate) (f .job .variables) (f .states) 0 members p₂ h₂ in
-      let (avoid, p₃-is) = tests-sound (f .job .variables) (f .states) _ members oks p₂ h₃ in
-      let (cs, g₄, images, (hold, links-are)) = covers-sound (certificateBuffer certificate) (f .job .variables) ms (λ m i. oks m i .shape) _ p₃ h₄ in
+      let (g₂, number, oks) = members-sound (certificateBuffer certificate) (f .version) (f .job .variables) (f .states) 0 members p₂ h₂ in
+      let (avoid, p₃-is) = tests-sound (f .version) (f .job .variables) (f .states) _ members oks p₂ h₃ in
+      let (cs, g₄, images, (hold, links-are)) = covers-sound (certificateBuffer certificate) (f .job .variables) ms (λ m i. oks m i .shape) _
+      (λ o i. owed-range f ms ok (record { number = number; members = oks }) o i .facts) p₃ h₄ in
       let (whole′, p₄-is) = end-sound (certificateBuffer certificate) p₄ h₅ in
       let due : counts ≡ countsOf (f .job) ms (sum vs) = cc in
       record {
@@ -78,7 +80,7 @@ module _ (job certificate : List ℕ) (counts : Counts) where
         members-range = record { number = number; members = oks };
         covers = cs;
         images = images;
-        certificate-reads = reads-decode certificate (certificateNumbers ms cs) p₄ (reads-append (rw p₃-is at g₂) g₄) whole′;
+        certificate-reads = reads-decode certificate (certificateNumbers (f .version) ms cs) p₄ (reads-append (rw p₃-is at g₂) g₄) whole′;
         start = avoid;
         hold = hold;
         counts-due = due ∙ ap (countsOf (f .job) ms) links-are;
@@ -92,18 +94,19 @@ module _ (job certificate : List ℕ) (counts : Counts) where
   module _ (c : Conditions job certificate counts) where
     -- the parsers go through, whatever the places of the members
     answers : (members : List Member) → withoutPlaces members ≡ c .members → (p₁ p₂ p₄ : ℕ) → readWholeJob (jobBuffer job) 0 ≡ parsed (c .file) p₁
-        → readMembers (certificateBuffer certificate) (c .file .job .variables) (c .file .states) 0 ≡ parsed members p₂
+        → readMembers (certificateBuffer certificate) (c .file .version) (c .file .job .variables) (c .file .states) 0 ≡ parsed members p₂
         → Reads certificate p₂ (concatMap coverNumbers (c .covers)) p₄ → length certificate ≤ p₄ → readBoth job certificate ≡ parsed counts p₄
     unfolding readBoth readCertificate
     answers members same p₁ p₂ p₄ h₁ h₂ g whole =
         let s = certificateBuffer certificate in
         let f = c .file in
         let ms : List Located = withoutPlaces members in
-        let oks : (m : Located) → m ∈ ms → LocatedInRange (f .job .variables) (f .states) m = rw same (c .members-range .members) in
+        let oks : (m : Located) → m ∈ ms → LocatedInRange (f .version) (f .job .variables) (f .states) m = rw same (c .members-range .members) in
         let avoid : (m : Located) → m ∈ ms → m .state ≡ f .job .start → ¬ Satisfies empty (m .shape) = rw same (c .start) in
-        let (us, h₃) = tests-complete (f .job .variables) (f .states) (f .job .start) members oks p₂ avoid in
+        let (us, h₃) = tests-complete (f .version) (f .job .variables) (f .states) (f .job .start) members oks p₂ avoid in
         let (ls, h₄, links-are) =
-        covers-complete s (f .job .variables) (c .members) (λ m i. c .members-range .members m i .shape) (owed (f .job) (c .members)) (c .covers) p₂ p₄ g
+        covers-complete s (f .job .variables) (c .members) (λ m i. c .members-range .members m i .shape) (owed (f .job) (c .members))
+        (λ o i. owed-range f (c .members) (c .job-is .in-range) (c .members-range) o i .facts) (c .covers) p₂ p₄ g
         (c .images) (c .hold) in
         let due : countsOf (f .job) (c .members) (sum ls) ≡ counts = ap (countsOf (f .job) (c .members)) links-are ∙ sym (c .counts-due) in
         rw (h₁, h₂, h₃, same, h₄, end-complete s p₄ whole) (ap (λ x. parsed x p₄) due)
@@ -112,10 +115,11 @@ module _ (job certificate : List ℕ) (counts : Counts) where
     unfolding verdict
     complete =
         let (p₁, h₁) = job-read job (c .file) (c .job-is) in
-        let (p₄, g, whole′) = decode-reads certificate (certificateNumbers (c .members) (c .covers)) (c .certificate-reads) in
-        let (p₂, g₂, g₄) = reads-split (memberNumbers (c .members)) g in
+        let (p₄, g, whole′) = decode-reads certificate (certificateNumbers (c .file .version) (c .members) (c .covers)) (c .certificate-reads) in
+        let (p₂, g₂, g₄) = reads-split (memberNumbers (c .file .version) (c .members)) g in
         let (members, same, h₂) =
-        members-complete (certificateBuffer certificate) (c .file .job .variables) (c .file .states) 0 (c .members) p₂ g₂ (c .members-range .number)
+        members-complete (certificateBuffer certificate) (c .file .version) (c .file .job .variables) (c .file .states) 0 (c .members) p₂ g₂
+        (c .job-is .in-range .version) (c .members-range .number)
         (c .members-range .members) in
         let h = answers members same p₁ p₂ p₄ h₁ h₂ g₄ whole′ in
         cond-true (fits job) (cond (fits certificate) (conclude (readBoth job certificate)) (refused (refusal 2) 0)) (refused (refusal 1) 0) (r-fits job .tests (c .job-length))

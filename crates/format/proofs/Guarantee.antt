@@ -17,7 +17,7 @@ use Rattle.format.proofs.Exact.{job-read, exact}
 certified : (job certificate : List ℕ) (counts : Counts) (c : Conditions job certificate counts) → Certified (c .file .job) (c .members) (c .covers)
 certified job certificate counts c =
     record {
-      operations = λ t i. c .job-is .in-range .transitions t i .op;
+      operations = λ t i. let (kind, a, b, (_, named)) = c .job-is .in-range .transitions t i .op in (kind, a, b, named);
       members = λ m i. c .members-range .members m i .shape;
       start = c .start;
       covers = c .hold;

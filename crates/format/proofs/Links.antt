@@ -13,7 +13,7 @@ use Rattle.format.specs.Verdict.{Counts}
 use Rattle.format.specs.Numbers.{coverNumbers, memberNumbers, certificateNumbers}
 use Rattle.format.specs.Conditions.{Conditions}
 use Rattle.format.proofs.Sequence.{reads-long, reads-inside, decode-reads}
-use Rattle.format.proofs.Written.{owed-range}
+use Rattle.format.proofs.Owed.{owed-range}
 
 -- a cover for each that is owed
 hold-length : (ms : List Located) (cs : List Cover) (os : List Located) → AllHold ms cs os → length cs ≡ length os
@@ -46,12 +46,12 @@ module _ (job certificate : List ℕ) (counts : Counts) (c : Conditions job cert
   -- each number has a byte at least
   pub covers-at-most : counts .covers ≤ length certificate
   covers-at-most =
-      let (next, r, _) = decode-reads certificate (certificateNumbers (c .members) (c .covers)) (c .certificate-reads) in
+      let (next, r, _) = decode-reads certificate (certificateNumbers (c .file .version) (c .members) (c .covers)) (c .certificate-reads) in
       omega (
         arith,
         covers-are,
         covers-numbers (c .covers),
-        length-append (memberNumbers (c .members)) (concatMap coverNumbers (c .covers)),
+        length-append (memberNumbers (c .file .version) (c .members)) (concatMap coverNumbers (c .covers)),
         reads-long r,
         reads-inside r (omega arith),
       )

@@ -1,13 +1,15 @@
 -- Parsers look no further than they read, and what they have read without refusal goes on: on a buffer with the same bytes so far a parser
--- does the same, and before a number that is refused stands what begins something that the parser reads.
+-- does the same, and before a number that is refused stands what begins something that the parser reads, or facts have begun.
 use mathlib.Core.List.{List, [], _∷_, _++_, append-nil, append-assoc}
-use mathlib.Core.Logic.{inl, inr}
+use mathlib.Core.Logic.{_⊎_, inl, inr}
 use mathlib.Core.Option.{Option, none, some}
-use mathlib.Core.Path.{_≡_, refl, sym, ap, subst, _∙_}
+use mathlib.Core.Path.{_≡_, refl, sym, ap, ap₂, subst, _∙_}
 use Prim.Native.Nat.{ℕ, zero, suc, _+_, _-_, _≤_, _<_, min}
 use native.Mathlib.Omega.{arith}
 use lib.ListN.{length, getD, take, drop, length-take, length-append}
 use lib.Seq.{getD-take, take-take, take-length, take-at, length-take-le, drop-append-seam}
+use Rattle.lists.specs.List.{Every, concatMap}
+use Rattle.lists.proofs.List.{every-none, every-cons}
 use Rattle.lists.proofs.Reflect.{r-le, r-lt, r-eq, cond-cases}
 use Rattle.number.specs.Number.{largest, bytesOf, numberIn, numberAt}
 use Rattle.number.specs.NumberList.{encode}
@@ -23,7 +25,7 @@ use Rattle.format.proofs.Sequence.{Reads, done, more, one, reads-on, re
 use Rattle.format.proofs.Parsing.{not-fault, then, then-fault, read-sound, read-complete, read-outside, Faulty, faulty-map, read-fault}
 
 -- buffers with the same bytes up to a place have the same bytes up to an earlier one
-agree-less : (a b : List ℕ) (k e : ℕ) → k ≤ e → take e a ≡ take e b → take k a ≡ take k b
+pub agree-less : (a b : List ℕ) (k e : ℕ) → k ≤ e → take e a ≡ take e b → take k a ≡ take k b
 agree-less a b k e h same = sym (take-take k e a h) ∙ ap (take k) same ∙ take-take k e b h
 
 module _ (s s′ : List ℕ) (e : ℕ) (agree : take e s ≡ take e s′) where
@@ -112,6 +114,28 @@ module _ (s : List ℕ) where
 
 -- ---- parsers of numbers, on any buffer
 
+-- values from some numbers
+abbrev pub Some : {A : Type 0} → A → List ℕ → Type 0
+Some x ns = Unit {0}
+
+-- C never holds
+abbrev pub Never : List ℕ → Type 0
+Never ns = ⊥
+
+module _ {A : Type 0} (numbers : A → List ℕ) (Ok : A → Type 0) where
+  -- the numbers are those of the value, which is Ok
+  abbrev pub Of : A → List ℕ → Type 0
+  Of x ns = (ns ≡ numbers x) × Ok x
+
+  -- several are whole, and C holds of the numbers after them
+  pub record Among (C : List ℕ → Type 0) (k : ℕ) (ns : List ℕ) : Type 0 where
+    pub several : List A
+    pub fewer : length several < k
+    pub ok : Every Ok several
+    pub rest : List ℕ
+    pub holds : C rest
+    pub numbers-are : concatMap numbers several ++ rest ≡ ns
+
 module _ (u o l : Reason) where
   -- the buffer of these bytes, with the refusals u, o and l
   abbrev pub on : List ℕ → Buffer
@@ -124,47 +148,66 @@ module _ (u o l : Reason) where
     pub value : A
     pub parses : p other (length b) ≡ parsed value (length other)
 
-  -- A number at the place, after others, is refused; one that breaks its range is so on every buffer with the same bytes up to its end. p
-  -- reads another buffer, which has the same bytes before the place and goes on there, to its end.
-  pub record NumberFault {A : Type 0} (p : List ℕ → Parser A) (b : List ℕ) (at : ℕ) (why : Reason) (place : ℕ) : Type 0 where
-    pub earlier : List ℕ
-    pub before : Reads b at earlier place
-    pub faulty : Faulty (on b) (λ n. Unit {0}) why place
-    pub again : (n next : ℕ) → numberAt b place ≡ Number n next → (b′ : List ℕ) → take next b ≡ take next b′ → p b′ at ≡ fault why place
+  -- p reads another buffer, which has the same bytes before the place and goes on there, to its end
+  pub record GoesOn {A : Type 0} (p : List ℕ → Parser A) (b : List ℕ) (at place : ℕ) : Type 0 where
     pub other : List ℕ
     pub same : take place b ≡ take place other
     pub longer : place < length other
     pub value : A
     pub parses : p other at ≡ parsed value (length other)
 
-  -- p reads numbers, and values of which P holds; it looks no further than it reads; it can read on where a buffer ends, and where it refuses
-  pub record Completes {A : Type 0} (P : A → Type 0) (p : List ℕ → Parser A) : Type 0 where
-    pub reads : (b : List ℕ) (at : ℕ) (x : A) (next : ℕ) → p b at ≡ parsed x next → (ns : List ℕ) × Reads b at ns next
-    pub ok : (b : List ℕ) (at : ℕ) (x : A) (next : ℕ) → p b at ≡ parsed x next → P x
+  -- A number at the place, after others, is refused; one that breaks its range is so on every buffer with the same bytes up to its end. Before it
+  -- all is well: p goes on, or C holds.
+  pub record NumberFault {A : Type 0} (C : List ℕ → Type 0) (p : List ℕ → Parser A) (b : List ℕ) (at : ℕ) (why : Reason) (place : ℕ) : Type 0 where
+    pub earlier : List ℕ
+    pub before : Reads b at earlier place
+    pub faulty : Faulty (on b) (λ n. Unit {0}) why place
+    pub again : (n next : ℕ) → numberAt b place ≡ Number n next → (b′ : List ℕ) → take next b ≡ take next b′ → p b′ at ≡ fault why place
+    pub begun : GoesOn p b at place ⊎ C earlier
+
+  -- p reads values x from numbers ns, where P x ns; it looks no further than it reads; it can read on where a buffer ends, and where it refuses,
+  -- unless C holds of the numbers before
+  pub record Completes {A : Type 0} (P : A → List ℕ → Type 0) (C : List ℕ → Type 0) (p : List ℕ → Parser A) : Type 0 where
+    pub reads : (b : List ℕ) (at : ℕ) (x : A) (next : ℕ) → p b at ≡ parsed x next → (ns : List ℕ) × Reads b at ns next × P x ns
     pub same : (b b′ : List ℕ) (at : ℕ) (x : A) (next : ℕ) → take next b ≡ take next b′ → p b at ≡ parsed x next → p b′ at ≡ parsed x next
     pub grows : (b : List ℕ) → Grown p b
-    pub refused : (b : List ℕ) (at : ℕ) (why : Reason) (place : ℕ) → at ≤ length b → p b at ≡ fault why place → NumberFault p b at why place
+    pub refused : (b : List ℕ) (at : ℕ) (why : Reason) (place : ℕ) → at ≤ length b → p b at ≡ fault why place → NumberFault C p b at why place
 
-  pub completes-weaken : {A : Type 0} {P Q : A → Type 0} {p : List ℕ → Parser A} → ((x : A) → P x → Q x) → Completes P p → Completes Q p
-  completes-weaken to c =
-      record { reads = c .reads; ok = λ b at x next h. to x (c .ok b at x next h); same = c .same; grows = c .grows; refused = c .refused }
+  pub completes-weaken : {A : Type 0} {P Q : A → List ℕ → Type 0} {C D : List ℕ → Type 0} {p : List ℕ → Parser A}
+      → ((x : A) (ns : List ℕ) → P x ns → Q x ns) → ((ns : List ℕ) → C ns → D ns) → Completes P C p → Completes Q D p
+  completes-weaken {A} {P} {Q} {C} {D} {p} to further c =
+      record {
+        reads = λ b at x next h. let (ns, g, k) = c .reads b at x next h in (ns, g, to x ns k);
+        same = c .same;
+        grows = c .grows;
+        refused = λ b at why place inside h. weaker (c .refused b at why place inside h);
+      }
+    where
+      by-begun : {b : List ℕ} {at place : ℕ} {ns : List ℕ} → GoesOn p b at place ⊎ C ns → GoesOn p b at place ⊎ D ns
+      by-begun (inl g) = inl g
+      by-begun {ns = ns} (inr k) = inr (further ns k)
+
+      weaker : {b : List ℕ} {at : ℕ} {why : Reason} {place : ℕ} → NumberFault C p b at why place → NumberFault D p b at why place
+      weaker f = record { earlier = f .earlier; before = f .before; faulty = f .faulty; again = f .again; begun = by-begun (f .begun) }
 
   -- a parser that reads nothing
-  completes-still : {A : Type 0} {P : A → Type 0} (f : ℕ → A) → ((at : ℕ) → P (f at)) → Completes P (λ b at. parsed (f at) at)
+  completes-still : {A : Type 0} {P : A → List ℕ → Type 0} {C : List ℕ → Type 0} (f : ℕ → A) → ((at : ℕ) → P (f at) []) → Completes P C (λ b at. parsed (f at) at)
   completes-still {A} {P} f h =
       record {
-        reads = λ b at x next e. let next-is : at ≡ next = cc in ([], subst (Reads b at []) next-is done);
-        ok = λ b at x next e. let x-is : f at ≡ x = cc in subst P x-is (h at);
+        reads = λ b at x next e.
+            let next-is : at ≡ next = cc in
+            let x-is : f at ≡ x = cc in
+            ([], subst (Reads b at []) next-is done, subst (λ y. P y []) x-is (h at));
         same = λ b b′ at x next agree e. e;
         grows = λ b. record { other = b; begins = take-length b; value = f (length b); parses = refl };
         refused = λ b at why place i e. absurd (not-fault (f at) at why place (sym e));
       }
 
-  pub completes-return : {A : Type 0} {P : A → Type 0} (x : A) → P x → Completes P (λ b. return x)
+  pub completes-return : {A : Type 0} {P : A → List ℕ → Type 0} {C : List ℕ → Type 0} (x : A) → P x [] → Completes P C (λ b. return x)
   completes-return x h = completes-still (λ at. x) (λ at. h)
 
-  pub completes-here : Completes (λ at. Unit {0}) (λ b. here)
-  completes-here = completes-still (λ at. at) (λ at. tt)
+  pub completes-here : {C : List ℕ → Type 0} → Completes (λ at ns. ns ≡ []) C (λ b. here)
+  completes-here = completes-still (λ at. at) (λ at. refl)
 
   -- a number, where some number is allowed
   module _ {A : Type 0} (meaning : ℕ → Option A) (n : ℕ) (x : A) (small : n ≤ largest) (allowed : meaning n ≡ some x) where
@@ -175,47 +218,64 @@ module _ (u o l : Reason) where
         read-complete (on (b ++ bytesOf n)) meaning (length b) n (length (b ++ bytesOf n)) x
         (reads (b ++ bytesOf n) (length b) n [] small e ∙ ap (Number n) (sym (length-append b (bytesOf n)))) allowed
 
-    read-refused : (b : List ℕ) (at : ℕ) (why : Reason) (place : ℕ) → at ≤ length b → (at ≡ place) × Faulty (on b) (λ n. meaning n ≡ none) why at
-        → NumberFault (λ b. readAs (on b) meaning) b at why place
-    read-refused b at why place inside (at-is, f) =
-        subst (NumberFault (λ b. readAs (on b) meaning) b at why) at-is
-        (record {
-          earlier = [];
-          before = done;
-          faulty = faulty-map (on b) (λ n _. tt) f;
-          again = again f;
-          other = take at b ++ bytesOf n;
-          same = sym (take-at (take at b) (bytesOf n) at long);
-          longer = omega (arith, long, length-append (take at b) (bytesOf n), some-bytes n);
-          value = x;
-          parses = rw long at (read-written (take at b));
-        })
-      where
-        long : length (take at b) ≡ at
-        long = length-take-le at b inside
+    -- a parser that begins with the number and is through with n as soon as it is read
+    module _ {B : Type 0} (p : List ℕ → Parser B) (y : B)
+        (stops : (b : List ℕ) (at : ℕ) (why : Reason) (place : ℕ) → readAs (on b) meaning at ≡ fault why place → p b at ≡ fault why place)
+        (ends : (b : List ℕ) (at next : ℕ) → readAs (on b) meaning at ≡ parsed x next → p b at ≡ parsed y next) where
+      pub first-grows : (b : List ℕ) → Grown p b
+      first-grows b =
+          record {
+            other = b ++ bytesOf n;
+            begins = take-at b (bytesOf n) (length b) refl;
+            value = y;
+            parses = ends (b ++ bytesOf n) (length b) (length (b ++ bytesOf n)) (read-written b);
+          }
 
-        again : Faulty (on b) (λ n. meaning n ≡ none) why at → (m next : ℕ) → numberAt b at ≡ Number m next → (b′ : List ℕ) → take next b ≡ take next b′
-            → readAs (on b′) meaning at ≡ fault why at
-        again (inl (_, g)) m next h b′ agree = let q : _≡_ {A = ℕ} 0 1 = cc in absurd (omega arith)
-        again (inr (k, (m′, next′, g, outside))) m next h b′ agree =
-            let next-is : next′ ≡ next = cc in
-            rw k (read-outside (on b′) meaning at m′ next′ (number-local b b′ next agree at m′ next′ g (omega arith)) outside)
+      pub number-refused : {C : List ℕ → Type 0} (b : List ℕ) (at : ℕ) (why : Reason) (place : ℕ) → at ≤ length b → readAs (on b) meaning at ≡ fault why place
+          → NumberFault C p b at why place
+      number-refused {C} b at why place inside h =
+          let (at-is, f) = read-fault (on b) meaning at why place h in
+          subst (NumberFault C p b at why) at-is
+          (record {
+            earlier = [];
+            before = done;
+            faulty = faulty-map (on b) (λ n _. tt) f;
+            again = again f;
+            begun =
+                inl (record {
+                  other = take at b ++ bytesOf n;
+                  same = sym (take-at (take at b) (bytesOf n) at long);
+                  longer = omega (arith, long, length-append (take at b) (bytesOf n), some-bytes n);
+                  value = y;
+                  parses = ends (take at b ++ bytesOf n) at _ (rw long at (read-written (take at b)));
+                });
+          })
+        where
+          long : length (take at b) ≡ at
+          long = length-take-le at b inside
 
-    pub completes-read : Completes (λ x. (n : ℕ) × (meaning n ≡ some x)) (λ b. readAs (on b) meaning)
+          again : Faulty (on b) (λ n. meaning n ≡ none) why at → (m next : ℕ) → numberAt b at ≡ Number m next → (b′ : List ℕ) → take next b ≡ take next b′
+              → p b′ at ≡ fault why at
+          again (inl (_, g)) m next h b′ agree = let q : _≡_ {A = ℕ} 0 1 = cc in absurd (omega arith)
+          again (inr (k, (m′, next′, g, outside))) m next h b′ agree =
+              let next-is : next′ ≡ next = cc in
+              stops b′ at why at (rw k (read-outside (on b′) meaning at m′ next′ (number-local b b′ next agree at m′ next′ g (omega arith)) outside))
+
+    pub completes-read : {C : List ℕ → Type 0} → Completes (λ x ns. (n : ℕ) × (ns ≡ n ∷ []) × (meaning n ≡ some x)) C (λ b. readAs (on b) meaning)
     completes-read =
         record {
-          reads = λ b at y next h. let (m, g, _) = read-sound (on b) meaning at y next h in (m ∷ [], one g);
-          ok = λ b at y next h. let (m, _, e) = read-sound (on b) meaning at y next h in (m, e);
+          reads = λ b at y next h. let (m, g, e) = read-sound (on b) meaning at y next h in (m ∷ [], one g, (m, refl, e));
           same = λ b b′ at y next agree h.
               let (m, g, e) = read-sound (on b) meaning at y next h in
               read-complete (on b′) meaning at m next y (number-local b b′ next agree at m next g (omega arith)) e;
-          grows = λ b. record { other = b ++ bytesOf n; begins = take-at b (bytesOf n) (length b) refl; value = x; parses = read-written b };
-          refused = λ b at why place inside h. read-refused b at why place inside (read-fault (on b) meaning at why place h);
+          grows = first-grows (λ b. readAs (on b) meaning) x (λ b at why place h. h) (λ b at next h. h);
+          refused = number-refused (λ b. readAs (on b) meaning) x (λ b at why place h. h) (λ b at next h. h);
         }
 
   -- one parser, then another for each value of the first
-  module _ {A B : Type 0} {P : A → Type 0} {Q : B → Type 0} {p : List ℕ → Parser A} {r : A → List ℕ → Parser B} (first : Completes P p)
-      (rest : (x : A) → P x → Completes Q (r x)) where
+  module _ {A B : Type 0} {P : A → List ℕ → Type 0} {D : List ℕ → Type 0} (C : List ℕ → Type 0) {p : List ℕ → Parser A} {r : A → List ℕ → Parser B}
+      (first : Completes P D p) (further : (ns : List ℕ) → D ns → C ns)
+      (rest : (x : A) (ms : List ℕ) → P x ms → Completes Some (λ ns. C (ms ++ ns)) (r x)) where
     abbrev both : List ℕ → Parser B
     both b = p b >>= (λ x. r x b)
 
@@ -226,10 +286,14 @@ module _ (u o l : Reason) where
     begins-longer : (b other : List ℕ) → take (length b) other ≡ b → length b ≤ length other
     begins-longer b other e = let z = sym (ap length e) ∙ length-take (length b) other in omega arith
 
+    -- where the first is through, the second reads on
+    rest-grows : (b : List ℕ) (at : ℕ) (x : A) → p b at ≡ parsed x (length b) → Grown (r x) b
+    rest-grows b at x h = let (ns, _, k) = first .reads b at x (length b) h in rest x ns k .grows b
+
     bind-grows : (b : List ℕ) → Grown both b
     bind-grows b =
         let g = first .grows b in
-        let k = rest (g .value) (first .ok (g .other) (length b) (g .value) (length (g .other)) (g .parses)) .grows (g .other) in
+        let k = rest-grows (g .other) (length b) (g .value) (g .parses) in
         record {
           other = k .other;
           begins =
@@ -240,69 +304,111 @@ module _ (u o l : Reason) where
         }
 
     -- the first refuses: what it reads on another buffer, the second takes further
-    first-refused : (b : List ℕ) (at : ℕ) (why : Reason) (place : ℕ) → NumberFault p b at why place → NumberFault both b at why place
-    first-refused b at why place f =
-        let k = rest (f .value) (first .ok (f .other) at (f .value) (length (f .other)) (f .parses)) .grows (f .other) in
+    first-begun : (b : List ℕ) (at place : ℕ) (ns : List ℕ) → GoesOn p b at place ⊎ D ns → GoesOn both b at place ⊎ C ns
+    first-begun b at place ns (inr h) = inr (further ns h)
+    first-begun b at place ns (inl f) =
+        let k = rest-grows (f .other) at (f .value) (f .parses) in
         let longer = f .longer in
-        let further = begins-longer (f .other) (k .other) (k .begins) in
-        record {
-          earlier = f .earlier;
-          before = f .before;
-          faulty = f .faulty;
-          again = λ n next g b′ agree. ap (λ q. onward q (λ x. r x b′)) (f .again n next g b′ agree);
+        let longer′ = begins-longer (f .other) (k .other) (k .begins) in
+        inl (record {
           other = k .other;
           same = f .same ∙ ap (take place) (sym (k .begins)) ∙ take-take place (length (f .other)) (k .other) (omega arith);
           longer = omega arith;
           value = k .value;
           parses =
               after (f .other) (k .other) at (f .value) (length (f .other)) (f .parses) (take-length (f .other) ∙ sym (k .begins)) ∙ k .parses;
+        })
+
+    first-refused : (b : List ℕ) (at : ℕ) (why : Reason) (place : ℕ) → NumberFault D p b at why place → NumberFault C both b at why place
+    first-refused b at why place f =
+        record {
+          earlier = f .earlier;
+          before = f .before;
+          faulty = f .faulty;
+          again = λ n next g b′ agree. ap (λ q. onward q (λ x. r x b′)) (f .again n next g b′ agree);
+          begun = first-begun b at place (f .earlier) (f .begun);
         }
 
-    rest-refused : (b : List ℕ) (at : ℕ) (why : Reason) (place : ℕ) (x : A) (mid : ℕ) → p b at ≡ parsed x mid → NumberFault (r x) b mid why place
-        → NumberFault both b at why place
-    rest-refused b at why place x mid h f =
-        let (ns, g) = first .reads b at x mid h in
-        let l = reads-on (f .before) in
-        record {
-          earlier = ns ++ f .earlier;
-          before = reads-append g (f .before);
-          faulty = f .faulty;
-          again = λ n next k b′ agree.
-              let (_, i, _) = number-in place _ _ _ _ n next k in
-              after b b′ at x mid h (agree-less b b′ mid next (omega arith) agree) ∙ f .again n next k b′ agree;
+    rest-begun : (b : List ℕ) (at place : ℕ) (x : A) (mid : ℕ) (ms ns : List ℕ) → p b at ≡ parsed x mid → mid ≤ place
+        → GoesOn (r x) b mid place ⊎ C (ms ++ ns) → GoesOn both b at place ⊎ C (ms ++ ns)
+    rest-begun b at place x mid ms ns h l (inr k) = inr k
+    rest-begun b at place x mid ms ns h l (inl f) =
+        inl (record {
           other = f .other;
           same = f .same;
           longer = f .longer;
           value = f .value;
           parses = after b (f .other) at x mid h (agree-less b (f .other) mid place l (f .same)) ∙ f .parses;
+        })
+
+    rest-refused : (b : List ℕ) (at : ℕ) (why : Reason) (place : ℕ) (x : A) (mid : ℕ) (ms : List ℕ) → p b at ≡ parsed x mid → Reads b at ms mid
+        → NumberFault (λ ns. C (ms ++ ns)) (r x) b mid why place → NumberFault C both b at why place
+    rest-refused b at why place x mid ms h g f =
+        let l = reads-on (f .before) in
+        record {
+          earlier = ms ++ f .earlier;
+          before = reads-append g (f .before);
+          faulty = f .faulty;
+          again = λ n next k b′ agree.
+              let (_, i, _) = number-in place _ _ _ _ n next k in
+              after b b′ at x mid h (agree-less b b′ mid next (omega arith) agree) ∙ f .again n next k b′ agree;
+          begun = rest-begun b at place x mid ms (f .earlier) h l (f .begun);
         }
 
-    pub completes-bind : Completes Q both
+    pub completes-bind : Completes Some C both
     completes-bind =
         record {
           reads = λ b at y next.
               then (p b at) _
               (λ x mid h₁ h₂.
-              let (ns, g) = first .reads b at x mid h₁ in
-              let (ms, k) = rest x (first .ok b at x mid h₁) .reads b mid y next h₂ in
-              (ns ++ ms, reads-append g k));
-          ok = λ b at y next. then (p b at) _ (λ x mid h₁ h₂. rest x (first .ok b at x mid h₁) .ok b mid y next h₂);
+              let (ms, g, k) = first .reads b at x mid h₁ in
+              let (ns, g′, _) = rest x ms k .reads b mid y next h₂ in
+              (ms ++ ns, reads-append g g′, tt));
           same = λ b b′ at y next agree.
               then (p b at) _
               (λ x mid h₁ h₂.
-              let c = rest x (first .ok b at x mid h₁) in
-              let l = reads-on (c .reads b mid y next h₂ .1) in
+              let (ms, _, k) = first .reads b at x mid h₁ in
+              let c = rest x ms k in
+              let (_, g, _) = c .reads b mid y next h₂ in
+              let l = reads-on g in
               after b b′ at x mid h₁ (agree-less b b′ mid next l agree) ∙ c .same b b′ mid y next agree h₂);
           grows = bind-grows;
           refused = λ b at why place inside.
               then-fault (p b at) _
               (λ x mid h₁ h₂.
-              let (ns, g) = first .reads b at x mid h₁ in
-              rest-refused b at why place x mid h₁ (rest x (first .ok b at x mid h₁) .refused b mid why place (reads-inside g inside) h₂))
+              let (ms, g, k) = first .reads b at x mid h₁ in
+              rest-refused b at why place x mid ms h₁ g (rest x ms k .refused b mid why place (reads-inside g inside) h₂))
               (λ h₁. first-refused b at why place (first .refused b at why place inside h₁));
         }
 
-  pub completes-many : {A : Type 0} {P : A → Type 0} {p : List ℕ → Parser A} → Completes P p → (k : ℕ) → Completes (λ xs. Unit {0}) (λ b. many k (p b))
-  unfolding many
-  completes-many c zero = completes-return [] tt
-  completes-many c (suc k) = completes-bind c (λ x _. completes-bind (completes-many c k) (λ xs _. completes-return (x ∷ xs) tt))
+  -- ---- several, one after the other
+
+  module _ {A : Type 0} (numbers : A → List ℕ) (Ok : A → Type 0) where
+    -- what is known of the values that it reads may be put in
+    pub completes-of : {P : A → List ℕ → Type 0} {C : List ℕ → Type 0} {p : List ℕ → Parser A}
+        → ((b : List ℕ) (at : ℕ) (x : A) (next : ℕ) → p b at ≡ parsed x next → Reads b at (numbers x) next × Ok x) → Completes P C p → Completes (Of numbers Ok) C p
+    completes-of sound c =
+        record {
+          reads = λ b at x next h. let (g, k) = sound b at x next h in (numbers x, g, (refl, k));
+          same = c .same;
+          grows = c .grows;
+          refused = c .refused;
+        }
+
+    pub completes-many : {C : List ℕ → Type 0} {p : List ℕ → Parser A} → Completes (Of numbers Ok) C p → (k : ℕ)
+        → Completes Some (Among numbers Ok C k) (λ b. many k (p b))
+    unfolding many
+    completes-many c zero = completes-return [] tt
+    completes-many {C} c (suc k) =
+        completes-bind (Among numbers Ok C (suc k)) c
+        (λ ns h. record { several = []; fewer = omega arith; ok = every-none Ok; rest = ns; holds = h; numbers-are = refl })
+        (λ x ms (e, ok). completes-bind (λ ns. Among numbers Ok C (suc k) (ms ++ ns)) (completes-many c k)
+        (λ ns h. record {
+          several = x ∷ h .several;
+          fewer = omega (arith, h .fewer);
+          ok = every-cons Ok ok (h .ok);
+          rest = h .rest;
+          holds = h .holds;
+          numbers-are = append-assoc (numbers x) (concatMap numbers (h .several)) (h .rest) ∙ ap₂ _++_ (sym e) (h .numbers-are);
+        })
+        (λ xs _ _. completes-return (x ∷ xs) tt))

@@ -1,17 +1,22 @@
 -- Where the verdict is refused, what document 01 says of its number holds at its place.
 use mathlib.Core.Bool.{Bool, true, false, cond}
-use mathlib.Core.List.{List, [], _∷_, _++_, append-nil, map-append}
+use mathlib.Core.List.{List, [], _∷_, _++_, append-nil, map-append, List·Memᴰ·head, Memᴰ·append-right}
 use mathlib.Core.Logic.{_⊎_, inl, inr}
+use mathlib.Core.Option.{none}
 use mathlib.Core.Path.{_≡_, refl, sym, ap, ap₂, subst, subst₂, _∙_}
-use Prim.Native.Nat.{ℕ, _≤_}
+use Prim.Native.Nat.{ℕ, suc, _≤_, _<_}
 use native.Mathlib.Omega.{arith}
+use lib.Dec.{eqb}
 use lib.ListN.{length}
-use Rattle.lists.specs.List.{_∈_, concatMap, sum}
+use Rattle.lists.specs.List.{_∈_, Every, concatMap, sum}
 use Rattle.lists.proofs.List.{concatMap-append}
+use Rattle.lists.proofs.Reflect.{r-eq, r-le, r-lt, r-and}
+use Rattle.number.specs.Number.{numberAt}
+use Rattle.number.specs.declared.Read.the-variants.{Number, Unreadable}
 use Rattle.shape.specs.Shape.{InRange}
 use Rattle.run.specs.Run.{Located}
 use Rattle.cover.specs.Cover.{Cover, owed, AllHold}
-use Rattle.format.specs.Parser.{broken-rule, Reason, refusal, Parsed, parsed, fault, each, Buffer, jobBuffer, certificateBuffer, end}
+use Rattle.format.specs.Parser.{broken-rule, Reason, refusal, Parsed, parsed, fault, require, each, Buffer, jobBuffer, certificateBuffer, within, such, ranged, end}
 use Rattle.format.specs.Job.{readJob, readWholeJob}
 use Rattle.format.specs.JobNumbers.{JobFile, jobNumbers}
 use Rattle.format.specs.Certificate.{Member, withoutPlaces, readMembers, testStart, readCover}
@@ -20,17 +25,19 @@ use Rattle.format.specs.Conditions.{MembersInRange, ImageForEach, counts
 use Rattle.format.specs.JobBytes.{Between, JobInRange}
 use Rattle.format.specs.Numbers.{memberNumbers, coverNumbers}
 use Rattle.format.specs.Meaning.{OfJob, InJob, job-number, job-range, job-left, OfMembers, Covered, CoverBegun, CoverDue, member-due, image-due}
-use Rattle.format.specs.Meaning.{InCertificate, member-unread, cover-unread, member-range, cover-range, member-satisfied, cover-fails, certificate-left}
+use Rattle.format.specs.Meaning.{InCertificate, member-unread, cover-unread, version-range, member-range, versions-differ, cover-range, member-satisfied, cover-fails, certificate-left}
 use Rattle.format.specs.Meaning.{Meaning, job-length, certificate-length, in-job, in-certificate}
-use Rattle.format.proofs.Sequence.{Reads, reads-append, reads-decode}
-use Rattle.format.proofs.Parsing.{not-fault, then-fault, Faulty}
+use Rattle.format.proofs.Sequence.{Reads, reads-one, reads-append, number-in, reads-decode}
+use Rattle.format.proofs.Parsing.{not-fault, then-fault, require-sound, require-fault, Faulty, read-fault, read-refuses, such-none, ranged-exact}
 use Rattle.format.proofs.Files.{end-fault, job-exact, whole-sound}
+use Rattle.format.proofs.Owed.{owed-range}
 use Rattle.format.proofs.Covers.{members-sound, tests-sound, covers-sound}
 use Rattle.format.proofs.Exact.{r-fits}
 use Rattle.format.proofs.Local.{reads-before}
 use Rattle.format.proofs.FirstFault.{FirstFault}
-use Rattle.format.proofs.Completing.{job-faults, members-faults}
-use Rattle.format.proofs.Refusals.{member-first, tests-fault, Stopped, covers-fault, Begun, Fails, Due, member-owed, image-owed, cover-fault}
+use Rattle.format.proofs.Completing.{job-faults}
+use Rattle.format.proofs.MemberFaults.{same-version, after-version, members-faults}
+use Rattle.format.proofs.Refusals.{FactsFit, member-first, tests-fault, Stopped, covers-fault, Begun, Fails, Due, member-owed, image-owed, cover-fault}
 
 -- ---- the job
 
@@ -55,20 +62,52 @@ module _ (certificate : List ℕ) (f : JobFile) (ok : JobInRange f) where
   abbrev s : Buffer
   s = certificateBuffer certificate
 
-  members-meaning : (why : Reason) (place : ℕ) → readMembers s (f .job .variables) (f .states) 0 ≡ fault why place → InCertificate f certificate why place
-  members-meaning why place h = by-fault (members-faults f ok certificate why place .0 h)
+  by-fault : (why : Reason) (place : ℕ) → 0 < place → FirstFault (OfMembers f) certificate (refusal 6) (refusal 7) why place → InCertificate f certificate why place
+  by-fault why place later (inl (k, w)) = subst (λ (x : Reason). InCertificate f certificate x place) k (member-unread place w)
+  by-fault why place later (inr (k, w)) = subst (λ (x : Reason). InCertificate f certificate x place) k (member-range place later w)
+
+  -- the version number can't be read
+  version-unread : numberAt certificate 0 ≡ Unreadable 0 → InCertificate f certificate (refusal 6) 0
+  version-unread g =
+      let h = read-refuses s (such (within (f .version) (suc (f .version)))) 0 (refusal 6) (inl (refl, g)) in
+      by-kind (members-faults f ok certificate (refusal 6) 0 .0 (rw h))
     where
-      by-fault : FirstFault (OfMembers f) certificate (refusal 6) (refusal 7) why place → InCertificate f certificate why place
-      by-fault (inl (k, w)) = subst (λ (x : Reason). InCertificate f certificate x place) k (member-unread place w)
-      by-fault (inr (k, w)) = subst (λ (x : Reason). InCertificate f certificate x place) k (member-range place w)
+      by-kind : FirstFault (OfMembers f) certificate (refusal 6) (refusal 7) (refusal 6) 0 → InCertificate f certificate (refusal 6) 0
+      by-kind (inl (_, w)) = member-unread 0 w
+      by-kind (inr (k, w)) = let z : _≡_ {A = ℕ} 7 6 = cc in absurd (omega arith)
+
+  members-meaning : (why : Reason) (place : ℕ) → readMembers s (f .version) (f .job .variables) (f .states) 0 ≡ fault why place → InCertificate f certificate why place
+  unfolding readMembers
+  members-meaning why place =
+      then-fault (ranged s 1 3 0) _
+      (λ own a h₁. then-fault (require (eqb own (f .version)) (refusal 20) 0 a) _
+      (λ _ b h₂ h₃.
+      let (g, _) = ranged-exact s 1 3 .sound 0 own a h₁ in
+      let (same, a-is) = require-sound (eqb own (f .version)) (refusal 20) 0 a h₂ in
+      let own-is : own ≡ f .version = r-eq own (f .version) .holds same in
+      let g′ : numberAt certificate 0 ≡ Number (f .version) b = subst₂ (λ (k e : ℕ). numberAt certificate 0 ≡ Number k e) own-is a-is (reads-one g) in
+      let (_, further, inside) = number-in 0 _ _ _ _ (f .version) b g′ in
+      let on-it = after-version f ok (refusal 6) (refusal 7) (refusal 10) certificate b why place (omega arith) h₃ in
+      by-fault why place (omega arith) (members-faults f ok certificate why place .0 (same-version f ok s 0 b g′ .1 ∙ h₃)))
+      (λ h₂.
+      let (g, (low, high)) = ranged-exact s 1 3 .sound 0 own a h₁ in
+      let (k, q, n) = require-fault (eqb own (f .version)) (refusal 20) 0 a h₂ in
+      subst₂ (InCertificate f certificate) k q (versions-differ own a (reads-one g) (low, omega arith) (λ e. n (r-eq own (f .version) .tests e)))))
+      (λ h₁. let (q, w) = read-fault s (such (within 1 3)) 0 why place h₁ in subst (InCertificate f certificate why) q (by-number w))
+    where
+      by-number : Faulty s (λ n. such (within 1 3) n ≡ none) why 0 → InCertificate f certificate why 0
+      by-number (inl (k, g)) = subst (λ (x : Reason). InCertificate f certificate x 0) (sym k) (version-unread g)
+      by-number (inr (k, (n, next, g, out))) =
+          subst (λ (x : Reason). InCertificate f certificate x 0) (sym k)
+          (version-range n next g (λ (low, high). such-none (within 1 3) n out (r-and (r-le 1 n) (r-lt n 3) .tests (low, omega arith))))
 
   -- ---- once the members are read
 
-  module _ (members : List Member) (p₂ : ℕ) (h₂ : readMembers s (f .job .variables) (f .states) 0 ≡ parsed members p₂) where
+  module _ (members : List Member) (p₂ : ℕ) (h₂ : readMembers s (f .version) (f .job .variables) (f .states) 0 ≡ parsed members p₂) where
     start-meaning : (why : Reason) (place : ℕ) → each (testStart (f .job .start)) members p₂ ≡ fault why place → InCertificate f certificate why place
     start-meaning why place h₃ =
-        let (g₂, count, oks) = members-sound s (f .job .variables) (f .states) 0 members p₂ h₂ in
-        let t = tests-fault (f .job .variables) (f .states) (f .job .start) members oks p₂ why place h₃ in
+        let (g₂, count, oks) = members-sound s (f .version) (f .job .variables) (f .states) 0 members p₂ h₂ in
+        let t = tests-fault (f .version) (f .job .variables) (f .states) (f .job .start) members oks p₂ why place h₃ in
         let split : withoutPlaces (t .earlier ++ (t .member ∷ t .later)) ≡ withoutPlaces (t .earlier) ++ (t .member .located ∷ withoutPlaces (t .later)) =
         map-append (λ m. m .located) (t .earlier) (t .member ∷ t .later) in
         let all : withoutPlaces members ≡ withoutPlaces (t .earlier) ++ (t .member .located ∷ withoutPlaces (t .later)) = ap withoutPlaces (t .all) ∙ split in
@@ -81,7 +120,9 @@ module _ (certificate : List ℕ) (f : JobFile) (ok : JobInRange f) where
           next = p₂;
           members-range = subst (MembersInRange f) all (record { number = count; members = oks });
           members-read = reads-before certificate (rw all at g₂);
-          before = reads-before certificate (rw split at (member-first s (f .job .variables) (f .states) 0 (t .earlier) (t .member) (t .later) p₂ (rw (t .all) at h₂)));
+          before =
+              reads-before certificate
+              (rw split at (member-first s (f .version) (f .job .variables) (f .states) 0 (t .earlier) (t .member) (t .later) p₂ (rw (t .all) at h₂)));
           unsatisfied = t .avoid;
           state = t .state;
           satisfied = t .satisfied;
@@ -93,13 +134,19 @@ module _ (certificate : List ℕ) (f : JobFile) (ok : JobInRange f) where
 
       shapes : (m : Located) → m ∈ ms → InRange (f .job .variables) 12 (m .shape)
       unfolding ms
-      shapes m i = members-sound s (f .job .variables) (f .states) 0 members p₂ h₂ .2 m i .shape
+      shapes m i = members-sound s (f .version) (f .job .variables) (f .states) 0 members p₂ h₂ .2 m i .shape
 
-      members-end : Reads certificate 0 (memberNumbers ms) p₃
+      fits-cells : Every FactsFit (owed (f .job) ms)
+      unfolding ms
+      fits-cells o i =
+          let (_, count, oks) = members-sound s (f .version) (f .job .variables) (f .states) 0 members p₂ h₂ in
+          owed-range f ms ok (record { number = count; members = oks }) o i .facts
+
+      members-end : Reads certificate 0 (memberNumbers (f .version) ms) p₃
       unfolding ms
       members-end =
-          let (g₂, _, oks) = members-sound s (f .job .variables) (f .states) 0 members p₂ h₂ in
-          let (_, p₃-is) = tests-sound (f .job .variables) (f .states) (f .job .start) members oks p₂ h₃ in
+          let (g₂, _, oks) = members-sound s (f .version) (f .job .variables) (f .states) 0 members p₂ h₂ in
+          let (_, p₃-is) = tests-sound (f .version) (f .job .variables) (f .states) (f .job .start) members oks p₂ h₃ in
           rw p₃-is at g₂
 
       -- the covers up to a place hold
@@ -107,11 +154,11 @@ module _ (certificate : List ℕ) (f : JobFile) (ok : JobInRange f) where
           → owed (f .job) ms ≡ done ++ left → AllHold ms covers done → ((c : Cover) → c ∈ covers → ImageForEach ms c) → Covered f certificate place left
       unfolding ms
       so-far covers place done left g all hold images =
-          let (_, count, oks) = members-sound s (f .job .variables) (f .states) 0 members p₂ h₂ in
+          let (_, count, oks) = members-sound s (f .version) (f .job .variables) (f .states) 0 members p₂ h₂ in
           record {
             members = ms;
             members-range = record { number = count; members = oks };
-            start = tests-sound (f .job .variables) (f .states) (f .job .start) members oks p₂ h₃ .0;
+            start = tests-sound (f .version) (f .job .variables) (f .states) (f .job .start) members oks p₂ h₃ .0;
             covers = covers;
             images = images;
             before = reads-before certificate (reads-append members-end g);
@@ -122,10 +169,13 @@ module _ (certificate : List ℕ) (f : JobFile) (ok : JobInRange f) where
 
       covers-meaning : (why : Reason) (place : ℕ) → each (readCover s ms) (owed (f .job) ms) p₃ ≡ fault why place → InCertificate f certificate why place
       unfolding so-far
-      covers-meaning why place h₄ = by-cover (cover-fault s (f .job .variables) ms shapes (t .shape) (t .mid) why place (t .refused))
+      covers-meaning why place h₄ = by-cover (cover-fault s (f .job .variables) ms shapes (t .shape) fit (t .mid) why place (t .refused))
         where
           t : Stopped s (f .job .variables) ms shapes (owed (f .job) ms) p₃ why place
-          t = covers-fault s (f .job .variables) ms shapes (owed (f .job) ms) p₃ why place h₄
+          t = covers-fault s (f .job .variables) ms shapes (owed (f .job) ms) fits-cells p₃ why place h₄
+
+          fit : FactsFit (t .shape)
+          fit = fits-cells (t .shape) (subst (λ (l : List Located). t .shape ∈ l) (sym (t .all)) (Memᴰ·append-right (t .done) (List·Memᴰ·head refl)))
 
           covered : Covered f certificate (t .mid) (t .shape ∷ t .later)
           covered = so-far (t .covers) (t .mid) (t .done) (t .shape ∷ t .later) (t .reads) (t .all) (t .hold) (t .images)
@@ -168,7 +218,7 @@ module _ (certificate : List ℕ) (f : JobFile) (ok : JobInRange f) where
       left-meaning : (why : Reason) (place p₄ : ℕ) (vs : List ℕ) → each (readCover s ms) (owed (f .job) ms) p₃ ≡ parsed vs p₄ → end s p₄ ≡ fault why place
           → InCertificate f certificate why place
       left-meaning why place p₄ vs h₄ h₅ =
-          let (cs, g, images, (hold, _)) = covers-sound s (f .job .variables) ms shapes (owed (f .job) ms) p₃ h₄ in
+          let (cs, g, images, (hold, _)) = covers-sound s (f .job .variables) ms shapes (owed (f .job) ms) fits-cells p₃ h₄ in
           let (k, q, more) = end-fault s p₄ h₅ in
           subst₂ (InCertificate f certificate) k q
           (certificate-left p₄ (so-far cs p₄ (owed (f .job) ms) [] g (sym (append-nil (owed (f .job) ms))) hold images) more)
@@ -176,7 +226,7 @@ module _ (certificate : List ℕ) (f : JobFile) (ok : JobInRange f) where
   certificate-meaning : (why : Reason) (place : ℕ) → readCertificate s f 0 ≡ fault why place → InCertificate f certificate why place
   unfolding ms readCertificate
   certificate-meaning why place h =
-      then-fault (readMembers s (f .job .variables) (f .states) 0) _
+      then-fault (readMembers s (f .version) (f .job .variables) (f .states) 0) _
       (λ members p₂ h₂. then-fault (each (testStart (f .job .start)) members p₂) _
       (λ us p₃ h₃. then-fault (each (readCover s (withoutPlaces members)) (owed (f .job) (withoutPlaces members)) p₃) _
       (λ vs p₄ h₄. then-fault (end s p₄) _ (λ u p₅ h₅ r. absurd (not-fault (countsOf (f .job) (withoutPlaces members) (sum vs)) p₅ why place (sym r)))

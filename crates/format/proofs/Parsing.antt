@@ -55,6 +55,14 @@ pub require-refuses : (test : Bool) (why : Reason) (place at : ℕ) → ¬ T tes
 require-refuses true why place at n = absurd (n tt)
 require-refuses false why place at n = refl
 
+-- a number that a test does not let pass fails it
+pub such-none : (test : ℕ → Bool) (n : ℕ) → such test n ≡ none → ¬ T (test n)
+such-none test n = by-test (test n)
+  where
+    by-test : (b : Bool) → cond b (some n) none ≡ none → ¬ T b
+    by-test true e t = let z : _≡_ {A = ℕ} 0 1 = cc in omega arith
+    by-test false e t = t
+
 module _ (s : Buffer) where
   -- ---- one number
 
@@ -201,7 +209,7 @@ module _ (s : Buffer) where
         (x ∷ xs, mid, reads-append g r, omega arith, every-cons Ok ok oks, f)))
         (λ h₁. ([], at, done, omega arith, (λ x i. absurd (List·Memᴰ·not-nil i)), h₁)) h
 
-    many-refuses : (k at : ℕ) (xs : List A) (mid : ℕ) (why : Reason) (place : ℕ) → Reads (s .bytes) at (concatMap numbers xs) mid → length xs < k
+    pub many-refuses : (k at : ℕ) (xs : List A) (mid : ℕ) (why : Reason) (place : ℕ) → Reads (s .bytes) at (concatMap numbers xs) mid → length xs < k
         → Every Ok xs → p mid ≡ fault why place → many k p at ≡ fault why place
     unfolding many
     many-refuses zero at xs mid why place g fewer oks h = absurd (omega arith)
@@ -233,12 +241,11 @@ module _ (s : Buffer) where
         subst (Reads (s .bytes) at xs) mid-is (subst (λ (l : List ℕ). Reads (s .bytes) at l mid) (singles xs) r),
         fewer,
         (λ x i. oks x i .1),
-        subst (Faulty (λ n. limit ≤ n) why) mid-is (faulty-map (λ n. above n (within 0 limit n) refl) w),
+        subst (Faulty (λ n. limit ≤ n) why) mid-is (faulty-map above w),
       )
     where
-      above : (n : ℕ) (b : Bool) → within 0 limit n ≡ b → cond b (some n) none ≡ none → limit ≤ n
-      above n true h e = let z : _≡_ {A = ℕ} 0 1 = cc in absurd (omega arith)
-      above n false h e = let k : ¬ (n < limit) = λ q. rw h at (r-and (r-le 0 n) (r-lt n limit) .tests (omega arith, q)) in omega arith
+      above : (n : ℕ) → such (within 0 limit) n ≡ none → limit ≤ n
+      above n e = let k : ¬ (n < limit) = λ q. such-none (within 0 limit) n e (r-and (r-le 0 n) (r-lt n limit) .tests (omega arith, q)) in omega arith
 
   pub codes-refuses : (k limit at : ℕ) (xs : List ℕ) (mid : ℕ) (why : Reason) (place : ℕ) → Reads (s .bytes) at xs mid → length xs < k → AllBelow limit xs
       → ranged s 0 limit mid ≡ fault why place → many k (ranged s 0 limit) at ≡ fault why place

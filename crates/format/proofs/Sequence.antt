@@ -79,6 +79,13 @@ reads-further (more {n = n} {mid = k} g r) (more {n = n′} {mid = k′} g′ r�
     let (m, later, next, e, x) = reads-further r (rw k-is at r′) h in
     (m, later, next, ap₂ {A = ℕ} {B = List ℕ} {C = List ℕ} (λ h l. h ∷ l) n-is e, x)
 
+-- what is read beyond a place goes over the number there
+pub reads-over : {s : List ℕ} {at p q n next : ℕ} {ns ms : List ℕ} → Reads s at ns p → Reads s at ms q → p < q → numberAt s p ≡ Number n next → next ≤ q
+reads-over {at = at} done done b g = absurd (omega arith)
+reads-over {next = next} done (more {mid = k} h r) b g = let k-is : k ≡ next = cc in let on = reads-on r in omega arith
+reads-over (more {at = at} {n = m} {mid = k} h r) done b g = let (_, on, _) = number-in at _ _ _ _ m k h in let on′ = reads-on r in absurd (omega arith)
+reads-over (more {mid = k} h r) (more {mid = k′} h′ r′) b g = let k-is : k′ ≡ k = cc in reads-over r (rw k-is at r′) b g
+
 module _ (s : List ℕ) where
   reads-from : (turns at : ℕ) (ns : List ℕ) (next : ℕ) → Reads s at ns next → length s ≤ next → length s - at ≤ turns → decodeFrom turns s at ≡ numbers ns
   reads-from turns at [] next r h t = decode-end turns s at (omega (arith, reads-none r))

@@ -7,7 +7,7 @@ use lib.ListN.{getElem?}
 use Rattle.shape.specs.Shape.{size}
 use Rattle.run.specs.Run.{Located}
 use Rattle.cover.specs.Cover.{byEmpty}
-use Rattle.cover.specs.Test.{Answer, holds, broken, coverAnswer, linksFollowed}
+use Rattle.cover.specs.Test.{closedIn, Answer, holds, broken, answerBy, linksFollowed}
 use Rattle.format.specs.Parser.{refusal, broken-rule, parsed, fault, Parser, _>>=_, _>>_, return, here, require, many, Buffer, readAs, ranged}
 use Rattle.format.specs.Job.{readLocated}
 
@@ -33,24 +33,29 @@ judge holds links first at = parsed links at
 judge (broken rule name) links first at = fault (broken-rule rule name) first
 
 module _ (s : Buffer) where
-  unfoldable pub readMember : ℕ → ℕ → Parser Member
-  readMember variables states = do
+  unfoldable pub readMember : ℕ → ℕ → ℕ → Parser Member
+  readMember version variables states = do
     first ← here
-    located ← readLocated s variables states
+    located ← readLocated version s variables states
     return (record { first = first; located = located })
 
-  -- "Certificate: version 1; N 1..512; N members (state, shape); then covers."
-  unfoldable pub readMembers : ℕ → ℕ → Parser (List Member)
-  readMembers variables states = do
-    ranged s 1 2
+  -- "Certificate: version 1; N 1..512; N members (state, shape); then covers." Document 02, Wish 6: "A job and a certificate of different versions
+  -- get 20, after 5 and before anything in the certificate past its version number."
+  unfoldable pub readMembers : ℕ → ℕ → ℕ → Parser (List Member)
+  readMembers version variables states = do
+    own ← ranged s 1 3
+    require (eqb own version) (refusal 20) 0
     count ← ranged s 1 513
-    many count (readMember variables states)
+    many count (readMember version variables states)
 
   -- "A cover is a member number below N and one image for each of its cells, below the number of cells of the covered shape."
-  -- Its value is the number of links followed.
-  unfoldable pub readCover : List Located → Located → Parser ℕ
-  readCover members covered = do
+  -- Its value is the number of links followed. A test tells the closed facts of the covered shape.
+  unfoldable pub readCoverBy : (ℕ → ℕ → ℕ → Bool) → List Located → Located → Parser ℕ
+  readCoverBy among members covered = do
     first ← here
     member ← readAs s (getElem? members)
     images ← many (size (member .shape)) (ranged s 0 (size (covered .shape)))
-    judge (coverAnswer member images covered) (linksFollowed (member .shape) (covered .shape) images) first
+    judge (answerBy among member images covered) (linksFollowed (member .shape) (covered .shape) images) first
+
+  abbrev pub readCover : List Located → Located → Parser ℕ
+  readCover members covered = readCoverBy (closedIn (covered .shape)) members covered

@@ -19,7 +19,7 @@ use Rattle.format.specs.Verdict.{Counts}
 -- "N 1..512; N members (state, shape)"
 pub record MembersInRange (f : JobFile) (ms : List Located) : Type 0 where
   pub number : Between 1 512 (length ms)
-  pub members : Every (LocatedInRange (f .job .variables) (f .states)) ms
+  pub members : Every (LocatedInRange (f .version) (f .job .variables) (f .states)) ms
 
 -- "one image for each of its cells"
 abbrev pub ImageForEach : List Located → Cover → Type 0
@@ -39,7 +39,7 @@ pub record Conditions (job certificate : List ℕ) (counts : Counts) : Type 0 wh
   pub members-range : MembersInRange file members
   pub covers : List Cover
   pub images : Every (ImageForEach members) covers
-  pub certificate-reads : decode certificate ≡ numbers (certificateNumbers members covers)
+  pub certificate-reads : decode certificate ≡ numbers (certificateNumbers (file .version) members covers)
   pub start : Every (Avoids (file .job .start)) members
   pub hold : AllHold members covers (owed (file .job) members)
   -- the links: over all covers, the lengths of the paths of its embedding

@@ -1,15 +1,20 @@
 -- A job as a list of numbers. Document 01, "Bytes": "Job: version 1; V 1..8; states S 1..64; start below S; T 0..256; T transitions (from,
--- kind, a, b, to); B 1..64; B pairs of state and shape. Shape: n; V places; n links; codes 0 to 2 + n."
+-- kind, a, b, to); B 1..64; B pairs of state and shape. Shape: n; V places; n links; codes 0 to 2 + n." Document 02, Wish 6: "This is version 2 of
+-- job and certificate: after the links a count 0 to 288, then each fact as 0 (below) or 1 (equal), i, j".
 use mathlib.Core.List.{List, [], _∷_, _++_}
-use Prim.Native.Nat.{ℕ}
+use mathlib.Core.Bool.{cond}
+use Prim.Native.Nat.{ℕ, _-_}
+use lib.Dec.{eqb}
 use lib.ListN.{length}
 use Rattle.lists.specs.List.{concatMap}
-use Rattle.heap.specs.Operation.{Op, equal, different, assign, load, store, new, delete}
+use Rattle.heap.specs.Operation.{Op, equal, different, assign, load, store, new, delete, equalValue, belowValue, copy, larger, smaller, read}
+use Rattle.facts.specs.Facts.{Fact}
 use Rattle.shape.specs.Shape.{Shape, size}
 use Rattle.run.specs.Run.{Transition, Located, Job}
 
--- a job with the number of its states, S of document 01
+-- a job with its version and the number of its states, S of document 01
 pub record JobFile : Type 0 where
+  pub version : ℕ
   pub states : ℕ
   pub job : Job
 
@@ -22,18 +27,31 @@ opNumbers (load a b) = 4 ∷ a ∷ b ∷ []
 opNumbers (store a b) = 5 ∷ a ∷ b ∷ []
 opNumbers (new a) = 6 ∷ a ∷ 0 ∷ []
 opNumbers (delete a) = 7 ∷ a ∷ 0 ∷ []
+opNumbers (equalValue a b) = 8 ∷ a ∷ b ∷ []
+opNumbers (belowValue a b) = 9 ∷ a ∷ b ∷ []
+opNumbers (copy a b) = 10 ∷ a ∷ b ∷ []
+opNumbers (larger a b) = 11 ∷ a ∷ b ∷ []
+opNumbers (smaller a b) = 12 ∷ a ∷ b ∷ []
+opNumbers (read a) = 13 ∷ a ∷ 0 ∷ []
 
 abbrev pub transitionNumbers : Transition → List ℕ
 transitionNumbers t = t .from ∷ opNumbers (t .op) ++ (t .to ∷ [])
 
-abbrev pub shapeNumbers : Shape → List ℕ
-shapeNumbers s = size s ∷ s .vars ++ s .links
+-- the cells of a fact by their numbers, from 0
+abbrev pub factNumbers : Fact → List ℕ
+factNumbers t = t .kind ∷ (t .left - 3) ∷ (t .right - 3) ∷ []
 
-abbrev pub locatedNumbers : Located → List ℕ
-locatedNumbers m = m .state ∷ shapeNumbers (m .shape)
+abbrev pub factsNumbers : ℕ → List Fact → List ℕ
+factsNumbers version facts = cond (eqb version 2) (length facts ∷ concatMap factNumbers facts) []
+
+abbrev pub shapeNumbers : ℕ → Shape → List ℕ
+shapeNumbers version s = size s ∷ s .vars ++ (s .links ++ factsNumbers version (s .facts))
+
+abbrev pub locatedNumbers : ℕ → Located → List ℕ
+locatedNumbers version m = m .state ∷ shapeNumbers version (m .shape)
 
 abbrev pub jobNumbers : JobFile → List ℕ
 jobNumbers f =
     let j = f .job in
-    1 ∷ j .variables ∷ f .states ∷ j .start ∷ length (j .transitions) ∷ concatMap transitionNumbers (j .transitions)
-    ++ (length (j .forbidden) ∷ concatMap locatedNumbers (j .forbidden))
+    f .version ∷ j .variables ∷ f .states ∷ j .start ∷ length (j .transitions) ∷ concatMap transitionNumbers (j .transitions)
+    ++ (length (j .forbidden) ∷ concatMap (locatedNumbers (f .version)) (j .forbidden))

@@ -1,6 +1,7 @@
--- What each refusal says, without the parsers. Document 01, "Refusals, in checking order". `meaning` of the proofs says that the verdict is a
--- refusal for a reason at a place exactly if this holds of them.
+-- What each refusal says, without the parsers. Document 01, "Refusals, in checking order", and document 02, Wish 6, for facts and for 20. `meaning`
+-- of the proofs says that the verdict is a refusal for a reason at a place exactly if this holds of them.
 use mathlib.Core.List.{List, [], _∷_, _++_}
+use mathlib.Core.Logic.{_≢_, _⊎_}
 use mathlib.Core.Option.{some}
 use mathlib.Core.Path.{_≡_}
 use Prim.Native.Nat.{ℕ, _≤_, _<_}
@@ -10,46 +11,92 @@ use Rattle.number.specs.Number.{numberAt}
 use Rattle.number.specs.NumberList.{numbers, decode}
 use Rattle.number.specs.declared.Read.the-variants.{Number, Unreadable}
 use Rattle.heap.specs.Heap.{empty}
+use Rattle.facts.specs.Facts.{Fact, FactsOf}
 use Rattle.shape.specs.Shape.{size, Satisfies, AllBelow}
 use Rattle.run.specs.Run.{Located}
 use Rattle.cover.specs.Cover.{Cover, owed, Avoids, AllHold}
 use Rattle.cover.specs.Rules.{Breaks, First}
 use Rattle.format.specs.Parser.{Reason, refusal, broken-rule}
-use Rattle.format.specs.JobNumbers.{JobFile, locatedNumbers, jobNumbers}
+use Rattle.format.specs.JobNumbers.{JobFile, factNumbers, locatedNumbers, jobNumbers}
 use Rattle.format.specs.Numbers.{memberNumbers, certificateNumbers}
 use Rattle.format.specs.Conditions.{MembersInRange, ImageForEach}
-use Rattle.format.specs.JobBytes.{Between, JobInRange, IsJob}
+use Rattle.format.specs.JobBytes.{Between, Rising, JobInRange, IsJob}
 
 -- the bytes before the place are these numbers
 abbrev pub Before : List ℕ → ℕ → List ℕ → Type 0
 Before s place ns = (place ≤ length s) × (decode (take place s) ≡ numbers ns)
 
--- "the first faulty number", where L holds of the lists of numbers that may stand
-module _ (L : List ℕ → Type 0) (s : List ℕ) (place : ℕ) where
-  -- before the place all is well, and at the place a number is due: a list of which L holds begins with these numbers and goes on
-  pub record NumberDue : Type 0 where
-    pub earlier : List ℕ
-    pub before : Before s place earlier
-    pub number : ℕ
-    pub later : List ℕ
-    pub goes-on : L (earlier ++ (number ∷ later))
+-- ---- numbers that may stand
 
-  -- the number that is due "can't be read"
-  pub record Unread : Type 0 where
-    pub due : NumberDue
-    pub unread : numberAt s place ≡ Unreadable place
+-- the first numbers of a fact about n cells: "each fact as 0 (below) or 1 (equal), i, j"
+abbrev pub FactBegun : ℕ → List ℕ → Type 0
+FactBegun n [] = Unit {0}
+FactBegun n (kind ∷ []) = kind < 2
+FactBegun n (kind ∷ i ∷ []) = (kind < 2) × (i < n)
+FactBegun n (kind ∷ i ∷ j ∷ more) = ⊥
 
-  -- the number that is due "reads but breaks its range": no list of which L holds has it there
-  pub record OutOfRange : Type 0 where
-    pub due : NumberDue
-    pub number : ℕ
-    pub next : ℕ
-    pub reads : numberAt s place ≡ Number number next
-    pub none : (later : List ℕ) → ¬ L (due .earlier ++ (number ∷ later))
+-- the first numbers of the facts of a shape of n cells, which are not all: "a count 0 to 288, then each fact [..] strictly rising"
+pub record FactsBegun (n : ℕ) (ns : List ℕ) : Type 0 where
+  pub count : ℕ
+  pub number : count ≤ 288
+  pub facts : List Fact
+  pub fewer : length facts < count
+  pub of : FactsOf n facts
+  pub rising : Rising facts
+  pub next : List ℕ
+  pub begun : FactBegun n next
+  pub numbers-are : count ∷ concatMap factNumbers facts ++ next ≡ ns
 
--- the numbers of a job in range
-abbrev pub OfJob : List ℕ → Type 0
-OfJob ns = (f : JobFile) × JobInRange f × (jobNumbers f ≡ ns)
+-- Jobs, or the members of certificates: L version shapes ns says that ns are the numbers of one in range, of this version, with these shapes at
+-- its end.
+module _ (L : ℕ → List Located → List ℕ → Type 0) where
+  -- the numbers of one in range
+  abbrev pub Whole : List ℕ → Type 0
+  Whole ns = (version : ℕ) × (shapes : List Located) × L version shapes ns
+
+  -- facts have begun: the numbers of one in range up to the links of a shape (version 1 has no more of it), then the first numbers of facts
+  pub record InFacts (ns : List ℕ) : Type 0 where
+    pub earlier : List Located
+    pub located : Located
+    pub later : List Located
+    pub before : List ℕ
+    pub in-range : L 2 (earlier ++ (located ∷ later)) (before ++ concatMap (locatedNumbers 2) (located ∷ later))
+    pub facts : List ℕ
+    pub begun : FactsBegun (size (located .shape)) facts
+    pub numbers-are : before ++ (locatedNumbers 1 located ++ facts) ≡ ns
+
+  -- These numbers may stand at the beginning: one in range begins with them, or facts have begun, though they may have no end (of 2 cells at most 8
+  -- facts rise, but the count may be 9).
+  abbrev pub Begun : List ℕ → Type 0
+  Begun ns = ((later : List ℕ) × Whole (ns ++ later)) ⊎ InFacts ns
+
+  -- "the first faulty number"
+  module _ (s : List ℕ) (place : ℕ) where
+    -- the numbers before the place may stand and are not all: at the place a number is due
+    pub record NumberDue : Type 0 where
+      pub earlier : List ℕ
+      pub before : Before s place earlier
+      pub begun : Begun earlier
+      pub unfinished : ¬ Whole earlier
+
+    -- the number that is due "can't be read"
+    pub record Unread : Type 0 where
+      pub due : NumberDue
+      pub unread : numberAt s place ≡ Unreadable place
+
+    -- the number that is due "reads but breaks its range": with it they may not stand
+    pub record OutOfRange : Type 0 where
+      pub due : NumberDue
+      pub number : ℕ
+      pub next : ℕ
+      pub reads : numberAt s place ≡ Number number next
+      pub outside : ¬ Begun (due .earlier ++ (number ∷ []))
+
+-- ---- the job
+
+-- the numbers of a job in range, of this version and with these forbidden shapes
+abbrev pub OfJob : ℕ → List Located → List ℕ → Type 0
+OfJob version shapes ns = (f : JobFile) × JobInRange f × (f .version ≡ version) × (f .job .forbidden ≡ shapes) × (jobNumbers f ≡ ns)
 
 -- what a refusal 3 to 5 says of the job
 pub data InJob (job : List ℕ) : Reason → ℕ → Type 0 where
@@ -60,9 +107,11 @@ pub data InJob (job : List ℕ) : Reason → ℕ → Type 0 where
   -- "5. Bytes are left after the job (the first of them)."
   job-left : (f : JobFile) (place : ℕ) → IsJob (take place job) f → place < length job → InJob job (refusal 5) place
 
--- "version 1; N 1..512; N members (state, shape)": the numbers of members in range
-abbrev pub OfMembers : JobFile → List ℕ → Type 0
-OfMembers f ns = (ms : List Located) × MembersInRange f ms × (memberNumbers ms ≡ ns)
+-- ---- the certificate
+
+-- "version 1; N 1..512; N members (state, shape)": the numbers of members in range, of the job's version
+abbrev pub OfMembers : JobFile → ℕ → List Located → List ℕ → Type 0
+OfMembers f version ms ns = MembersInRange f ms × (f .version ≡ version) × (memberNumbers version ms ≡ ns)
 
 module _ (f : JobFile) (certificate : List ℕ) (place : ℕ) where
   -- the member at the place is the first at the start state that the empty heap satisfies
@@ -72,8 +121,8 @@ module _ (f : JobFile) (certificate : List ℕ) (place : ℕ) where
     pub later : List Located
     pub next : ℕ
     pub members-range : MembersInRange f (earlier ++ (member ∷ later))
-    pub members-read : Before certificate next (memberNumbers (earlier ++ (member ∷ later)))
-    pub before : Before certificate place (1 ∷ length (earlier ++ (member ∷ later)) ∷ concatMap locatedNumbers earlier)
+    pub members-read : Before certificate next (memberNumbers (f .version) (earlier ++ (member ∷ later)))
+    pub before : Before certificate place (f .version ∷ length (earlier ++ (member ∷ later)) ∷ concatMap (locatedNumbers (f .version)) earlier)
     pub unsatisfied : Every (Avoids (f .job .start)) earlier
     pub state : member .state ≡ f .job .start
     pub satisfied : Satisfies empty (member .shape)
@@ -85,7 +134,7 @@ module _ (f : JobFile) (certificate : List ℕ) (place : ℕ) where
     pub start : Every (Avoids (f .job .start)) members
     pub covers : List Cover
     pub images : Every (ImageForEach members) covers
-    pub before : Before certificate place (certificateNumbers members covers)
+    pub before : Before certificate place (certificateNumbers (f .version) members covers)
     pub done : List Located
     pub owed-is : owed (f .job) members ≡ done ++ left
     pub hold : AllHold members covers done
@@ -100,7 +149,7 @@ module _ (f : JobFile) (certificate : List ℕ) (place : ℕ) where
     pub member : Located
     pub numbered : getElem? (so-far .members) (cover .member) ≡ some member
     pub below : AllBelow (size (shape .shape)) (cover .images)
-    pub reads : Before certificate next (certificateNumbers (so-far .members) (so-far .covers ++ (cover ∷ [])))
+    pub reads : Before certificate next (certificateNumbers (f .version) (so-far .members) (so-far .covers ++ (cover ∷ [])))
 
   -- the cover at the place reads, and this is the first rule that it breaks, at this cell or variable
   pub record CoverFails (rule name : ℕ) : Type 0 where
@@ -119,15 +168,19 @@ pub data CoverDue (f : JobFile) (certificate : List ℕ) (place limit : ℕ) : T
   image-due : (first : ℕ) (c : CoverBegun f certificate first place) → length (c .cover .images) < size (c .member .shape)
       → limit ≡ size (c .shape .shape) → CoverDue f certificate place limit
 
--- what a refusal 6 to 10 says of the certificate of a job that is read
+-- what a refusal 6 to 10 or 20 says of the certificate of a job that is read
 pub data InCertificate (f : JobFile) (certificate : List ℕ) : Reason → ℕ → Type 0 where
   -- "6. A number of the certificate can't be read, as in 3."
   member-unread : (place : ℕ) → Unread (OfMembers f) certificate place → InCertificate f certificate (refusal 6) place
   cover-unread : (place limit : ℕ) → CoverDue f certificate place limit → numberAt certificate place ≡ Unreadable place → InCertificate f certificate (refusal 6) place
-  -- "7. A number of the certificate breaks its range (its first byte)."
-  member-range : (place : ℕ) → OutOfRange (OfMembers f) certificate place → InCertificate f certificate (refusal 7) place
+  -- "7. A number of the certificate breaks its range (its first byte)." The version number, at place 0, may be the other version.
+  version-range : (n next : ℕ) → numberAt certificate 0 ≡ Number n next → ¬ Between 1 2 n → InCertificate f certificate (refusal 7) 0
+  member-range : (place : ℕ) → 0 < place → OutOfRange (OfMembers f) certificate place → InCertificate f certificate (refusal 7) place
   cover-range : (place limit : ℕ) → CoverDue f certificate place limit → (n next : ℕ) → numberAt certificate place ≡ Number n next → limit ≤ n
       → InCertificate f certificate (refusal 7) place
+  -- Document 02, Wish 6: "A job and a certificate of different versions get 20, after 5 and before anything in the certificate past its version
+  -- number."
+  versions-differ : (n next : ℕ) → numberAt certificate 0 ≡ Number n next → Between 1 2 n → n ≢ f .version → InCertificate f certificate (refusal 20) 0
   -- "8. A member at the start state is satisfied by the empty heap [..] (the member's first byte)."
   member-satisfied : (place : ℕ) → StartSatisfied f certificate place → InCertificate f certificate (refusal 8) place
   -- "9. A cover that reads doesn't hold (the cover's first byte)." Document 02: "say what broke".

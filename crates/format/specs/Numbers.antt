@@ -8,11 +8,11 @@ use Rattle.run.specs.Run.{Located}
 use Rattle.cover.specs.Cover.{Cover}
 use Rattle.format.specs.JobNumbers.{locatedNumbers}
 
-abbrev pub memberNumbers : List Located → List ℕ
-memberNumbers ms = 1 ∷ length ms ∷ concatMap locatedNumbers ms
+abbrev pub memberNumbers : ℕ → List Located → List ℕ
+memberNumbers version ms = version ∷ length ms ∷ concatMap (locatedNumbers version) ms
 
 abbrev pub coverNumbers : Cover → List ℕ
 coverNumbers c = c .member ∷ c .images
 
-abbrev pub certificateNumbers : List Located → List Cover → List ℕ
-certificateNumbers ms cs = memberNumbers ms ++ concatMap coverNumbers cs
+abbrev pub certificateNumbers : ℕ → List Located → List Cover → List ℕ
+certificateNumbers version ms cs = memberNumbers version ms ++ concatMap coverNumbers cs

@@ -28,7 +28,7 @@ pub data Verdict : Type 0 where
 -- 10."
 unfoldable pub readCertificate : Buffer → JobFile → Parser Counts
 readCertificate s f = do
-  members ← readMembers s (f .job .variables) (f .states)
+  members ← readMembers s (f .version) (f .job .variables) (f .states)
   let ms : List Located = withoutPlaces members
   let covered : List Located = owed (f .job) ms
   each (testStart (f .job .start)) members

@@ -14,6 +14,17 @@ by-code P p0 p1 p2 pc (suc zero) = p1
 by-code P p0 p1 p2 pc (suc (suc zero)) = p2
 by-code P p0 p1 p2 pc (suc (suc (suc i))) = pc i
 
+-- p is a cell of a shape with n cells
+abbrev pub CellOf : ℕ → ℕ → Type 0
+CellOf n p = (cell 0 ≤ p) × (p < cell n)
+
+-- what holds of each cell by its number holds of each cell
+pub by-number : (n : ℕ) (P : ℕ → Type 0) → ((i : ℕ) → i < n → P (cell i)) → (p : ℕ) → CellOf n p → P p
+by-number n P h zero (a, b) = absurd (omega arith)
+by-number n P h (suc zero) (a, b) = absurd (omega arith)
+by-number n P h (suc (suc zero)) (a, b) = absurd (omega arith)
+by-number n P h (suc (suc (suc i))) (a, b) = h i (omega arith)
+
 -- the operand after null is the variable with that number
 pub operand-slot : (l : List ℕ) (a : ℕ) → 1 ≤ a → getD l (a - 1) nowhere ≡ varIn l a
 operand-slot l zero h = absurd (omega arith)

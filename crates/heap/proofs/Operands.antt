@@ -16,12 +16,21 @@ named-allowed n kind a b o e =
     ((λ k. (k .most-a, k .most-b))
     & (λ k. (k .most-a, k .most-b))
     & (λ k. (some-a k (omega arith), k .most-a, k .most-b))
-    & (λ k. (some-a k (omega arith), let l = k .least-b in omega arith, k .most-a, k .most-b))
+    & (λ k. both k (omega arith) (omega arith) (k .most-b))
     & (λ k. (some-a k (omega arith), k .most-a, k .most-b))
     & (λ k. (some-a k (omega arith), k .most-a))
+    & (λ k. (some-a k (omega arith), k .most-a))
+    & (λ k. both k (omega arith) (omega arith) (k .most-b))
+    & (λ k. both k (omega arith) (omega arith) (k .most-b))
+    & (λ k. both k (omega arith) (omega arith) (k .most-b))
+    & (λ k. both k (omega arith) (omega arith) (k .most-b))
+    & (λ k. both k (omega arith) (omega arith) (k .most-b))
     & (λ k. (some-a k (omega arith), k .most-a))
     & end)
     kind (t .row) (t .found) (t .kept))
   where
     some-a : {row : Kind} → Keeps n row a b → 1 ≤ row .least-a → a ≢ 0
     some-a k h = let l = k .least-a in omega arith
+
+    both : {row : Kind} → Keeps n row a b → 1 ≤ row .least-a → 1 ≤ row .least-b → b ≤ n → (a ≢ 0) × (b ≢ 0) × (a ≤ n) × (b ≤ n)
+    both k h i m = (some-a k h, let l = k .least-b in omega arith, k .most-a, m)

@@ -1,4 +1,4 @@
--- A heap of 64 cells written as bytes reads back as that heap.
+-- A heap of 64 cells written as bytes and numbers reads back as that heap.
 use mathlib.Core.Bool.{Bool, true, false, cond}
 use mathlib.Core.List.{List, map}
 use mathlib.Core.Path.{_≡_, refl, sym, ap, _∙_}
@@ -15,7 +15,7 @@ use Rattle.place.specs.Place.{placeOf}
 use Rattle.place.specs.declared.Place.{Place}
 use Rattle.stepper.specs.Table.{Sized}
 use Rattle.stepper.specs.declared.Heap64.{Heap64}
-use Rattle.heapbytes.specs.HeapBytes.{readable, heapFrom, byteOf, heapBytes}
+use Rattle.heapbytes.specs.HeapBytes.{readable, slotsFrom, marksFrom, linksFrom, codesFrom, heapFrom, byteOf, heapBytes}
 use Rattle.heapbytes.proofs.Bytes.{count-byte, slot-byte, mark-byte, link-byte}
 
 module _ (t : Heap64) where
@@ -37,33 +37,34 @@ module _ (t : Heap64) where
   places-at from n l e h =
       sym (tabled (λ i. placeOf (getD (heapBytes t) (from + i) 0)) (placeOf 0) n l e (λ i b. sym (ap placeOf (h i b))))
 
-  pub bytes-readable : readable (heapBytes t) ≡ true
-  unfolding readable heapBytes
-  bytes-readable =
-      and-both _ _ (eq-eqb (length (heapBytes t)) 137 (length-from (byteOf t) 0 137))
-      (all-made (λ i. ltb (getD (heapBytes t) (9 + i) 0) 2) 64 0
-      (λ i l h. lt-ltb (getD (heapBytes t) (9 + i) 0) 2 (rw (mark-at i (omega arith)) (small (getD (t .used) i false)))))
-    where
-      small : (u : Bool) → mark u < 2
-      small true = omega arith
-      small false = omega arith
-
   module _ (s : Sized t) where
-    pub heap-from-bytes : heapFrom (heapBytes t) ≡ t
+    pub bytes-readable : readable (heapBytes t) (t .values) ≡ true
+    unfolding readable heapBytes
+    bytes-readable =
+        and-both _ _ (eq-eqb (length (t .values)) 64 (s .values))
+        (and-both _ _ (eq-eqb (length (heapBytes t)) 137 (length-from (byteOf t) 0 137))
+        (all-made (λ i. ltb (getD (heapBytes t) (9 + i) 0) 2) 64 0
+        (λ i l h. lt-ltb (getD (heapBytes t) (9 + i) 0) 2 (rw (mark-at i (omega arith)) (small (getD (t .used) i false))))))
+      where
+        small : (u : Bool) → mark u < 2
+        small true = omega arith
+        small false = omega arith
+
+    pub heap-from-bytes : heapFrom (heapBytes t) (t .values) ≡ t
     unfolding heapFrom
-    heap-from-bytes = λ k. record { variables = variables k; vars = vars k; used = used k; links = links k }
+    heap-from-bytes = λ k. record { variables = variables k; vars = vars k; used = used k; links = links k; values = values k }
       where
         variables : getD (heapBytes t) 0 0 ≡ t .variables
         variables = byte 0 (omega arith) ∙ sym (count-byte t 0 (omega arith))
 
-        vars : map (λ i. placeOf (getD (heapBytes t) (1 + i) 0)) (range 0 8) ≡ t .vars
+        vars : slotsFrom (heapBytes t) ≡ t .vars
         vars =
             places-at 1 8 (t .vars) (s .vars)
             (λ i h.
             byte (1 + i) (omega arith) ∙ sym (slot-byte t (1 + i) (omega arith) (omega arith))
             ∙ ap (λ j. getD (t .vars) j (placeOf 0) .code) (omega arith))
 
-        links : map (λ i. placeOf (getD (heapBytes t) (73 + i) 0)) (range 0 64) ≡ t .links
+        links : linksFrom (heapBytes t) ≡ t .links
         links =
             places-at 73 64 (t .links) (s .links)
             (λ i h.
@@ -73,7 +74,10 @@ module _ (t : Heap64) where
         is-used true = refl
         is-used false = refl
 
-        used : map (λ i. eqb (getD (heapBytes t) (9 + i) 0) 1) (range 0 64) ≡ t .used
+        used : marksFrom (heapBytes t) ≡ t .used
         used =
             sym (tabled (λ i. eqb (getD (heapBytes t) (9 + i) 0) 1) false 64 (t .used) (s .used)
             (λ i h. rw (mark-at i h) (is-used (getD (t .used) i false))))
+
+        values : codesFrom (t .values) ≡ t .values
+        values = sym (tabled (λ i. getD (t .values) i 0) 0 64 (t .values) (s .values) (λ i h. refl))

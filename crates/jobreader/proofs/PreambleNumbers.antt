@@ -24,7 +24,7 @@ parsedPreamble f = unlessRefused (f .refusal) f (f .at)
 -- the numbers of a job before its transitions, and the place after them, as a parser of jobs reads them
 unfoldable pub readPreamble : Buffer → Parser Preamble
 readPreamble s = do
-  ranged s 1 2
+  ranged s 1 3
   variables ← ranged s 1 9
   states ← ranged s 1 65
   start ← ranged s 0 states
@@ -82,7 +82,7 @@ pub preamble-parsed : (job : List ℕ) → parsedPreamble (preambleRead (jobBuff
 unfolding made readPreamble preambleRead
 preamble-parsed job =
     let p = ranged (jobBuffer job) in
-    let version = lastReadOf (p 1 2 0) in
+    let version = lastReadOf (p 1 3 0) in
     let variables = lastReadAfter version (p 1 9) in
     let states = lastReadAfter variables (p 1 65) in
     let start = lastReadAfter states (p 0 (states .number)) in
@@ -96,4 +96,4 @@ preamble-parsed job =
     (λ v s a. onward (p 0 s a) (λ t b. onward (p 0 257 b) (made v s t))) (on-parsed job 1 65 (variables .at) (variables .refusal)) h₃ in
     let h₁ = earlier (version .refusal) (version .number) (version .at) (λ n. p 1 9)
     (λ _ v a. onward (p 1 65 a) (λ s b. onward (p 0 s b) (λ t c. onward (p 0 257 c) (made v s t)))) (on-parsed job 1 9 (version .at) (version .refusal)) h₂ in
-    h₁ ∙ ap (λ x. onward x (λ _ a. onward (p 1 9 a) (λ v b. onward (p 1 65 b) (λ s c. onward (p 0 s c) (λ t d. onward (p 0 257 d) (made v s t)))))) (last-parsed job 1 2 0)
+    h₁ ∙ ap (λ x. onward x (λ _ a. onward (p 1 9 a) (λ v b. onward (p 1 65 b) (λ s c. onward (p 0 s c) (λ t d. onward (p 0 257 d) (made v s t)))))) (last-parsed job 1 3 0)

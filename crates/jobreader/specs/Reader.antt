@@ -24,7 +24,7 @@ lastReadIn r = record { at = r .at; number = r .number; refusal = r .refusal }
 -- The numbers of a job before its transitions, each read after the one before it. Once one is refused, it and those after it are 0.
 unfoldable pub preambleRead : Buffer → Preamble
 preambleRead s =
-    let version = lastReadOf (ranged s 1 2 0) in
+    let version = lastReadOf (ranged s 1 3 0) in
     let variables = lastReadAfter version (ranged s 1 9) in
     let states = lastReadAfter variables (ranged s 1 65) in
     let start = lastReadAfter states (ranged s 0 (states .number)) in

@@ -112,7 +112,7 @@ pub fn read_at(job: &[u8], at: usize, low: usize, limit: usize) -> LastRead
 pub fn read_preamble(job: &[u8]) -> Preamble
     ensures { λ r. ⌜ r ≡ preambleRead (jobBuffer (now (job .entry))) ⌝ }
 {
-    let version = next(new(job, 0), 1, 2);
+    let version = next(new(job, 0), 1, 3);
     let variables = next(version, 1, 9);
     let states = next(variables, 1, 65);
     let start = next(states, 0, states.number);

@@ -17,7 +17,7 @@ use Rattle.kinds.specs.Kinds.{leastA, leastB, mostB, isSome, allowed}
 
 -- the column of the most b: 1 where it is V, 0 where it is 0
 abbrev pub takes-b : List ℕ
-takes-b = 0 ∷ 1 ∷ 1 ∷ 1 ∷ 1 ∷ 1 ∷ 0 ∷ 0 ∷ []
+takes-b = 0 ∷ 1 ∷ 1 ∷ 1 ∷ 1 ∷ 1 ∷ 0 ∷ 0 ∷ 1 ∷ 1 ∷ 1 ∷ 1 ∷ 1 ∷ 0 ∷ []
 
 pub most-b-column : (n k : ℕ) → k ≤ lastKind → cond (eqb (getD takes-b k 0) 0) 0 n ≡ mostB k n
 unfolding mostB

@@ -17,14 +17,27 @@ pub const NEW: u8 = 6;
 
 pub const DELETE: u8 = 7;
 
+// The kinds that compare or write values of cells: the tests equal and below, copy, a larger value, a smaller value, and read.
+pub const EQUAL_VALUE: u8 = 8;
+
+pub const BELOW_VALUE: u8 = 9;
+
+pub const COPY: u8 = 10;
+
+pub const LARGER: u8 = 11;
+
+pub const SMALLER: u8 = 12;
+
+pub const READ: u8 = 13;
+
 // The columns of the table, by kind: the least a, the least b, and 1 where b may be a variable. There is no kind 0.
-const LAST_KIND: usize = 7;
+const LAST_KIND: usize = 13;
 
-const LEAST_A: [usize; 8] = [0, 0, 0, 1, 1, 1, 1, 1];
+const LEAST_A: [usize; 14] = [0, 0, 0, 1, 1, 1, 1, 1, 1, 1, 1, 1, 1, 1];
 
-const LEAST_B: [usize; 8] = [0, 0, 0, 0, 1, 0, 0, 0];
+const LEAST_B: [usize; 14] = [0, 0, 0, 0, 1, 0, 0, 0, 1, 1, 1, 1, 1, 0];
 
-const TAKES_B: [usize; 8] = [0, 1, 1, 1, 1, 1, 0, 0];
+const TAKES_B: [usize; 14] = [0, 1, 1, 1, 1, 1, 0, 0, 1, 1, 1, 1, 1, 0];
 
 // The least a of a kind; 0 for a number that is no kind.
 pub fn least_a(kind: usize) -> usize

@@ -1,4 +1,5 @@
 pub mod Whole
+pub mod Facts
 pub mod Entries
 pub mod Copies
 pub mod Loading

@@ -1,5 +1,5 @@
 -- What a cleared array holds once an entry in range is loaded: the shape of the entry.
-use mathlib.Core.List.{List}
+use mathlib.Core.List.{List, []}
 use mathlib.Core.Path.{_≡_, refl, sym, ap, ap₂, _∙_}
 use Prim.Native.Nat.{ℕ, zero, suc, _+_, _-_, _≤_, _<_}
 use native.Mathlib.Decide.{decLt}
@@ -12,17 +12,21 @@ use Rattle.heap.specs.Place.{null, cell}
 use Rattle.shape.specs.Shape.{Shape, AllBelow}
 use Rattle.layout.specs.Entries.{EntryInRange, locatedAt}
 use Rattle.layout.specs.ShapeArray.{cellCount, operandAt, shapeIn, ShapeArray}
-use Rattle.layout.proofs.Whole.{is-whole}
+use Rattle.layout.proofs.Whole.{is-inside}
 use Rattle.layout.specs.Loading.{loadedCodes, loadedShape}
 use Rattle.layout.proofs.Copies.{in-copy, above-copy}
 use Rattle.layout.proofs.Loading.{r-most}
 
--- the array holds the shape of the entry at a place
+-- the shape of the entry at a place, without its facts
+abbrev pub bareAt : List ℕ → ℕ → ℕ → Shape
+bareAt bytes variables at = let s = locatedAt bytes variables at .shape in record { vars = s .vars; links = s .links; facts = [] }
+
+-- the array holds it
 pub record Loaded (bytes : List ℕ) (variables at : ℕ) (s : List ℕ) : Type 0 where
   pub count : cellCount s ≡ getD bytes (at + 1) 0
   pub cells : cellCount s ≤ 12
   pub array : ShapeArray variables s
-  pub shape : shapeIn variables s ≡ locatedAt bytes variables at .shape
+  pub shape : shapeIn variables s ≡ bareAt bytes variables at
 
 -- so many elements of a list, by index
 same-front : (k at : ℕ) (l : List ℕ) (from : ℕ) (xs : List ℕ) → at + k ≤ length l → from + k ≤ length xs
@@ -161,7 +165,7 @@ module _ (bytes : List ℕ) (variables at : ℕ) (entry : EntryInRange bytes var
                 links-range = λ i b. rw count-at (link-below i (omega (arith, count-at)));
               };
           shape =
-              ap₂ {C = Shape} (λ v l. record { vars = v; links = l })
+              ap₂ {C = Shape} (λ v l. record { vars = v; links = l; facts = [] })
               (same-front variables 18 all (at + 2) bytes (omega (arith, all-length)) (omega arith) var-at)
               (rw count-at (same-front n 3 all first bytes (omega (arith, all-length)) (omega arith) link-at));
         }
@@ -171,7 +175,7 @@ pub loaded : (bytes : List ℕ) (variables at : ℕ) (s : List ℕ) → EntryInR
     → s ≡ loadedShape bytes variables at (replicate 28 0) → Loaded bytes variables at s
 unfolding loadedCodes
 loaded bytes variables at s entry few e =
-    let fit = is-whole bytes variables at (record { variables-most = omega arith; cells = entry .cells; inside = entry .inside }) in
+    let fit = is-inside bytes variables at (record { variables-most = omega arith; cells = entry .cells; inside = entry .inside }) in
     let links = at + 2 + variables in
     let cells = getD bytes (at + 1) 0 in
     let made = all-loaded bytes variables at entry (replicate 28 0) refl clear in

@@ -7,7 +7,7 @@ use Rattle.layout.specs.Entries.{locatedAt, isWhole}
 
 -- no member: its state is not a byte, so that it covers nothing
 abbrev pub noMember : Located
-noMember = record { state = 256; shape = record { vars = []; links = [] } }
+noMember = record { state = 256; shape = record { vars = []; links = []; facts = [] } }
 
 -- the member whose first byte is at a place
 abbrev pub memberAt : List ℕ → ℕ → ℕ → Located

@@ -1,6 +1,6 @@
 -- A shape under work, as one array of 28 codes. Slot 0 has the number of cells, slot 1 is kept free, slot p has the place of the link of the
 -- cell with code p (3 to 16), and slot 17 + x the place of operand x: null, the variables, and after them the helper of kind 4.
-use mathlib.Core.List.{List}
+use mathlib.Core.List.{List, []}
 use mathlib.Core.Path.{_≡_}
 use Prim.Native.Nat.{ℕ, _+_, _≤_, _<_}
 use lib.ListN.{length, getD, take, drop}
@@ -19,9 +19,9 @@ operandAt s x = getD s (17 + x) nowhere
 abbrev pub linksIn : List ℕ → List ℕ
 linksIn s = take (cellCount s) (drop 3 s)
 
--- the shape in the array, with so many variables
+-- the shape in the array, with so many variables; its facts are not in the array
 abbrev pub shapeIn : ℕ → List ℕ → Shape
-shapeIn variables s = record { vars = take variables (drop 18 s); links = linksIn s }
+shapeIn variables s = record { vars = take variables (drop 18 s); links = linksIn s; facts = [] }
 
 -- The array holds a shape with so many variables, its codes in range. There is room for 8 variables and a helper, and for 14 cells; what stands
 -- above the variables is nowhere.

@@ -1,16 +1,74 @@
-// Shapes of entries, loaded into the array of a shape under work. Every number of an entry is one byte.
+// Shapes of entries, loaded into the array of a shape under work, and their facts, loaded into rows. Every number of an entry is one byte, but for the
+// number of its facts, which may be two.
+use factrows::close;
+use number::wide;
 use place::Place;
+ghost use mathlib.Core.Bool.{cond};
 ghost use mathlib.Core.Path.{_≡_};
-ghost use Prim.Native.Nat.{_+_, _≤_};
-ghost use lib.ListN.{length, drop};
+ghost use Prim.Native.Nat.{_+_, _-_, _≤_};
+ghost use lib.ListN.{length, getD, take, drop};
 ghost use lib.Seq.{paste};
-ghost use Rattle.layout.specs.Entries.{isWhole};
+ghost use Rattle.layout.specs.Entries.{versionOf, factCount, factsFirst, factsEnd, linksInside, entryEnd, isWhole};
 ghost use Rattle.layout.specs.ShapeArray.{linksIn};
-ghost use Rattle.layout.specs.Loading.{mostInside, loadedCodes, loadedShape};
+ghost use Rattle.layout.specs.Loading.{mostInside, loadedCodes, loadedShape, entryFacts, loadedFacts};
 
-// Whether an entry of at most 12 cells stands whole at a place, and an array has room for its variables.
-pub fn is_whole(bytes: &[u8], at: usize, variables: usize) -> bool
-    ensures { λ r. ⌜ r ≡ isWhole (now (bytes .entry)) variables at ⌝ }
+// The version of a file, its first byte; 0 where it has none.
+pub fn version_of(bytes: &[u8]) -> u8
+    ensures { λ r. ⌜ r ≡ versionOf (now (bytes .entry)) ⌝ }
+{
+    if bytes.len() == 0 {
+        return 0;
+    }
+    bytes[0]
+}
+
+// A byte of a file; 0 past its end.
+fn byte_at(bytes: &[u8], at: usize) -> usize
+    ensures { λ r. ⌜ (r ≡ getD (now (bytes .entry)) at 0) × (r ≤ 255) ⌝ }
+{
+    if at < bytes.len() {
+        return wide(bytes[at]);
+    }
+    0
+}
+
+// The number of facts that stands at a place, in one byte or two.
+fn fact_count(bytes: &[u8], at: usize) -> usize
+    requires { ⌜ at ≤ length (now bytes) ⌝ }
+    ensures { λ r. ⌜ (r ≡ factCount (now (bytes .entry)) at) × (r ≤ 32767) ⌝ }
+{
+    let low = byte_at(bytes, at);
+    if low < 128 {
+        return low;
+    }
+    low - 128 + byte_at(bytes, at + 1) * 128
+}
+
+// Where these facts begin.
+fn facts_first(bytes: &[u8], at: usize) -> usize
+    requires { ⌜ at ≤ length (now bytes) ⌝ }
+    ensures { λ r. ⌜ (r ≡ factsFirst (now (bytes .entry)) at) × (r ≤ at + 2) ⌝ }
+{
+    if byte_at(bytes, at) < 128 {
+        return at + 1;
+    }
+    at + 2
+}
+
+// The place after the facts whose number stands at a place, which there are in version 2.
+fn facts_end(bytes: &[u8], at: usize) -> usize
+    requires { ⌜ at ≤ length (now bytes) ⌝ }
+    ensures { λ r. ⌜ r ≡ factsEnd (now (bytes .entry)) at ⌝ }
+{
+    if version_of(bytes) == 2 {
+        return facts_first(bytes, at) + 3 * fact_count(bytes, at);
+    }
+    at
+}
+
+// Whether the links of an entry of at most 12 cells at a place, and all ahead of them, are inside, and an array has room for its variables.
+fn links_inside(bytes: &[u8], at: usize, variables: usize) -> bool
+    ensures { λ r. ⌜ r ≡ linksInside (now (bytes .entry)) variables at ⌝ }
 {
     if 9 < variables {
         return false;
@@ -27,6 +85,28 @@ pub fn is_whole(bytes: &[u8], at: usize, variables: usize) -> bool
         return false;
     }
     n <= last - at
+}
+
+// The place after the entry of at most 12 cells that stands whole at a place, where an array has room for its variables; else 0.
+pub fn entry_end(bytes: &[u8], at: usize, variables: usize) -> usize
+    ensures { λ r. ⌜ r ≡ cond (isWhole (now (bytes .entry)) variables at) (entryEnd (now (bytes .entry)) variables at) 0 ⌝ }
+{
+    if !links_inside(bytes, at, variables) {
+        return 0;
+    }
+    let n = wide(bytes[at + 1]);
+    let end = facts_end(bytes, at + 2 + variables + n);
+    if bytes.len() < end {
+        return 0;
+    }
+    end
+}
+
+// Whether such an entry stands whole at a place.
+pub fn is_whole(bytes: &[u8], at: usize, variables: usize) -> bool
+    ensures { λ r. ⌜ r ≡ isWhole (now (bytes .entry)) variables at ⌝ }
+{
+    entry_end(bytes, at, variables) != 0
 }
 
 // Copies so many bytes, from a place on, to a place of a slice.
@@ -80,11 +160,11 @@ fn load_codes(bytes: &[u8], variables: usize, links: usize, n: usize, s: &mut [u
     copy_bytes(bytes, links, n, s, 3);
 }
 
-// Loads the shape of the entry at a place; where it is not whole, the array stays as it is.
+// Loads the shape of the entry at a place; where its links are not inside, the array stays as it is.
 pub fn load_shape(bytes: &[u8], at: usize, variables: usize, s: &mut [u8; 28])
     ensures { λ r. ⌜ now (s .exit) ≡ loadedShape (now (bytes .entry)) variables at (now (s .entry)) ⌝ }
 {
-    if !is_whole(bytes, at, variables) {
+    if !links_inside(bytes, at, variables) {
         return;
     }
     let n = bytes[at + 1];
@@ -92,6 +172,37 @@ pub fn load_shape(bytes: &[u8], at: usize, variables: usize, s: &mut [u8; 28])
     load_codes(bytes, variables, at + 2 + variables, n as usize, s);
     s[17] = null.code;
     s[0] = n;
+}
+
+// Where the bytes of an entry's facts are, from one place up to another.
+pub struct Span {
+    pub first: usize,
+    pub end: usize,
+}
+
+// The bytes of the facts of the entry at a place; none in version 1, and where the entry is not whole.
+pub fn fact_span(bytes: &[u8], at: usize, variables: usize) -> Span
+    ensures { λ r. ⌜ (r .first ≤ r .end) × (r .end ≤ length (now (bytes .entry))) × (take (r .end - r .first) (drop (r .first) (now (bytes .entry))) ≡ entryFacts (now (bytes .entry)) variables at) ⌝ }
+{
+    let end = entry_end(bytes, at, variables);
+    if end == 0 {
+        return Span { first: 0, end: 0 };
+    }
+    if version_of(bytes) != 2 {
+        return Span { first: 0, end: 0 };
+    }
+    let first = facts_first(bytes, at + 2 + variables + wide(bytes[at + 1]));
+    Span { first, end }
+}
+
+// Loads the facts of the entry at a place, and all that follows from them.
+pub fn load_facts(bytes: &[u8], at: usize, variables: usize, rows: &mut [u16; 28])
+    ensures { λ r. ⌜ now (rows .exit) ≡ loadedFacts (now (bytes .entry)) variables at ⌝ }
+{
+    let span = fact_span(bytes, at, variables);
+    let first = span.first;
+    let end = span.end;
+    close(rows, &bytes[first..end]);
 }
 
 // How many cells the shape in an array has: no more than there are slots from the first link on.

@@ -20,7 +20,7 @@ use Rattle.lines.specs.declared.Operand.{Operand}
 use Rattle.lines.specs.declared.Operation.{Operation}
 use Rattle.lines.specs.declared.Line.{Line}
 use Rattle.lines.specs.declared.Line.the-variants.{Perform, While, If, End, Mark, Other}
-use Rattle.lines.proofs.TextReads.{Operands, operands}
+use Rattle.lines.proofs.TextReads.{Operands, operands, operation-operands}
 
 -- the line, unless it is outside the grammar, is of the grammar and has this text
 abbrev Told : List ℕ → Line → Type 0
@@ -80,49 +80,49 @@ operand-told s =
 
 -- ---- operations
 
-checked-told : (s : List ℕ) (kind a b : ℕ) → (allowed 26 kind a b ≡ true → operationText (record { kind = kind; a = a; b = b }) ≡ s)
+checked-told : (s : List ℕ) (kind a b : ℕ) → kind ≤ 7 → (allowed 26 kind a b ≡ true → operationText (record { kind = kind; a = a; b = b }) ≡ s)
     → Told s (checked kind a b)
 unfolding checked
-checked-told s kind a b text = by-test (Told s) (allowed 26 kind a b) (λ ok n. (text ok, ok)) (λ e. told-other s)
+checked-told s kind a b early text = by-test (Told s) (allowed 26 kind a b) (λ ok n. (text ok, ap₂ _&&_ (le-leb kind 7 early) ok)) (λ e. told-other s)
 
-enclosed-told : (kind : ℕ) (before s : List ℕ)
+enclosed-told : (kind : ℕ) (before s : List ℕ) → kind ≤ 7
     → ((a : ℕ) → operationText (record { kind = kind; a = a; b = 0 }) ≡ before ++ (operandText a ++ close)) → Told (before ++ s) (enclosedOf kind s)
 unfolding enclosedOf
-enclosed-told kind before s form =
+enclosed-told kind before s early form =
     let a = operandOf s in
     by-test (Told (before ++ s)) (isWord (drop (a .length) s) close)
-    (λ e. checked-told (before ++ s) kind (a .value) 0
+    (λ e. checked-told (before ++ s) kind (a .value) 0 early
     (λ ok. form (a .value) ∙ ap (λ r. before ++ (operandText (a .value) ++ r)) (whole (drop (a .length) s) close e)
-    ∙ ap (λ r. before ++ r) (operand-told s (operands kind (a .value) 0 ok .a-most))))
+    ∙ ap (λ r. before ++ r) (operand-told s (operands kind (a .value) 0 early ok .a-most))))
     (λ e. told-other (before ++ s))
 
 -- after the first operand and what stands between, `before`, in a text t
-second-told : (kind a : ℕ) (before s t : List ℕ) → (a ≤ 26 → before ++ s ≡ t)
+second-told : (kind a : ℕ) (before s t : List ℕ) → kind ≤ 7 → (a ≤ 26 → before ++ s ≡ t)
     → ((b : ℕ) → operationText (record { kind = kind; a = a; b = b }) ≡ before ++ operandText b)
     → (kind ≡ 3 → (b : ℕ) → operationText (record { kind = 4; a = a; b = b }) ≡ before ++ (operandText b ++ next)) → Told t (secondOf kind a s)
 unfolding secondOf
-second-told kind a before s t same form form-next =
+second-told kind a before s t early same form form-next =
     let b = operandOf s in
     let rest = drop (b .length) s in
     by-test (Told t) (isWord rest [])
-    (λ e. checked-told t kind a (b .value)
+    (λ e. checked-told t kind a (b .value) early
     (λ ok. form (b .value) ∙ ap (λ r. before ++ r) (sym (append-nil (operandText (b .value))) ∙ ap (λ r. operandText (b .value) ++ r) (whole rest [] e)
-    ∙ operand-told s (operands kind a (b .value) ok .b-letter)) ∙ same (operands kind a (b .value) ok .a-most)))
+    ∙ operand-told s (operands kind a (b .value) early ok .b-letter)) ∙ same (operands kind a (b .value) early ok .a-most)))
     (λ e. by-test (Told t) (eqb kind 3 && isWord rest next)
-    (λ f. checked-told t 4 a (b .value)
+    (λ f. checked-told t 4 a (b .value) (omega arith)
     (λ ok. form-next (eqb-true kind 3 (and-left (eqb kind 3) (isWord rest next) f)) (b .value)
     ∙ ap (λ r. before ++ r) (ap (λ r. operandText (b .value) ++ r) (whole rest next (and-right (eqb kind 3) (isWord rest next) f))
-    ∙ operand-told s (operands 4 a (b .value) ok .b-letter)) ∙ same (operands 4 a (b .value) ok .a-most)))
+    ∙ operand-told s (operands 4 a (b .value) (omega arith) ok .b-letter)) ∙ same (operands 4 a (b .value) (omega arith) ok .a-most)))
     (λ f. told-other t))
 
 -- one of the words that may stand between
 module _ (a : ℕ) (s t : List ℕ) (same : a ≤ 26 → operandText a ++ s ≡ t) where
-  one-between : (kind : ℕ) (w : List ℕ) → starts s w ≡ true
+  one-between : (kind : ℕ) (w : List ℕ) → kind ≤ 7 → starts s w ≡ true
       → ((b : ℕ) → operationText (record { kind = kind; a = a; b = b }) ≡ operandText a ++ (w ++ operandText b))
       → (kind ≡ 3 → (b : ℕ) → operationText (record { kind = 4; a = a; b = b }) ≡ operandText a ++ (w ++ (operandText b ++ next)))
       → Told t (secondOf kind a (drop (length w) s))
-  one-between kind w e form form-next =
-      second-told kind a (operandText a ++ w) (drop (length w) s) t
+  one-between kind w early e form form-next =
+      second-told kind a (operandText a ++ w) (drop (length w) s) t early
       (λ h. append-assoc (operandText a) w (drop (length w) s) ∙ ap (λ r. operandText a ++ r) (front s w e) ∙ same h)
       (λ b. form b ∙ sym (append-assoc (operandText a) w (operandText b)))
       (λ z b. form-next z b ∙ sym (append-assoc (operandText a) w (operandText b ++ next)))
@@ -130,18 +130,18 @@ module _ (a : ℕ) (s t : List ℕ) (same : a ≤ 26 → operandText a ++ s ≡ 
   between-told : Told t (betweenOf a s)
   unfolding betweenOf
   between-told =
-      by-test (Told t) (starts s equals) (λ e. one-between 1 equals e (λ b. refl) (λ z. absurd (omega arith)))
-      (λ e₁. by-test (Told t) (starts s differs) (λ e. one-between 2 differs e (λ b. refl) (λ z. absurd (omega arith)))
-      (λ e₂. by-test (Told t) (starts s gets) (λ e. one-between 3 gets e (λ b. refl) (λ z b. refl))
-      (λ e₃. by-test (Told t) (starts s nextGets) (λ e. one-between 5 nextGets e (λ b. refl) (λ z. absurd (omega arith))) (λ e₄. told-other t))))
+      by-test (Told t) (starts s equals) (λ e. one-between 1 equals (omega arith) e (λ b. refl) (λ z. absurd (omega arith)))
+      (λ e₁. by-test (Told t) (starts s differs) (λ e. one-between 2 differs (omega arith) e (λ b. refl) (λ z. absurd (omega arith)))
+      (λ e₂. by-test (Told t) (starts s gets) (λ e. one-between 3 gets (omega arith) e (λ b. refl) (λ z b. refl))
+      (λ e₃. by-test (Told t) (starts s nextGets) (λ e. one-between 5 nextGets (omega arith) e (λ b. refl) (λ z. absurd (omega arith))) (λ e₄. told-other t))))
 
 operation-told : (s : List ℕ) → Told s (operationOf s)
 unfolding operationOf
 operation-told s =
     by-test (Told s) (starts s new)
-    (λ e. subst (λ t. Told t (enclosedOf 6 (drop 4 s))) (front s new e) (enclosed-told 6 new (drop 4 s) (λ a. refl)))
+    (λ e. subst (λ t. Told t (enclosedOf 6 (drop 4 s))) (front s new e) (enclosed-told 6 new (drop 4 s) (omega arith) (λ a. refl)))
     (λ e₁. by-test (Told s) (starts s delete)
-    (λ e. subst (λ t. Told t (enclosedOf 7 (drop 7 s))) (front s delete e) (enclosed-told 7 delete (drop 7 s) (λ a. refl)))
+    (λ e. subst (λ t. Told t (enclosedOf 7 (drop 7 s))) (front s delete e) (enclosed-told 7 delete (drop 7 s) (omega arith) (λ a. refl)))
     (λ e₂. between-told (operandOf s .value) (drop (operandOf s .length) s) s (operand-told s)))
 
 -- ---- T, marks and lines
@@ -154,7 +154,7 @@ module _ (loops : Bool) (word : List ℕ) (opens-text : (o : Operation) → line
       by-test (Told (word ++ s)) (leb (o .kind) 2)
       (λ e n.
       let (text, ok) = told (λ z. let y : _≡_ {A = ℕ} 0 1 = cc in omega arith) in
-      let some = operands (o .kind) (o .a) (o .b) ok .kind-some in
+      let some = operation-operands o ok .kind-some in
       (opens-text o ∙ ap (λ r. word ++ r) text, opens-line o ∙ rw (ne-eqb (o .kind) 0 (λ z. omega arith), e, ok) refl))
       (λ e. told-other (word ++ s))
   opens-told s (While t) told = told-other (word ++ s)
@@ -264,7 +264,7 @@ decimal-clear k =
 
 -- no byte of a line's text ends the line
 pub text-clear : (l : Line) → isLine l ≡ true → absent 10 (lineText l) ≡ true
-text-clear (Perform o) ok = operation-clear o (operands (o .kind) (o .a) (o .b) ok .kind-most)
+text-clear (Perform o) ok = operation-clear o (operation-operands o ok .kind-most)
 text-clear (While t) ok = operation-clear t (test-kind t ok)
 text-clear (If t) ok = operation-clear t (test-kind t ok)
 text-clear End ok = refl

@@ -83,8 +83,8 @@ pub record Operands (kind a b : ℕ) : Type 0 where
   pub b-most : b ≤ mostB kind 26
   pub b-letter : b ≤ 26
 
-pub operands : (kind a b : ℕ) → allowed 26 kind a b ≡ true → Operands kind a b
-operands kind a b ok =
+pub operands : (kind a b : ℕ) → kind ≤ 7 → allowed 26 kind a b ≡ true → Operands kind a b
+operands kind a b early ok =
     let (l, m) = known 26 kind a b ok in
     let both = allowed-row kind 26 a b l m ∙ ok in
     let in-a = and-left (leb (leastA kind) a && leb a 26) (leb (leastB kind) b && leb b (mostB kind 26)) both in
@@ -92,11 +92,17 @@ operands kind a b ok =
     let most = leb-true b (mostB kind 26) (and-right (leb (leastB kind) b) (leb b (mostB kind 26)) in-b) in
     record {
       kind-some = l;
-      kind-most = m;
+      kind-most = early;
       a-most = leb-true a 26 (and-right (leb (leastA kind) a) (leb a 26) in-a);
       b-most = most;
       b-letter = omega (arith, most-bound kind 26);
     }
+
+-- those of a line
+pub operation-operands : (o : Operation) → isOperation o ≡ true → Operands (o .kind) (o .a) (o .b)
+operation-operands o ok =
+    let row = allowed 26 (o .kind) (o .a) (o .b) in
+    operands (o .kind) (o .a) (o .b) (leb-true (o .kind) 7 (and-left (leb (o .kind) 7) row ok)) (and-right (leb (o .kind) 7) row ok)
 
 -- the second operand, and what comes after it
 second-reads : (kind a b : ℕ) (t : List ℕ) → b ≤ 26 → Apart t
@@ -174,7 +180,7 @@ unfolding mostB
 operation-reads o ok =
     let a = o .a in
     let b = o .b in
-    let all = operands (o .kind) a b ok in
+    let all = operation-operands o ok in
     by-kind 7 (Reading a b)
     ((λ h ok. first-reads a (equals ++ operandText b) (h .a-most) (blank-apart _) ∙ between-equals a (operandText b) ∙ second-last 1 a b (h .b-letter) ∙ checked-reads 1 a b ok)
     & (λ h ok. first-reads a (differs ++ operandText b) (h .a-most) (blank-apart _) ∙ between-differs a (operandText b) ∙ second-last 2 a b (h .b-letter) ∙ checked-reads 2 a b ok)
@@ -184,7 +190,7 @@ operation-reads o ok =
     & (λ h ok. let z = no-b 6 a b refl h in operation-new (operandText a ++ close) ∙ enclosed-reads 6 a (h .a-most) ∙ ap (checked 6 a) (sym z) ∙ checked-reads 6 a b ok)
     & (λ h ok. let z = no-b 7 a b refl h in operation-delete (operandText a ++ close) ∙ enclosed-reads 7 a (h .a-most) ∙ ap (checked 7 a) (sym z) ∙ checked-reads 7 a b ok)
     & no-row)
-    (o .kind) (all .kind-some) (all .kind-most) all ok
+    (o .kind) (all .kind-some) (all .kind-most) all (and-right (leb (o .kind) 7) (allowed 26 (o .kind) a b) ok)
 
 -- ---- lines
 
@@ -215,7 +221,7 @@ operation-line : (o : Operation) → isOperation o ≡ true → lineOf (operatio
 operation-line o ok =
     let a = o .a in
     let b = o .b in
-    let all = operands (o .kind) a b ok in
+    let all = operation-operands o ok in
     by-kind 7 (λ k. lineOf (operationText (record { kind = k; a = a; b = b })) ≡ operationOf (operationText (record { kind = k; a = a; b = b })))
     (plain-line a (equals ++ operandText b) (blank-apart _)
     & plain-line a (differs ++ operandText b) (blank-apart _)

@@ -49,9 +49,9 @@ lineText Other = []
 
 -- ---- the lines of the grammar
 
--- the table of kinds, with the letters as 26 variables: it says where null may stand
+-- a row of the table of kinds 1 to 7, with the letters as 26 variables: it says where null may stand
 abbrev pub isOperation : Operation → Bool
-isOperation o = allowed 26 (o .kind) (o .a) (o .b)
+isOperation o = leb (o .kind) 7 && allowed 26 (o .kind) (o .a) (o .b)
 
 -- "an operation of kind 1 or 2 or the word `any`"
 abbrev pub isTest : Operation → Bool

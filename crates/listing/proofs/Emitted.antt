@@ -7,7 +7,7 @@ use native.Mathlib.Omega.{arith}
 use lib.ListN.{length, length-append, set}
 use Rattle.lists.specs.List.{concatMap}
 use Rattle.lists.proofs.List.{concatMap-append}
-use Rattle.heap.specs.Operation.{Op, equal, different, assign, load, store, new, delete}
+use Rattle.heap.specs.Operation.{Op, equal, different, assign, load, store, new, delete, equalValue, belowValue, copy, larger, smaller, read}
 use Rattle.run.specs.Run.{Transition}
 use Rattle.format.specs.JobNumbers.{transitionNumbers}
 use Rattle.lines.specs.declared.Line.{Line}
@@ -110,6 +110,12 @@ op-numbers (load a b) p q = refl
 op-numbers (store a b) p q = refl
 op-numbers (new a) p q = refl
 op-numbers (delete a) p q = refl
+op-numbers (equalValue a b) p q = refl
+op-numbers (belowValue a b) p q = refl
+op-numbers (copy a b) p q = refl
+op-numbers (larger a b) p q = refl
+op-numbers (smaller a b) p q = refl
+op-numbers (read a) p q = refl
 
 test-numbers : (t : Test) (p q : ℕ) → arrowNumbers p (testNumbers (operationForTest t)) q ≡ transitionNumbers (arrow p (test t) q)
 test-numbers (same a b) p q = refl

@@ -10,7 +10,7 @@ use lib.ListN.{length, getD}
 use Rattle.lists.specs.List.{_∈_, absent}
 use Rattle.lists.proofs.List.{All, Distinct, distinct-snoc, getD-mem, all-append}
 use Rattle.lists.proofs.Reflect.{r-eq, r-absent, is-true, is-false}
-use Rattle.heap.specs.Operation.{Op, equal, different, assign, load, store, new, delete, Allowed}
+use Rattle.heap.specs.Operation.{Op, equal, different, assign, load, store, new, delete, equalValue, belowValue, copy, larger, smaller, read, Allowed}
 use Rattle.lines.specs.declared.Line.{Line}
 use Rattle.lines.specs.declared.Line.the-variants.{Perform, While, If, End, Mark, Other}
 use Rattle.lines.specs.declared.Operation.{Operation}
@@ -21,7 +21,7 @@ use Rattle.listing.specs.Reading.{meetLines}
 use Rattle.listing.specs.Text.{operationFor, operationForTest, linesFor, linesIn}
 use Rattle.listing.specs.Translation.{test}
 use Rattle.listing.proofs.Lines.{Proper, Inside}
-use Rattle.listing.proofs.Operations.{small-op, small-test, is-operation, is-test}
+use Rattle.listing.proofs.Operations.{kind-by, small-op, small-test, is-operation, is-test}
 use Rattle.listing.proofs.Lists.{all-left, all-right}
 use Rattle.listing.proofs.Names.{Met, MetIn, MetLine}
 
@@ -51,6 +51,12 @@ module _ (names : List ℕ) where
   op-back (store a b) (x, y) = ap₂ store (letter-back a x) (letter-back b y)
   op-back (new a) (x, y) = ap new (letter-back a x)
   op-back (delete a) (x, y) = ap delete (letter-back a x)
+  op-back (equalValue a b) (x, y) = ap₂ equalValue (letter-back a x) (letter-back b y)
+  op-back (belowValue a b) (x, y) = ap₂ belowValue (letter-back a x) (letter-back b y)
+  op-back (copy a b) (x, y) = ap₂ copy (letter-back a x) (letter-back b y)
+  op-back (larger a b) (x, y) = ap₂ larger (letter-back a x) (letter-back b y)
+  op-back (smaller a b) (x, y) = ap₂ smaller (letter-back a x) (letter-back b y)
+  op-back (read a) (x, y) = ap read (letter-back a x)
 
   test-back : (t : Test) → MetIn names (operationForTest t) → testBy (letterIn names) (testBy (numberIn names) t) ≡ t
   test-back (same a b) (x, y) = ap₂ same (letter-back a x) (letter-back b y)
@@ -151,6 +157,12 @@ module _ (names : List ℕ) (d : Distinct names) (a : Letters names) where
   op-number-letter (store x y) l = ap₂ store (number-letter x (l .1)) (number-letter y (l .2))
   op-number-letter (new x) l = ap new (number-letter x (l .1))
   op-number-letter (delete x) l = ap delete (number-letter x (l .1))
+  op-number-letter (equalValue x y) l = ap₂ equalValue (number-letter x (l .2)) (number-letter y (l .3))
+  op-number-letter (belowValue x y) l = ap₂ belowValue (number-letter x (l .2)) (number-letter y (l .3))
+  op-number-letter (copy x y) l = ap₂ copy (number-letter x (l .2)) (number-letter y (l .3))
+  op-number-letter (larger x y) l = ap₂ larger (number-letter x (l .2)) (number-letter y (l .3))
+  op-number-letter (smaller x y) l = ap₂ smaller (number-letter x (l .2)) (number-letter y (l .3))
+  op-number-letter (read x) l = ap read (number-letter x (l .1))
 
   test-number-letter : (t : Test) → Allowed (length names) (test t) → testBy (numberIn names) (testBy (letterIn names) t) ≡ t
   test-number-letter (same x y) l = ap₂ same (number-letter x (l .0)) (number-letter y (l .1))
@@ -159,7 +171,7 @@ module _ (names : List ℕ) (d : Distinct names) (a : Letters names) where
 
   mutual
     statement-number-letter : (s : Statement) → FitsOne s (length names) → statementBy (numberIn names) (statementBy (letterIn names) s) ≡ s
-    statement-number-letter (perform o) f = ap perform (op-number-letter o f)
+    statement-number-letter (perform o) f = ap perform (op-number-letter o (f .0))
     statement-number-letter (mark k) f = refl
     statement-number-letter (while t b) f = ap₂ while (test-number-letter t (f .0)) (block-number-letter b (f .1))
     statement-number-letter (if t b) f = ap₂ if (test-number-letter t (f .0)) (block-number-letter b (f .1))
@@ -185,6 +197,12 @@ module _ (names : List ℕ) (d : Distinct names) (a : Letters names) where
   spelled-op (store x y) l = (not-zero x (l .0) (l .1), small x (l .1), small y (l .2))
   spelled-op (new x) l = (not-zero x (l .0) (l .1), small x (l .1))
   spelled-op (delete x) l = (not-zero x (l .0) (l .1), small x (l .1))
+  spelled-op (equalValue x y) l = (not-zero x (l .0) (l .2), not-zero y (l .1) (l .3), small x (l .2), small y (l .3))
+  spelled-op (belowValue x y) l = (not-zero x (l .0) (l .2), not-zero y (l .1) (l .3), small x (l .2), small y (l .3))
+  spelled-op (copy x y) l = (not-zero x (l .0) (l .2), not-zero y (l .1) (l .3), small x (l .2), small y (l .3))
+  spelled-op (larger x y) l = (not-zero x (l .0) (l .2), not-zero y (l .1) (l .3), small x (l .2), small y (l .3))
+  spelled-op (smaller x y) l = (not-zero x (l .0) (l .2), not-zero y (l .1) (l .3), small x (l .2), small y (l .3))
+  spelled-op (read x) l = (not-zero x (l .0) (l .1), small x (l .1))
 
   spelled-test : (t : Test) → Allowed (length names) (test t) → Allowed 26 (test (testBy (letterIn names) t))
   spelled-test (same x y) l = (small x (l .0), small y (l .1))
@@ -195,7 +213,7 @@ module _ (names : List ℕ) (d : Distinct names) (a : Letters names) where
     spelled-statement : (s : Statement) → FitsOne s (length names) → All (λ k. k ≤ 63) (markOf s)
         → All Inside (linesFor (statementBy (letterIn names) s)) × All Proper (linesFor (statementBy (letterIn names) s))
     spelled-statement (perform o) f m =
-        ((λ e. let q : _≡_ {A = ℕ} 0 1 = cc in omega arith, tt), (is-operation (opBy (letterIn names) o) (spelled-op o f), tt))
+        ((λ e. let q : _≡_ {A = ℕ} 0 1 = cc in omega arith, tt), (is-operation (opBy (letterIn names) o) (spelled-op o (f .0), omega (arith, f .1, kind-by (letterIn names) o)), tt))
     spelled-statement (mark k) f m = ((λ e. let q : _≡_ {A = ℕ} 0 1 = cc in omega arith, tt), (m .0, tt))
     spelled-statement (while t b) f m =
         let (x, y) = spelled-block b (f .1) m in

@@ -10,7 +10,7 @@ use lib.ListN.{length}
 use Rattle.lists.specs.List.{_∈_, absent}
 use Rattle.lists.proofs.List.{All, mem?}
 use Rattle.lists.proofs.Reflect.{r-eq, r-absent, is-true}
-use Rattle.heap.specs.Operation.{Op, equal, different, assign, load, store, new, delete, Allowed}
+use Rattle.heap.specs.Operation.{Op, equal, different, assign, load, store, new, delete, equalValue, belowValue, copy, larger, smaller, read, Allowed}
 use Rattle.lines.specs.declared.Line.{Line}
 use Rattle.lines.specs.declared.Line.the-variants.{Perform, While, If, End, Mark, Other}
 use Rattle.lines.specs.declared.Operation.{Operation}
@@ -24,7 +24,7 @@ use Rattle.listing.specs.Translation.{test}
 use Rattle.listing.proofs.Lists.{all-left, all-right}
 use Rattle.listing.proofs.Lines.{Proper}
 use Rattle.listing.proofs.OnePass.{numberedLine, numberedAll}
-use Rattle.listing.proofs.Operations.{op-of-for, good-op}
+use Rattle.listing.proofs.Operations.{op-of-for, good-op, kind-by}
 
 -- null, or a letter that is met
 abbrev pub Met : List ℕ → ℕ → Type 0
@@ -161,6 +161,12 @@ module _ (names : List ℕ) where
   number-op (store a b) = refl
   number-op (new a) = refl
   number-op (delete a) = refl
+  number-op (equalValue a b) = refl
+  number-op (belowValue a b) = refl
+  number-op (copy a b) = refl
+  number-op (larger a b) = refl
+  number-op (smaller a b) = refl
+  number-op (read a) = refl
 
   number-test : (t : Test) → numbered names (operationForTest t) ≡ operationForTest (testBy (numberIn names) t)
   number-test (same a b) = refl
@@ -210,6 +216,12 @@ module _ (names : List ℕ) where
   op-fits (store a b) l (x, y) = (not-null a (l .0), below a x, below b y)
   op-fits (new a) l (x, y) = (not-null a (l .0), below a x)
   op-fits (delete a) l (x, y) = (not-null a (l .0), below a x)
+  op-fits (equalValue a b) l (x, y) = (not-null a (l .0), not-null b (l .1), below a x, below b y)
+  op-fits (belowValue a b) l (x, y) = (not-null a (l .0), not-null b (l .1), below a x, below b y)
+  op-fits (copy a b) l (x, y) = (not-null a (l .0), not-null b (l .1), below a x, below b y)
+  op-fits (larger a b) l (x, y) = (not-null a (l .0), not-null b (l .1), below a x, below b y)
+  op-fits (smaller a b) l (x, y) = (not-null a (l .0), not-null b (l .1), below a x, below b y)
+  op-fits (read a) l (x, y) = (not-null a (l .0), below a x)
 
   test-fits : (t : Test) → MetIn names (operationForTest t) → Allowed (length names) (test (testBy (numberIn names) t))
   test-fits (same a b) (x, y) = (below a x, below b y)
@@ -220,7 +232,8 @@ module _ (names : List ℕ) where
     statement-fits : (s : Statement) → All Proper (linesFor s) → All (MetLine names) (linesFor s)
         → FitsOne (statementBy (numberIn names) s) (length names)
     statement-fits (perform o) p m =
-        op-fits o (subst (Allowed 26) (op-of-for o) (good-op (operationFor o) (p .0) .letters)) (m .0)
+        let good = good-op (operationFor o) (p .0) in
+        (op-fits o (subst (Allowed 26) (op-of-for o) (good .letters)) (m .0), omega (arith, good .early, kind-by (numberIn names) o))
     statement-fits (mark k) p m = tt
     statement-fits (while t b) p m =
         (test-fits t (m .0), block-fits b (all-left Proper (linesIn b) (End ∷ []) (p .1)) (all-left (MetLine names) (linesIn b) (End ∷ []) (m .1)))

@@ -49,15 +49,16 @@ module _ (l : Listing) (ok : WithinLimits l) where
   abbrev variables : ℕ
   variables = variablesFor (l .names)
 
-  transitions-in-range : (t : Transition) → t ∈ transitionsOf (l .statements) → TransitionInRange variables (statesOf (l .statements)) t
+  transitions-in-range : (t : Transition) → t ∈ transitionsOf (l .statements) → TransitionInRange 1 variables (statesOf (l .statements)) t
   transitions-in-range t m =
       let (a, b) = states-below (l .statements) t m in
       record { from = a; op = named variables (t .op) (fineIn (l .statements) variables 0 1 (fits-variables l ok) t m); to = b }
 
   pub in-range : (bads : List Located) → Between 1 64 (length bads)
-      → Every (LocatedInRange variables (statesOf (l .statements))) bads → JobInRange (fileOf l bads)
+      → Every (LocatedInRange 1 variables (statesOf (l .statements))) bads → JobInRange (fileOf l bads)
   in-range bads n each =
       record {
+        version = (omega arith, omega arith);
         variables = variables-range (l .names) (ok .names);
         states = (some-states, ok .states);
         start = some-states;
@@ -82,7 +83,7 @@ module _ (l : Listing) (ok : WithinLimits l) where
               (
                 omega arith,
                 at-most-all most transitionNumbers (transitionsOf (l .statements))
-                    (λ t i. transition-at-most most (omega arith) variables (statesOf (l .statements)) t w s (transitions-in-range t i)),
+                    (λ t i. transition-at-most most (omega arith) 1 variables (statesOf (l .statements)) t w s (transitions-in-range t i)),
               ),
             ),
           ),

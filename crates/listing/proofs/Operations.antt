@@ -6,13 +6,15 @@ use Prim.Native.Nat.{ℕ, zero, suc, _≤_}
 use native.Mathlib.Omega.{arith}
 use lib.Dec.{eqb, leb, T}
 use lib.ListN.{getD}
-use Rattle.lists.proofs.Reflect.{Reflect, r-eq, r-le, r-and, is-true, is-false}
-use Rattle.heap.specs.Operation.{Op, equal, different, assign, load, store, new, delete, Kind, kinds, allowsA, allowsB, fromRow, Named, Allowed}
+use Rattle.lists.proofs.Reflect.{Reflect, r-eq, r-le, r-and, r-itself, passes, is-true, is-false}
+use Rattle.heap.specs.Operation.{Op, equal, different, assign, load, store, new, delete, equalValue, belowValue, copy, larger, smaller, read, Kind, kinds, allowsA, allowsB, fromRow, operation, Allowed}
 use Rattle.kinds.specs.Kinds.{isSome, allowed}
 use Rattle.lines.specs.Line.{isOperation, isTest}
 use Rattle.lines.specs.declared.Operation.{Operation}
-use Rattle.lines.proofs.TextReads.{operands}
+use Rattle.lines.proofs.TextReads.{operation-operands}
+use Rattle.listing.specs.Limits.{Listable}
 use Rattle.listing.specs.Listing.{Test, same, other, any}
+use Rattle.listing.specs.Names.{opBy}
 use Rattle.listing.specs.Reading.{opOf, testOf}
 use Rattle.listing.specs.Text.{operationFor, operationForTest}
 use Rattle.listing.specs.Translation.{test}
@@ -26,6 +28,12 @@ op-of-for (load a b) = refl
 op-of-for (store a b) = refl
 op-of-for (new a) = refl
 op-of-for (delete a) = refl
+op-of-for (equalValue a b) = refl
+op-of-for (belowValue a b) = refl
+op-of-for (copy a b) = refl
+op-of-for (larger a b) = refl
+op-of-for (smaller a b) = refl
+op-of-for (read a) = refl
 
 pub test-of-for : (t : Test) → testOf (operationForTest t) ≡ t
 test-of-for (same a b) = refl
@@ -59,39 +67,42 @@ in-table k v a b x y =
 pub record GoodOp (o : Operation) : Type 0 where
   pub back : operationFor (opOf o) ≡ o
   pub letters : Allowed 26 (opOf o)
+  pub early : o .kind ≤ 7
 
 pub good-op : (o : Operation) → T (isOperation o) → GoodOp o
 unfolding allowed
-good-op o t = by-kind (o .kind) (o .a) (o .b) t
+good-op o t =
+    let (early, row) = r-and (r-le (o .kind) 7) (r-itself (allowed 26 (o .kind) (o .a) (o .b))) .holds t in
+    by-kind (o .kind) (o .a) (o .b) early (passes _ row)
   where
-    by-kind : (k a b : ℕ) → T (allowed 26 k a b) → GoodOp (record { kind = k; a = a; b = b })
-    by-kind zero a b t = absurd t
-    by-kind (suc zero) a b t = let r = r-row (row 0) a b .holds t in record { back = refl; letters = (r .0 .1, r .1 .1) }
-    by-kind (suc (suc zero)) a b t = let r = r-row (row 1) a b .holds t in record { back = refl; letters = (r .0 .1, r .1 .1) }
-    by-kind (suc (suc (suc zero))) a b t =
+    by-kind : (k a b : ℕ) → k ≤ 7 → T (allowed 26 k a b) → GoodOp (record { kind = k; a = a; b = b })
+    by-kind zero a b h t = absurd t
+    by-kind (suc zero) a b h t = let r = r-row (row 0) a b .holds t in record { back = refl; letters = (r .0 .1, r .1 .1); early = h }
+    by-kind (suc (suc zero)) a b h t = let r = r-row (row 1) a b .holds t in record { back = refl; letters = (r .0 .1, r .1 .1); early = h }
+    by-kind (suc (suc (suc zero))) a b h t =
         let r = r-row (row 2) a b .holds t in
         let l = r .0 .0 in
-        record { back = refl; letters = (omega arith, r .0 .1, r .1 .1) }
-    by-kind (suc (suc (suc (suc zero)))) a b t =
+        record { back = refl; letters = (omega arith, r .0 .1, r .1 .1); early = h }
+    by-kind (suc (suc (suc (suc zero)))) a b h t =
         let r = r-row (row 3) a b .holds t in
         let l = r .0 .0 in
         let m = r .1 .0 in
-        record { back = refl; letters = (omega arith, omega arith, r .0 .1, r .1 .1) }
-    by-kind (suc (suc (suc (suc (suc zero))))) a b t =
+        record { back = refl; letters = (omega arith, omega arith, r .0 .1, r .1 .1); early = h }
+    by-kind (suc (suc (suc (suc (suc zero))))) a b h t =
         let r = r-row (row 4) a b .holds t in
         let l = r .0 .0 in
-        record { back = refl; letters = (omega arith, r .0 .1, r .1 .1) }
-    by-kind (suc (suc (suc (suc (suc (suc zero)))))) a b t =
+        record { back = refl; letters = (omega arith, r .0 .1, r .1 .1); early = h }
+    by-kind (suc (suc (suc (suc (suc (suc zero)))))) a b h t =
         let r = r-row (row 5) a b .holds t in
         let l = r .0 .0 in
         let m : b ≡ 0 = let z = r .1 .1 in omega arith in
-        record { back = ap (λ (y : ℕ). record { kind = 6; a = a; b = y }) (sym m); letters = (omega arith, r .0 .1) }
-    by-kind (suc (suc (suc (suc (suc (suc (suc zero))))))) a b t =
+        record { back = ap (λ (y : ℕ). record { kind = 6; a = a; b = y }) (sym m); letters = (omega arith, r .0 .1); early = h }
+    by-kind (suc (suc (suc (suc (suc (suc (suc zero))))))) a b h t =
         let r = r-row (row 6) a b .holds t in
         let l = r .0 .0 in
         let m : b ≡ 0 = let z = r .1 .1 in omega arith in
-        record { back = ap (λ (y : ℕ). record { kind = 7; a = a; b = y }) (sym m); letters = (omega arith, r .0 .1) }
-    by-kind (suc (suc (suc (suc (suc (suc (suc (suc k)))))))) a b t = absurd t
+        record { back = ap (λ (y : ℕ). record { kind = 7; a = a; b = y }) (sym m); letters = (omega arith, r .0 .1); early = h }
+    by-kind (suc (suc (suc (suc (suc (suc (suc (suc k)))))))) a b h t = absurd (omega arith)
 
 pub record GoodTest (t : Operation) : Type 0 where
   pub back : operationForTest (testOf t) ≡ t
@@ -118,15 +129,21 @@ good-test o t = by-kind (o .kind) (o .a) (o .b) t
         absurd (subst (λ c. T (c && fine)) above (subst (λ c. T (cond c (eqb a 0 && eqb b 0) (leb m 2 && fine))) not-zero t))
 
 -- what the table allows is a line
-pub is-operation : (o : Op) → Allowed 26 o → T (isOperation (operationFor o))
+pub is-operation : (o : Op) → Listable 26 o → T (isOperation (operationFor o))
 unfolding allowed
-is-operation (equal a b) (f, g) = r-row (row 0) a b .tests ((omega arith, f), (omega arith, g))
-is-operation (different a b) (f, g) = r-row (row 1) a b .tests ((omega arith, f), (omega arith, g))
-is-operation (assign a b) (e, f, g) = r-row (row 2) a b .tests ((omega arith, f), (omega arith, g))
-is-operation (load a b) (e, d, f, g) = r-row (row 3) a b .tests ((omega arith, f), (omega arith, g))
-is-operation (store a b) (e, f, g) = r-row (row 4) a b .tests ((omega arith, f), (omega arith, g))
-is-operation (new a) (e, f) = r-row (row 5) a 0 .tests ((omega arith, f), (omega arith, omega arith))
-is-operation (delete a) (e, f) = r-row (row 6) a 0 .tests ((omega arith, f), (omega arith, omega arith))
+is-operation (equal a b) ((f, g), _) = r-row (row 0) a b .tests ((omega arith, f), (omega arith, g))
+is-operation (different a b) ((f, g), _) = r-row (row 1) a b .tests ((omega arith, f), (omega arith, g))
+is-operation (assign a b) ((e, f, g), _) = r-row (row 2) a b .tests ((omega arith, f), (omega arith, g))
+is-operation (load a b) ((e, d, f, g), _) = r-row (row 3) a b .tests ((omega arith, f), (omega arith, g))
+is-operation (store a b) ((e, f, g), _) = r-row (row 4) a b .tests ((omega arith, f), (omega arith, g))
+is-operation (new a) ((e, f), _) = r-row (row 5) a 0 .tests ((omega arith, f), (omega arith, omega arith))
+is-operation (delete a) ((e, f), _) = r-row (row 6) a 0 .tests ((omega arith, f), (omega arith, omega arith))
+is-operation (equalValue a b) (_, h) = absurd (omega arith)
+is-operation (belowValue a b) (_, h) = absurd (omega arith)
+is-operation (copy a b) (_, h) = absurd (omega arith)
+is-operation (larger a b) (_, h) = absurd (omega arith)
+is-operation (smaller a b) (_, h) = absurd (omega arith)
+is-operation (read a) (_, h) = absurd (omega arith)
 
 pub is-test : (t : Test) → Allowed 26 (test t) → T (isTest (operationForTest t))
 unfolding allowed
@@ -134,19 +151,41 @@ is-test (same a b) (f, g) = r-row (row 0) a b .tests ((omega arith, f), (omega a
 is-test (other a b) (f, g) = r-row (row 1) a b .tests ((omega arith, f), (omega arith, g))
 is-test any l = tt
 
--- an operation with its operands in range is one that the table of kinds names
-pub named : (v : ℕ) (o : Op) → Allowed v o → Named v o
-named v (equal a b) (f, g) = (1, a, b, in-table (row 0) v a b (omega arith, f) (omega arith, g))
-named v (different a b) (f, g) = (2, a, b, in-table (row 1) v a b (omega arith, f) (omega arith, g))
-named v (assign a b) (e, f, g) = (3, a, b, in-table (row 2) v a b (omega arith, f) (omega arith, g))
-named v (load a b) (e, d, f, g) = (4, a, b, in-table (row 3) v a b (omega arith, f) (omega arith, g))
-named v (store a b) (e, f, g) = (5, a, b, in-table (row 4) v a b (omega arith, f) (omega arith, g))
-named v (new a) (e, f) = (6, a, 0, in-table (row 5) v a 0 (omega arith, f) (omega arith, omega arith))
-named v (delete a) (e, f) = (7, a, 0, in-table (row 6) v a 0 (omega arith, f) (omega arith, omega arith))
+-- an operation of a listing is one that the table of kinds 1 to 7 names
+pub named : (v : ℕ) (o : Op) → Listable v o → (kind : ℕ) × (a : ℕ) × (b : ℕ) × ((kind ≤ 7) × (operation v kind a b ≡ some o))
+named v (equal a b) ((f, g), _) = (1, a, b, (omega arith, in-table (row 0) v a b (omega arith, f) (omega arith, g)))
+named v (different a b) ((f, g), _) = (2, a, b, (omega arith, in-table (row 1) v a b (omega arith, f) (omega arith, g)))
+named v (assign a b) ((e, f, g), _) = (3, a, b, (omega arith, in-table (row 2) v a b (omega arith, f) (omega arith, g)))
+named v (load a b) ((e, d, f, g), _) = (4, a, b, (omega arith, in-table (row 3) v a b (omega arith, f) (omega arith, g)))
+named v (store a b) ((e, f, g), _) = (5, a, b, (omega arith, in-table (row 4) v a b (omega arith, f) (omega arith, g)))
+named v (new a) ((e, f), _) = (6, a, 0, (omega arith, in-table (row 5) v a 0 (omega arith, f) (omega arith, omega arith)))
+named v (delete a) ((e, f), _) = (7, a, 0, (omega arith, in-table (row 6) v a 0 (omega arith, f) (omega arith, omega arith)))
+named v (equalValue a b) (_, h) = absurd (omega arith)
+named v (belowValue a b) (_, h) = absurd (omega arith)
+named v (copy a b) (_, h) = absurd (omega arith)
+named v (larger a b) (_, h) = absurd (omega arith)
+named v (smaller a b) (_, h) = absurd (omega arith)
+named v (read a) (_, h) = absurd (omega arith)
+
+-- other operands change no kind
+pub kind-by : (f : ℕ → ℕ) (o : Op) → operationFor (opBy f o) .kind ≡ operationFor o .kind
+kind-by f (equal a b) = refl
+kind-by f (different a b) = refl
+kind-by f (assign a b) = refl
+kind-by f (load a b) = refl
+kind-by f (store a b) = refl
+kind-by f (new a) = refl
+kind-by f (delete a) = refl
+kind-by f (equalValue a b) = refl
+kind-by f (belowValue a b) = refl
+kind-by f (copy a b) = refl
+kind-by f (larger a b) = refl
+kind-by f (smaller a b) = refl
+kind-by f (read a) = refl
 
 -- the operands of a line are null or letters
 pub small-op : (o : Operation) → T (isOperation o) → (o .a ≤ 26) × (o .b ≤ 26)
-small-op o t = let r = operands (o .kind) (o .a) (o .b) (is-true (isOperation o) t) in (r .a-most, r .b-letter)
+small-op o t = let r = operation-operands o (is-true (isOperation o) t) in (r .a-most, r .b-letter)
 
 pub small-test : (o : Operation) → T (isTest o) → (o .a ≤ 26) × (o .b ≤ 26)
 small-test o t = go (eqb (o .kind) 0) (leb (o .kind) 2) t

@@ -55,7 +55,7 @@ module _ (l : Listing) (ok : WithinLimits l) where
 
   listing-job : (bads : List Located) → InRangeFor l bads → IsJob (bytes ++ forbiddenBytes bads) (fileOf l bads)
   listing-job bads (n, each) =
-      subst (λ (s : List ℕ). IsJob s (fileOf l bads)) (encode-append (numbersAhead (fileOf l [])) (length bads ∷ concatMap locatedNumbers bads))
+      subst (λ (s : List ℕ). IsJob s (fileOf l bads)) (encode-append (numbersAhead (fileOf l [])) (length bads ∷ concatMap (locatedNumbers 1) bads))
       (written-job (fileOf l bads) (in-range l ok bads n each))
 
   no-other-job : (rest : List ℕ) (f : JobFile) → IsJob (bytes ++ rest) f → f ≡ fileOf l (f .job .forbidden)
@@ -63,14 +63,15 @@ module _ (l : Listing) (ok : WithinLimits l) where
       let ns = numbersAhead (fileOf l []) in
       let job = bytes ++ rest in
       let (more, w) = begins-at ns (length job) 0 job rest (jobNumbers f) (ahead-small l ok 127 (omega arith)) (ap (λ s. s ++ rest) (ahead-bytes l ok)) (i .reads) in
+      let first : f .version ≡ 1 = cc in
       let v : f .job .variables ≡ variablesFor (l .names) = cc in
       let s : f .states ≡ statesOf (l .statements) = cc in
       let z : f .job .start ≡ 0 = cc in
       let n : length (f .job .transitions) ≡ length (transitionsOf (l .statements)) = cc in
-      let after = length (f .job .forbidden) ∷ concatMap locatedNumbers (f .job .forbidden) in
+      let after = length (f .job .forbidden) ∷ concatMap (locatedNumbers (f .version)) (f .job .forbidden) in
       let u : concatMap transitionNumbers (f .job .transitions) ++ after ≡ concatMap transitionNumbers (transitionsOf (l .statements)) ++ more = cc in
       let t = same-transitions (f .job .transitions) (transitionsOf (l .statements)) after more n u in
-      λ i. record { states = s i; job = record { variables = v i; start = z i; transitions = t i; forbidden = f .job .forbidden } }
+      λ i. record { version = first i; states = s i; job = record { variables = v i; start = z i; transitions = t i; forbidden = f .job .forbidden } }
 
   -- where a run over statements comes to mark k, a run of such a job is at its state
   never-at-mark : (bads : List Located) → Safe (fileOf l bads .job) → NeverAtMark l states bads
@@ -92,7 +93,7 @@ module _ (l : Listing) (ok : WithinLimits l) where
       g es (record { state = p; heap = h }) r (arrow p o n) t refl v i
 
   allowed : (t : Transition) → t ∈ transitionsOf (l .statements) → Allowed (variablesFor (l .names)) (t .op)
-  allowed = fineIn (l .statements) (variablesFor (l .names)) 0 1 (fits-variables l ok)
+  allowed t m = fineIn (l .statements) (variablesFor (l .names)) 0 1 (fits-variables l ok) t m .0
 
   -- a safe job that forbids a ready set guarantees what the set is for
   guaranteed : (set : ReadySet) (bads : List Located) → Safe (fileOf l bads .job) → ForbidsSet l bads set → Guarantees set (fileOf l bads .job)

@@ -6,18 +6,22 @@ use Prim.Native.Nat.{ℕ, suc, _≤_, max}
 use lib.ListN.{length}
 use Rattle.lists.specs.List.{Every}
 use Rattle.lists.proofs.List.{Distinct}
-use Rattle.heap.specs.Operation.{Allowed}
+use Rattle.heap.specs.Operation.{Op, Allowed}
 use Rattle.format.specs.JobBytes.{Between}
 use Rattle.listing.specs.Listing.{Statement, perform, mark, while, if, Block, done, _⨾_, marksIn}
 use Rattle.listing.specs.Names.{letterIn, blockBy}
 use Rattle.listing.specs.Reading.{meetLines, Listing}
-use Rattle.listing.specs.Text.{linesIn}
+use Rattle.listing.specs.Text.{operationFor, linesIn}
 use Rattle.listing.specs.Translation.{test, statesOf}
 
--- the table of kinds allows every operation and every test where there are v variables
+-- an operation of a listing with v variables: its kind is 1 to 7, and the table of kinds allows it
+abbrev pub Listable : ℕ → Op → Type 0
+Listable v o = Allowed v o × (operationFor o .kind ≤ 7)
+
+-- every operation and every test is one
 abbrev mutual
   pub FitsOne : Statement → ℕ → Type 0
-  FitsOne (perform o) v = Allowed v o
+  FitsOne (perform o) v = Listable v o
   FitsOne (mark k) v = Unit {0}
   FitsOne (while t b) v = Allowed v (test t) × Fits b v
   FitsOne (if t b) v = Allowed v (test t) × Fits b v

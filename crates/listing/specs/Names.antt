@@ -6,7 +6,7 @@ use Prim.Native.Nat.{ℕ, zero, suc}
 use lib.Dec.{eqb}
 use lib.ListN.{length, getD}
 use Rattle.lists.specs.List.{absent}
-use Rattle.heap.specs.Operation.{Op, equal, different, assign, load, store, new, delete}
+use Rattle.heap.specs.Operation.{Op, equal, different, assign, load, store, new, delete, equalValue, belowValue, copy, larger, smaller, read}
 use Rattle.lines.specs.declared.Line.{Line}
 use Rattle.lines.specs.declared.Line.the-variants.{Perform, While, If, End, Mark, Other}
 use Rattle.listing.specs.Listing.{Test, same, other, any, Statement, perform, mark, while, if, Block, done, _⨾_}
@@ -53,6 +53,12 @@ module _ (f : ℕ → ℕ) where
   opBy (store a b) = store (f a) (f b)
   opBy (new a) = new (f a)
   opBy (delete a) = delete (f a)
+  opBy (equalValue a b) = equalValue (f a) (f b)
+  opBy (belowValue a b) = belowValue (f a) (f b)
+  opBy (copy a b) = copy (f a) (f b)
+  opBy (larger a b) = larger (f a) (f b)
+  opBy (smaller a b) = smaller (f a) (f b)
+  opBy (read a) = read (f a)
 
   abbrev pub testBy : Test → Test
   testBy (same a b) = same (f a) (f b)

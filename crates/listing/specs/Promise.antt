@@ -28,12 +28,12 @@ use Rattle.listing.specs.Written.{fileOf, translate, translateResult, by
 
 -- B and the forbidden shapes, as bytes
 abbrev pub forbiddenBytes : List Located → List ℕ
-forbiddenBytes bads = encode (length bads ∷ concatMap locatedNumbers bads)
+forbiddenBytes bads = encode (length bads ∷ concatMap (locatedNumbers 1) bads)
 
 -- shapes that a job with the listing's variables and states may forbid
 abbrev pub InRangeFor : Listing → List Located → Type 0
 InRangeFor l bads =
-    Between 1 64 (length bads) × Every (LocatedInRange (variablesFor (l .names)) (statesOf (l .statements))) bads
+    Between 1 64 (length bads) × Every (LocatedInRange 1 (variablesFor (l .names)) (statesOf (l .statements))) bads
 
 -- the shapes of a ready set, for the listing's variables and transitions
 abbrev pub setFor : Listing → ReadySet → List Located

@@ -21,6 +21,7 @@ use Rattle.listing.specs.Translation.{transitionsOf, statesOf, marksOf, 
 abbrev pub fileOf : Listing → List Located → JobFile
 fileOf l bads =
     record {
+      version = 1;
       states = statesOf (l .statements);
       job = record { variables = variablesFor (l .names); start = 0; transitions = transitionsOf (l .statements); forbidden = bads };
     }
@@ -28,7 +29,7 @@ fileOf l bads =
 -- the numbers of a job ahead of B
 abbrev pub numbersAhead : JobFile → List ℕ
 numbersAhead f =
-    1 ∷ f .job .variables ∷ f .states ∷ f .job .start ∷ length (f .job .transitions) ∷ concatMap transitionNumbers (f .job .transitions)
+    f .version ∷ f .job .variables ∷ f .states ∷ f .job .start ∷ length (f .job .transitions) ∷ concatMap transitionNumbers (f .job .transitions)
 
 -- "for each mark its state, 64 for none"
 abbrev pub orNone : Option ℕ → ℕ

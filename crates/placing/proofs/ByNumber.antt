@@ -1,4 +1,4 @@
--- The predecessors of kinds 1 to 5 by the numbers of the wanted choices.
+-- What a kind retains, by the numbers of the wanted choices.
 use mathlib.Core.Bool.{Bool, true, false, _&&_, cond}
 use mathlib.Core.List.{List, [], _∷_, append-nil}
 use mathlib.Core.Logic.{_≢_, _⊎_, inl, inr}
@@ -18,7 +18,6 @@ use Rattle.place.specs.Place.{bothNowhere}
 use Rattle.shape.specs.Placing.{place, placedFrom}
 use Rattle.shape.specs.Shape.{Shape, varAt, size}
 use Rattle.shape.proofs.PlacingByNumber.{choice, choices-by-number}
-use Rattle.backward.specs.Predecessors.{retain}
 use Rattle.placing.specs.Choice.{chosen, exists, opened, made, put}
 use Rattle.placing.specs.Retained.{At}
 use Rattle.placing.specs.Retained.{retained, retainedIn, changed, seconds, firsts}
@@ -50,7 +49,7 @@ only-first f m h none = sym (concatMap-stretch f 0 1 m (omega arith) h (λ k _ o
     past k (inr l) = omega arith
 
 -- a variable that has a place
-place-one : (v : ℕ) (s : Shape) → varAt s v ≢ nowhere → varAt s v ≢ dangling → place v s ≡ s ∷ []
+pub place-one : (v : ℕ) (s : Shape) → varAt s v ≢ nowhere → varAt s v ≢ dangling → place v s ≡ s ∷ []
 place-one v s = go (varAt s v)
   where
     go : (p : ℕ) → p ≢ nowhere → p ≢ dangling → placedFrom p v s ≡ s ∷ []
@@ -59,7 +58,7 @@ place-one v s = go (varAt s v)
     go (suc (suc zero)) n d = absurd (d refl)
     go (suc (suc (suc i))) n d = refl
 
-place-choices : (v : ℕ) (s : Shape) → varAt s v ≡ nowhere → place v s ≡ concatMap (choice v s) (range 0 (size s + (2 + size s)))
+pub place-choices : (v : ℕ) (s : Shape) → varAt s v ≡ nowhere → place v s ≡ concatMap (choice v s) (range 0 (size s + (2 + size s)))
 place-choices v s e = rw e (sym (choices-by-number v s))
 
 pub clash : {A : Type 0} → false ≡ true → A
@@ -92,7 +91,7 @@ module _ (variables kind a b : ℕ) where
   decided : (t : Shape) → varAt t b ≢ nowhere → varAt t b ≢ dangling → seconds variables kind a b t ≡ keepOne t
   decided t n d = ap (concatMap keepOne) (place-one b t n d) ∙ append-nil (keepOne t)
 
-module _ (variables kind a b : ℕ) (s : Shape) (kind-least : 1 ≤ kind) (kind-most : kind ≤ 5)
+module _ (variables kind a b : ℕ) (s : Shape) (kind-least : 1 ≤ kind)
     (links-range : (i : ℕ) → i < size s → getD (s .links) i nowhere < cell (size s)) where
   abbrev numbers : List ℕ
   numbers = range 0 (size s + (2 + size s))
@@ -113,7 +112,7 @@ module _ (variables kind a b : ℕ) (s : Shape) (kind-least : 1 ≤ kind) (kind-
 
     last-a-fits : k < size s + (2 + size s) → fitsIn (s .links) (wantedOfLast kind a b s) k ≡ exists (s .links) k && retainedIn kind a b (made a s k)
     last-a-fits most =
-        last-a kind a b (varAt s a) (varAt s b) (s .links) k kind-least kind-most most links-range e apart at ∙ go (ℕ-discrete a b)
+        last-a kind a b (varAt s a) (varAt s b) (s .links) k kind-least most links-range e apart at ∙ go (ℕ-discrete a b)
       where
         c : ℕ
         c = chosen (size s) k
@@ -150,7 +149,7 @@ module _ (variables kind a b : ℕ) (s : Shape) (kind-least : 1 ≤ kind) (kind-
   module _ (at : At (size s) (varAt s a)) (e : varAt s b ≡ nowhere) (h : b ≤ length (s .vars)) (k : ℕ) (most : k < size s + (2 + size s)) where
     last-b-fits : fitsIn (s .links) (wantedOfLast kind a b s) k ≡ exists (s .links) k && retainedIn kind a b (made b s k)
     last-b-fits =
-        last-b kind a b (varAt s a) (varAt s b) (s .links) k kind-least kind-most most links-range at e
+        last-b kind a b (varAt s a) (varAt s b) (s .links) k kind-least most links-range at e
         ∙ ap (λ (r : Bool). exists (s .links) k && r)
         (sym (tested-at kind a b (made b s k) (varAt s a) (chosen (size s) k) (opened (s .links) k)
         (made-other b s k a (λ z. at .some (ap (varAt s) z ∙ e))) (made-same b s k (not-null s b e) h) (made-links b s k)))

@@ -6,4 +6,5 @@ pub mod Tests
 pub mod Retaining
 pub mod Wants
 pub mod ByNumber
+pub mod Cells
 pub mod Ranges

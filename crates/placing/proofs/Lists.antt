@@ -18,6 +18,11 @@ module _ {A B : Type 0} (f : A → List B) where
   concatMap-same g [] h = refl
   concatMap-same g (x ∷ xs) h = ap₂ _++_ (h x (List·Memᴰ·head refl)) (concatMap-same g xs (λ y m. h y (List·Memᴰ·tail m)))
 
+-- each element gives itself
+pub concatMap-itself : {A : Type 0} (f : A → List A) (l : List A) → ((x : A) → x ∈ l → f x ≡ x ∷ []) → concatMap f l ≡ l
+concatMap-itself f [] h = refl
+concatMap-itself f (x ∷ xs) h = ap₂ _++_ (h x (List·Memᴰ·head refl)) (concatMap-itself f xs (λ y m. h y (List·Memᴰ·tail m)))
+
 pub concatMap-concatMap : {A B C : Type 0} (g : B → List C) (f : A → List B) (l : List A)
     → concatMap g (concatMap f l) ≡ concatMap (λ x. concatMap g (f x)) l
 concatMap-concatMap g f [] = refl

@@ -7,7 +7,7 @@ use Prim.Native.Nat.{ℕ, zero, suc, _+_, _-_, _≤_, _<_}
 use native.Mathlib.Decide.{ℕ-discrete, decLt}
 use native.Mathlib.Omega.{arith}
 use borrow.Author.Tests.{eq-eqb, ne-eqb, le-leb, lt-leb}
-use lib.Dec.{eqb, ltb}
+use lib.Dec.{eqb, ltb, leb}
 use lib.ListN.{length, getD}
 use Rattle.lists.specs.List.{concatMap}
 use Rattle.lists.specs.Range.{range}
@@ -18,7 +18,7 @@ use Rattle.place.specs.declared.Place.{Place}
 use Rattle.placing.specs.Choice.{choiceOf}
 use Rattle.placing.specs.Retained.{retained}
 use Rattle.placing.proofs.Chosen.{choice-of-most}
-use Rattle.placing.specs.Wanted.{targetFits, fitsIn, oneByOne, targetChoices, choicesOf, targetOf, beside, onceIf, wantedOne, wantedFirst, wantedLast}
+use Rattle.placing.specs.Wanted.{targetFits, fitsIn, oneByOne, targetChoices, choicesOf, targetOf, anyCell, cellBeside, beside, onceIf, wantedOne, wantedFirst, wantedLast}
 use Rattle.placing.specs.declared.Choices.{Choices}
 use Rattle.placing.specs.declared.Wanted.{Wanted}
 use Rattle.placing.specs.declared.Wanted.the-variants.{Nothing, Once, Any, At, Off, Source, Itself, Target}
@@ -221,16 +221,27 @@ sound-target links q inside range = go (decLt 2 q)
     go (no h) = rw (le-leb q dangling (omega arith)) tt
     go (yes h) = rw (lt-leb q dangling (omega arith)) (linked h (ℕ-discrete (linkIn links q) nowhere))
 
+sound-cell : (n q : ℕ) → Sound n (cellBeside q)
+unfolding cellBeside
+sound-cell n q = go (leb q dangling)
+  where
+    go : (x : Bool) → Sound n (cond x Nothing anyCell)
+    go true = tt
+    go false = tt
+
 sound-beside : (starting kind : ℕ) (links : List ℕ) (q : ℕ) → q < cell (length links)
     → ((i : ℕ) → i < length links → getD links i nowhere < cell (length links)) → Sound (length links) (beside starting kind links (placeOf q))
 unfolding beside
-sound-beside starting kind links q inside range = go (eqb kind 2) (ltb kind 4) (eqb kind starting)
+sound-beside starting kind links q inside range = go (eqb kind 2) (ltb kind 4) (eqb kind starting) (ltb 5 kind)
   where
-    go : (x y z : Bool) → Sound (length links) (cond x (Off (placeOf q)) (cond y (At (placeOf q)) (cond z (Source (placeOf q)) (targetOf links q))))
-    go true y z = tt
-    go false true z = inside
-    go false false true = tt
-    go false false false = sound-target links q inside range
+    go : (x y z w : Bool)
+        → Sound (length links)
+        (cond x (Off (placeOf q)) (cond y (At (placeOf q)) (cond z (Source (placeOf q)) (cond w (cellBeside q) (targetOf links q)))))
+    go true y z w = tt
+    go false true z w = inside
+    go false false true w = tt
+    go false false false true = sound-cell (length links) q
+    go false false false false = sound-target links q inside range
 
 sound-once : (n : ℕ) (x : Bool) → Sound n (onceIf x)
 unfolding onceIf
@@ -239,12 +250,13 @@ sound-once n false = tt
 
 sound-one : (n kind : ℕ) → Sound n (wantedOne kind)
 unfolding wantedOne
-sound-one n kind = go (eqb kind 2) (eqb kind 5)
+sound-one n kind = go (eqb kind 2) (eqb kind 5) (ltb 5 kind)
   where
-    go : (x y : Bool) → Sound n (cond x Nothing (cond y Itself Any))
-    go true y = tt
-    go false true = tt
-    go false false = tt
+    go : (x y z : Bool) → Sound n (cond x Nothing (cond y Itself (cond z anyCell Any)))
+    go true y z = tt
+    go false true z = tt
+    go false false true = tt
+    go false false false = tt
 
 pub sound-first : (n : ℕ) (same : Bool) (x y : ℕ) → Sound n (wantedFirst same (placeOf x) (placeOf y))
 unfolding wantedFirst

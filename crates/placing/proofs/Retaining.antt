@@ -1,5 +1,5 @@
 -- The choices of a variable that a kind retains are the wanted ones.
-use mathlib.Core.Bool.{Bool, true, false, _&&_, _||_, not, and-true, and-false, and-comm}
+use mathlib.Core.Bool.{Bool, true, false, _&&_, _||_, not, and-true, and-false, and-comm, and-self}
 use mathlib.Core.List.{List, [], _∷_, _++_}
 use mathlib.Core.Logic.{_≢_}
 use mathlib.Core.Path.{_≡_, refl, sym, _∙_}
@@ -7,7 +7,7 @@ use Prim.Native.Nat.{ℕ, zero, suc, _+_, _-_, _≤_, _<_}
 use native.Mathlib.Decide.{ℕ-discrete, decLt}
 use native.Mathlib.Omega.{arith}
 use borrow.Author.Tests.{lt-ltb, le-ltb, le-leb, lt-leb, eq-eqb, ne-eqb}
-use lib.Dec.{eqb}
+use lib.Dec.{eqb, ltb}
 use lib.ListN.{length, getD, set, length-set, List·getD-eq-default, List·getD-append}
 use lib.Seq.{getD-set-same, getD-at}
 use Rattle.lists.proofs.List.{end, _&_}
@@ -18,8 +18,9 @@ use Rattle.place.specs.Place.{placeOf}
 use Rattle.shape.proofs.Laws.{link-set-other, link-snoc, link-unlinked}
 use Rattle.placing.specs.Choice.{chosen, choiceOf, exists, opened}
 use Rattle.placing.specs.Retained.{At, linkOpen, retained}
-use Rattle.placing.proofs.Chosen.{chosen-cell, chosen-null, chosen-fresh, chosen-placed, chosen-other, choice-of-most}
-use Rattle.placing.specs.Wanted.{sourceFits, itselfFits, targetFits, fitsIn, targetOf, beside, wantedOne}
+use Rattle.placing.proofs.Chosen.{chosen-cell, chosen-null, chosen-fresh, chosen-placed, chosen-other, choice-of-null, choice-of-most}
+use Rattle.placing.proofs.Tests.{retains-cells, cell-none, cell-any, beside-cells, one-cell}
+use Rattle.placing.specs.Wanted.{sourceFits, itselfFits, targetFits, fitsIn, targetOf, anyCell, cellBeside, beside, wantedOne}
 
 -- ---- the link of the cell at p after choice k
 
@@ -118,6 +119,29 @@ module _ (links : List ℕ) (q k : ℕ) (at : At (length links) q) where
       go : Dec (k ≡ choiceOf (length links) q) → exists links k && eqb k (choiceOf (length links) q) ≡ eqb k (choiceOf (length links) q)
       go (yes e) = rw (exists-low links k (omega (arith, choice-of-most (length links) q (at .inside)))) refl
       go (no e) = rw (ne-eqb k (choiceOf (length links) q) e) (and-false (exists links k))
+
+-- ---- a cell
+
+-- a choice is at a cell, but for #
+chosen-apart : (n k : ℕ) → ltb dangling (chosen n k) ≡ not (eqb k n)
+chosen-apart n k = go (decLt k n) (ℕ-discrete k n)
+  where
+    go : Dec (k < n) → Dec (k ≡ n) → ltb dangling (chosen n k) ≡ not (eqb k n)
+    go (yes h) e = rw (chosen-cell n k h, ne-eqb k n (omega arith)) (lt-ltb dangling (cell k) (omega arith))
+    go (no h) (yes e) = rw (chosen-null n k e, eq-eqb k n e) refl
+    go (no h) (no e) = rw (chosen-fresh n k (omega arith), ne-eqb k n e) (lt-ltb dangling (cell n) (omega arith))
+
+module _ (links : List ℕ) (k : ℕ) where
+  any-cell : exists links k && ltb dangling (chosen (length links) k) ≡ fitsIn links anyCell k
+  any-cell = rw (chosen-apart (length links) k, choice-of-null (length links) null refl) (and-comm (exists links k) _)
+
+  -- the other variable is at q
+  cell-beside : (q : ℕ) → exists links k && (ltb dangling q && ltb dangling (chosen (length links) k)) ≡ fitsIn links (cellBeside q) k
+  cell-beside q = go (decLt 2 q)
+    where
+      go : Dec (2 < q) → exists links k && (ltb dangling q && ltb dangling (chosen (length links) k)) ≡ fitsIn links (cellBeside q) k
+      go (yes h) = rw (lt-ltb dangling q h, ← cell-any q h) any-cell
+      go (no h) = rw (le-ltb dangling q (omega arith), ← cell-none q (omega arith)) (and-false (exists links k))
 
 -- ---- a link from the chosen cell, and a link to it
 
@@ -261,40 +285,66 @@ module _ (links : List ℕ) (k : ℕ) (most : k < length links + (2 + length lin
 
     -- ---- by kind
 
-    module _ (kind q : ℕ) (kind-least : 1 ≤ kind) (kind-most : kind ≤ 5) (at : At (length links) q) where
+    module _ (kind q : ℕ) (kind-least : 1 ≤ kind) (at : At (length links) q) where
       -- the first variable is at q
       pub beside-first : exists links k && retained kind q (chosen (length links) k) (opened links k) ≡ fitsIn links (beside 4 kind links (placeOf q)) k
       unfolding retained beside
-      beside-first =
-          by-kind 5 (λ m. exists links k && retained m q (chosen (length links) k) (opened links k) ≡ fitsIn links (beside 4 m links (placeOf q)) k)
-          (same & rw (same-place (length links) q k at) (and-comm (exists links k) _) & same & source-fits q & target-fits q (at .inside) & end)
-          kind kind-least kind-most
+      beside-first = go (decLt 5 kind)
         where
           same : exists links k && eqb q (chosen (length links) k) ≡ eqb k (choiceOf (length links) q)
           same = rw (same-place (length links) q k at) (at-exists links q k at)
 
+          go : Dec (5 < kind) → exists links k && retained kind q (chosen (length links) k) (opened links k) ≡ fitsIn links (beside 4 kind links (placeOf q)) k
+          go (yes h) =
+              rw (← retains-cells kind q (chosen (length links) k) (opened links k) h, ← beside-cells 4 kind links (placeOf q) (omega arith) (omega arith) h)
+              (cell-beside links k q)
+          go (no h) =
+              by-kind 5 (λ m. exists links k && retained m q (chosen (length links) k) (opened links k) ≡ fitsIn links (beside 4 m links (placeOf q)) k)
+              (same & rw (same-place (length links) q k at) (and-comm (exists links k) _) & same & source-fits q & target-fits q (at .inside) & end)
+              kind kind-least (omega arith)
+
       -- the second one is
       pub beside-second : exists links k && retained kind (chosen (length links) k) q (opened links k) ≡ fitsIn links (beside 5 kind links (placeOf q)) k
       unfolding retained beside
-      beside-second =
-          by-kind 5 (λ m. exists links k && retained m (chosen (length links) k) q (opened links k) ≡ fitsIn links (beside 5 m links (placeOf q)) k)
-          (same & rw (same-place-too (length links) q k at) (and-comm (exists links k) _) & same & target-fits q (at .inside) & source-fits q & end)
-          kind kind-least kind-most
+      beside-second = go (decLt 5 kind)
         where
           same : exists links k && eqb (chosen (length links) k) q ≡ eqb k (choiceOf (length links) q)
           same = rw (same-place-too (length links) q k at) (at-exists links q k at)
 
+          go : Dec (5 < kind) → exists links k && retained kind (chosen (length links) k) q (opened links k) ≡ fitsIn links (beside 5 kind links (placeOf q)) k
+          go (yes h) =
+              rw (
+                ← retains-cells kind (chosen (length links) k) q (opened links k) h,
+                ← beside-cells 5 kind links (placeOf q) (omega arith) (omega arith) h,
+                and-comm (ltb dangling (chosen (length links) k)) (ltb dangling q),
+              )
+              (cell-beside links k q)
+          go (no h) =
+              by-kind 5 (λ m. exists links k && retained m (chosen (length links) k) q (opened links k) ≡ fitsIn links (beside 5 m links (placeOf q)) k)
+              (same & rw (same-place-too (length links) q k at) (and-comm (exists links k) _) & same & target-fits q (at .inside) & source-fits q & end)
+              kind kind-least (omega arith)
+
     -- both are one
-    pub one-fits : (kind : ℕ) → 1 ≤ kind → kind ≤ 5 → kind ≢ 4
+    pub one-fits : (kind : ℕ) → 1 ≤ kind → kind ≢ 4
         → exists links k && retained kind (chosen (length links) k) (chosen (length links) k) (opened links k) ≡ fitsIn links (wantedOne kind) k
     unfolding retained wantedOne
-    one-fits kind l h o =
-        by-kind 5
-        (λ m. m ≢ 4 → exists links k && retained m (chosen (length links) k) (chosen (length links) k) (opened links k) ≡ fitsIn links (wantedOne m) k)
-        ((λ _. same) & (λ _. simp (equal, and-false)) & (λ _. same) & (λ o. absurd (o refl)) & (λ _. itself-fits) & end) kind l h o
+    one-fits kind l o = go (decLt 5 kind)
       where
         equal : eqb (chosen (length links) k) (chosen (length links) k) ≡ true
         equal = eq-eqb (chosen (length links) k) (chosen (length links) k) refl
 
         same : exists links k && eqb (chosen (length links) k) (chosen (length links) k) ≡ exists links k
         same = simp (equal, and-true)
+
+        go : Dec (5 < kind) → exists links k && retained kind (chosen (length links) k) (chosen (length links) k) (opened links k) ≡ fitsIn links (wantedOne kind) k
+        go (yes h) =
+            rw (
+              ← retains-cells kind (chosen (length links) k) (chosen (length links) k) (opened links k) h,
+              ← one-cell kind h,
+              and-self (ltb dangling (chosen (length links) k)),
+            )
+            (any-cell links k)
+        go (no h) =
+            by-kind 5
+            (λ m. m ≢ 4 → exists links k && retained m (chosen (length links) k) (chosen (length links) k) (opened links k) ≡ fitsIn links (wantedOne m) k)
+            ((λ _. same) & (λ _. simp (equal, and-false)) & (λ _. same) & (λ o. absurd (o refl)) & (λ _. itself-fits) & end) kind l (omega arith) o

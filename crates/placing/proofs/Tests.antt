@@ -1,12 +1,12 @@
 -- The tests of specs/ in the order in which the code makes them.
-use mathlib.Core.Bool.{Bool, true, false, not}
+use mathlib.Core.Bool.{Bool, true, false, _&&_, not}
 use mathlib.Core.List.{List}
 use mathlib.Core.Logic.{_≢_}
 use mathlib.Core.Path.{_≡_, refl, sym, _∙_}
 use Prim.Native.Nat.{ℕ, _+_, _-_, _≤_, _<_}
 use native.Mathlib.Omega.{arith}
 use borrow.Author.Tests.{lt-ltb, le-ltb, le-leb, lt-leb, eq-eqb, ne-eqb}
-use lib.Dec.{eqb}
+use lib.Dec.{eqb, ltb}
 use lib.ListN.{length, getD, List·getD-eq-default}
 use Rattle.heap.specs.Codes.{linkIn}
 use Rattle.heap.specs.Place.{nowhere, null, dangling, cell}
@@ -14,7 +14,7 @@ use Rattle.placing.specs.Choice.{choiceOf, exists}
 use Rattle.placing.specs.Retained.{linkOpen, retained}
 use Rattle.place.specs.Place.{bothNowhere}
 use Rattle.place.specs.declared.Place.{Place}
-use Rattle.placing.specs.Wanted.{sourceFits, itselfFits, targetFits, fitsIn, targetOf, beside, onceIf, wantedOne, wantedFirst, wantedLast}
+use Rattle.placing.specs.Wanted.{sourceFits, itselfFits, targetFits, fitsIn, targetOf, anyCell, cellBeside, beside, onceIf, wantedOne, wantedFirst, wantedLast}
 use Rattle.placing.specs.declared.Wanted.{Wanted}
 use Rattle.placing.specs.declared.Wanted.the-variants.{Nothing, Once, Any, At, Off, Source, Itself, Target}
 
@@ -42,9 +42,20 @@ module _ (kind x y : ℕ) (links : List ℕ) where
   unfolding retained
   retains-load e = rw e refl
 
-  pub retains-store : 4 ≤ kind → kind ≢ 4 → linkOpen links x y ≡ retained kind x y links
+  pub retains-store : kind ≡ 5 → linkOpen links x y ≡ retained kind x y links
   unfolding retained
-  retains-store h n = simp (ne-eqb kind 2 (omega arith), le-ltb kind 4 h, ne-eqb kind 4 n)
+  retains-store e = rw e refl
+
+  pub retains-cells : 5 < kind → (ltb dangling x && ltb dangling y) ≡ retained kind x y links
+  unfolding retained
+  retains-cells h = simp (ne-eqb kind 2 (omega arith), le-ltb kind 4 (omega arith), ne-eqb kind 4 (omega arith), ne-eqb kind 5 (omega arith))
+
+  module _ (h : 4 ≤ kind) (n : kind ≢ 4) (m : kind ≢ 5) where
+    pub retains-second : 2 < x → ltb dangling y ≡ retained kind x y links
+    retains-second l = rw (← retains-cells (omega arith)) (simp (lt-ltb dangling x l))
+
+    pub retains-neither : x ≤ 2 → ltb dangling x ≡ retained kind x y links
+    retains-neither l = rw (← retains-cells (omega arith)) (simp (le-ltb dangling x l))
 
 -- ---- the choice of a place
 
@@ -180,6 +191,14 @@ module _ (links : List ℕ) (q : ℕ) where
     unfolding targetOf
     target-linked e = rw (← l-is) (simp (lt-leb q dangling h, ne-eqb (l .code) nowhere e))
 
+pub cell-none : (q : ℕ) → q ≤ 2 → Nothing ≡ cellBeside q
+unfolding cellBeside
+cell-none q h = simp (le-leb q dangling h)
+
+pub cell-any : (q : ℕ) → 2 < q → anyCell ≡ cellBeside q
+unfolding cellBeside
+cell-any q h = simp (lt-leb q dangling h)
+
 module _ (starting kind : ℕ) (links : List ℕ) (q : Place) where
   pub beside-different : kind ≡ 2 → Off q ≡ beside starting kind links q
   unfolding beside
@@ -194,9 +213,14 @@ module _ (starting kind : ℕ) (links : List ℕ) (q : Place) where
     unfolding beside
     beside-source e = simp (ne-eqb kind 2 (omega arith), le-ltb kind 4 h, eq-eqb kind starting e)
 
-    pub beside-target : kind ≢ starting → targetOf links (q .code) ≡ beside starting kind links q
-    unfolding beside
-    beside-target e = simp (ne-eqb kind 2 (omega arith), le-ltb kind 4 h, ne-eqb kind starting e)
+    module _ (e : kind ≢ starting) where
+      pub beside-target : kind ≤ 5 → targetOf links (q .code) ≡ beside starting kind links q
+      unfolding beside
+      beside-target m = simp (ne-eqb kind 2 (omega arith), le-ltb kind 4 h, ne-eqb kind starting e, le-ltb 5 kind m)
+
+      pub beside-cells : 5 < kind → cellBeside (q .code) ≡ beside starting kind links q
+      unfolding beside
+      beside-cells m = simp (ne-eqb kind 2 (omega arith), le-ltb kind 4 h, ne-eqb kind starting e, lt-ltb 5 kind m)
 
 pub once-true : (test : Bool) → test ≡ true → Once ≡ onceIf test
 unfolding onceIf
@@ -216,9 +240,13 @@ module _ (kind : ℕ) where
     unfolding wantedOne
     one-store e = simp (ne-eqb kind 2 n, eq-eqb kind 5 e)
 
-    pub one-any : kind ≢ 5 → Any ≡ wantedOne kind
+    pub one-any : kind ≢ 5 → kind ≤ 5 → Any ≡ wantedOne kind
     unfolding wantedOne
-    one-any e = simp (ne-eqb kind 2 n, ne-eqb kind 5 e)
+    one-any e m = simp (ne-eqb kind 2 n, ne-eqb kind 5 e, le-ltb 5 kind m)
+
+  pub one-cell : 5 < kind → anyCell ≡ wantedOne kind
+  unfolding wantedOne
+  one-cell m = simp (ne-eqb kind 2 (omega arith), ne-eqb kind 5 (omega arith), lt-ltb 5 kind m)
 
 module _ (same : Bool) (x y : Place) where
   pub first-a-dangling : x .code ≡ dangling → Nothing ≡ wantedFirst same x y

@@ -34,7 +34,7 @@ module _ (kind a b x y : ℕ) (links : List ℕ) (k : ℕ) where
   abbrev fits-last : Bool
   fits-last = fitsIn links (wantedLast kind (eqb a b) links (placeOf x) (placeOf y)) k
 
-  module _ (kind-least : 1 ≤ kind) (kind-most : kind ≤ 5) (most : k < length links + (2 + length links))
+  module _ (kind-least : 1 ≤ kind) (most : k < length links + (2 + length links))
       (range : (i : ℕ) → i < length links → getD links i nowhere < cell (length links)) where
     -- a is placed by choice k, and b too where it is the same variable
     pub last-a : x ≡ nowhere → (kind ≡ 4 → a ≢ b) → (a ≢ b → At (length links) y)
@@ -49,14 +49,14 @@ module _ (kind a b x y : ℕ) (links : List ℕ) (k : ℕ) where
         c = chosen (length links) k
 
         go : Dec (a ≡ b) → fits-last ≡ exists links k && cond (eqb a b) (retained kind c c (opened links k)) (retained kind c y (opened links k))
-        go (yes i) = rw (eq-eqb x nowhere e, eq-eqb a b i) (sym (one-fits links k most range kind kind-least kind-most (λ f. apart f i)))
-        go (no i) = rw (eq-eqb x nowhere e, ne-eqb a b i) (sym (beside-second links k most range kind y kind-least kind-most (at i)))
+        go (yes i) = rw (eq-eqb x nowhere e, eq-eqb a b i) (sym (one-fits links k most range kind kind-least (λ f. apart f i)))
+        go (no i) = rw (eq-eqb x nowhere e, ne-eqb a b i) (sym (beside-second links k most range kind y kind-least (at i)))
 
     -- b is placed by choice k
     pub last-b : At (length links) x → y ≡ nowhere → fits-last ≡ exists links k && retained kind x (chosen (length links) k) (opened links k)
     unfolding wantedLast
     last-b at e =
-        rw (ne-eqb x nowhere (at .some), eq-eqb y nowhere e) (sym (beside-first links k most range kind x kind-least kind-most at))
+        rw (ne-eqb x nowhere (at .some), eq-eqb y nowhere e) (sym (beside-first links k most range kind x kind-least at))
 
   -- both have places
   module _ (nx : x ≢ nowhere) (ny : y ≢ nowhere) where

@@ -31,7 +31,7 @@ opened links k =
 
 -- variable v is placed by choice k
 unfoldable pub made : ℕ → Shape → ℕ → Shape
-made v s k = record { vars = setVarIn v (chosen (size s) k) (s .vars); links = opened (s .links) k }
+made v s k = record { vars = setVarIn v (chosen (size s) k) (s .vars); links = opened (s .links) k; facts = s .facts }
 
 -- the same; nothing where it has a place
 unfoldable pub put : ℕ → Shape → ℕ → Shape

@@ -1,4 +1,4 @@
--- Kinds 1 to 5: what is retained of two placings, how it is changed, and the same by the numbers of the choices.
+-- Kinds 1 to 5 and 8 to 13: what is retained of two placings, how it is changed, and the same by the numbers of the choices.
 use mathlib.Core.Bool.{Bool, _||_, _&&_, not, cond}
 use mathlib.Core.List.{List}
 use mathlib.Core.Logic.{_≢_}
@@ -19,16 +19,18 @@ linkOpen links p q = ltb dangling p && (eqb (linkIn links p) nowhere || eqb (lin
 -- a at x and b at y are retained
 unfoldable pub retained : ℕ → ℕ → ℕ → List ℕ → Bool
 retained kind x y links =
-    cond (eqb kind 2) (not (eqb x y)) (cond (ltb kind 4) (eqb x y) (cond (eqb kind 4) (linkOpen links y x) (linkOpen links x y)))
+    let cells = ltb dangling x && ltb dangling y in
+    cond (eqb kind 2) (not (eqb x y))
+    (cond (ltb kind 4) (eqb x y) (cond (eqb kind 4) (linkOpen links y x) (cond (eqb kind 5) (linkOpen links x y) cells)))
 
 unfoldable pub retainedIn : ℕ → ℕ → ℕ → Shape → Bool
 retainedIn kind a b s = retained kind (varAt s a) (varAt s b) (s .links)
 
--- where there are so many variables; one more is the helper of kind 4
+-- where there are so many variables; one more is the helper of kind 4. Kinds 1 and 2 leave it, and 8 to 13 all but its facts.
 unfoldable pub changed : ℕ → ℕ → ℕ → ℕ → Shape → Shape
 changed variables kind a b s =
     let loaded = setVar a nowhere (setLink (varAt s b) (varAt s a) s) in
-    cond (ltb kind 3) s
+    cond (ltb kind 3 || ltb 5 kind) s
     (cond (eqb kind 3) (cond (eqb a b) s (setVar a nowhere s))
     (cond (eqb kind 4) (cond (ltb variables b) (dropHelper a variables loaded) loaded) (setLink (varAt s a) nowhere s)))
 

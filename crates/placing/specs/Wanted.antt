@@ -1,11 +1,11 @@
--- The choices of a placing that an operation of kinds 1 to 5 retains, by their numbers (see choices/specs/Choice.antt).
+-- The choices of a placing that an operation of kinds 1 to 5 or 8 to 13 retains, by their numbers (see Choice.antt).
 use mathlib.Core.Bool.{Bool, false, _||_, _&&_, not, cond}
 use mathlib.Core.List.{List}
 use Prim.Native.Nat.{ℕ, suc, _+_, _-_}
 use lib.Dec.{eqb, ltb, leb}
 use lib.ListN.{length, getD}
 use Rattle.heap.specs.Codes.{linkIn}
-use Rattle.heap.specs.Place.{nowhere, dangling, cell}
+use Rattle.heap.specs.Place.{nowhere, null, dangling, cell}
 use Rattle.place.specs.Place.{placeOf, bothNowhere}
 use Rattle.place.specs.declared.Place.{Place}
 use Rattle.placing.specs.Choice.{choiceOf, exists}
@@ -71,10 +71,20 @@ choicesOf n (Target p i) = targetChoices n (p .code) i
 unfoldable pub targetOf : List ℕ → ℕ → Wanted
 targetOf links q = cond (leb q dangling) Nothing (cond (eqb (linkIn links q) nowhere) Any (Target (placeOf (linkIn links q)) (q - 3)))
 
+-- a cell, any but #
+abbrev pub anyCell : Wanted
+anyCell = Off (placeOf null)
+
+-- a cell, where the other variable is at the cell q
+unfoldable pub cellBeside : ℕ → Wanted
+cellBeside q = cond (leb q dangling) Nothing anyCell
+
 -- the other variable is at q; a link that the kind `starting` speaks of starts at this one
 unfoldable pub beside : ℕ → ℕ → List ℕ → Place → Wanted
 beside starting kind links q =
-    cond (eqb kind 2) (Off q) (cond (ltb kind 4) (At q) (cond (eqb kind starting) (Source q) (targetOf links (q .code))))
+    cond (eqb kind 2) (Off q)
+    (cond (ltb kind 4) (At q)
+    (cond (eqb kind starting) (Source q) (cond (ltb 5 kind) (cellBeside (q .code)) (targetOf links (q .code)))))
 
 -- ---- what it wants of the operands, a at x and b at y; `same` says that a and b are one variable
 
@@ -83,7 +93,7 @@ onceIf test = cond test Once Nothing
 
 -- where a and b are one variable, which is nowhere
 unfoldable pub wantedOne : ℕ → Wanted
-wantedOne kind = cond (eqb kind 2) Nothing (cond (eqb kind 5) Itself Any)
+wantedOne kind = cond (eqb kind 2) Nothing (cond (eqb kind 5) Itself (cond (ltb 5 kind) anyCell Any))
 
 -- of the operand placed first: any choice of a where both are nowhere; else there is nothing to place
 unfoldable pub wantedFirst : Bool → Place → Place → Wanted

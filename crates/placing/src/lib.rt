@@ -1,5 +1,5 @@
-// Which choices of a placing an operation of kinds 1 to 5 retains. In a shape of n cells, whose links are lent, the choices are 0 .. n - 1 a
-// cell, n #, n + 1 a fresh cell, n + 2 + i a fresh cell in the middle of the link of cell i.
+// Which choices of a placing an operation of kinds 1 to 5 or 8 to 13 retains. In a shape of n cells, whose links are lent, the choices are
+// 0 .. n - 1 a cell, n #, n + 1 a fresh cell, n + 2 + i a fresh cell in the middle of the link of cell i.
 use kinds::DIFFERENT;
 use kinds::LOAD;
 use kinds::STORE;
@@ -15,7 +15,7 @@ ghost use mathlib.Core.Path.{_≡_};
 ghost use Prim.Native.Nat.{_<_};
 ghost use Rattle.placing.specs.Choice.{choiceOf, exists};
 ghost use Rattle.placing.specs.Retained.{linkOpen, retained};
-ghost use Rattle.placing.specs.Wanted.{sourceFits, itselfFits, fitsIn, oneByOne, targetChoices, choicesOf, targetOf, beside, onceIf, wantedOne, wantedFirst, wantedLast};
+ghost use Rattle.placing.specs.Wanted.{sourceFits, itselfFits, fitsIn, oneByOne, targetChoices, choicesOf, targetOf, cellBeside, beside, onceIf, wantedOne, wantedFirst, wantedLast};
 
 // The choices of a variable that are retained.
 pub enum Wanted {
@@ -69,7 +69,10 @@ fn retains(kind: u8, links: &[u8], x: Place, y: Place) -> bool
     if kind == LOAD {
         return link_open(links, y, x);
     }
-    link_open(links, x, y)
+    if kind == STORE {
+        return link_open(links, x, y);
+    }
+    DANGLING < x.code && DANGLING < y.code
 }
 
 // The choice that puts a variable at # or at a cell.
@@ -225,6 +228,16 @@ fn target_of(links: &[u8], q: Place) -> Wanted
     Wanted::Target(link, q.code - FIRST_CELL)
 }
 
+// What is wanted of a variable that is to be at a cell, as the one at q is.
+fn cell_beside(q: Place) -> Wanted
+    ensures { λ r. ⌜ r ≡ cellBeside (q .code) ⌝ }
+{
+    if q.code <= DANGLING {
+        return Wanted::Nothing;
+    }
+    Wanted::Off(Place::NULL)
+}
+
 // What is wanted of a variable that is nowhere, where the other one is at q. In an operation of kind `starting` the link starts at this one.
 fn wanted_beside(starting: u8, kind: u8, links: &[u8], q: Place) -> Wanted
     ensures { λ r. ⌜ r ≡ beside starting kind (now (links .entry)) q ⌝ }
@@ -237,6 +250,9 @@ fn wanted_beside(starting: u8, kind: u8, links: &[u8], q: Place) -> Wanted
     }
     if kind == starting {
         return Wanted::Source(q);
+    }
+    if STORE < kind {
+        return cell_beside(q);
     }
     target_of(links, q)
 }
@@ -260,6 +276,9 @@ fn wanted_of_one(kind: u8) -> Wanted
     }
     if kind == STORE {
         return Wanted::Itself;
+    }
+    if STORE < kind {
+        return Wanted::Off(Place::NULL);
     }
     Wanted::Any
 }

@@ -1,8 +1,10 @@
 -- What the code's answers say of the parsers.
+use mathlib.Core.Bool.{Bool}
 use mathlib.Core.List.{List, []}
 use mathlib.Core.Option.{none, some}
 use mathlib.Core.Path.{_≡_, refl, sym, ap, _∙_}
 use Prim.Native.Nat.{ℕ, _≤_, _<_}
+use lib.Dec.{T}
 use Rattle.lists.proofs.Reflect.{r-le, r-lt, r-and, cond-true, cond-false}
 use Rattle.number.specs.Number.{numberAt}
 use Rattle.number.specs.declared.Read.the-variants.{Number, Unreadable}
@@ -47,7 +49,7 @@ bytes-of : (input : Input) (bytes : List ℕ) → bufferOf input bytes .bytes �
 bytes-of Job bytes = refl
 bytes-of Certificate bytes = refl
 
-outside-of : (input : Input) (bytes : List ℕ) → bufferOf input [] .outside ≡ bufferOf input bytes .outside
+pub outside-of : (input : Input) (bytes : List ℕ) → bufferOf input [] .outside ≡ bufferOf input bytes .outside
 outside-of Job bytes = refl
 outside-of Certificate bytes = refl
 
@@ -79,3 +81,7 @@ module _ (input : Input) (bytes : List ℕ) (at low limit : ℕ) where
 
 pub in-range : (s : Buffer) (low limit at n next : ℕ) → ranged s low limit at ≡ parsed n next → (low ≤ n) × (n < limit)
 in-range s low limit at n next h = ranged-exact s low limit .sound at n next h .1
+
+-- a test that the number fails makes nothing of it
+pub such-none : (test : ℕ → Bool) (n : ℕ) → ¬ T (test n) → such test n ≡ none
+such-none test n h = cond-false (test n) (some n) none h

@@ -12,6 +12,7 @@ use Rattle.format.specs.Job.{readLocated}
 use Rattle.format.specs.Parser.{Reason, refusal, Parsed, parsed, fault, many, Buffer, jobBuffer, ranged, end}
 use Rattle.format.proofs.Parsing.{then, then-fault, ranged-exact}
 use Rattle.format.proofs.Sequence.{reads-one}
+use Rattle.layout.specs.Entries.{versionOf}
 use Rattle.number.specs.Number.{numberAt}
 use Rattle.number.specs.declared.Read.the-variants.{Number}
 use Rattle.reader.specs.Job.{readRest}
@@ -53,18 +54,18 @@ module _ (s : Buffer) (at : ℕ) where
   pub preamble-fault : (why : Reason) (place : ℕ) → readPreamble s at ≡ fault why place → (why ≡ s .unreadable) ⊎ (why ≡ s .outside)
   unfolding readPreamble
   preamble-fault why place =
-      then-fault (ranged s 1 2 at) _
+      then-fault (ranged s 1 3 at) _
       (λ version p₁ h₁. then-fault (ranged s 1 9 p₁) _
       (λ variables p₂ h₂. then-fault (ranged s 1 65 p₂) _
       (λ states p₃ h₃. then-fault (ranged s 0 states p₃) _
       (λ start p₄ h₄. then-fault (ranged s 0 257 p₄) _
       (λ transitions p₅ h₅ e. let z : _≡_ {A = ℕ} 0 1 = cc in absurd (omega arith)) (ranged-fault s 0 257 p₄ why place))
-      (ranged-fault s 0 states p₃ why place)) (ranged-fault s 1 65 p₂ why place)) (ranged-fault s 1 9 p₁ why place)) (ranged-fault s 1 2 at why place)
+      (ranged-fault s 0 states p₃ why place)) (ranged-fault s 1 65 p₂ why place)) (ranged-fault s 1 9 p₁ why place)) (ranged-fault s 1 3 at why place)
 
   pub preamble-variables : (f : Preamble) (next : ℕ) → readPreamble s at ≡ parsed f next → f .variables ≤ 8
   unfolding readPreamble
   preamble-variables f next =
-      then (ranged s 1 2 at) _
+      then (ranged s 1 3 at) _
       (λ version p₁ h₁. then (ranged s 1 9 p₁) _
       (λ variables p₂ h₂. then (ranged s 1 65 p₂) _
       (λ states p₃ h₃. then (ranged s 0 states p₃) _
@@ -78,14 +79,14 @@ module _ (s : Buffer) (at : ℕ) where
   pub preamble-place : (f : Preamble) (next : ℕ) → readPreamble s at ≡ parsed f next → numberAt (s .bytes) (at + 4) ≡ Number (f .transitions) (f .at)
   unfolding readPreamble
   preamble-place f next =
-      then (ranged s 1 2 at) _
+      then (ranged s 1 3 at) _
       (λ version p₁ h₁. then (ranged s 1 9 p₁) _
       (λ variables p₂ h₂. then (ranged s 1 65 p₂) _
       (λ states p₃ h₃. then (ranged s 0 states p₃) _
       (λ start p₄ h₄. then (ranged s 0 257 p₄) _
       (λ transitions p₅ h₅ r.
       let (_, most) = in-range s 1 65 p₂ states p₃ h₃ in
-      let one₁ = one-byte s 1 2 at version p₁ h₁ (omega arith) in
+      let one₁ = one-byte s 1 3 at version p₁ h₁ (omega arith) in
       let one₂ = one-byte s 1 9 p₁ variables p₂ h₂ (omega arith) in
       let one₃ = one-byte s 1 65 p₂ states p₃ h₃ (omega arith) in
       let one₄ = one-byte s 0 states p₃ start p₄ h₄ (omega arith) in
@@ -106,16 +107,16 @@ module _ (job : List ℕ) (f : Preamble) (at : ℕ) where
   lost-bads e = rw e refl
 
   module _ {bads p : ℕ} (e₁ : ranged s 1 65 at ≡ parsed bads p) where
-    pub lost-forbidden : {why : Reason} {place : ℕ} → withoutValue (many bads (readLocated s (f .variables) (f .states)) p) ≡ fault why place
+    pub lost-forbidden : {why : Reason} {place : ℕ} → withoutValue (many bads (readLocated (versionOf job) s (f .variables) (f .states)) p) ≡ fault why place
         → readRest job f at ≡ fault why place
     unfolding readRest
-    lost-forbidden {why} {place} e = rw (e₁, without-value-fault (many bads (readLocated s (f .variables) (f .states)) p) why place e) refl
+    lost-forbidden {why} {place} e = rw (e₁, without-value-fault (many bads (readLocated (versionOf job) s (f .variables) (f .states)) p) why place e) refl
 
-    module _ {last : ℕ} (e₂ : withoutValue (many bads (readLocated s (f .variables) (f .states)) p) ≡ parsed tt last) where
+    module _ {last : ℕ} (e₂ : withoutValue (many bads (readLocated (versionOf job) s (f .variables) (f .states)) p) ≡ parsed tt last) where
       pub left-over : last < length job → readRest job f at ≡ fault (refusal 5) last
       unfolding readRest end
       left-over h =
-          let (ms, e₃) = remembered (many bads (readLocated s (f .variables) (f .states)) p) last e₂ in
+          let (ms, e₃) = remembered (many bads (readLocated (versionOf job) s (f .variables) (f .states)) p) last e₂ in
           rw (e₁, e₃, lt-leb (length job) last h) refl
 
       pub rest-made : length job ≤ last
@@ -133,5 +134,5 @@ module _ (job : List ℕ) (f : Preamble) (at : ℕ) where
           last
       unfolding readRest end
       rest-made h =
-          let (ms, e₃) = remembered (many bads (readLocated s (f .variables) (f .states)) p) last e₂ in
+          let (ms, e₃) = remembered (many bads (readLocated (versionOf job) s (f .variables) (f .states)) p) last e₂ in
           rw (e₁, e₃, le-leb (length job) last h) refl

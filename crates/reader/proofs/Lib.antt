@@ -1,9 +1,11 @@
 pub mod Answers
 pub mod Many
+pub mod Facts
 pub mod Entries
 pub mod Transitions
 pub mod Jobs
 pub mod Bytes
+pub mod FactBytes
 pub mod Standing
 pub mod WholeJob
 pub mod Testing

@@ -1,25 +1,28 @@
 -- Members with a table of their first places.
+use mathlib.Core.Bool.{true}
 use mathlib.Core.List.{List, [], _∷_, _++_, map, append-nil, append-assoc}
 use mathlib.Core.Path.{_≡_, refl, sym, ap, ap₂, subst, _∙_}
 use Prim.Native.Nat.{ℕ, zero, suc, _+_, _-_, _%_, _≤_, _<_}
 use native.Mathlib.Nat.{mod-eq-of-lt}
 use native.Mathlib.Numerals.{add-one}
 use native.Mathlib.Omega.{arith}
+use borrow.Author.Tests.{eq-eqb, ne-eqb}
+use lib.Dec.{eqb}
 use lib.ListN.{length, getD, take, drop, set, length-set, length-map, length-append, length-drop, take-append-drop}
 use lib.Seq.{length-take-le, take-suc-set, take-at, drop-set-lt, drop-drop}
 use Rattle.run.specs.Run.{Located}
 use Rattle.format.specs.Certificate.{Member, readMember, readMembers}
 use Rattle.format.specs.Job.{readLocated}
-use Rattle.format.specs.Parser.{Reason, Parsed, parsed, fault, Parser, onward, Buffer, certificateBuffer, many, ranged}
+use Rattle.format.specs.Parser.{Reason, refusal, Parsed, parsed, fault, Parser, onward, Buffer, certificateBuffer, many, ranged}
 use Rattle.format.proofs.Covers.{members-sound}
 use Rattle.format.proofs.Parsing.{then, ranged-exact}
 use Rattle.format.proofs.Sequence.{reads-one, reads-inside}
-use Rattle.layout.specs.Entries.{locatedAt, EntryInRange, entryEnd, placesAt, EntriesIn}
+use Rattle.layout.specs.Entries.{versionOf, locatedAt, EntryInRange, entryEnd, placesAt, EntriesIn}
 use Rattle.reader.specs.Members.{Bounds, placesRead, memberPlaces, withPlaces, tested, readTested, MembersRead}
 use Rattle.reader.specs.Number.{withoutValue}
 use Rattle.number.proofs.Reading.{number-inside}
 use Rattle.reader.proofs.Many.{remembered, without-value-fault, without-value-made, many-length, Left, left-none, left-more}
-use Rattle.reader.proofs.Standing.{MembersAre, members-read}
+use Rattle.reader.proofs.Standing.{version-read, MembersAre, members-read}
 use Rattle.reader.proofs.Testing.{all-read}
 
 -- ---- the table while values are read: i of them are, up to the place `at`
@@ -120,97 +123,110 @@ module _ (cert : List ℕ) (variables states : ℕ) where
   s = certificateBuffer cert
 
   -- a member is read as its entry is
-  pub as-entry : (at : ℕ) → withoutValue (readLocated s variables states at) ≡ withoutValue (readMember s variables states at)
+  pub as-entry : (at : ℕ) → withoutValue (readLocated (versionOf cert) s variables states at) ≡ withoutValue (readMember s (versionOf cert) variables states at)
   unfolding readMember
-  as-entry at = let member : Located → Member = λ l. record { first = at; located = l } in without-value-made (readLocated s variables states at) member
+  as-entry at = let member : Located → Member = λ l. record { first = at; located = l } in without-value-made (readLocated (versionOf cert) s variables states at) member
 
   -- the places at which members were read are their first places
-  firsts : (k at : ℕ) (ms : List Member) (next : ℕ) → many k (readMember s variables states) at ≡ parsed ms next
-      → placesRead k (readMember s variables states) at ≡ map (λ m. m .first) ms
+  firsts : (k at : ℕ) (ms : List Member) (next : ℕ) → many k (readMember s (versionOf cert) variables states) at ≡ parsed ms next
+      → placesRead k (readMember s (versionOf cert) variables states) at ≡ map (λ m. m .first) ms
   unfolding many readMember placesRead
   firsts zero at ms next e = let ms-are : [] ≡ ms = cc in ap (map (λ m. m .first)) ms-are
   firsts (suc k) at ms next e =
-      then (readMember s variables states at) _
-      (λ m mid h₁. then (many k (readMember s variables states) mid) _
-      (λ rest last h₂ r. then (readLocated s variables states at) _
+      then (readMember s (versionOf cert) variables states at) _
+      (λ m mid h₁. then (many k (readMember s (versionOf cert) variables states) mid) _
+      (λ rest last h₂ r. then (readLocated (versionOf cert) s variables states at) _
       (λ l c h₃ q.
       let m-is : record { first = at; located = l } ≡ m = cc in
       let ms-are : m ∷ rest ≡ ms = cc in
       let later = firsts k mid rest last h₂ in
-      rw (← ms-are, ← m-is) (places-more (readMember s variables states) k at mid (ap withoutValue h₁) ∙ ap (λ ps. at ∷ ps) later))
+      rw (← ms-are, ← m-is) (places-more (readMember s (versionOf cert) variables states) k at mid (ap withoutValue h₁) ∙ ap (λ ps. at ∷ ps) later))
       h₁))
       e
 
   -- ---- the certificate's first bytes
 
-  module _ (start : ℕ) where
-    pub lost-version : {why : Reason} {place : ℕ} → ranged s 1 2 0 ≡ fault why place
-        → (readTested s variables states start 0 ≡ fault why place) × (memberPlaces s variables states ≡ [])
+  module _ (version start : ℕ) where
+    pub lost-version : {why : Reason} {place : ℕ} → ranged s 1 3 0 ≡ fault why place
+        → (readTested s version variables states start 0 ≡ fault why place) × (memberPlaces s version variables states ≡ [])
     unfolding readTested readMembers memberPlaces
     lost-version e = rw e (refl, refl)
 
-    module _ {version a : ℕ} (e₁ : ranged s 1 2 0 ≡ parsed version a) where
-      pub lost-number : {why : Reason} {place : ℕ} → ranged s 1 513 a ≡ fault why place
-          → (readTested s variables states start 0 ≡ fault why place) × (memberPlaces s variables states ≡ [])
+    module _ {own a : ℕ} (e₁ : ranged s 1 3 0 ≡ parsed own a) where
+      own-is : own ≡ versionOf cert
+      own-is = version-read s own a e₁
+
+      pub versions-differ : (versionOf cert ≡ version → ⊥)
+          → (readTested s version variables states start 0 ≡ fault (refusal 20) 0) × (memberPlaces s version variables states ≡ [])
       unfolding readTested readMembers memberPlaces
-      lost-number e = rw (e₁, e) (refl, refl)
+      versions-differ d = rw (e₁, ne-eqb own version (λ z. d (sym own-is ∙ z))) (refl, refl)
 
-      module _ {count first : ℕ} (e₂ : ranged s 1 513 a ≡ parsed count first) where
-        abbrev all : Parsed (List Member)
-        all = many count (readMember s variables states) first
+      module _ (same : versionOf cert ≡ version) where
+        alike : eqb own version ≡ true
+        alike = eq-eqb own version (own-is ∙ same)
 
-        pub places-are : memberPlaces s variables states ≡ placesRead count (readMember s variables states) first
-        unfolding memberPlaces
-        places-are = rw (e₁, e₂) refl
+        pub lost-number : {why : Reason} {place : ℕ} → ranged s 1 513 a ≡ fault why place
+            → (readTested s version variables states start 0 ≡ fault why place) × (memberPlaces s version variables states ≡ [])
+        unfolding readTested readMembers memberPlaces
+        lost-number e = rw (e₁, alike, e) (refl, refl)
 
-        reading-is : readMembers s variables states 0 ≡ all
-        unfolding readMembers
-        reading-is = rw (e₁, e₂) refl
+        module _ {count first : ℕ} (e₂ : ranged s 1 513 a ≡ parsed count first) where
+          abbrev all : Parsed (List Member)
+          all = many count (readMember s (versionOf cert) variables states) first
 
-        testing-is : readTested s variables states start 0 ≡ onward all (tested start)
-        unfolding readTested
-        testing-is = ap (λ x. onward x (tested start)) reading-is
+          pub places-are : memberPlaces s version variables states ≡ placesRead count (readMember s (versionOf cert) variables states) first
+          unfolding memberPlaces
+          places-are = rw (e₁, alike, e₂) (ap (λ v. placesRead count (readMember s v variables states) first) (sym same))
 
-        pub lost-test : {why : Reason} {place : ℕ} → withoutValue (onward all (tested start)) ≡ fault why place
-            → readTested s variables states start 0 ≡ fault why place
-        lost-test {why} {place} e = testing-is ∙ without-value-fault (onward all (tested start)) why place e
+          reading-is : readMembers s version variables states 0 ≡ all
+          unfolding readMembers
+          reading-is = rw (e₁, alike, e₂) (ap (λ v. many count (readMember s v variables states) first) (sym same))
 
-        pub members-made : (before table : List ℕ) (next : ℕ) → table ≡ withPlaces (placesRead count (readMember s variables states) first) before
-            → withoutValue (onward all (tested start)) ≡ parsed tt next → length before ≡ 512 → MembersRead cert variables states start table count next
-        members-made before table next n t full =
-            let (ms, (g, passed)) = all-read start all next t in
-            let read : readTested s variables states start 0 ≡ parsed ms next = testing-is ∙ ap (λ x. onward x (tested start)) g ∙ passed in
-            let (number-read, (low, high)) = ranged-exact s 1 513 .sound a count first e₂ in
-            let first-inside : first ≤ length cert = number-inside cert a count first (reads-one number-read) in
-            let next-inside : next ≤ length cert = reads-inside (members-sound s variables states 0 ms next (reading-is ∙ g) .0) (omega arith) in
-            let number : length ms ≡ count = many-length (readMember s variables states) count first ms next g in
-            let places : List ℕ = placesRead count (readMember s variables states) first in
-            let firsts-are : places ≡ map (λ m. m .first) ms = firsts count first ms next g in
-            let places-number : length (map slot places) ≡ count = length-map places slot ∙ ap length firsts-are ∙ length-map ms (λ m. m .first) ∙ number in
-            let taken : take count table ≡ map slot places = ap (take count) n ∙ take-at (map slot places) (drop (length places) before) count places-number in
-            let taken-number : length (take count table) ≡ count = ap length taken ∙ places-number in
-            let are : (b : Bounds cert variables states) → MembersAre s variables states (b .states-most) count first ms next = λ b.
-            members-read s variables states (b .states-most) count first ms next first-inside g in
-            let slots : Bounds cert variables states → take count table ≡ placesAt cert variables first count = λ b.
-            taken ∙ ap (map slot) (firsts-are ∙ are b .places) ∙ entries-fit cert variables count first (b .fits) (are b .entries) in
-            record {
-              members = ms;
-              read = read;
-              number = number;
-              number-range = (low, omega arith);
-              inside = omega arith;
-              size =
-                  ap length n ∙ length-append (map slot places) (drop (length places) before)
-                  ∙ omega (arith, places-number, length-map places slot, length-drop (length places) before);
-              places-are = λ b. are b .places ∙ sym (slots b);
-              members-are = λ b. are b .located ∙ ap (map (locatedAt cert variables)) (sym (slots b));
-              table-is = λ b.
-                  record {
-                    variables-some = b .variables-range .0;
-                    variables-most = b .variables-range .1;
-                    count-most = omega (arith, taken-number);
-                    entry = λ i h.
-                        subst (EntryInRange cert variables) (ap (λ l. getD l i 0) (sym (slots b)))
-                        (entry-of cert variables count first i (are b .entries) (omega (arith, taken-number)));
-                  };
-            }
+          testing-is : readTested s version variables states start 0 ≡ onward all (tested start)
+          unfolding readTested
+          testing-is = ap (λ x. onward x (tested start)) reading-is
+
+          pub lost-test : {why : Reason} {place : ℕ} → withoutValue (onward all (tested start)) ≡ fault why place
+              → readTested s version variables states start 0 ≡ fault why place
+          lost-test {why} {place} e = testing-is ∙ without-value-fault (onward all (tested start)) why place e
+
+          pub members-made : (before table : List ℕ) (next : ℕ) → table ≡ withPlaces (placesRead count (readMember s (versionOf cert) variables states) first) before
+              → withoutValue (onward all (tested start)) ≡ parsed tt next → length before ≡ 512 → MembersRead cert version variables states start table count next
+          members-made before table next n t full =
+              let (ms, (g, passed)) = all-read start all next t in
+              let read : readTested s version variables states start 0 ≡ parsed ms next = testing-is ∙ ap (λ x. onward x (tested start)) g ∙ passed in
+              let (number-read, (low, high)) = ranged-exact s 1 513 .sound a count first e₂ in
+              let first-inside : first ≤ length cert = number-inside cert a count first (reads-one number-read) in
+              let next-inside : next ≤ length cert = reads-inside (members-sound s version variables states 0 ms next (reading-is ∙ g) .0) (omega arith) in
+              let number : length ms ≡ count = many-length (readMember s (versionOf cert) variables states) count first ms next g in
+              let places : List ℕ = placesRead count (readMember s (versionOf cert) variables states) first in
+              let firsts-are : places ≡ map (λ m. m .first) ms = firsts count first ms next g in
+              let places-number : length (map slot places) ≡ count = length-map places slot ∙ ap length firsts-are ∙ length-map ms (λ m. m .first) ∙ number in
+              let taken : take count table ≡ map slot places = ap (take count) n ∙ take-at (map slot places) (drop (length places) before) count places-number in
+              let taken-number : length (take count table) ≡ count = ap length taken ∙ places-number in
+              let are : (b : Bounds cert variables states) → MembersAre s variables states (b .states-most) count first ms next = λ b.
+              members-read s variables states (b .states-most) count first ms next first-inside g in
+              let slots : Bounds cert variables states → take count table ≡ placesAt cert variables first count = λ b.
+              taken ∙ ap (map slot) (firsts-are ∙ are b .places) ∙ entries-fit cert variables count first (b .fits) (are b .entries) in
+              record {
+                members = ms;
+                read = read;
+                version-is = sym same;
+                number = number;
+                number-range = (low, omega arith);
+                inside = omega arith;
+                size =
+                    ap length n ∙ length-append (map slot places) (drop (length places) before)
+                    ∙ omega (arith, places-number, length-map places slot, length-drop (length places) before);
+                places-are = λ b. are b .places ∙ sym (slots b);
+                members-are = λ b. are b .located ∙ ap (map (locatedAt cert variables)) (sym (slots b));
+                table-is = λ b.
+                    record {
+                      variables-some = b .variables-range .0;
+                      variables-most = b .variables-range .1;
+                      count-most = omega (arith, taken-number);
+                      entry = λ i h.
+                          subst (EntryInRange cert variables) (ap (λ l. getD l i 0) (sym (slots b)))
+                          (entry-of cert variables count first i (are b .entries) (omega (arith, taken-number)));
+                    };
+              }

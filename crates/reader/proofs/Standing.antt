@@ -9,6 +9,7 @@ use lib.ListN.{length, getD, take, drop}
 use Rattle.lists.specs.Range.{range}
 use Rattle.lists.proofs.Reflect.{r-le, r-and}
 use Rattle.heap.specs.Operation.{kindOf}
+use Rattle.heap.specs.Place.{cell}
 use Rattle.heap.proofs.Rows.{in-table}
 use Rattle.shape.specs.Shape.{InRange}
 use Rattle.run.specs.Run.{Transition, Located}
@@ -17,19 +18,33 @@ use Rattle.number.specs.declared.Read.the-variants.{Number}
 use Rattle.kinds.specs.Kinds.{mostB, isSome, allowed}
 use Rattle.kinds.proofs.Rows.{known, most-bound}
 use Rattle.format.specs.Certificate.{Member, readMember}
-use Rattle.format.specs.Job.{readLocated, readTransition}
-use Rattle.format.specs.Parser.{parsed, many, Buffer}
+use Rattle.format.specs.Job.{readFacts, readLocated, readTransition}
+use Rattle.format.specs.Parser.{parsed, many, Buffer, ranged}
 use Rattle.format.proofs.Files.{op-numbers, located-exact, transition-exact}
-use Rattle.format.proofs.Parsing.{then}
-use Rattle.format.proofs.Sequence.{Reads, reads-first, reads-one, reads-split, reads-inside}
-use Rattle.layout.specs.Entries.{locatedAt, EntryInRange, entryEnd, entriesAt, placesAt, EntriesIn}
+use Rattle.format.proofs.Parsing.{then, ranged-exact, codes-exact}
+use Rattle.format.proofs.Sequence.{Reads, one, reads-first, reads-one, reads-split, reads-inside}
+use Rattle.layout.specs.Entries.{versionOf, factsFrom, factsEnd, linksEnd, locatedAt, EntryInRange, entryEnd, entriesAt, placesAt, EntriesIn}
 use Rattle.layout.specs.Transitions.{opOf, transitionAt}
 use Rattle.reader.specs.Job.{TransitionIn}
+use Rattle.reader.specs.Number.{withoutValue}
 use Rattle.reader.proofs.Bytes.{Single, single, reads-bytes}
+use Rattle.reader.proofs.Entries.{facts-last}
+use Rattle.reader.proofs.FactBytes.{facts-stand}
+
+-- ---- the version of a file, which is its first byte
+
+pub version-read : (s : Buffer) (version a : ℕ) → ranged s 1 3 0 ≡ parsed version a → version ≡ versionOf (s .bytes)
+version-read s version a e =
+    let (g, (_, small)) = ranged-exact s 1 3 .sound 0 version a e in
+    single (s .bytes) 0 version a (reads-one g) (omega arith) .value
 
 -- ---- an entry by the place after its state
 
 module _ (s : Buffer) (variables states : ℕ) where
+  -- where its facts begin, if its number of cells is at a
+  abbrev factsAt : ℕ → ℕ
+  factsAt a = a + 1 + variables + getD (s .bytes) a 0
+
   pub record EntryAfter (at a : ℕ) (m : Located) (next : ℕ) : Type 0 where
     pub number : numberAt (s .bytes) at ≡ Number (m .state) a
     pub state : m .state < states
@@ -38,23 +53,38 @@ module _ (s : Buffer) (variables states : ℕ) where
     pub cells : length (m .shape .links) ≡ getD (s .bytes) a 0
     pub vars : m .shape .vars ≡ take variables (drop (a + 1) (s .bytes))
     pub links : m .shape .links ≡ take (length (m .shape .links)) (drop (a + 1 + variables) (s .bytes))
-    pub after : next ≡ a + 1 + variables + getD (s .bytes) a 0
+    pub facts : m .shape .facts ≡ factsFrom (s .bytes) (factsAt a)
+    pub after : next ≡ factsEnd (s .bytes) (factsAt a)
+    pub links-inside : factsAt a ≤ length (s .bytes)
     pub inside : next ≤ length (s .bytes)
+    pub read-facts : withoutValue (readFacts s (getD (s .bytes) a 0) (versionOf (s .bytes)) (factsAt a)) ≡ parsed tt next
 
-  pub entry-after : (at : ℕ) (m : Located) (next : ℕ) → readLocated s variables states at ≡ parsed m next → (a : ℕ) × EntryAfter at a m next
+  pub entry-after : (at : ℕ) (m : Located) (next : ℕ) → readLocated (versionOf (s .bytes)) s variables states at ≡ parsed m next
+      → (a : ℕ) × EntryAfter at a m next
   entry-after at m next h =
-      let (r, ok) = located-exact s variables states .sound at m next h in
+      let version = versionOf (s .bytes) in
+      let (r, ok) = located-exact version s variables states .sound at m next h in
+      let n = length (m .shape .links) in
       let vars : List ℕ = m .shape .vars in
       let links : List ℕ = m .shape .links in
       let (a, g₁, r₁) = reads-first r in
       let (b, g₂, r₂) = reads-first r₁ in
-      let (c, r₃, r₄) = reads-split vars r₂ in
-      let cells : length links ≤ 12 = ok .shape .cells in
+      let (c, r₃, r′) = reads-split vars r₂ in
+      let (d, r₄, r₅) = reads-split links r′ in
+      let cells : n ≤ 12 = ok .shape .cells in
       let t = single (s .bytes) a (length links) b g₂ (omega arith) in
       let (vars-are, c-is) = reads-bytes r₃ (λ x i. omega (arith, ok .shape .vars x i)) in
-      let (links-are, next-is) = reads-bytes r₄ (λ x i. omega (arith, ok .shape .links x i)) in
+      let (links-are, d-is) = reads-bytes r₄ (λ x i. omega (arith, ok .shape .links x i)) in
       let long : length vars ≡ variables = ok .shape .variables-number in
-      let links-at : c ≡ a + 1 + variables = omega (arith, t .after) in (
+      let links-at : c ≡ a + 1 + variables = omega (arith, t .after) in
+      let facts-at : d ≡ factsAt a = omega (arith, t .value) in
+      let (facts-are, next-is) = facts-stand (s .bytes) n d (m .shape .facts) next cells (ok .shape .facts) (ok .facts) r₅ in
+      let code : cell n ≡ 3 + n = omega arith in
+      let last : withoutValue (readFacts s n version d) ≡ withoutValue (readLocated version s variables states at) =
+      facts-last version s variables states at (ranged-exact s 0 states .complete at (m .state) a (one g₁) (omega arith, ok .state))
+      (ranged-exact s 0 13 .complete a n b (one g₂) (omega arith, omega arith))
+      (ap withoutValue (rw code at (codes-exact s variables (cell n) .complete b vars c r₃ (long, ok .shape .vars))))
+      (ap withoutValue (rw code at (codes-exact s n (cell n) .complete c links d r₄ (refl, ok .shape .links)))) in (
         a,
         record {
           number = g₁;
@@ -64,8 +94,11 @@ module _ (s : Buffer) (variables states : ℕ) where
           cells = t .value;
           vars = rw (long, t .after) at vars-are;
           links = rw links-at at links-are;
-          after = omega (arith, t .value);
+          facts = rw facts-at at facts-are;
+          after = rw facts-at at next-is;
+          links-inside = omega (arith, reads-inside r₄ (omega (arith, reads-inside r₃ (omega (arith, t .inside, t .after)))));
           inside = reads-inside r₁ (omega (arith, t .inside));
+          read-facts = sym (ap₂ (λ k p. withoutValue (readFacts s k version p)) (t .value) facts-at) ∙ last ∙ ap withoutValue h;
         },
       )
 
@@ -78,26 +111,31 @@ module _ (s : Buffer) (variables states : ℕ) (few : states ≤ 64) where
     pub entry : EntryInRange (s .bytes) variables at
 
   located-is : (at n : ℕ) (m : Located) (b c : ℕ) → m .state ≡ getD (s .bytes) at 0 → n ≡ getD (s .bytes) (at + 1) 0 → b ≡ at + 2 → c ≡ at + 2 + variables
-      → m .shape .vars ≡ take variables (drop b (s .bytes)) → m .shape .links ≡ take n (drop c (s .bytes)) → m ≡ locatedAt (s .bytes) variables at
-  located-is at n m b c state-is n-is b-is c-is vars-are links-are =
+      → m .shape .vars ≡ take variables (drop b (s .bytes)) → m .shape .links ≡ take n (drop c (s .bytes))
+      → m .shape .facts ≡ factsFrom (s .bytes) (linksEnd (s .bytes) variables at) → m ≡ locatedAt (s .bytes) variables at
+  located-is at n m b c state-is n-is b-is c-is vars-are links-are facts-are =
       let vars-at : m .shape .vars ≡ take variables (drop (at + 2) (s .bytes)) = rw b-is at vars-are in
       let links-at : m .shape .links ≡ take (getD (s .bytes) (at + 1) 0) (drop (at + 2 + variables) (s .bytes)) = rw (c-is, n-is) at links-are in
-      λ i. record { state = state-is i; shape = record { vars = vars-at i; links = links-at i } }
+      λ i. record { state = state-is i; shape = record { vars = vars-at i; links = links-at i; facts = facts-are i } }
 
-  pub entry-read : (at : ℕ) (m : Located) (next : ℕ) → readLocated s variables states at ≡ parsed m next → EntryRead at m next
+  pub entry-read : (at : ℕ) (m : Located) (next : ℕ) → readLocated (versionOf (s .bytes)) s variables states at ≡ parsed m next → EntryRead at m next
   entry-read at m next h =
       let (a, e) = entry-after s variables states at m next h in
       let t = single (s .bytes) at (m .state) a (e .number) (omega (arith, e .state)) in
       let a-is : a ≡ at + 1 = t .after in
       let n-at : getD (s .bytes) a 0 ≡ getD (s .bytes) (at + 1) 0 = ap (λ k. getD (s .bytes) k 0) a-is in
+      let facts-at : a + 1 + variables + getD (s .bytes) a 0 ≡ linksEnd (s .bytes) variables at = omega (arith, n-at) in
       let cells : length (m .shape .links) ≤ 12 = e .shape .cells in
       let same : m ≡ locatedAt (s .bytes) variables at =
-      located-is at (length (m .shape .links)) m (a + 1) (a + 1 + variables) (t .value) (e .cells ∙ n-at) (omega arith) (omega arith) (e .vars) (e .links) in
+      located-is at (length (m .shape .links)) m (a + 1) (a + 1 + variables) (t .value) (e .cells ∙ n-at) (omega arith) (omega arith) (e .vars) (e .links)
+      (e .facts ∙ ap (factsFrom (s .bytes)) facts-at) in
+      let after : next ≡ entryEnd (s .bytes) variables at = e .after ∙ ap (factsEnd (s .bytes)) facts-at in
       record {
         same = same;
-        after = omega (arith, e .after);
+        after = after;
         entry = record {
-          inside = omega (arith, e .after, e .inside);
+          inside = omega (arith, e .links-inside, facts-at);
+          facts-inside = omega (arith, after, e .inside);
           cells = omega (arith, e .cells);
           state = omega (arith, t .value, e .state);
           range = subst (λ (k : Located). InRange variables 12 (k .shape)) same (e .shape);
@@ -110,16 +148,16 @@ module _ (s : Buffer) (variables states : ℕ) (few : states ≤ 64) where
     pub same : ms ≡ entriesAt (s .bytes) variables at k
     pub entries : EntriesIn (s .bytes) variables at k
 
-  pub entries-read : (k at : ℕ) (ms : List Located) (next : ℕ) → at ≤ length (s .bytes) → many k (readLocated s variables states) at ≡ parsed ms next
+  pub entries-read : (k at : ℕ) (ms : List Located) (next : ℕ) → at ≤ length (s .bytes) → many k (readLocated (versionOf (s .bytes)) s variables states) at ≡ parsed ms next
       → EntriesRead k at ms next
   unfolding many entriesAt EntriesIn
   entries-read zero at ms next inside h = let ms-are : [] ≡ ms = cc in record { same = sym ms-are; entries = inside }
   entries-read (suc k) at ms next inside h =
-      then (readLocated s variables states at) _
-      (λ m mid h₁. then (many k (readLocated s variables states) mid) _
+      then (readLocated (versionOf (s .bytes)) s variables states at) _
+      (λ m mid h₁. then (many k (readLocated (versionOf (s .bytes)) s variables states) mid) _
       (λ rest last h₂ r.
       let e = entry-read at m mid h₁ in
-      let es = entries-read k mid rest last (omega (arith, e .after, e .entry .inside)) h₂ in
+      let es = entries-read k mid rest last (omega (arith, e .after, e .entry .facts-inside)) h₂ in
       let ms-are : m ∷ rest ≡ ms = cc in
       record {
         same = sym ms-are ∙ ap₂ _∷_ (e .same) (es .same ∙ ap (λ p. entriesAt (s .bytes) variables p k) (e .after));
@@ -134,22 +172,22 @@ module _ (s : Buffer) (variables states : ℕ) (few : states ≤ 64) where
     pub places : map (λ m. m .first) ms ≡ placesAt (s .bytes) variables at k
     pub entries : EntriesIn (s .bytes) variables at k
 
-  pub members-read : (k at : ℕ) (ms : List Member) (next : ℕ) → at ≤ length (s .bytes) → many k (readMember s variables states) at ≡ parsed ms next
+  pub members-read : (k at : ℕ) (ms : List Member) (next : ℕ) → at ≤ length (s .bytes) → many k (readMember s (versionOf (s .bytes)) variables states) at ≡ parsed ms next
       → MembersAre k at ms next
   unfolding many readMember placesAt EntriesIn
   members-read zero at ms next inside h =
       let ms-are : [] ≡ ms = cc in
       rw (← ms-are) (record { located = refl; places = refl; entries = inside })
   members-read (suc k) at ms next inside h =
-      then (readMember s variables states at) _
-      (λ m mid h₀. then (many k (readMember s variables states) mid) _
-      (λ rest last h₂ r. then (readLocated s variables states at) _
+      then (readMember s (versionOf (s .bytes)) variables states at) _
+      (λ m mid h₀. then (many k (readMember s (versionOf (s .bytes)) variables states) mid) _
+      (λ rest last h₂ r. then (readLocated (versionOf (s .bytes)) s variables states at) _
       (λ l p h₁ q.
       let m-is : record { first = at; located = l } ≡ m = cc in
       let p-is : p ≡ mid = cc in
       let e = entry-read at l p h₁ in
       let after : mid ≡ entryEnd (s .bytes) variables at = sym p-is ∙ e .after in
-      let es = members-read k mid rest last (omega (arith, e .entry .inside)) h₂ in
+      let es = members-read k mid rest last (omega (arith, e .entry .facts-inside)) h₂ in
       let ms-are : m ∷ rest ≡ ms = cc in
       rw (← ms-are, ← m-is) (record {
         located = ap₂ _∷_ (e .same) (es .located ∙ ap (λ p. map (locatedAt (s .bytes) variables) (placesAt (s .bytes) variables p k)) after);
@@ -170,11 +208,11 @@ module _ (s : Buffer) (variables states : ℕ) (few : states ≤ 64) where
     byte-at : (at k p n next : ℕ) → Single (s .bytes) p n next → p ≡ at + k → n ≡ getD (s .bytes) (at + k) 0
     byte-at at k p n next t e = t .value ∙ ap (λ q. getD (s .bytes) q 0) e
 
-    pub transition-read : (at : ℕ) (t : Transition) (next : ℕ) → readTransition s variables states at ≡ parsed t next → TransitionRead at t next
+    pub transition-read : (at : ℕ) (t : Transition) (next : ℕ) → readTransition (versionOf (s .bytes)) s variables states at ≡ parsed t next → TransitionRead at t next
     unfolding allowed mostB
     transition-read at t next h =
-        let (r, ok) = transition-exact s variables states .sound at t next h in
-        let (kind, a, b, named) = ok .op in
+        let (r, ok) = transition-exact (versionOf (s .bytes)) s variables states .sound at t next h in
+        let (kind, a, b, (_, named)) = ok .op in
         let row = in-table variables kind a b (t .op) named in
         let r′ : Reads (s .bytes) at (t .from ∷ kind ∷ a ∷ b ∷ t .to ∷ []) next =
         subst (λ (l : List ℕ). Reads (s .bytes) at (t .from ∷ l ++ (t .to ∷ [])) next) (op-numbers variables kind a b (t .op) named) r in
@@ -213,7 +251,7 @@ module _ (s : Buffer) (variables states : ℕ) (few : states ≤ 64) where
 
     -- transitions, the first of them number j of those that start at `base`
     pub transitions-read : (base k j at : ℕ) (ts : List Transition) (next : ℕ) → at ≡ base + 5 * j
-        → many k (readTransition s variables states) at ≡ parsed ts next
+        → many k (readTransition (versionOf (s .bytes)) s variables states) at ≡ parsed ts next
         → (ts ≡ map (λ i. transitionAt (s .bytes) (base + 5 * i)) (range j k))
         × ((i : ℕ) → j ≤ i → i < j + k → TransitionIn (s .bytes) variables states (base + 5 * i))
         × (next ≡ base + 5 * (j + k))
@@ -223,8 +261,8 @@ module _ (s : Buffer) (variables states : ℕ) (few : states ≤ 64) where
         let next-is : at ≡ next = cc in
         (sym ts-are, (λ i l b. absurd (omega arith)), omega arith)
     transitions-read base (suc k) j at ts next at-is h =
-        then (readTransition s variables states at) _
-        (λ t mid h₁. then (many k (readTransition s variables states) mid) _
+        then (readTransition (versionOf (s .bytes)) s variables states at) _
+        (λ t mid h₁. then (many k (readTransition (versionOf (s .bytes)) s variables states) mid) _
         (λ rest last h₂ r.
         let e = transition-read at t mid h₁ in
         let (same, each, end) = transitions-read base k (suc j) mid rest last (omega (arith, e .after)) h₂ in

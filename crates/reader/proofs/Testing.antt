@@ -14,6 +14,7 @@ use Rattle.format.specs.Job.{readLocated}
 use Rattle.format.specs.Parser.{Reason, refusal, Parsed, parsed, fault, Parser, onward, require, many, each, Buffer, certificateBuffer, ranged}
 use Rattle.format.proofs.Parsing.{not-fault, then, require-sound, ranged-exact}
 use Rattle.format.proofs.Sequence.{reads-one}
+use Rattle.layout.specs.Entries.{versionOf}
 use Rattle.reader.specs.Members.{emptyAt, tested}
 use Rattle.reader.specs.Number.{withoutValue}
 use Rattle.number.proofs.Reading.{number-some}
@@ -23,7 +24,7 @@ use Rattle.reader.proofs.Standing.{EntryAfter, entry-after}
 
 -- ---- where a member that was read stands, and its test
 
-module _ (cert : List ℕ) (variables states start at : ℕ) (l : Located) (next : ℕ) (h : readLocated (certificateBuffer cert) variables states at ≡ parsed l next)
+module _ (cert : List ℕ) (variables states start at : ℕ) (l : Located) (next : ℕ) (h : readLocated (versionOf cert) (certificateBuffer cert) variables states at ≡ parsed l next)
   where
     abbrev s : Buffer
     s = certificateBuffer cert
@@ -32,7 +33,7 @@ module _ (cert : List ℕ) (variables states start at : ℕ) (l : Located) (next
     member = record { first = at; located = l }
 
     pub state-read : {why : Reason} {place : ℕ} → ranged s 0 states at ≡ fault why place → ⊥
-    state-read {why} {place} e = not-fault tt next why place (lost-state s variables states at e ∙ ap withoutValue h)
+    state-read {why} {place} e = not-fault tt next why place (lost-state (versionOf cert) s variables states at e ∙ ap withoutValue h)
 
     module _ (a : ℕ) (w : EntryAfter s variables states at a l next) where
       -- its test, by its bytes
@@ -142,7 +143,7 @@ module _ (start : ℕ) (m : Member) (ms : List Member) (mid end : ℕ) where
 
 module _ (cert : List ℕ) (variables states start first count : ℕ) where
   abbrev p : ℕ → Parsed Member
-  p = readMember (certificateBuffer cert) variables states
+  p = readMember (certificateBuffer cert) (versionOf cert) variables states
 
   pub record Testing (at i : ℕ) : Type 0 where
     pub upto : i ≤ count
@@ -166,7 +167,7 @@ module _ (cert : List ℕ) (variables states start first count : ℕ) where
   pub record Next (at i : ℕ) (left : List Member) (end : ℕ) : Type 0 where
     pub located : Located
     pub mid : ℕ
-    pub read : readLocated (certificateBuffer cert) variables states at ≡ parsed located mid
+    pub read : readLocated (versionOf cert) (certificateBuffer cert) variables states at ≡ parsed located mid
     pub others : List Member
     pub read-others : many (count - (i + 1)) p mid ≡ parsed others end
     pub left-are : record { first = at; located = located } ∷ others ≡ left
@@ -178,7 +179,7 @@ module _ (cert : List ℕ) (variables states start first count : ℕ) where
         let less : count - i ≡ suc (count - (i + 1)) = omega arith in
         then (p at) _
         (λ m mid h₁. then (many (count - (i + 1)) p mid) _
-        (λ ms last h₂ r. then (readLocated (certificateBuffer cert) variables states at) _
+        (λ ms last h₂ r. then (readLocated (versionOf cert) (certificateBuffer cert) variables states at) _
         (λ l c h₃ q.
         let m-is : record { first = at; located = l } ≡ m = cc in
         let c-is : c ≡ mid = cc in
@@ -229,7 +230,7 @@ module _ (cert : List ℕ) (variables states start first count : ℕ) where
 
 module _ (cert : List ℕ) (variables states start first count : ℕ) where
   abbrev q : ℕ → Parsed Member
-  q = readMember (certificateBuffer cert) variables states
+  q = readMember (certificateBuffer cert) (versionOf cert) variables states
 
   abbrev pub Passing : ℕ → ℕ → Type 0
   Passing at i = withoutValue (onward (many (count - i) q at) (tested start)) ≡ withoutValue (onward (many count q first) (tested start))
@@ -238,7 +239,7 @@ module _ (cert : List ℕ) (variables states start first count : ℕ) where
   pass-none = let all : count - 0 ≡ count = omega arith in rw all refl
 
   module _ (at i : ℕ) (w : Passing at i) where
-    pub pass-more : (l : Located) (mid : ℕ) → i < count → readLocated (certificateBuffer cert) variables states at ≡ parsed l mid
+    pub pass-more : (l : Located) (mid : ℕ) → i < count → readLocated (versionOf cert) (certificateBuffer cert) variables states at ≡ parsed l mid
         → parsed tt mid ≡ testStart start (record { first = at; located = l }) mid → Passing mid (i + 1)
     unfolding readMember
     pass-more l mid b h t =

@@ -10,7 +10,7 @@ use Rattle.format.specs.Job.{readLocated, readWholeJob}
 use Rattle.format.specs.JobNumbers.{JobFile}
 use Rattle.format.specs.Parser.{parsed, fault, Parser, _>>=_, _>>_, return, here, many, jobBuffer, ranged, end}
 use Rattle.kinds.specs.Kinds.{allowed}
-use Rattle.layout.specs.Entries.{entriesAt, EntriesIn}
+use Rattle.layout.specs.Entries.{versionOf, entriesAt, EntriesIn}
 use Rattle.layout.specs.Transitions.{transitionAt}
 use Rattle.number.specs.Number.{numberAt}
 use Rattle.number.specs.declared.Read.the-variants.{Number}
@@ -24,7 +24,7 @@ use Rattle.reader.specs.declared.JobAnswer.the-variants.{Job, Refused}
 pub record TransitionIn (bytes : List ℕ) (variables states at : ℕ) : Type 0 where
   pub inside : at + 5 ≤ length bytes
   pub from : getD bytes at 0 < states
-  pub kind : Between 1 7 (getD bytes (at + 1) 0)
+  pub kind : Between 1 13 (getD bytes (at + 1) 0)
   pub operands : allowed variables (getD bytes (at + 1) 0) (getD bytes (at + 2) 0) (getD bytes (at + 3) 0) ≡ true
   pub to : getD bytes (at + 4) 0 < states
 
@@ -32,11 +32,13 @@ pub record TransitionIn (bytes : List ℕ) (variables states at : ℕ) : Type 0 
 pub record JobRead (job : List ℕ) (h : Header) : Type 0 where
   pub file : JobFile
   pub read : readWholeJob (jobBuffer job) 0 ≡ parsed file (length job)
+  pub version-is : file .version ≡ versionOf job
   pub variables-are : file .job .variables ≡ h .variables
   pub states-are : file .states ≡ h .states
   pub start-is : file .job .start ≡ h .start
   pub transitions-are : file .job .transitions ≡ map (λ i. transitionAt job (h .«transitions_at» + 5 * i)) (range 0 (h .transitions))
   pub forbidden-are : file .job .forbidden ≡ entriesAt job (h .variables) (h .«bads_at») (h .bads)
+  pub version : Between 1 2 (versionOf job)
   pub variables : Between 1 8 (h .variables)
   pub states : Between 1 64 (h .states)
   pub start : h .start < h .states
@@ -53,7 +55,7 @@ unfoldable pub readRest : List ℕ → Preamble → Parser Header
 readRest job f = do
   bads ← ranged (jobBuffer job) 1 65
   bads-at ← here
-  many bads (readLocated (jobBuffer job) (f .variables) (f .states))
+  many bads (readLocated (versionOf job) (jobBuffer job) (f .variables) (f .states))
   end (jobBuffer job)
   return
       (record {

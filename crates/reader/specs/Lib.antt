@@ -1,4 +1,5 @@
 pub mod Number
+pub mod Facts
 pub mod Job
 pub mod Members
 pub mod Transitions

@@ -9,8 +9,8 @@ use Rattle.lists.specs.List.{absent}
 use Rattle.heap.specs.Place.{null}
 use Rattle.format.specs.Certificate.{Member, withoutPlaces, readMember, readMembers, testStart}
 use Rattle.format.specs.JobBytes.{Between}
-use Rattle.format.specs.Parser.{Parsed, parsed, fault, Parser, _>>=_, _>>_, return, here, each, Buffer, certificateBuffer, ranged}
-use Rattle.layout.specs.Entries.{membersAt, Table}
+use Rattle.format.specs.Parser.{refusal, Parsed, parsed, fault, Parser, _>>=_, _>>_, return, here, require, each, Buffer, certificateBuffer, ranged}
+use Rattle.layout.specs.Entries.{versionOf, membersAt, Table}
 use Rattle.verdict.specs.Verdict.{reasonOf}
 use Rattle.reader.specs.declared.MembersAnswer.{MembersAnswer}
 use Rattle.reader.specs.declared.MembersAnswer.the-variants.{Members, Refused}
@@ -37,15 +37,16 @@ abbrev pub placesOf : Parsed (List ℕ) → List ℕ
 placesOf (parsed places next) = places
 placesOf (fault why place) = []
 
--- the places at which members of a certificate are read; none where the version or the number of members is refused
-unfoldable pub memberPlaces : Buffer → ℕ → ℕ → List ℕ
-memberPlaces s variables states =
+-- the places at which members of a certificate are read, for a job of a version; none where its own version or the number of members is refused
+unfoldable pub memberPlaces : Buffer → ℕ → ℕ → ℕ → List ℕ
+memberPlaces s version variables states =
     placesOf
     ((do
-      ranged s 1 2
+      own ← ranged s 1 3
+      require (eqb own version) (refusal 20) 0
       count ← ranged s 1 513
       first ← here
-      return (placesRead count (readMember s variables states) first))
+      return (placesRead count (readMember s version variables states) first))
     0)
 
 -- A table with places in its first slots, each less a multiple of 65,536, so that it fits 16 bits. What it held behind them stays.
@@ -65,15 +66,16 @@ tested start ms = do
   return ms
 
 -- the members of a certificate, all of them read and then tested
-unfoldable pub readTested : Buffer → ℕ → ℕ → ℕ → Parser (List Member)
-readTested s variables states start = do
-  members ← readMembers s variables states
+unfoldable pub readTested : Buffer → ℕ → ℕ → ℕ → ℕ → Parser (List Member)
+readTested s version variables states start = do
+  members ← readMembers s version variables states
   tested start members
 
 -- The certificate's first bytes are read as members that pass the test, and the table has their first places.
-pub record MembersRead (cert : List ℕ) (variables states start : ℕ) (table : List ℕ) (count next : ℕ) : Type 0 where
+pub record MembersRead (cert : List ℕ) (version variables states start : ℕ) (table : List ℕ) (count next : ℕ) : Type 0 where
   pub members : List Member
-  pub read : readTested (certificateBuffer cert) variables states start 0 ≡ parsed members next
+  pub read : readTested (certificateBuffer cert) version variables states start 0 ≡ parsed members next
+  pub version-is : version ≡ versionOf cert
   pub number : length members ≡ count
   pub number-range : Between 1 512 count
   pub inside : next ≤ length cert
@@ -82,7 +84,7 @@ pub record MembersRead (cert : List ℕ) (variables states start : ℕ) (table :
   pub members-are : Bounds cert variables states → withoutPlaces members ≡ membersAt cert variables (take count table)
   pub table-is : Bounds cert variables states → Table cert variables (take count table)
 
-abbrev pub MembersAnswered : List ℕ → ℕ → ℕ → ℕ → List ℕ → MembersAnswer → Type 0
-MembersAnswered cert variables states start table (Members count next) = MembersRead cert variables states start table count next
-MembersAnswered cert variables states start table (Refused r place) =
-    readTested (certificateBuffer cert) variables states start 0 ≡ fault (reasonOf r) place
+abbrev pub MembersAnswered : List ℕ → ℕ → ℕ → ℕ → ℕ → List ℕ → MembersAnswer → Type 0
+MembersAnswered cert version variables states start table (Members count next) = MembersRead cert version variables states start table count next
+MembersAnswered cert version variables states start table (Refused r place) =
+    readTested (certificateBuffer cert) version variables states start 0 ≡ fault (reasonOf r) place

@@ -1,4 +1,5 @@
 // Reads the numbers of a job and of the members of a certificate, each held to its range.
+use crate::factlist::read_facts;
 use crate::start::may_refuse;
 use crate::start::test_members;
 use jobreader::Preamble;
@@ -6,25 +7,29 @@ use jobreader::read_preamble;
 use kinds::least_a;
 use kinds::least_b;
 use kinds::most_b;
+use layout::version_of;
 use number::Read;
 use verdict::Reached;
 use verdict::Refusal;
 ghost use mathlib.Core.Bool.{cond};
 ghost use mathlib.Core.List.{List, []};
 ghost use mathlib.Core.Path.{_≡_};
-ghost use Prim.Native.Nat.{ℕ, _-_, _≤_};
+ghost use Prim.Native.Nat.{ℕ, _+_, _-_, _≤_, _<_};
 ghost use lib.Dec.{eqb, ltb};
 ghost use lib.ListN.{length, getD};
 ghost use Rattle.lists.specs.Test.{allFrom};
 ghost use Rattle.format.specs.Certificate.{readMember};
-ghost use Rattle.format.specs.Job.{readLocated, readTransition};
-ghost use Rattle.format.specs.Parser.{refusal, parsed, onward, jobBuffer, certificateBuffer, many, ranged};
+ghost use Rattle.format.specs.Job.{readFacts, readLocated, readTransition};
+ghost use Rattle.format.specs.JobBytes.{lastKind};
+ghost use Rattle.format.specs.Parser.{refusal, onward, jobBuffer, certificateBuffer, many, ranged};
+ghost use Rattle.layout.specs.Entries.{versionOf};
 ghost use Rattle.number.specs.Number.{numberAt};
 ghost use Rattle.verdict.specs.Verdict.{reasonOf, reachedOf};
 ghost use Rattle.reader.specs.Job.{RestAnswered, JobAnswered};
 ghost use Rattle.reader.specs.Members.{placesRead, memberPlaces, withPlaces, tested, MembersAnswered};
 ghost use Rattle.reader.specs.Number.{bufferOf, rangedOf, withoutValue};
 
+mod factlist;
 mod start;
 
 // Which buffer is read: it decides the refusals.
@@ -73,7 +78,7 @@ fn unreadable(input: Input) -> Refusal
 }
 
 // The refusal of a number that breaks its range.
-fn outside(input: Input) -> Refusal
+pub(crate) fn outside(input: Input) -> Refusal
     ensures { λ r. ⌜ reasonOf r ≡ bufferOf input [] .outside ⌝ }
 {
     match input {
@@ -130,7 +135,7 @@ fn job_ranged(job: &[u8], at: usize, low: usize, limit: usize) -> Ranged
 }
 
 // The place after a number, or the refusal that it ended in.
-fn reached(r: Ranged) -> Reached
+pub(crate) fn reached(r: Ranged) -> Reached
     ensures { λ q. ⌜ reachedOf q ≡ withoutValue (rangedOf r) ⌝ }
 {
     match r {
@@ -156,9 +161,9 @@ fn read_codes(input: Input, bytes: &[u8], first: usize, count: usize, limit: usi
     Reached::At(at)
 }
 
-// A state and a shape: state, n, the places of the variables, n links.
+// A state and a shape: state, n, the places of the variables, n links, and in version 2 facts.
 fn read_entry(input: Input, bytes: &[u8], first: usize, variables: usize, states: usize) -> Reached
-    ensures { λ r. ⌜ reachedOf r ≡ withoutValue (readLocated (bufferOf input (now (bytes .entry))) variables states first) ⌝ }
+    ensures { λ r. ⌜ reachedOf r ≡ withoutValue (readLocated (versionOf (now (bytes .entry))) (bufferOf input (now (bytes .entry))) variables states first) ⌝ }
 {
     let state = read_ranged(input, bytes, first, 0, states);
     let Ranged::Value(_, n_at) = state else {
@@ -172,19 +177,33 @@ fn read_entry(input: Input, bytes: &[u8], first: usize, variables: usize, states
     let Reached::At(links_at) = vars else {
         return vars;
     };
-    read_codes(input, bytes, links_at, n, 3 + n)
+    let links = read_codes(input, bytes, links_at, n, 3 + n);
+    let Reached::At(facts_at) = links else {
+        return links;
+    };
+    read_facts(input, bytes, facts_at, n)
+}
+
+// The last kind that a job's version has.
+fn last_kind(job: &[u8]) -> usize
+    ensures { λ r. ⌜ r ≡ lastKind (versionOf (now (job .entry))) ⌝ }
+{
+    if version_of(job) == 2 {
+        return 13;
+    }
+    7
 }
 
 // One transition: from, kind, a, b, to.
 fn read_transition(job: &[u8], first: usize, variables: usize, states: usize) -> Reached
     requires { ⌜ variables ≤ 8 ⌝ }
-    ensures { λ r. ⌜ reachedOf r ≡ withoutValue (readTransition (jobBuffer (now (job .entry))) variables states first) ⌝ }
+    ensures { λ r. ⌜ reachedOf r ≡ withoutValue (readTransition (versionOf (now (job .entry))) (jobBuffer (now (job .entry))) variables states first) ⌝ }
 {
     let from = read_ranged(Input::Job, job, first, 0, states);
     let Ranged::Value(_, kind_at) = from else {
         return reached(from);
     };
-    let number = read_ranged(Input::Job, job, kind_at, 1, 8);
+    let number = read_ranged(Input::Job, job, kind_at, 1, 1 + last_kind(job));
     let Ranged::Value(kind, a_at) = number else {
         return reached(number);
     };
@@ -209,7 +228,7 @@ fn read_transitions(
     states: usize,
 ) -> Reached
     requires { ⌜ variables ≤ 8 ⌝ }
-    ensures { λ r. ⌜ reachedOf r ≡ withoutValue (many count (readTransition (jobBuffer (now (job .entry))) variables states) first) ⌝ }
+    ensures { λ r. ⌜ reachedOf r ≡ withoutValue (many count (readTransition (versionOf (now (job .entry))) (jobBuffer (now (job .entry))) variables states) first) ⌝ }
 {
     let mut at = first;
     let mut i = 0;
@@ -232,7 +251,7 @@ fn read_forbidden(
     variables: usize,
     states: usize,
 ) -> Reached
-    ensures { λ r. ⌜ reachedOf r ≡ withoutValue (many count (readLocated (jobBuffer (now (job .entry))) variables states) first) ⌝ }
+    ensures { λ r. ⌜ reachedOf r ≡ withoutValue (many count (readLocated (versionOf (now (job .entry))) (jobBuffer (now (job .entry))) variables states) first) ⌝ }
 {
     let mut at = first;
     let mut i = 0;
@@ -313,9 +332,9 @@ fn all_below(bytes: &[u8], first: usize, end: usize, limit: u8) -> bool
     true
 }
 
-// The place after a member's entry, if each of its numbers is one byte and in range; else 0, and the exact reader decides.
+// The place after the links of a member's entry, if each of its numbers up to there is one byte and in range; else 0, and the exact reader decides.
 fn quick_entry(cert: &[u8], at: usize, variables: usize, states: usize) -> usize
-    ensures { λ r. ⌜ ((r ≡ 0 → ⊥) → withoutValue (readLocated (certificateBuffer (now (cert .entry))) variables states at) ≡ parsed tt r) ⌝ }
+    ensures { λ r. ⌜ ((r ≡ 0 → ⊥) → (at + 1 < length (now (cert .entry))) × (getD (now (cert .entry)) (at + 1) 0 ≤ 12) × (withoutValue (readLocated (versionOf (now (cert .entry))) (certificateBuffer (now (cert .entry))) variables states at) ≡ withoutValue (readFacts (certificateBuffer (now (cert .entry))) (getD (now (cert .entry)) (at + 1) 0) (versionOf (now (cert .entry))) r))) ⌝ }
 {
     if cert.len() <= at {
         return 0;
@@ -351,13 +370,17 @@ fn quick_entry(cert: &[u8], at: usize, variables: usize, states: usize) -> usize
 
 // A member's entry.
 fn read_member(cert: &[u8], at: usize, variables: usize, states: usize) -> Reached
-    ensures { λ r. ⌜ reachedOf r ≡ withoutValue (readLocated (certificateBuffer (now (cert .entry))) variables states at) ⌝ }
+    ensures { λ r. ⌜ reachedOf r ≡ withoutValue (readLocated (versionOf (now (cert .entry))) (certificateBuffer (now (cert .entry))) variables states at) ⌝ }
 {
-    let next = quick_entry(cert, at, variables, states);
-    if next == 0 {
+    let links_end = quick_entry(cert, at, variables, states);
+    if links_end == 0 {
         return read_entry(Input::Certificate, cert, at, variables, states);
     }
-    Reached::At(next)
+    // here too, so that version 1 makes no call
+    if version_of(cert) != 2 {
+        return Reached::At(links_end);
+    }
+    read_facts(Input::Certificate, cert, links_end, cert[at + 1] as usize)
 }
 
 // The members of a certificate, all of them read and then tested at the start state; the place where each starts goes to the table. The walk that
@@ -372,8 +395,8 @@ fn read_entries(
     starts: &mut [u16],
 ) -> Reached
     requires { ⌜ count ≤ length (now starts) ⌝ }
-    ensures answer { λ r. ⌜ reachedOf r ≡ withoutValue (onward (many count (readMember (certificateBuffer (now (cert .entry))) variables states) first) (tested start)) ⌝ }
-    ensures starts { λ r. ⌜ now (starts .exit) ≡ withPlaces (placesRead count (readMember (certificateBuffer (now (cert .entry))) variables states) first) (now (starts .entry)) ⌝ }
+    ensures answer { λ r. ⌜ reachedOf r ≡ withoutValue (onward (many count (readMember (certificateBuffer (now (cert .entry))) (versionOf (now (cert .entry))) variables states) first) (tested start)) ⌝ }
+    ensures starts { λ r. ⌜ now (starts .exit) ≡ withPlaces (placesRead count (readMember (certificateBuffer (now (cert .entry))) (versionOf (now (cert .entry))) variables states) first) (now (starts .entry)) ⌝ }
 {
     let mut at = first;
     let mut seen = false;
@@ -397,22 +420,26 @@ fn read_entries(
     Reached::At(at)
 }
 
-// Reads the members of a certificate, and then tests them at the start state.
+// Reads the members of a certificate for a job of a version, and then tests them at the start state.
 pub fn read_members(
     cert: &[u8],
+    version: u8,
     variables: usize,
     states: usize,
     start: usize,
     starts: &mut [u16; 512],
 ) -> MembersAnswer
-    ensures answer { λ r. ⌜ MembersAnswered (now (cert .entry)) variables states start (now (starts .exit)) r ⌝ }
-    ensures starts { λ r. ⌜ now (starts .exit) ≡ withPlaces (memberPlaces (certificateBuffer (now (cert .entry))) variables states) (now (starts .entry)) ⌝ }
+    ensures answer { λ r. ⌜ MembersAnswered (now (cert .entry)) version variables states start (now (starts .exit)) r ⌝ }
+    ensures starts { λ r. ⌜ now (starts .exit) ≡ withPlaces (memberPlaces (certificateBuffer (now (cert .entry))) version variables states) (now (starts .entry)) ⌝ }
 {
-    let version = read_ranged(Input::Certificate, cert, 0, 1, 2);
-    let at = match version {
+    let own = read_ranged(Input::Certificate, cert, 0, 1, 3);
+    let at = match own {
         Ranged::Refused(why, place) => return MembersAnswer::Refused(why, place),
         Ranged::Value(_, next) => next,
     };
+    if version_of(cert) != version {
+        return MembersAnswer::Refused(Refusal::VersionsDiffer, 0);
+    }
     let number = read_ranged(Input::Certificate, cert, at, 1, 513);
     match number {
         Ranged::Refused(why, place) => MembersAnswer::Refused(why, place),

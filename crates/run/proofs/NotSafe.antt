@@ -5,6 +5,7 @@ use mathlib.Core.Path.{_≡_, refl, sym}
 use Prim.Native.Nat.{ℕ, zero, suc}
 use native.Mathlib.Decide.{ℕ-discrete}
 use Rattle.lists.specs.List.{_∈_}
+use Rattle.lists.proofs.List.{every-none}
 use Rattle.heap.specs.Heap.{empty}
 use Rattle.heap.specs.Operation.{assign, enabled?, after}
 use Rattle.heap.specs.Place.{nowhere, null}
@@ -19,7 +20,7 @@ assigning = record { from = 0; op = assign 1 0; to = 1 }
 
 -- at state 1, variable 1 at #
 abbrev pub atNull : Located
-atNull = record { state = 1; shape = record { vars = null ∷ []; links = [] } }
+atNull = record { state = 1; shape = record { vars = null ∷ []; links = []; facts = [] } }
 
 -- the job of P3 and P4 of document 01
 abbrev pub assignNull : Job
@@ -48,4 +49,4 @@ stands (suc zero) z = null-assigned 0
 stands (suc (suc v)) z = absurd (z refl)
 
 pub not-safe : ¬ Safe assignNull
-not-safe safe = safe entries second reached atNull (List·Memᴰ·head refl) refl (no-cells (second .heap) (atNull .shape) refl stands)
+not-safe safe = safe entries second reached atNull (List·Memᴰ·head refl) refl (no-cells (second .heap) (atNull .shape) refl stands (every-none _))

@@ -6,13 +6,16 @@ use mathlib.Core.Path.{_≡_, refl, sym, ap, _∙_}
 use Prim.Native.Nat.{ℕ, zero, suc, _<_}
 use native.Mathlib.Omega.{arith}
 use lib.ListN.{length, getD}
-use Rattle.lists.specs.List.{_∈_}
+use Rattle.lists.specs.List.{_∈_, Every}
 use Rattle.lists.proofs.List.{Distinct, distinct-apart, distinct-right}
 use Rattle.heap.specs.Heap.{Heap, IsCell}
 use Rattle.heap.specs.Place.{nowhere, null, dangling, cell}
+use Rattle.heap.specs.Value.{Meets}
 use Rattle.graph.specs.Graph.{Chain, Vars, Embeds}
 use Rattle.shape.specs.Shape.{Shape, varAt, linkAt, size, shapeGraph, heapGraph}
-use Rattle.shape.proofs.Laws.{CellOf, by-number, shape-proper}
+use Rattle.facts.proofs.Meets.{heap-facts}
+use Rattle.heap.proofs.Codes.{CellOf, by-number}
+use Rattle.shape.proofs.Laws.{shape-proper}
 
 pub record Segment : Type 0 where
   pub first : ℕ
@@ -102,8 +105,9 @@ module _ (h : Heap) (s : Shape) (ss : List Segment) (d : Distinct (flat ss)) (ce
       by-number (size s) (λ c. P c e)
       (λ i a. by-number (size s) (λ e. P (cell i) e) (λ j b. f i j (omega (arith, long)) (omega (arith, long))) e l) c k
 
-  pub segments-embed : Vars (varAt s) (h .var) (image ss) → Embeds (shapeGraph s) (heapGraph h) (image ss)
-  segments-embed v =
+  pub segments-embed : Vars (varAt s) (h .var) (image ss) → Every (λ t. Meets (h .value) (t .kind) (image ss (t .left)) (image ss (t .right))) (s .facts)
+      → Embeds (shapeGraph s) (heapGraph h) (image ss)
+  segments-embed v facts =
       record {
         images = record {
           null-fixed = refl;
@@ -126,6 +130,7 @@ module _ (h : Heap) (s : Shape) (ss : List Segment) (d : Distinct (flat ss)) (ce
               (λ i j a b m n. ap cell (on-one ss d i j x a b (List·Memᴰ·tail m) (List·Memᴰ·tail n))) c e
               (shape-proper s .linked c l) (shape-proper s .linked e n);
         };
+        facts = heap-facts (s .facts) (h .value) (image ss) facts;
       }
     where
       off : (x i j : ℕ) → i < length ss → j < length ss → x ∈ restAt ss i → x ≢ firstAt ss j

@@ -1,4 +1,4 @@
--- Kinds 6 and 7: the shapes before, by their cases, are the predecessors.
+-- Kinds 6 and 7: the shapes before, by their cases, are all that were before.
 use mathlib.Core.Bool.{Bool, true, false, cond}
 use mathlib.Core.List.{List, [], _∷_, _++_}
 use mathlib.Core.Logic.{_≢_}
@@ -13,7 +13,7 @@ use Rattle.lists.proofs.List.{range-append, concatMap-append, concatMap-range}
 use Rattle.heap.specs.Operation.{new, delete, kindOf}
 use Rattle.heap.specs.Place.{nowhere, null, dangling}
 use Rattle.shape.specs.Shape.{Shape}
-use Rattle.backward.specs.Predecessors.{predecessors}
+use Rattle.backward.specs.Predecessors as backward
 use Rattle.layout.specs.ShapeArray.{cellCount, operandAt, shapeIn, ShapeArray}
 use Rattle.layout.specs.Transitions.{opOf}
 use Rattle.placing.proofs.Ranges.{stretch}
@@ -66,42 +66,22 @@ module _ (variables : ℕ) (s : List ℕ) (h : ShapeArray variables s) (small : 
   x = operandAt s a
 
   -- kind 6: a is nowhere in the prepared array
-  abbrev s₀ : List ℕ
+  abbrev pub s₀ : List ℕ
   s₀ = setOperand s a nowhere
 
-  prepared-new : arrayPrepared variables 6 a s ≡ s₀
+  pub prepared-new : arrayPrepared variables 6 a s ≡ s₀
   unfolding arrayPrepared operandForgotten
   prepared-new = rw (lt-ltb a 11 (omega (arith, h .variables-fit))) refl
 
-  without-cell : (count k : ℕ) → k < n → before variables 6 count s₀ k ≡ without (shapeIn variables s₀) k
+  pub without-cell : (count k : ℕ) → k < n → before variables 6 count s₀ k ≡ without (shapeIn variables s₀) k
   unfolding before isBefore arrayBefore
   without-cell count k b =
       let inside : k < cellCount s₀ = rw (count-operand s a nowhere) b in
       rw (lt-leb (cellCount s₀) k inside) (by-array variables s₀ (array-operand variables s h a nowhere some most (omega arith)) k inside)
 
-  unchanged : (count : ℕ) → before variables 6 count s₀ n ≡ shapeIn variables s₀ ∷ []
+  pub unchanged : (count : ℕ) → before variables 6 count s₀ n ≡ shapeIn variables s₀ ∷ []
   unfolding before isBefore arrayBefore
   unchanged count = rw (le-leb (cellCount s₀) n (omega (arith, count-operand s a nowhere))) refl
-
-  new-all : byCases variables 6 s₀ (casesOfNew n x) ≡ predecessors (new a) shape
-  unfolding casesOfNew
-  new-all = go (ℕ-discrete x nowhere) (decLt x 3)
-    where
-      go : Dec (x ≡ nowhere) → Dec (x < 3) → byCases variables 6 s₀ (casesOfNew n x) ≡ predecessors (new a) shape
-      go (yes e) d =
-          let all : suc n - 0 ≡ n + 1 = omega arith in
-          let last : 0 + n ≡ n = omega arith in
-          let same : s₀ ≡ s = rw e at (set-getD s (17 + a) nowhere) in
-          let f = before variables 6 (suc n) s₀ in
-          rw (eq-eqb x 0 e, all, range-append 0 n 1, concatMap-append f (range 0 n) (range (0 + n) 1), last, unchanged (suc n) ∙ ap (λ (t : List ℕ). shapeIn variables t ∷ []) same, new-nowhere variables s h a some most e)
-          (ap (λ (l : List Shape). l ++ (shape ∷ []))
-          (concatMap-range f (without shape) 0 0 n (λ i b. without-cell (suc n) (0 + i) (omega arith) ∙ ap (λ (t : List ℕ). without (shapeIn variables t) (0 + i)) same)))
-      go (no z) (yes b) = rw (ne-eqb x 0 z, lt-ltb x 3 b) (sym (new-none variables s h a some most z b))
-      go (no z) (no b) =
-          let one : suc (x - 3) - (x - 3) ≡ 1 = omega arith in
-          let two : x - 2 - (x - 3) ≡ 1 = omega arith in
-          rw (ne-eqb x 0 z, le-ltb x 3 (omega arith), one, new-cell variables s h a some most x refl (omega arith), two)
-          (ap (λ (l : List Shape). l ++ []) (without-cell (suc (x - 3)) (x - 3) (omega (arith, h .operands-range a))))
 
   -- kind 7: the deleted cell is restored in the prepared array
   abbrev s₁ : List ℕ
@@ -113,7 +93,7 @@ module _ (variables : ℕ) (s : List ℕ) (h : ShapeArray variables s) (small : 
       let r = array-restored variables s h small a some most in
       rw (le-leb variables 9 (r .variables-fit), le-leb (cellCount s₁) 14 (r .cells-fit)) refl
 
-  restored-all : x ≢ null → x ≤ dangling → byCases variables 7 (arrayPrepared variables 7 a s) (casesOfDelete variables a s) ≡ predecessors (delete a) shape
+  restored-all : x ≢ null → x ≤ dangling → byCases variables 7 (arrayPrepared variables 7 a s) (casesOfDelete variables a s) ≡ backward.before (delete a) shape
   unfolding arrayPrepared casesOfDelete
   restored-all z b =
       let count = caseCount (shapeIn variables s₁ .vars) in
@@ -122,26 +102,16 @@ module _ (variables : ℕ) (s : List ℕ) (h : ShapeArray variables s) (small : 
       rw (restorable variables a s room, all, delete-some variables s h small a some most z b)
       (concatMap-range (before variables 7 count s₁) (λ k. shapeIn variables (arrayByCase variables count k s₁) ∷ []) 0 0 count (λ i _. by-case count (0 + i)))
 
-  restored-none : (x ≢ null → x ≤ dangling → ⊥) → byCases variables 7 (arrayPrepared variables 7 a s) (casesOfDelete variables a s) ≡ predecessors (delete a) shape
+  restored-none : (x ≢ null → x ≤ dangling → ⊥) → byCases variables 7 (arrayPrepared variables 7 a s) (casesOfDelete variables a s) ≡ backward.before (delete a) shape
   unfolding arrayPrepared casesOfDelete
   restored-none f =
       rw (not-restorable variables a s (λ r. f (r .not-null) (r .no-cell)))
       (sym (delete-none variables s h a (λ e. f (omega arith) (omega arith)) (λ e. f (omega arith) (omega arith))))
 
-  delete-all : byCases variables 7 (arrayPrepared variables 7 a s) (casesOfDelete variables a s) ≡ predecessors (delete a) shape
+  pub delete-all : byCases variables 7 (arrayPrepared variables 7 a s) (casesOfDelete variables a s) ≡ backward.before (delete a) shape
   delete-all = go (ℕ-discrete x null) (decLt dangling x)
     where
-      go : Dec (x ≡ null) → Dec (dangling < x) → byCases variables 7 (arrayPrepared variables 7 a s) (casesOfDelete variables a s) ≡ predecessors (delete a) shape
+      go : Dec (x ≡ null) → Dec (dangling < x) → byCases variables 7 (arrayPrepared variables 7 a s) (casesOfDelete variables a s) ≡ backward.before (delete a) shape
       go (yes e) d = restored-none (λ z _. z e)
       go (no e) (yes b) = restored-none (λ _ l. omega arith)
       go (no e) (no b) = restored-all e (omega arith)
-
-  -- either kind
-  pub before-all : (kind b : ℕ) → 5 < kind → kind ≤ 7
-      → byCases variables kind (arrayPrepared variables kind a s) (casesOf variables kind a s) ≡ predecessors (opOf (kindOf kind) a b) shape
-  unfolding casesOf
-  before-all kind b l m = go (ℕ-discrete kind 6)
-    where
-      go : Dec (kind ≡ 6) → byCases variables kind (arrayPrepared variables kind a s) (casesOf variables kind a s) ≡ predecessors (opOf (kindOf kind) a b) shape
-      go (yes e) = rw (e, prepared-new) new-all
-      go (no z) = let e : kind ≡ 7 = omega arith in rw e delete-all

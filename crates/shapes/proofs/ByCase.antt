@@ -1,4 +1,4 @@
--- The cases of kind 7: how many there are, where the variables stand by each, and that these are the ones that predecessors lists, in its order.
+-- The cases of kind 7: how many there are, where the variables stand by each, and that these are all, in document 01's order.
 use mathlib.Core.List.{List, [], _∷_, _++_, map, append-nil}
 use mathlib.Core.Logic.{_≢_}
 use mathlib.Core.Path.{_≡_, refl, sym, ap, _∙_}

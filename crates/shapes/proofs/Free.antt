@@ -1,6 +1,6 @@
 -- The test for a free cell, one part after the other, and the test before a deleted cell is restored.
 use mathlib.Core.Bool.{Bool, true, false, _&&_, _||_}
-use mathlib.Core.List.{List}
+use mathlib.Core.List.{List, []}
 use mathlib.Core.Logic.{_≢_}
 use mathlib.Core.Path.{_≡_, refl, sym, ap, _∙_}
 use Prim.Native.Nat.{ℕ, zero, suc, _+_, _-_, _≤_, _<_}
@@ -20,7 +20,10 @@ use Rattle.shapes.specs.Change.{isFreeCell, arrayWithout, isRestorable}
 use Rattle.shapes.specs.Without.{isFree, without}
 use Rattle.shapes.proofs.Remove.{holds-without}
 
-module _ (s : Shape) (c : ℕ) where
+module _ (vars links : List ℕ) (c : ℕ) where
+  abbrev s : Shape
+  s = record { vars = vars; links = links; facts = [] }
+
   pub no-cell : c < 3 → false ≡ isFree c s
   no-cell h = rw (le-ltb dangling c (omega arith)) refl
 
@@ -85,7 +88,7 @@ module _ (variables : ℕ) (s : List ℕ) (k : ℕ) where
 
     -- the test on parts of the array
     pub by-parts : (p : Place) → p ≡ cellPlace k
-        → isFree (p .code) (record { vars = take (18 + variables - 18) (drop 18 s); links = take (3 + cellCount s - 3) (drop 3 s) }) ≡ isFreeCell variables s k
+        → isFree (p .code) (record { vars = take (18 + variables - 18) (drop 18 s); links = take (3 + cellCount s - 3) (drop 3 s); facts = [] }) ≡ isFreeCell variables s k
     by-parts p is-k =
         let code : p .code ≡ cell k = rw is-k (simp (lt-ltb k 253 (omega arith)) (omega arith)) in
         let vars : 18 + variables - 18 ≡ variables = omega arith in

@@ -92,7 +92,7 @@ module _ (s : List ℕ) (x k : ℕ) where
 -- ---- what the array holds then
 
 made-is : (x : ℕ) (t : Shape) (k p : ℕ) (links : List ℕ) → p ≡ chosen (size t) k → links ≡ opened (t .links) k
-    → setVar x p (record { vars = t .vars; links = links }) ≡ made x t k
+    → setVar x p (record { vars = t .vars; links = links; facts = t .facts }) ≡ made x t k
 unfolding made
 made-is x t k p links e f = rw (e, f) refl
 
@@ -119,7 +119,7 @@ module _ (w : ℕ) (s : List ℕ) (h : ShapeArray w s) (small : cellCount s ≤ 
     some-x = let z = not-null before x at-x in omega arith
 
     -- the cell of the choice is there, and the operand is put at it
-    stood : (t : List ℕ) (p : ℕ) → ShapeArray w t → shapeIn w t ≡ record { vars = before .vars; links = opened (linksIn s) k } → p ≡ chosen n k
+    stood : (t : List ℕ) (p : ℕ) → ShapeArray w t → shapeIn w t ≡ record { vars = before .vars; links = opened (linksIn s) k; facts = [] } → p ≡ chosen n k
         → p < cell (cellCount t) → cellCount t ≤ suc n → Placing (setOperand t x p)
     stood t p a same p-is inside most =
         record {
@@ -138,17 +138,17 @@ module _ (w : ℕ) (s : List ℕ) (h : ShapeArray w s) (small : cellCount s ≤ 
     by-choice : Dec (k < n) → Dec (k ≡ n) → Dec (k ≡ suc n) → Placing (placedIn s x k)
     by-choice (yes c) d f =
         rw (placed-cell s x k e c)
-        (stood s (cell k) h (ap (λ (l : List ℕ). record { vars = before .vars; links = l }) (sym (opened-none (linksIn s) k (omega (arith, size-is)))))
+        (stood s (cell k) h (ap (λ (l : List ℕ). record { vars = before .vars; links = l; facts = [] }) (sym (opened-none (linksIn s) k (omega (arith, size-is)))))
         (sym (chosen-cell n k c)) (omega arith) (omega arith))
     by-choice (no c) (yes d) f =
         rw (placed-null s x k e d)
-        (stood s null h (ap (λ (l : List ℕ). record { vars = before .vars; links = l }) (sym (opened-none (linksIn s) k (omega (arith, size-is)))))
+        (stood s null h (ap (λ (l : List ℕ). record { vars = before .vars; links = l; facts = [] }) (sym (opened-none (linksIn s) k (omega (arith, size-is)))))
         (sym (chosen-null n k d)) (omega arith) (omega arith))
     by-choice (no c) (no d) (yes f) =
         rw (placed-fresh s x k e f)
         (stood (addCell s nowhere) (cell n) (array-cell w s h small nowhere (omega arith))
         (shape-cell w s h small nowhere
-        ∙ ap (λ (l : List ℕ). record { vars = before .vars; links = l }) (sym (opened-fresh (linksIn s) k (f ∙ ap suc (sym size-is)))))
+        ∙ ap (λ (l : List ℕ). record { vars = before .vars; links = l; facts = [] }) (sym (opened-fresh (linksIn s) k (f ∙ ap suc (sym size-is)))))
         (sym (chosen-fresh n k (omega arith))) (rw (count-cell w s h small nowhere) (omega arith)) (rw (count-cell w s h small nowhere) (omega arith)))
     by-choice (no c) (no d) (no f) = rw (placed-middle s x k e (omega arith)) (stood t (cell n) array same (sym (chosen-fresh n k (omega arith))) (rw count (omega arith)) (rw count (omega arith)))
       where
@@ -179,11 +179,11 @@ module _ (w : ℕ) (s : List ℕ) (h : ShapeArray w s) (small : cellCount s ≤ 
         count : cellCount t ≡ suc n
         count = count-link grown (cell i) (cell n) (omega arith) ∙ count-grown
 
-        same : shapeIn w t ≡ record { vars = before .vars; links = opened (linksIn s) k }
+        same : shapeIn w t ≡ record { vars = before .vars; links = opened (linksIn s) k; facts = [] }
         same =
             shape-link w grown (cell i) (cell n) (omega arith) (omega arith)
             ∙ ap (setLink (cell i) (cell n)) (shape-cell w s h small q)
-            ∙ ap (λ (l : List ℕ). record { vars = before .vars; links = l })
+            ∙ ap (λ (l : List ℕ). record { vars = before .vars; links = l; facts = [] })
             (set-append-left (linksIn s) (q ∷ []) i (cell n) (omega (arith, size-is)) ∙ sym middle)
           where
             middle : opened (linksIn s) k ≡ set (linksIn s) i (cell n) ++ (q ∷ [])

@@ -1,4 +1,4 @@
--- Kind 6: the predecessors by new, and the array without a cell.
+-- Kind 6: what was before new, and the array without a cell.
 use mathlib.Core.List.{List, [], _∷_, _++_, map, append-nil, Memᴰ·cast}
 use mathlib.Core.Logic.{_≢_}
 use mathlib.Core.Path.{_≡_, refl, sym, ap, ap₂, _∙_}
@@ -11,14 +11,15 @@ use lib.ListN.{length, getD, drop, length-map}
 use lib.Seq.{getD-take, getD-drop, ext-getD}
 use Rattle.lists.specs.List.{concatMap}
 use Rattle.lists.specs.Range.{range}
-use Rattle.lists.proofs.List.{at-mem, getD-mem, mem-getD}
+use Rattle.lists.proofs.List.{at-mem, getD-mem, mem-getD, every-none}
+use Rattle.facts.specs.Facts.{FactOf}
 use Rattle.lists.proofs.Reflect.{r-and, r-le, r-lt, cond-cases}
 use Rattle.heap.specs.Operation.{new}
 use Rattle.heap.specs.Place.{nowhere, null, cell}
 use Rattle.shape.specs.Placing.{setVar}
 use Rattle.shape.specs.Shape.{Shape, AllBelow, varAt, size}
 use Rattle.shape.proofs.Laws.{link-map}
-use Rattle.backward.specs.Predecessors.{removeAt, lower, removeCell, predecessors}
+use Rattle.backward.specs.Predecessors.{removeAt, lower, removeCell, before}
 use Rattle.backward.proofs.Remove.{lower-low, lower-below, links-remove-length}
 use Rattle.layout.specs.ShapeArray.{cellCount, operandAt, linksIn, shapeIn, ShapeArray}
 use Rattle.shapes.specs.Change.{setOperand, slotFrom, slotWithout, arrayWithout}
@@ -34,37 +35,37 @@ module _ (variables : ℕ) (s : List ℕ) (h : ShapeArray variables s) where
   abbrev shape : Shape
   shape = shapeIn variables s
 
-  vars-below : AllBelow (cell (cellCount s)) (shape .vars)
+  pub vars-below : AllBelow (cell (cellCount s)) (shape .vars)
   vars-below x m =
       let (i, b, e) = mem-getD (shape .vars) x m in
       let slot : 18 + i ≡ 17 + suc i = omega arith in
       let e′ = sym e ∙ getD-take variables (drop 18 s) i nowhere (omega (arith, vars-in variables s h)) ∙ getD-drop 18 s i nowhere ∙ ap (λ (j : ℕ). getD s j nowhere) slot in
       rw e′ (h .operands-range (suc i))
 
-  links-below : AllBelow (cell (size shape)) (shape .links)
+  pub links-below : AllBelow (cell (size shape)) (shape .links)
   links-below x m = let (i, b, e) = mem-getD (shape .links) x m in rw (sym e) (links-in-range variables s h i b)
 
   module _ (a : ℕ) (some : 1 ≤ a) (most : a ≤ variables) where
-    pub new-nowhere : operandAt s a ≡ nowhere → predecessors (new a) shape ≡ concatMap (without shape) (range 0 (cellCount s)) ++ (shape ∷ [])
+    pub new-nowhere : operandAt s a ≡ nowhere → before (new a) shape ≡ concatMap (without shape) (range 0 (cellCount s)) ++ (shape ∷ [])
     new-nowhere e =
-        new-at-nowhere a shape some (omega (arith, vars-in variables s h)) (rw (size-in variables s h) vars-below) links-below (var-in variables s h a ∙ e)
+        new-at-nowhere shape a some (omega (arith, vars-in variables s h)) (rw (size-in variables s h) vars-below) links-below (every-none (FactOf (size shape))) (var-in variables s h a ∙ e)
         ∙ ap (λ (m : ℕ). concatMap (without shape) (range 0 m) ++ (shape ∷ [])) (size-in variables s h)
 
-    pub new-none : operandAt s a ≢ nowhere → operandAt s a < 3 → predecessors (new a) shape ≡ []
+    pub new-none : operandAt s a ≢ nowhere → operandAt s a < 3 → before (new a) shape ≡ []
     new-none z b = go (operandAt s a) (var-in variables s h a) z b
       where
-        go : (x : ℕ) → varAt shape a ≡ x → x ≢ nowhere → x < 3 → predecessors (new a) shape ≡ []
+        go : (x : ℕ) → varAt shape a ≡ x → x ≢ nowhere → x < 3 → before (new a) shape ≡ []
         go zero e z b = absurd (z refl)
-        go (suc zero) e z b = new-at-null a shape e
-        go (suc (suc zero)) e z b = new-at-dangling a shape e
+        go (suc zero) e z b = new-at-null shape a e
+        go (suc (suc zero)) e z b = new-at-dangling shape a e
         go (suc (suc (suc x))) e z b = absurd (omega arith)
 
     pub new-cell : (x : ℕ) → operandAt s a ≡ x → 3 ≤ x
-        → predecessors (new a) shape ≡ concatMap (without (shapeIn variables (setOperand s a nowhere))) (range (x - 3) (x - 2 - (x - 3)))
+        → before (new a) shape ≡ concatMap (without (shapeIn variables (setOperand s a nowhere))) (range (x - 3) (x - 2 - (x - 3)))
     new-cell x e b =
         let x-is : x ≡ cell (x - 3) = omega arith in
         let one : x - 2 - (x - 3) ≡ 1 = omega arith in
-        new-at-cell a (x - 3) shape (var-in variables s h a ∙ e ∙ x-is)
+        new-at-cell shape a (x - 3) (var-in variables s h a ∙ e ∙ x-is)
         ∙ sym (append-nil (without (setVar a nowhere shape) (x - 3)))
         ∙ ap₂ (λ (t : Shape) (m : ℕ). concatMap (without t) (range (x - 3) m)) (sym (shape-operand variables s a nowhere (h .cells-fit) some)) (sym one)
 
@@ -170,12 +171,12 @@ module _ (variables : ℕ) (s : List ℕ) (h : ShapeArray variables s) (k : ℕ)
     where
       at : (y : ℕ) → varAt old y ≡ c → ⊥
       at zero z = let q : null ≡ c = z in omega arith
-      at (suc v) z = r-isFree c old .holds free .1 .1 (at-mem (old .vars) v c (omega arith) z)
+      at (suc v) z = r-isFree c old .holds free .1 .1 .1 (at-mem (old .vars) v c (omega arith) z)
 
   no-link : (j : ℕ) → j < cellCount s → getD s (cell j) nowhere ≢ c
   no-link j b e =
       let inside : j < length (old .links) = omega (arith, size-in variables s h) in
-      r-isFree c old .holds free .1 .0 (Memᴰ·cast (sym (link-in s j b ∙ e)) (getD-mem (old .links) j inside))
+      r-isFree c old .holds free .1 .1 .0 (Memᴰ·cast (sym (link-in s j b ∙ e)) (getD-mem (old .links) j inside))
 
   array : ShapeArray variables t
   array =
@@ -216,7 +217,7 @@ module _ (variables : ℕ) (s : List ℕ) (h : ShapeArray variables s) (k : ℕ)
       record {
         array = array;
         same =
-            ap₂ (λ (v l : List ℕ). record { vars = v; links = l })
+            ap₂ (λ (v l : List ℕ). record { vars = v; links = l; facts = [] })
             (vars-mapped (lower c) variables s t (h .slots) t-length (h .variables-fit) low operand) links-same;
       }
 

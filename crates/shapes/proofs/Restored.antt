@@ -1,4 +1,4 @@
--- Kind 7: the predecessors by delete, and the arrays of their cases.
+-- Kind 7: what was before delete, and the arrays of its cases.
 use mathlib.Core.Bool.{Bool, true, false, _||_, cond}
 use mathlib.Core.List.{List, [], _∷_, _++_, map}
 use mathlib.Core.Logic.{_≢_}
@@ -17,7 +17,7 @@ use Rattle.heap.specs.Place.{nowhere, null, dangling, cell}
 use Rattle.shape.specs.Placing.{setVar, fresh, grow}
 use Rattle.shape.specs.Shape.{Shape}
 use Rattle.shape.proofs.Laws.{link-map}
-use Rattle.backward.specs.Predecessors.{forget, forgetLinks, varsBefore, withVars, predecessors}
+use Rattle.backward.specs.Predecessors.{forget, forgetLinks, varsBefore, withVars, before}
 use Rattle.backward.proofs.Delete.{forget-below}
 use Rattle.layout.specs.ShapeArray.{cellCount, operandAt, linksIn, shapeIn, ShapeArray}
 use Rattle.shapes.specs.Change.{setOperand, addCell, isRestorable, slotForgotten, arrayForgotten, arrayRestored, caseCount, varsByCase, arrayByCase, casesOfDelete}
@@ -74,7 +74,7 @@ module _ (variables : ℕ) (s : List ℕ) (h : ShapeArray variables s) (f : List
 
   shape-forgotten : shapeIn variables f ≡ forgetLinks (shapeIn variables s)
   shape-forgotten =
-      ap₂ (λ (v l : List ℕ). record { vars = take variables v; links = l })
+      ap₂ (λ (v l : List ℕ). record { vars = take variables v; links = l; facts = [] })
       (sym (drop-drop 1 17 f) ∙ ap (drop 1) operands ∙ drop-drop 1 17 s)
       (ext-getD nowhere (linksIn f) (map forget (linksIn s)) (long ∙ sym (length-map (linksIn s) forget ∙ size-in variables s h))
       (λ i b. let inside : i < cellCount s = omega (arith, long) in
@@ -148,7 +148,7 @@ module _ (variables : ℕ) (s : List ℕ) (h : ShapeArray variables s) where
   shape-by-case : (n k : ℕ)
       → shapeIn variables (arrayByCase variables n k s) ≡ withVars (shapeIn variables s) (varsByCase (2 + cellCount s) n k (shapeIn variables s .vars))
   shape-by-case n k =
-      ap₂ (λ (v l : List ℕ). record { vars = v; links = l })
+      ap₂ (λ (v l : List ℕ). record { vars = v; links = l; facts = [] })
       (ap (take variables) (drop-at ahead (vars ++ after) 18 long)
       ∙ take-at vars after variables (length-by-case (2 + cellCount s) n k (take variables (drop 18 s)) ∙ vars-in variables s h))
       (links-kept (vars ++ after))
@@ -198,7 +198,7 @@ module _ (variables : ℕ) (s : List ℕ) (h : ShapeArray variables s) where
         shape-operand variables (addCell f nowhere) a (cell (cellCount s)) (grown .cells-fit) some
         ∙ ap (setVar a (cell (cellCount s)))
         (shape-cell variables f (forgotten .array) few nowhere
-        ∙ ap (λ (t : Shape). record { vars = t .vars; links = t .links ++ (nowhere ∷ []) }) (forgotten .same))
+        ∙ ap grow (forgotten .same))
         ∙ ap (λ (m : ℕ). setVar a (cell m) (grow (forgetLinks shape))) (sym (size-in variables s h))
 
     abbrev n : ℕ
@@ -218,7 +218,7 @@ module _ (variables : ℕ) (s : List ℕ) (h : ShapeArray variables s) where
         t = shapeIn variables restored
 
     pub delete-some : operandAt s a ≢ null → operandAt s a ≤ dangling
-        → predecessors (delete a) shape ≡ concatMap (λ k. shapeIn variables (arrayByCase variables n k restored) ∷ []) (range 0 n)
+        → before (delete a) shape ≡ concatMap (λ k. shapeIn variables (arrayByCase variables n k restored) ∷ []) (range 0 n)
     delete-some z b = rw (by-cases, var-in variables s h a) (go (operandAt s a) z b)
       where
         results : List Shape
@@ -230,5 +230,5 @@ module _ (variables : ℕ) (s : List ℕ) (h : ShapeArray variables s) where
         go (suc (suc zero)) z b = refl
         go (suc (suc (suc x))) z b = absurd (omega arith)
 
-  pub delete-none : (a : ℕ) → operandAt s a ≢ nowhere → operandAt s a ≢ dangling → predecessors (delete a) shape ≡ []
+  pub delete-none : (a : ℕ) → operandAt s a ≢ nowhere → operandAt s a ≢ dangling → before (delete a) shape ≡ []
   delete-none a z b = rw (var-in variables s h a, ne-eqb (operandAt s a) nowhere z, ne-eqb (operandAt s a) dangling b) refl

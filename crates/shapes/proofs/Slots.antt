@@ -83,7 +83,7 @@ shape-operand w s (suc i) p c h =
     let slot : 17 + suc i ≡ 18 + i = omega arith in
     let vars : take w (drop 18 (set s (17 + suc i) p)) ≡ set (take w (drop 18 s)) i p =
     rw (slot, drop-set-add 18 s i p) (take-set w (drop 18 s) i p) in
-    ap₂ (λ (v l : List ℕ). record { vars = v; links = l }) vars (links-operand s (suc i) p c)
+    ap₂ (λ (v l : List ℕ). record { vars = v; links = l; facts = [] }) vars (links-operand s (suc i) p c)
 
 module _ (w : ℕ) (s : List ℕ) (h : ShapeArray w s) where
   pub array-operand : (x p : ℕ) → 1 ≤ x → x ≤ w → p < cell (cellCount s) → ShapeArray w (setOperand s x p)
@@ -118,7 +118,7 @@ shape-link w s (suc (suc (suc i))) p h m =
     let slot : cell i ≡ 3 + i = omega arith in
     let links : linksIn (set s (cell i) p) ≡ set (linksIn s) i p =
     rw (count-link s (cell i) p h, slot, drop-set-add 3 s i p) (take-set (cellCount s) (drop 3 s) i p) in
-    ap₂ (λ (v l : List ℕ). record { vars = take w v; links = l }) (drop-set-lt 18 s (cell i) p (omega arith)) links
+    ap₂ (λ (v l : List ℕ). record { vars = take w v; links = l; facts = [] }) (drop-set-lt 18 s (cell i) p (omega arith)) links
 
 module _ (w : ℕ) (s : List ℕ) (h : ShapeArray w s) where
   pub array-link : (c p : ℕ) → 3 ≤ c → c < cell (cellCount s) → p < cell (cellCount s) → ShapeArray w (setLinkOf s c p)
@@ -173,8 +173,8 @@ module _ (w : ℕ) (s : List ℕ) (h : ShapeArray w s) (small : cellCount s ≤ 
           rw (e, getD-set-same counted (cell (cellCount s)) p nowhere (omega (arith, h .slots, length-set s 0 (suc (cellCount s))))) b
       range i d (no e) = rw (kept (cell i) (omega arith) (omega arith)) (omega (arith, h .links-range i (omega arith)))
 
-  pub shape-cell : shapeIn w (addCell s p) ≡ record { vars = shapeIn w s .vars; links = linksIn s ++ (p ∷ []) }
-  shape-cell = ap₂ (λ (v l : List ℕ). record { vars = take w v; links = l }) vars links
+  pub shape-cell : shapeIn w (addCell s p) ≡ record { vars = shapeIn w s .vars; links = linksIn s ++ (p ∷ []); facts = [] }
+  shape-cell = ap₂ (λ (v l : List ℕ). record { vars = take w v; links = l; facts = [] }) vars links
     where
       vars : drop 18 (addCell s p) ≡ drop 18 s
       vars = drop-set-lt 18 counted (cell (cellCount s)) p (omega arith) ∙ drop-set-lt 18 s 0 (suc (cellCount s)) (omega arith)
@@ -207,5 +207,5 @@ module _ (w : ℕ) (s : List ℕ) (h : ShapeArray w s) (most : w ≤ 8) where
       let slot : 18 + w ≡ 17 + suc w = omega arith in
       let last : getD (drop 18 s) w nowhere ≡ nowhere =
       getD-drop 18 s w nowhere ∙ ap (λ (j : ℕ). getD s j nowhere) slot ∙ h .operands-above (suc w) (omega arith) in
-      ap (λ (l : List ℕ). record { vars = l; links = linksIn s })
+      ap (λ (l : List ℕ). record { vars = l; links = linksIn s; facts = [] })
       (sym (take-suc (drop 18 s) w nowhere (omega (arith, length-drop 18 s, h .slots)) ∙ ap (λ (p : ℕ). take w (drop 18 s) ++ (p ∷ [])) last))

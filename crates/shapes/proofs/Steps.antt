@@ -4,7 +4,6 @@ use mathlib.Core.List.{List, [], _∷_}
 use mathlib.Core.Logic.{_≢_}
 use mathlib.Core.Path.{_≡_, refl, sym, ap, subst, _∙_}
 use Prim.Native.Nat.{ℕ, suc, _+_, _-_, _≤_, _<_}
-use native.Mathlib.Decide.{ℕ-discrete}
 use native.Mathlib.Omega.{arith}
 use borrow.Author.Tests.{eq-eqb, ne-eqb}
 use lib.Dec.{eqb}
@@ -111,7 +110,7 @@ module _ {variables kind a b : ℕ} {s : List ℕ} where
     pub last-range : stretch (lastOf variables kind a b (shapeUnder variables b s)) 0 (cellCount s + (2 + cellCount s)) ≡ firsts variables kind a b (shapeUnder variables b s)
     last-range =
         ap (λ (m : ℕ). concatMap (lastOf variables kind a b (shapeUnder variables b s)) (range 0 m)) (whole-size (size-is 13 w))
-        ∙ lasts-by-number variables kind a b (shapeUnder variables b s) (w .operands .kind-least) (w .operands .kind-most) (links-range 13 w) (w .operands .apart) (a-slot 13 w) a-safe b-safe (b-slot 13 w) one
+        ∙ lasts-by-number variables kind a b (shapeUnder variables b s) (w .operands .kind-least) (links-range 13 w) (w .operands .apart) (a-slot 13 w) a-safe b-safe (b-slot 13 w) one
         (rw (at-operand 13 w a) (inside 13 w a)) (rw (at-operand 13 w b) (inside 13 w b))
 
     module _ (k : ℕ) where
@@ -148,7 +147,7 @@ module _ {variables kind a b : ℕ} {s : List ℕ} where
               retains : retainedIn kind a b t ≡ true
               retains =
                   rw (last-is 13 w) at
-                  (last-retained variables kind a b (shapeUnder variables b s) (w .operands .kind-least) (w .operands .kind-most) (links-range 13 w) (w .operands .apart) (a-slot 13 w) a-safe b-safe (b-slot 13 w) one
+                  (last-retained variables kind a b (shapeUnder variables b s) (w .operands .kind-least) (links-range 13 w) (w .operands .apart) (a-slot 13 w) a-safe b-safe (b-slot 13 w) one
                   (rw (at-operand 13 w a) (inside 13 w a)) (rw (at-operand 13 w b) (inside 13 w b)) k (omega (arith, size-is 13 w)) (rw (at-operand 13 w a, at-operand 13 w b) e))
 
               cells : (kind ≡ 4 → 3 ≤ varAt t b) × (kind ≡ 5 → 3 ≤ varAt t a)
@@ -171,7 +170,7 @@ module _ {variables kind a b : ℕ} {s : List ℕ} where
     pub first-range : stretch (firstOf variables kind a b (shapeUnder variables b s)) 0 (cellCount s + (2 + cellCount s)) ≡ firsts variables kind a b (shapeUnder variables b s)
     first-range =
         ap (λ (m : ℕ). concatMap (firstOf variables kind a b (shapeUnder variables b s)) (range 0 m)) (whole-size (size-is 12 p))
-        ∙ firsts-by-number variables kind a b (shapeUnder variables b s) (p .operands .kind-least) (p .operands .kind-most) (links-range 12 p) (a-slot 12 p)
+        ∙ firsts-by-number variables kind a b (shapeUnder variables b s) (p .operands .kind-least) (links-range 12 p) (a-slot 12 p)
 
     module _ (k : ℕ) where
       pub first-none : fitsIn (linksIn s) (wantedFirstIn a b s) k ≡ false → firstOf variables kind a b (shapeUnder variables b s) k ≡ []

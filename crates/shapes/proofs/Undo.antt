@@ -1,11 +1,13 @@
--- What an operation of kinds 1 to 5 changes is put back in an array.
-use mathlib.Core.List.{List}
+-- What an operation of kinds 1 to 5 or 8 to 13 changes is put back in an array.
+use mathlib.Core.Bool.{true, _||_}
+use mathlib.Core.List.{List, []}
 use mathlib.Core.Logic.{_≢_}
 use mathlib.Core.Path.{_≡_, refl, sym, ap, _∙_}
 use Prim.Native.Nat.{ℕ, zero, suc, _+_, _≤_, _<_}
 use native.Mathlib.Decide.{ℕ-discrete, decLt}
 use native.Mathlib.Omega.{arith}
 use borrow.Author.Tests.{lt-ltb, le-ltb, eq-eqb, ne-eqb}
+use lib.Dec.{ltb}
 use lib.ListN.{getD, set, take, drop, length-set, length-take}
 use lib.Seq.{getD-set-same, getD-set-other, take-take, set-set, set-out}
 use Rattle.heap.specs.Codes.{varIn}
@@ -71,7 +73,7 @@ drop-shape v s zero y c l m e = absurd (omega arith)
 drop-shape v s (suc i) y c l m e =
     shape-operand v (setOperand s (suc i) y) (suc v) nowhere (rw (count-operand s (suc i) y) c) (omega arith)
     ∙ ap (setVar (suc v) nowhere) (shape-operand v s (suc i) y c l)
-    ∙ ap (λ (l : List ℕ). record { vars = l; links = linksIn s }) same
+    ∙ ap (λ (l : List ℕ). record { vars = l; links = linksIn s; facts = [] }) same
   where
     d : List ℕ
     d = drop 18 s
@@ -103,9 +105,9 @@ module _ (variables kind a b : ℕ) (s : List ℕ) (o : Operands variables kind 
     plain : ShapeArray variables s
     plain = rw (working-same variables b n) at h
 
-    undo-none : kind < 3 → Undone s
+    undo-none : (ltb kind 3 || ltb 5 kind) ≡ true → Undone s
     unfolding changed
-    undo-none k = rw (working-same variables b n) (record { array = plain; same = simp (lt-ltb kind 3 k) })
+    undo-none k = rw (working-same variables b n) (record { array = plain; same = simp k })
 
     undo-itself : kind ≡ 3 → a ≡ b → Undone s
     unfolding changed
@@ -188,27 +190,35 @@ module _ (variables kind a b : ℕ) (s : List ℕ) (o : Operands variables kind 
 
   -- ---- the definition, case by case
 
+  undone-none : (ltb kind 3 || ltb 5 kind) ≡ true → kind ≢ 4 → Undone (undoneIn variables kind a b s)
+  unfolding undoneIn
+  undone-none k z = simp k (undo-none (no-helper variables kind a b o z) k)
+
   undone-assign : kind ≡ 3 → Dec (a ≡ b) → Undone (undoneIn variables kind a b s)
   unfolding undoneIn
-  undone-assign k (yes e) = simp (le-ltb kind 3 (omega arith), eq-eqb kind 3 k, eq-eqb a b e) (undo-itself (no-helper variables kind a b o (omega arith)) k e)
-  undone-assign k (no e) = simp (le-ltb kind 3 (omega arith), eq-eqb kind 3 k, ne-eqb a b e) (undo-assign (no-helper variables kind a b o (omega arith)) k e)
+  undone-assign k (yes e) = simp (le-ltb kind 3 (omega arith), le-ltb 5 kind (omega arith), eq-eqb kind 3 k, eq-eqb a b e) (undo-itself (no-helper variables kind a b o (omega arith)) k e)
+  undone-assign k (no e) = simp (le-ltb kind 3 (omega arith), le-ltb 5 kind (omega arith), eq-eqb kind 3 k, ne-eqb a b e) (undo-assign (no-helper variables kind a b o (omega arith)) k e)
 
   undone-load : kind ≡ 4 → Dec (variables < b) → Undone (undoneIn variables kind a b s)
   unfolding undoneIn
   undone-load k (yes l) =
-      simp (le-ltb kind 3 (omega arith), ne-eqb kind 3 (omega arith), ne-eqb kind 5 (omega arith), lt-ltb variables b l) (undo-helper k y refl (omega (arith, o .b-most)))
+      simp (le-ltb kind 3 (omega arith), le-ltb 5 kind (omega arith), ne-eqb kind 3 (omega arith), ne-eqb kind 5 (omega arith), lt-ltb variables b l) (undo-helper k y refl (omega (arith, o .b-most)))
   undone-load k (no l) =
-      simp (le-ltb kind 3 (omega arith), ne-eqb kind 3 (omega arith), ne-eqb kind 5 (omega arith), le-ltb variables b (omega arith)) (undo-load k y refl (omega arith))
+      simp (le-ltb kind 3 (omega arith), le-ltb 5 kind (omega arith), ne-eqb kind 3 (omega arith), ne-eqb kind 5 (omega arith), le-ltb variables b (omega arith)) (undo-load k y refl (omega arith))
 
-  by-kind : Dec (kind < 3) → Dec (kind ≡ 3) → Dec (kind ≡ 4) → Undone (undoneIn variables kind a b s)
+  undone-store : kind ≡ 5 → Undone (undoneIn variables kind a b s)
   unfolding undoneIn
-  by-kind (yes l) d e = simp (lt-ltb kind 3 l) (undo-none (no-helper variables kind a b o (omega arith)) l)
-  by-kind (no l) (yes d) e = undone-assign d (ℕ-discrete a b)
-  by-kind (no l) (no d) (yes e) = undone-load e (decLt variables b)
-  by-kind (no l) (no d) (no e) =
-      let k : kind ≡ 5 = omega (arith, o .kind-most) in
-      simp (le-ltb kind 3 (omega arith), ne-eqb kind 3 d, eq-eqb kind 5 k) (undo-store (no-helper variables kind a b o e) k)
+  undone-store k =
+      simp (le-ltb kind 3 (omega arith), le-ltb 5 kind (omega arith), ne-eqb kind 3 (omega arith), eq-eqb kind 5 k)
+      (undo-store (no-helper variables kind a b o (omega arith)) k)
+
+  by-kind : Dec (kind < 3) → Dec (5 < kind) → Dec (kind ≡ 3) → Dec (kind ≡ 4) → Undone (undoneIn variables kind a b s)
+  by-kind (yes l) h d e = undone-none (rw (lt-ltb kind 3 l) refl) (omega arith)
+  by-kind (no l) (yes h) d e = undone-none (rw (le-ltb kind 3 (omega arith), lt-ltb 5 kind h) refl) (omega arith)
+  by-kind (no l) (no h) (yes d) e = undone-assign d (ℕ-discrete a b)
+  by-kind (no l) (no h) (no d) (yes e) = undone-load e (decLt variables b)
+  by-kind (no l) (no h) (no d) (no e) = undone-store (omega arith)
 
   -- what the operation changes is put back
   pub undone : Undone (undoneIn variables kind a b s)
-  undone = by-kind (decLt kind 3) (ℕ-discrete kind 3) (ℕ-discrete kind 4)
+  undone = by-kind (decLt kind 3) (decLt 5 kind) (ℕ-discrete kind 3) (ℕ-discrete kind 4)

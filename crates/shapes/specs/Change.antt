@@ -27,7 +27,7 @@ setLinkOf s c p = set s c p
 abbrev pub addCell : List ℕ → ℕ → List ℕ
 addCell s p = set (set s 0 (suc (cellCount s))) (cell (cellCount s)) p
 
--- ---- kinds 1 to 5
+-- ---- kinds 1 to 5, and 8 to 13, which change facts alone
 
 -- operand x is placed by choice k; nothing changes where it has a place
 unfoldable pub placedIn : List ℕ → ℕ → ℕ → List ℕ
@@ -40,12 +40,12 @@ placedIn s x k =
     (cond (eqb k (suc n)) (setOperand (addCell s nowhere) x (cell n))
     (setOperand (setLinkOf (addCell s (getD s c nowhere)) c (cell n)) x (cell n)))))
 
--- What an operation of kinds 1 to 5 with operands a and b changes is put back, both being placed; b above the variables is the helper.
+-- What an operation of these kinds with operands a and b changes is put back, both being placed; b above the variables is the helper.
 unfoldable pub undoneIn : ℕ → ℕ → ℕ → ℕ → List ℕ → List ℕ
 undoneIn variables kind a b s =
     let x = operandAt s a in
     let y = operandAt s b in
-    cond (ltb kind 3) s
+    cond (ltb kind 3 || ltb 5 kind) s
     (cond (eqb kind 3) (cond (eqb a b) s (setOperand s a nowhere))
     (cond (eqb kind 5) (setLinkOf s x nowhere)
     (cond (ltb variables b) (setOperand (setOperand (setLinkOf s y x) a y) b nowhere)

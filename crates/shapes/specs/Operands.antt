@@ -1,4 +1,4 @@
--- The shape under work while an operation of kinds 1 to 5 is undone: what its array holds.
+-- The shape under work while an operation of kinds 1 to 5 or 8 to 13 is undone: what its array holds.
 use mathlib.Core.Bool.{cond}
 use mathlib.Core.List.{List}
 use mathlib.Core.Logic.{_≢_}
@@ -18,10 +18,9 @@ pub record HoldsShape (variables : ℕ) (s : List ℕ) (t : Shape) : Type 0 wher
   pub array : ShapeArray variables s
   pub same : shapeIn variables s ≡ t
 
--- the operands of an operation of kinds 1 to 5; where kind 4 has one variable, b is the helper
+-- the operands of such an operation; where kind 4 has one variable, b is the helper, and of kind 13 it is a
 pub record Operands (variables kind a b : ℕ) : Type 0 where
   pub kind-least : 1 ≤ kind
-  pub kind-most : kind ≤ 5
   pub variables-most : variables ≤ 8
   pub a-some : 3 ≤ kind → 1 ≤ a
   pub a-most : a ≤ variables

@@ -11,6 +11,7 @@ use place::Place;
 use place::link_at;
 use place::none_at;
 ghost use mathlib.Core.Bool.{cond};
+ghost use mathlib.Core.List.{[]};
 ghost use mathlib.Core.Path.{_≡_};
 ghost use Prim.Native.Nat.{_≤_, _<_};
 ghost use lib.ListN.{length};
@@ -23,7 +24,7 @@ mod restore;
 
 // Whether p is a cell, nothing stands at it and its link is nowhere or *.
 fn is_free(vars: &[u8], links: &[u8], p: Place) -> bool
-    ensures { λ r. ⌜ r ≡ isFree (p .code) (record { vars = now (vars .entry); links = now (links .entry) }) ⌝ }
+    ensures { λ r. ⌜ r ≡ isFree (p .code) (record { vars = now (vars .entry); links = now (links .entry); facts = [] }) ⌝ }
 {
     if p.code < FIRST_CELL {
         return false;

@@ -2,26 +2,27 @@
 use mathlib.Core.Bool.{Bool, true, false}
 use mathlib.Core.List.{List, [], _∷_, map}
 use mathlib.Core.Logic.{if-pos, if-neg, _≢_}
+use mathlib.Core.Option.{none}
 use mathlib.Core.Path.{_≡_, refl, sym, ap, ap₂, _∙_, fun-ext}
 use Prim.Native.Nat.{ℕ, zero, suc, _≤_, _<_}
 use native.Mathlib.Decide.{ℕ-discrete, decLt}
 use native.Mathlib.Omega.{arith}
-use borrow.Author.Tests.{lt-ltb, le-ltb, eq-eqb, ne-eqb}
+use borrow.Author.Tests.{le-leb, lt-ltb, le-ltb, eq-eqb, ne-eqb}
 use lib.ListN.{length, getD, set, length-set, length-map, List·getD-map}
 use lib.Seq.{getD-set-same, getD-set-other}
 use Rattle.heap.specs.Codes.{varIn, linkIn}
 use Rattle.heap.specs.Heap.{Heap, update}
-use Rattle.heap.specs.Operation.{dangled}
+use Rattle.heap.specs.Operation.{dangled, write}
 use Rattle.heap.specs.Place.{nowhere, dangling, cell}
 use Rattle.place.specs.Place.{placeOf, codes}
 use Rattle.place.specs.declared.Place.{Place}
-use Rattle.stepper.specs.Table.{heapOf, Sized, standing, slotFits, cellFits, danglePlace}
+use Rattle.stepper.specs.Table.{heapOf, Sized, valueOf, codeIn, mostCode, standing, slotFits, cellFits, valueFits, danglePlace}
 use Rattle.stepper.specs.declared.Heap64.{Heap64}
-use Rattle.stepper.proofs.Formed.{Formed, var-stands, slot-empty, link-stands, link-empty}
+use Rattle.stepper.proofs.Formed.{Formed, var-stands, slot-empty, link-stands, link-empty, code-most, code-unused}
 use Rattle.heap.proofs.Codes.{by-code}
 
-pub heap-path : {h k : Heap} → ((p : ℕ) → h .link p ≡ k .link p) → ((v : ℕ) → h .var v ≡ k .var v) → h ≡ k
-heap-path a b = λ i. record { link = λ p. a p i; var = λ v. b v i }
+pub heap-path : {h k : Heap} → ((p : ℕ) → h .link p ≡ k .link p) → ((v : ℕ) → h .var v ≡ k .var v) → ((p : ℕ) → h .value p ≡ k .value p) → h ≡ k
+heap-path a b c = λ i. record { link = λ p. a p i; var = λ v. b v i; value = λ p. c p i }
 
 -- ---- lists of codes
 
@@ -53,6 +54,12 @@ link-set l i p h =
     (λ j. by-update (linkIn l) (cell i) p (cell j) _
     (λ e. ap (λ (k : ℕ). getD (set l i p) k nowhere) (omega arith) ∙ getD-set-same l i p nowhere h)
     (λ n. getD-set-other l i j p nowhere (λ e. n (ap cell e))))
+
+value-set : (l : List ℕ) (i c : ℕ) → i < length l → (q : ℕ) → valueOf (codeIn (set l i c) q) ≡ update (λ p. valueOf (codeIn l p)) (cell i) (valueOf c) q
+value-set l i c h q =
+    by-update (λ p. valueOf (codeIn l p)) (cell i) (valueOf c) q _
+    (λ e. ap valueOf (link-set l i c h q ∙ if-pos (ℕ-discrete q (cell i)) e c (codeIn l q)))
+    (λ n. ap valueOf (link-set l i c h q ∙ if-neg (ℕ-discrete q (cell i)) n c (codeIn l q)))
 
 -- ---- which places stand
 
@@ -111,21 +118,28 @@ module _ (l : List Place) (i : ℕ) (p : Place) where
 -- ---- a variable put at a place
 
 abbrev pub withVar : Heap64 → ℕ → Place → Heap64
-withVar t v p = record { variables = t .variables; vars = set (t .vars) v p; used = t .used; links = t .links }
+withVar t v p = record { variables = t .variables; vars = set (t .vars) v p; used = t .used; links = t .links; values = t .values }
 
 module _ (t : Heap64) (s : Sized t) (v : ℕ) (p : Place) where
   pub sized-with-var : Sized (withVar t v p)
-  sized-with-var = record { vars = length-set (t .vars) v p ∙ s .vars; used = s .used; links = s .links }
+  sized-with-var = record { vars = length-set (t .vars) v p ∙ s .vars; used = s .used; links = s .links; values = s .values }
 
-  pub heap-with-var : v < 8 → heapOf (withVar t v p) ≡ record { link = heapOf t .link; var = update (heapOf t .var) (suc v) (p .code) }
+  pub heap-with-var : v < 8 → heapOf (withVar t v p) ≡ record { link = heapOf t .link; var = update (heapOf t .var) (suc v) (p .code); value = heapOf t .value }
   heap-with-var h =
       heap-path (λ q. refl)
       (λ u. ap (λ (l : List ℕ). varIn l u) (codes-set (t .vars) v p)
       ∙ var-set (codes (t .vars)) v (p .code) (omega (arith, s .vars, length-map (t .vars) (λ (q : Place). q .code))) u)
+      (λ q. refl)
 
   pub formed-with-var : Formed t → v < t .variables → standing (t .used) (p .code) ≡ true → Formed (withVar t v p)
   formed-with-var f h st =
-      record { some = f .some; most = f .most; slots = λ i b. slot i b (decLt i (t .variables)) (ℕ-discrete i v); cells = f .cells }
+      record {
+        some = f .some;
+        most = f .most;
+        slots = λ i b. slot i b (decLt i (t .variables)) (ℕ-discrete i v);
+        cells = f .cells;
+        values = f .values;
+      }
     where
       slot : (i : ℕ) → i < 8 → Dec (i < t .variables) → Dec (i ≡ v) → slotFits (withVar t v p) i ≡ true
       slot i b (yes k) (yes e) =
@@ -137,38 +151,83 @@ module _ (t : Heap64) (s : Sized t) (v : ℕ) (p : Place) where
 -- ---- the link of a used cell put at a place
 
 abbrev pub withLink : Heap64 → ℕ → Place → Heap64
-withLink t i p = record { variables = t .variables; vars = t .vars; used = t .used; links = set (t .links) i p }
+withLink t i p = record { variables = t .variables; vars = t .vars; used = t .used; links = set (t .links) i p; values = t .values }
 
 module _ (t : Heap64) (s : Sized t) (i : ℕ) (p : Place) where
   pub sized-with-link : Sized (withLink t i p)
-  sized-with-link = record { vars = s .vars; used = s .used; links = length-set (t .links) i p ∙ s .links }
+  sized-with-link = record { vars = s .vars; used = s .used; links = length-set (t .links) i p ∙ s .links; values = s .values }
 
-  pub heap-with-link : i < 64 → heapOf (withLink t i p) ≡ record { link = update (heapOf t .link) (cell i) (p .code); var = heapOf t .var }
+  pub heap-with-link : i < 64
+      → heapOf (withLink t i p) ≡ record { link = update (heapOf t .link) (cell i) (p .code); var = heapOf t .var; value = heapOf t .value }
   heap-with-link h =
       heap-path
       (λ q. ap (λ (l : List ℕ). linkIn l q) (codes-set (t .links) i p)
       ∙ link-set (codes (t .links)) i (p .code) (omega (arith, s .links, length-map (t .links) (λ (q : Place). q .code))) q)
-      (λ u. refl)
+      (λ u. refl) (λ q. refl)
 
   pub formed-with-link : Formed t → i < 64 → getD (t .used) i false ≡ true → standing (t .used) (p .code) ≡ true → Formed (withLink t i p)
   formed-with-link f h u st =
-      record { some = f .some; most = f .most; slots = f .slots; cells = λ j b. fits j b (ℕ-discrete j i) (getD (t .used) j false) refl }
+      record {
+        some = f .some;
+        most = f .most;
+        slots = f .slots;
+        cells = λ j b. fits j b (ℕ-discrete j i) (getD (t .used) j false) refl;
+        values = f .values;
+      }
     where
       fits : (j : ℕ) → j < 64 → Dec (j ≡ i) → (v : Bool) → getD (t .used) j false ≡ v → cellFits (withLink t i p) j ≡ true
       fits j b (yes e) v k = cell-used (withLink t i p) j (rw e u) (rw (e, set-at (t .links) i p (omega (arith, s .links))) st)
       fits j b (no n) true k = cell-used (withLink t i p) j k (rw (set-off (t .links) i p j n) (link-stands t f j b k))
       fits j b (no n) false k = cell-free (withLink t i p) j k (set-off (t .links) i p j n ∙ link-empty t f j b k)
 
--- ---- a cell taken, linked to *
+-- ---- the value of a used cell, by its code
+
+abbrev pub withValue : Heap64 → ℕ → ℕ → Heap64
+withValue t i c = record { variables = t .variables; vars = t .vars; used = t .used; links = t .links; values = set (t .values) i c }
+
+module _ (t : Heap64) (s : Sized t) (i c : ℕ) where
+  pub sized-with-value : Sized (withValue t i c)
+  sized-with-value = record { vars = s .vars; used = s .used; links = s .links; values = length-set (t .values) i c ∙ s .values }
+
+  pub heap-with-value : i < 64 → heapOf (withValue t i c) ≡ write (heapOf t) (cell i) (valueOf c)
+  heap-with-value h = heap-path (λ q. refl) (λ u. refl) (value-set (t .values) i c (omega (arith, s .values)))
+
+  pub formed-with-value : Formed t → i < 64 → getD (t .used) i false ≡ true → c ≤ 65536 → Formed (withValue t i c)
+  formed-with-value f h u l =
+      record { some = f .some; most = f .most; slots = f .slots; cells = f .cells; values = λ j b. fits j b (ℕ-discrete j i) }
+    where
+      fits : (j : ℕ) → j < 64 → Dec (j ≡ i) → valueFits (withValue t i c) j ≡ true
+      fits j b (yes e) = rw (e, u, getD-set-same (t .values) i c 0 (omega (arith, s .values))) (le-leb c 65536 l)
+      fits j b (no n) = rw (getD-set-other (t .values) i j c 0 n) (f .values j b)
+
+-- ---- a cell taken, linked to *; an unused cell has no value
 
 abbrev pub withCell : Heap64 → ℕ → Heap64
 withCell t i =
-    record { variables = t .variables; vars = t .vars; used = set (t .used) i true; links = set (t .links) i (placeOf dangling) }
+    record {
+      variables = t .variables;
+      vars = t .vars;
+      used = set (t .used) i true;
+      links = set (t .links) i (placeOf dangling);
+      values = t .values;
+    }
 
 module _ (t : Heap64) (s : Sized t) (i : ℕ) where
   pub sized-with-cell : Sized (withCell t i)
   sized-with-cell =
-      record { vars = s .vars; used = length-set (t .used) i true ∙ s .used; links = length-set (t .links) i (placeOf dangling) ∙ s .links }
+      record {
+        vars = s .vars;
+        used = length-set (t .used) i true ∙ s .used;
+        links = length-set (t .links) i (placeOf dangling) ∙ s .links;
+        values = s .values;
+      }
+
+  pub heap-with-cell : Formed t → i < 64 → getD (t .used) i false ≡ false
+      → heapOf (withCell t i)
+      ≡ record { link = update (heapOf t .link) (cell i) dangling; var = heapOf t .var; value = update (heapOf t .value) (cell i) none }
+  heap-with-cell f h u =
+      heap-path (λ q k. heap-with-link t s i (placeOf dangling) h k .link q) (λ v. refl)
+      (λ q. by-update (heapOf t .value) (cell i) none q _ (λ e. ap (heapOf t .value) e ∙ ap valueOf (code-unused t f i h u)) (λ n. refl))
 
   pub formed-with-cell : Formed t → i < 64 → Formed (withCell t i)
   formed-with-cell f h =
@@ -177,8 +236,14 @@ module _ (t : Heap64) (s : Sized t) (i : ℕ) where
         most = f .most;
         slots = λ j b. slot j b (decLt j (t .variables));
         cells = λ j b. fits j b (ℕ-discrete j i) (getD (t .used) j false) refl;
+        values = λ j b. value j b (ℕ-discrete j i);
       }
     where
+      value : (j : ℕ) → j < 64 → Dec (j ≡ i) → valueFits (withCell t i) j ≡ true
+      value j b (yes e) =
+          rw (e, getD-set-same (t .used) i true false (omega (arith, s .used))) (le-leb (getD (t .values) i 0) 65536 (code-most t f i h))
+      value j b (no n) = rw (getD-set-other (t .used) i j true false n) (f .values j b)
+
       more : (p : ℕ) → standing (t .used) p ≡ true → standing (set (t .used) i true) p ≡ true
       more = standing-more (t .used) i (omega (arith, s .used))
 
@@ -206,6 +271,7 @@ withoutCell t i =
       vars = map (danglePlace (cell i)) (t .vars);
       used = set (t .used) i false;
       links = set (map (danglePlace (cell i)) (t .links)) i (placeOf nowhere);
+      values = set (t .values) i 0;
     }
 
 dangle-code : (y : ℕ) (p : Place) → danglePlace y p .code ≡ dangled y (p .code)
@@ -245,18 +311,23 @@ module _ (t : Heap64) (s : Sized t) (i : ℕ) where
         vars = length-map (t .vars) (danglePlace (cell i)) ∙ s .vars;
         used = length-set (t .used) i false ∙ s .used;
         links = length-set (map (danglePlace (cell i)) (t .links)) i (placeOf nowhere) ∙ length-map (t .links) (danglePlace (cell i)) ∙ s .links;
+        values = length-set (t .values) i 0 ∙ s .values;
       }
 
   pub heap-without : i < 64
       → heapOf (withoutCell t i)
-      ≡ record { link = update (λ p. dangled (cell i) (heapOf t .link p)) (cell i) nowhere; var = λ v. dangled (cell i) (heapOf t .var v) }
+      ≡ record {
+        link = update (λ p. dangled (cell i) (heapOf t .link p)) (cell i) nowhere;
+        var = λ v. dangled (cell i) (heapOf t .var v);
+        value = update (heapOf t .value) (cell i) none;
+      }
   heap-without h =
       heap-path
       (λ q. ap (λ (l : List ℕ). linkIn l q) (codes-set (map (danglePlace (cell i)) (t .links)) i (placeOf nowhere))
       ∙ link-set (codes (map (danglePlace (cell i)) (t .links))) i nowhere
       (omega (arith, s .links, length-map (map (danglePlace (cell i)) (t .links)) (λ (q : Place). q .code), length-map (t .links) (danglePlace (cell i)))) q
       ∙ ap (λ (g : ℕ → ℕ). update g (cell i) nowhere q) (fun-ext (dangle-links i (t .links))))
-      (dangle-vars i (t .vars))
+      (dangle-vars i (t .vars)) (value-set (t .values) i 0 (omega (arith, s .values)))
 
   pub formed-without : Formed t → i < 64 → Formed (withoutCell t i)
   formed-without f h =
@@ -265,8 +336,14 @@ module _ (t : Heap64) (s : Sized t) (i : ℕ) where
         most = f .most;
         slots = λ j b. slot j b (decLt j (t .variables));
         cells = λ j b. fits j b (ℕ-discrete j i) (getD (t .used) j false) refl;
+        values = λ j b. value j b (ℕ-discrete j i);
       }
     where
+      value : (j : ℕ) → j < 64 → Dec (j ≡ i) → valueFits (withoutCell t i) j ≡ true
+      value j b (yes e) =
+          rw (e, getD-set-same (t .values) i 0 0 (omega (arith, s .values))) (le-leb 0 (mostCode (getD (set (t .used) i false) i false)) (omega arith))
+      value j b (no n) = rw (getD-set-other (t .values) i j 0 0 n, getD-set-other (t .used) i j false false n) (f .values j b)
+
       links : List Place
       links = map (danglePlace (cell i)) (t .links)
 

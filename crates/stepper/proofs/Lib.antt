@@ -4,4 +4,5 @@ pub mod Formed
 pub mod Change
 pub mod Dangle
 pub mod Perform
+pub mod Values
 pub mod Steps

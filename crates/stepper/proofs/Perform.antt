@@ -12,16 +12,16 @@ use lib.ListN.{length, getD, set, length-map, List·getD-eq-default}
 use lib.Seq.{getD-set-same}
 use Rattle.heap.specs.Codes.{varIn, linkIn}
 use Rattle.heap.specs.Heap.{update}
-use Rattle.heap.specs.Operation.{Op, equal, different, store, new, delete, Enabled, enabled?, after}
+use Rattle.heap.specs.Operation.{Op, equal, different, store, new, delete, read, Enabled, enabled?, after, write}
 use Rattle.heap.specs.Place.{nowhere, dangling, cell}
 use Rattle.place.specs.Place.{placeOf, cellPlace, codes}
 use Rattle.place.specs.declared.Place.{Place}
-use Rattle.stepper.specs.Step.{stays, lowestUnused, allocates, comparison, tableAfter, perform}
-use Rattle.stepper.specs.Table.{heapOf, tableOf, Sized, standing, FormedTable, dangleVars, dangleLinks}
+use Rattle.stepper.specs.Step.{stays, lowestUnused, allocates, choice, comparison, tableAfter, perform}
+use Rattle.stepper.specs.Table.{heapOf, tableOf, Sized, valueOf, standing, FormedTable, dangleVars, dangleLinks}
 use Rattle.stepper.specs.declared.Heap64.{Heap64}
 use Rattle.stepper.specs.declared.Outcome.the-variants.{Moved, Blocked, Refused}
 use Rattle.stepper.specs.declared.StepRefusal.the-variants.{Full}
-use Rattle.stepper.proofs.Change.{withVar, sized-with-var, heap-with-var, formed-with-var, withLink, sized-with-link, heap-with-link, formed-with-link, withCell, sized-with-cell, formed-with-cell, withoutCell, sized-without, heap-without, formed-without}
+use Rattle.stepper.proofs.Change.{withVar, sized-with-var, heap-with-var, formed-with-var, withLink, sized-with-link, heap-with-link, formed-with-link, withValue, sized-with-value, heap-with-value, formed-with-value, withCell, sized-with-cell, heap-with-cell, formed-with-cell, withoutCell, sized-without, heap-without, formed-without}
 use Rattle.stepper.proofs.Formed.{Formed, formed, table-of, var-stands, link-stands, link-empty}
 use Rattle.heap.proofs.Codes.{by-code}
 
@@ -36,36 +36,61 @@ lowest-free (false ∷ us) h = refl
 -- ---- a delete, in two steps: the variables and links at y go to *, and the cell at y goes
 
 abbrev pub cut : Heap64 → ℕ → Heap64
-cut t y = record { variables = t .variables; vars = t .vars; used = set (t .used) (y - 3) false; links = set (t .links) (y - 3) (placeOf nowhere) }
+cut t y =
+    record {
+      variables = t .variables;
+      vars = t .vars;
+      used = set (t .used) (y - 3) false;
+      links = set (t .links) (y - 3) (placeOf nowhere);
+      values = set (t .values) (y - 3) 0;
+    }
 
 abbrev pub withoutPlace : Heap64 → ℕ → Heap64
 withoutPlace t y = cut (dangleLinks (dangleVars t y) y) y
 
 -- ---- moved, blocked and refused
 
-module _ (t : Heap64) (o : Op) where
-  pub blocked : allocates o && leb 64 (lowestUnused (t .used)) ≡ false → (Enabled o (lowestUnused (t .used)) (heapOf t) → ⊥) → stays t Blocked ≡ perform t o
+module _ (t : Heap64) (value : ℕ) (o : Op) where
+  pub blocked : allocates o && leb 64 (lowestUnused (t .used)) ≡ false → (Enabled o (choice t value o) (heapOf t) → ⊥) → stays t Blocked ≡ perform t value o
   unfolding perform
-  blocked n d = rw (n, if-neg (enabled? o (lowestUnused (t .used)) (heapOf t)) d (stays (tableAfter t o) Moved) (stays t Blocked)) refl
+  blocked n d =
+      rw (n, if-neg (enabled? o (choice t value o) (heapOf t)) d (stays (tableAfter t o (choice t value o)) Moved) (stays t Blocked)) refl
+
+  moves : allocates o && leb 64 (lowestUnused (t .used)) ≡ false → Enabled o (choice t value o) (heapOf t)
+      → stays (tableAfter t o (choice t value o)) Moved ≡ perform t value o
+  unfolding perform
+  moves n d =
+      rw (n, if-pos (enabled? o (choice t value o) (heapOf t)) d (stays (tableAfter t o (choice t value o)) Moved) (stays t Blocked)) refl
 
   -- t′ is the table after the operation, well formed again
   pub record Changes (t′ : Heap64) : Type 0 where
-    pub enabled : Enabled o (lowestUnused (t .used)) (heapOf t)
+    pub enabled : Enabled o (choice t value o) (heapOf t)
     pub room : allocates o && leb 64 (lowestUnused (t .used)) ≡ false
     pub sized : Sized t′
     pub formed : Formed t′
     pub variables : t′ .variables ≡ t .variables
-    pub heap : heapOf t′ ≡ after o (lowestUnused (t .used)) (heapOf t)
+    pub heap : heapOf t′ ≡ after o (choice t value o) (heapOf t)
 
-  pub moved : (t′ : Heap64) → Changes t′ → stays t′ Moved ≡ perform t o
-  unfolding perform
+  pub moved : (t′ : Heap64) → Changes t′ → stays t′ Moved ≡ perform t value o
   moved t′ c =
-      rw (c .room, if-pos (enabled? o (lowestUnused (t .used)) (heapOf t)) (c .enabled) (stays (tableAfter t o) Moved) (stays t Blocked))
-      (ap (λ u. stays u Moved) (table-of t′ (c .sized) (c .formed) ∙ ap₂ tableOf (c .variables) (c .heap)))
+      ap (λ u. stays u Moved) (table-of t′ (c .sized) (c .formed) ∙ ap₂ tableOf (c .variables) (c .heap)) ∙ moves (c .room) (c .enabled)
 
-  pub full : allocates o && leb 64 (lowestUnused (t .used)) ≡ true → stays t (Refused Full) ≡ perform t o
+  pub full : allocates o && leb 64 (lowestUnused (t .used)) ≡ true → stays t (Refused Full) ≡ perform t value o
   unfolding perform
   full n = rw n refl
+
+-- an operation that writes the value m to a's cell, and is enabled just where a is at a cell, does what read does with m
+pub as-read : (t : Heap64) (value : ℕ) (o : Op) (a m : ℕ) → allocates o ≡ false → (Enabled (read a) m (heapOf t) → Enabled o (choice t value o) (heapOf t))
+    → (Enabled o (choice t value o) (heapOf t) → Enabled (read a) m (heapOf t))
+    → after (read a) m (heapOf t) ≡ after o (choice t value o) (heapOf t) → perform t m (read a) ≡ perform t value o
+as-read t value o a m n there back same = go (enabled? (read a) m (heapOf t))
+  where
+    room : allocates o && leb 64 (lowestUnused (t .used)) ≡ false
+    room = rw n refl
+
+    go : Dec (Enabled (read a) m (heapOf t)) → perform t m (read a) ≡ perform t value o
+    go (yes d) = sym (moves t m (read a) refl d) ∙ ap (λ h. stays (tableOf (t .variables) h) Moved) same ∙ moves t value o room (there d)
+    go (no d) = sym (blocked t m (read a) refl d) ∙ blocked t value o room (λ e. d (back e))
 
 -- ---- what stands where
 
@@ -98,37 +123,39 @@ module _ (t : Heap64) (s : Sized t) (f : Formed t) where
       let l = linked p n in
       rw (l .is-cell) (link-stands t f (l .number) (l .inside) (l .used))
 
-  -- ---- the operations
+-- ---- the operations
 
-  pub still : (o : Op) → allocates o ≡ false → Enabled o (lowestUnused (t .used)) (heapOf t) → heapOf t ≡ after o (lowestUnused (t .used)) (heapOf t) → Changes t o t
+module _ (t : Heap64) (s : Sized t) (f : Formed t) (value : ℕ) where
+  pub still : (o : Op) → allocates o ≡ false → Enabled o (choice t value o) (heapOf t) → heapOf t ≡ after o (choice t value o) (heapOf t)
+      → Changes t value o t
   still o n e h = record { enabled = e; room = rw n refl; sized = s; formed = f; variables = refl; heap = h }
 
   -- a comparison, by what stands where; `e` says which of the two it is
   module _ (e : Bool) (a b : ℕ) where
-    pub dangling-a : varIn (codes (t .vars)) a ≡ dangling → stays t Blocked ≡ perform t (comparison e a b)
-    dangling-a z = elim e [ true ↦ blocked t (equal a b) refl (λ d. d .0 z) | false ↦ blocked t (different a b) refl (λ d. d .0 z) ]
+    pub dangling-a : varIn (codes (t .vars)) a ≡ dangling → stays t Blocked ≡ perform t value (comparison e a b)
+    dangling-a z = elim e [ true ↦ blocked t value (equal a b) refl (λ d. d .0 z) | false ↦ blocked t value (different a b) refl (λ d. d .0 z) ]
 
-    pub dangling-b : varIn (codes (t .vars)) b ≡ dangling → stays t Blocked ≡ perform t (comparison e a b)
-    dangling-b z = elim e [ true ↦ blocked t (equal a b) refl (λ d. d .1 z) | false ↦ blocked t (different a b) refl (λ d. d .1 z) ]
+    pub dangling-b : varIn (codes (t .vars)) b ≡ dangling → stays t Blocked ≡ perform t value (comparison e a b)
+    dangling-b z = elim e [ true ↦ blocked t value (equal a b) refl (λ d. d .1 z) | false ↦ blocked t value (different a b) refl (λ d. d .1 z) ]
 
     module _ (na : varIn (codes (t .vars)) a ≢ dangling) (nb : varIn (codes (t .vars)) b ≢ dangling) where
-      pub same-equal : varIn (codes (t .vars)) a ≡ varIn (codes (t .vars)) b → e ≡ true → stays t Moved ≡ perform t (comparison e a b)
-      same-equal z k = rw k (moved t (equal a b) t (still (equal a b) refl (na, nb, z) refl))
+      pub same-equal : varIn (codes (t .vars)) a ≡ varIn (codes (t .vars)) b → e ≡ true → stays t Moved ≡ perform t value (comparison e a b)
+      same-equal z k = rw k (moved t value (equal a b) t (still (equal a b) refl (na, nb, z) refl))
 
-      pub same-different : varIn (codes (t .vars)) a ≡ varIn (codes (t .vars)) b → e ≡ false → stays t Blocked ≡ perform t (comparison e a b)
-      same-different z k = rw k (blocked t (different a b) refl (λ d. d .2 z))
+      pub same-different : varIn (codes (t .vars)) a ≡ varIn (codes (t .vars)) b → e ≡ false → stays t Blocked ≡ perform t value (comparison e a b)
+      same-different z k = rw k (blocked t value (different a b) refl (λ d. d .2 z))
 
-      pub other-equal : varIn (codes (t .vars)) a ≢ varIn (codes (t .vars)) b → e ≡ true → stays t Blocked ≡ perform t (comparison e a b)
-      other-equal z k = rw k (blocked t (equal a b) refl (λ d. z (d .2)))
+      pub other-equal : varIn (codes (t .vars)) a ≢ varIn (codes (t .vars)) b → e ≡ true → stays t Blocked ≡ perform t value (comparison e a b)
+      other-equal z k = rw k (blocked t value (equal a b) refl (λ d. z (d .2)))
 
-      pub other-different : varIn (codes (t .vars)) a ≢ varIn (codes (t .vars)) b → e ≡ false → stays t Moved ≡ perform t (comparison e a b)
-      other-different z k = rw k (moved t (different a b) t (still (different a b) refl (na, nb, z) refl))
+      pub other-different : varIn (codes (t .vars)) a ≢ varIn (codes (t .vars)) b → e ≡ false → stays t Moved ≡ perform t value (comparison e a b)
+      other-different z k = rw k (moved t value (different a b) t (still (different a b) refl (na, nb, z) refl))
 
   -- variable a goes to p
-  pub put : (o : Op) (a : ℕ) (p : Place) → allocates o ≡ false → Enabled o (lowestUnused (t .used)) (heapOf t) → 1 ≤ a → a ≤ t .variables
+  pub put : (o : Op) (a : ℕ) (p : Place) → allocates o ≡ false → Enabled o (choice t value o) (heapOf t) → 1 ≤ a → a ≤ t .variables
       → standing (t .used) (p .code) ≡ true
-      → record { link = heapOf t .link; var = update (heapOf t .var) a (p .code) } ≡ after o (lowestUnused (t .used)) (heapOf t)
-      → Changes t o (withVar t (a - 1) p)
+      → record { link = heapOf t .link; var = update (heapOf t .var) a (p .code); value = heapOf t .value } ≡ after o (choice t value o) (heapOf t)
+      → Changes t value o (withVar t (a - 1) p)
   put o a p n e l h st same =
       let a-is : suc (a - 1) ≡ a = omega arith in
       record {
@@ -141,33 +168,52 @@ module _ (t : Heap64) (s : Sized t) (f : Formed t) where
       }
 
   pub stored : (a b : ℕ) (p : Place) → linkIn (codes (t .links)) (varIn (codes (t .vars)) a) ≢ nowhere → p .code ≡ varIn (codes (t .vars)) b → p .code ≢ dangling
-      → b ≤ t .variables → Changes t (store a b) (withLink t (varIn (codes (t .vars)) a - 3) p)
+      → b ≤ t .variables → Changes t value (store a b) (withLink t (varIn (codes (t .vars)) a - 3) p)
   stored a b p n e d h =
-      let l = linked (varIn (codes (t .vars)) a) n in
+      let l = linked t s f (varIn (codes (t .vars)) a) n in
       let i-is : varIn (codes (t .vars)) a - 3 ≡ l .number = omega (arith, l .is-cell) in
       rw i-is
       (record {
         enabled = (n, λ z. d (e ∙ z));
         room = refl;
         sized = sized-with-link t s (l .number) p;
-        formed = formed-with-link t s (l .number) p f (l .inside) (l .used) (rw e (operand-stands b h));
+        formed = formed-with-link t s (l .number) p f (l .inside) (l .used) (rw e (operand-stands t s f b h));
         variables = refl;
         heap = heap-with-link t s (l .number) p (l .inside) ∙ rw (e, ← l .is-cell) refl;
       })
 
-  new-enabled : (a i : ℕ) → i ≡ lowestUnused (t .used) → i < 64 → Enabled (new a) i (heapOf t)
-  new-enabled a i e h = link-empty t f i h (rw e (lowest-free (t .used) (omega (arith, s .used))))
+  -- the value of a's cell gets the code c
+  pub written : (o : Op) (a c : ℕ) → allocates o ≡ false → Enabled o (choice t value o) (heapOf t)
+      → linkIn (codes (t .links)) (varIn (codes (t .vars)) a) ≢ nowhere → c ≤ 65536
+      → write (heapOf t) (varIn (codes (t .vars)) a) (valueOf c) ≡ after o (choice t value o) (heapOf t)
+      → Changes t value o (withValue t (varIn (codes (t .vars)) a - 3) c)
+  written o a c r e n h same =
+      let l = linked t s f (varIn (codes (t .vars)) a) n in
+      let i-is : varIn (codes (t .vars)) a - 3 ≡ l .number = omega (arith, l .is-cell) in
+      rw i-is
+      (record {
+        enabled = e;
+        room = rw r refl;
+        sized = sized-with-value t s (l .number) c;
+        formed = formed-with-value t s (l .number) c f (l .inside) (l .used) h;
+        variables = refl;
+        heap = heap-with-value t s (l .number) c (l .inside) ∙ ap (λ p. write (heapOf t) p (valueOf c)) (sym (l .is-cell)) ∙ same;
+      })
+
+  unused-lowest : (i : ℕ) → i ≡ lowestUnused (t .used) → i < 64 → getD (t .used) i false ≡ false
+  unused-lowest i e h = rw e (lowest-free (t .used) (omega (arith, s .used)))
 
   pub taken : (a i : ℕ) → i ≡ lowestUnused (t .used) → i < 64 → 1 ≤ a → a ≤ t .variables
-      → Changes t (new a) (withVar (withCell t i) (a - 1) (cellPlace i))
+      → Changes t value (new a) (withVar (withCell t i) (a - 1) (cellPlace i))
   unfolding standing
   taken a i e h l m =
       let a-is : suc (a - 1) ≡ a = omega arith in
       let place-is : cellPlace i ≡ placeOf (cell i) = simp (lt-ltb i 253 (omega arith)) (ap placeOf (omega arith)) in
       let cell-sized = sized-with-cell t s i in
+      let unused = unused-lowest i e h in
       rw place-is
       (record {
-        enabled = rw (← e) (new-enabled a i e h);
+        enabled = rw (← e) (link-empty t f i h unused);
         room = rw (← e) (lt-leb 64 i h);
         sized = sized-with-var (withCell t i) cell-sized (a - 1) (placeOf (cell i));
         formed =
@@ -176,13 +222,14 @@ module _ (t : Heap64) (s : Sized t) (f : Formed t) where
         variables = refl;
         heap =
             heap-with-var (withCell t i) cell-sized (a - 1) (placeOf (cell i)) (omega (arith, f .most))
-            ∙ rw (a-is, ← e) (λ k. record { link = heap-with-link t s i (placeOf dangling) h k .link; var = update (heapOf t .var) a (cell i) });
+            ∙ rw (a-is, ← e)
+            (λ k. let g = heap-with-cell t s i f h unused k in record { link = g .link; var = update (heapOf t .var) a (cell i); value = g .value });
       })
 
-  pub freed : (a y : ℕ) → y ≡ varIn (codes (t .vars)) a → linkIn (codes (t .links)) y ≢ nowhere → Changes t (delete a) (withoutPlace t y)
-  freed a y e n = at-cell (linked y n)
+  pub freed : (a y : ℕ) → y ≡ varIn (codes (t .vars)) a → linkIn (codes (t .links)) y ≢ nowhere → Changes t value (delete a) (withoutPlace t y)
+  freed a y e n = at-cell (linked t s f y n)
     where
-      at-cell : UsedCell y → Changes t (delete a) (withoutPlace t y)
+      at-cell : UsedCell t s f y → Changes t value (delete a) (withoutPlace t y)
       at-cell l =
           let i = l .number in
           let i-is : cell i - 3 ≡ i = omega arith in
@@ -199,15 +246,18 @@ module _ (t : Heap64) (s : Sized t) (f : Formed t) where
           })
 
 -- new, which is enabled "always", is never blocked: it moves or, where all cells are used, is refused
-pub new-not-blocked : (t : Heap64) → FormedTable t → (a : ℕ) → (perform t (new a) .outcome ≡ Moved) ⊎ (perform t (new a) .outcome ≡ Refused Full)
+pub new-not-blocked : (t : Heap64) → FormedTable t → (value a : ℕ)
+    → (perform t value (new a) .outcome ≡ Moved) ⊎ (perform t value (new a) .outcome ≡ Refused Full)
 unfolding perform
-new-not-blocked t r a = by-room (leb 64 x) refl
+new-not-blocked t r value a = by-room (leb 64 x) refl
   where
     x : ℕ
     x = lowestUnused (t .used)
 
-    by-room : (b : Bool) → leb 64 x ≡ b → (perform t (new a) .outcome ≡ Moved) ⊎ (perform t (new a) .outcome ≡ Refused Full)
+    by-room : (b : Bool) → leb 64 x ≡ b → (perform t value (new a) .outcome ≡ Moved) ⊎ (perform t value (new a) .outcome ≡ Refused Full)
     by-room true e = inr (rw e refl)
     by-room false e =
-        let enabled = new-enabled t (r .sized) (formed t (r .formed)) a x refl (leb-false 64 x e) in
-        inl (rw (e, if-pos (enabled? (new a) x (heapOf t)) enabled (stays (tableAfter t (new a)) Moved) (stays t Blocked)) refl)
+        let f = formed t (r .formed) in
+        let inside = leb-false 64 x e in
+        let enabled : Enabled (new a) x (heapOf t) = link-empty t f x inside (unused-lowest t (r .sized) f value x refl inside) in
+        inl (rw (e, if-pos (enabled? (new a) x (heapOf t)) enabled (stays (tableAfter t (new a) x) Moved) (stays t Blocked)) refl)

@@ -3,50 +3,61 @@ use mathlib.Core.Bool.{Bool, true, false, _&&_, cond}
 use mathlib.Core.Logic.{ite}
 use mathlib.Core.Option.{Option, none, some}
 use mathlib.Core.Path.{_≡_, refl, sym, _∙_, subst}
-use Prim.Native.Nat.{ℕ, _-_}
+use Prim.Native.Nat.{ℕ, suc, _-_, _≤_}
 use native.Mathlib.Omega.{arith}
 use borrow.Author.Tests.{leb-false}
 use lib.Dec.{leb}
 use Rattle.heap.specs.Codes.{varIn, linkIn}
-use Rattle.heap.specs.Operation.{Op, equal, different, assign, load, store, new, delete, Enabled, enabled?, operation, Allowed}
+use Rattle.heap.specs.Operation.{Op, equal, different, assign, load, store, new, delete, equalValue, belowValue, copy, larger, smaller, read, Enabled, enabled?, operation, Allowed}
 use Rattle.heap.proofs.Operands.{named-allowed}
 use Rattle.kinds.specs.Kinds.{isSome, allowed}
 use Rattle.place.specs.Place.{placeOf, cellPlace, codes}
-use Rattle.stepper.specs.Step.{stays, lowestUnused, allocates, tableAfter, perform, performNamed, stepOf, Steps}
-use Rattle.stepper.specs.Table.{heapOf, tableOf, Sized, wellFormed}
+use Rattle.stepper.specs.Step.{stays, lowestUnused, allocates, choice, tableAfter, perform, performNamed, stepOf, Steps}
+use Rattle.stepper.specs.Table.{heapOf, tableOf, Sized, codeIn, wellFormed}
 use Rattle.stepper.specs.declared.Heap64.{Heap64}
 use Rattle.stepper.specs.declared.Outcome.{Outcome}
 use Rattle.stepper.specs.declared.Outcome.the-variants.{Moved, Blocked, Refused}
 use Rattle.stepper.specs.declared.StepRefusal.{StepRefusal}
 use Rattle.stepper.specs.declared.StepRefusal.the-variants.{IllFormed, BadOperation, Full}
 use Rattle.stepper.specs.declared.Stepped.{Stepped}
-use Rattle.stepper.proofs.Change.{withVar, withLink, withCell}
-use Rattle.stepper.proofs.Formed.{Formed, formed, well-formed}
-use Rattle.stepper.proofs.Perform.{Changes, moved, blocked, full, operand-stands, linked-stands, still, put, stored, taken, withoutPlace, freed}
+use Rattle.stepper.proofs.Change.{withVar, withLink, withValue, withCell}
+use Rattle.stepper.proofs.Formed.{Formed, formed, well-formed, value-most}
+use Rattle.stepper.proofs.Perform.{Changes, moved, blocked, full, operand-stands, linked-stands, still, put, stored, written, taken, withoutPlace, freed}
 
-module _ (t : Heap64) (s : Sized t) (f : Formed t) where
+module _ (t : Heap64) (s : Sized t) (f : Formed t) (value : ℕ) (lent : value ≤ 65535) where
   -- an enabled operation has a well formed table after it
-  changed : (o : Op) → Allowed (t .variables) o → Enabled o (lowestUnused (t .used)) (heapOf t) → allocates o && leb 64 (lowestUnused (t .used)) ≡ false
-      → (t′ : Heap64) × Changes t o t′
-  changed (equal a b) v e r = (t, still t s f (equal a b) refl e refl)
-  changed (different a b) v e r = (t, still t s f (different a b) refl e refl)
+  changed : (o : Op) → Allowed (t .variables) o → Enabled o (choice t value o) (heapOf t) → allocates o && leb 64 (lowestUnused (t .used)) ≡ false
+      → (t′ : Heap64) × Changes t value o t′
+  changed (equal a b) v e r = (t, still t s f value (equal a b) refl e refl)
+  changed (different a b) v e r = (t, still t s f value (different a b) refl e refl)
   changed (assign a b) v e r =
       let p = placeOf (varIn (codes (t .vars)) b) in
-      (withVar t (a - 1) p, put t s f (assign a b) a p refl e (omega arith) (v .1) (operand-stands t s f b (v .2)) refl)
+      (withVar t (a - 1) p, put t s f value (assign a b) a p refl e (omega arith) (v .1) (operand-stands t s f b (v .2)) refl)
   changed (load a b) v e r =
       let p = placeOf (linkIn (codes (t .links)) (varIn (codes (t .vars)) b)) in
-      (withVar t (a - 1) p, put t s f (load a b) a p refl e (omega arith) (v .2) (linked-stands t s f (varIn (codes (t .vars)) b) (e .0)) refl)
+      (withVar t (a - 1) p, put t s f value (load a b) a p refl e (omega arith) (v .2) (linked-stands t s f (varIn (codes (t .vars)) b) (e .0)) refl)
   changed (store a b) v e r =
       let p = placeOf (varIn (codes (t .vars)) b) in
-      (withLink t (varIn (codes (t .vars)) a - 3) p, stored t s f a b p (e .0) refl (e .1) (v .2))
+      (withLink t (varIn (codes (t .vars)) a - 3) p, stored t s f value a b p (e .0) refl (e .1) (v .2))
   changed (new a) v e r =
       let i = lowestUnused (t .used) in
-      (withVar (withCell t i) (a - 1) (cellPlace i), taken t s f a i refl (leb-false 64 i r) (omega arith) (v .1))
-  changed (delete a) v e r = (withoutPlace t (varIn (codes (t .vars)) a), freed t s f a (varIn (codes (t .vars)) a) refl e)
+      (withVar (withCell t i) (a - 1) (cellPlace i), taken t s f value a i refl (leb-false 64 i r) (omega arith) (v .1))
+  changed (delete a) v e r = (withoutPlace t (varIn (codes (t .vars)) a), freed t s f value a (varIn (codes (t .vars)) a) refl e)
+  changed (equalValue a b) v e r = (t, still t s f value (equalValue a b) refl e refl)
+  changed (belowValue a b) v e r = (t, still t s f value (belowValue a b) refl e refl)
+  changed (copy a b) v e r =
+      let c = codeIn (t .values) (varIn (codes (t .vars)) b) in
+      (withValue t (varIn (codes (t .vars)) a - 3) c, written t s f value (copy a b) a c refl e (e .0) (value-most t s f (varIn (codes (t .vars)) b)) refl)
+  changed (larger a b) v e r =
+      (withValue t (varIn (codes (t .vars)) a - 3) (suc value), written t s f value (larger a b) a (suc value) refl e (e .0) (omega arith) refl)
+  changed (smaller a b) v e r =
+      (withValue t (varIn (codes (t .vars)) a - 3) (suc value), written t s f value (smaller a b) a (suc value) refl e (e .0) (omega arith) refl)
+  changed (read a) v e r =
+      (withValue t (varIn (codes (t .vars)) a - 3) (suc value), written t s f value (read a) a (suc value) refl e e (omega arith) refl)
 
 -- a step that did not move
-stayed : (t : Heap64) (kind a b : ℕ) (o : Outcome) → (o ≡ Moved → ⊥) → stays t o ≡ stepOf t kind a b → Steps t kind a b (stays t o)
-stayed t kind a b o n e = record { result = e; does = λ z. absurd (n z); returns = λ z. refl; formed = λ h. h }
+stayed : (t : Heap64) (kind a b value : ℕ) (o : Outcome) → (o ≡ Moved → ⊥) → stays t o ≡ stepOf t kind a b value → Steps t kind a b value (stays t o)
+stayed t kind a b value o n e = record { result = e; does = λ z. absurd (n z); returns = λ z. refl; formed = λ h. h }
 
 refused-stays : (r : StepRefusal) → _≡_ {A = Outcome} (Refused r) Moved → ⊥
 refused-stays r e = let z : _≡_ {A = ℕ} 0 1 = cc in omega arith
@@ -54,22 +65,19 @@ refused-stays r e = let z : _≡_ {A = ℕ} 0 1 = cc in omega arith
 blocked-stays : _≡_ {A = Outcome} Blocked Moved → ⊥
 blocked-stays e = let z : _≡_ {A = ℕ} 0 1 = cc in omega arith
 
-module _ (t : Heap64) (s : Sized t) (kind a b : ℕ) where
+module _ (t : Heap64) (s : Sized t) (kind a b value : ℕ) (lent : value ≤ 65535) where
   abbrev Promise : Type 0
-  Promise = (r : Stepped) → r ≡ stepOf t kind a b → Steps t kind a b r
+  Promise = (r : Stepped) → r ≡ stepOf t kind a b value → Steps t kind a b value r
 
-  promised : (r : Stepped) → r ≡ stepOf t kind a b → Steps t kind a b r → Promise
-  promised r e p q d = subst (Steps t kind a b) (e ∙ sym d) p
+  promised : (r : Stepped) → r ≡ stepOf t kind a b value → Steps t kind a b value r → Promise
+  promised r e p q d = subst (Steps t kind a b value) (e ∙ sym d) p
 
-  by-operation : Formed t → (o : Op) → operation (t .variables) kind a b ≡ some o → perform t o ≡ stepOf t kind a b → Promise
-  by-operation f o named e = by-room (allocates o && leb 64 x) refl (enabled? o x (heapOf t))
+  by-operation : Formed t → (o : Op) → operation (t .variables) kind a b ≡ some o → perform t value o ≡ stepOf t kind a b value → Promise
+  by-operation f o named e = by-room (allocates o && leb 64 (lowestUnused (t .used))) refl (enabled? o (choice t value o) (heapOf t))
     where
-      x : ℕ
-      x = lowestUnused (t .used)
-
-      moves : (t′ : Heap64) → Changes t o t′ → Promise
+      moves : (t′ : Heap64) → Changes t value o t′ → Promise
       moves t′ c =
-          let same = moved t o t′ c ∙ e in
+          let same = moved t value o t′ c ∙ e in
           promised (stays t′ Moved) same
           (record {
             result = same;
@@ -78,10 +86,10 @@ module _ (t : Heap64) (s : Sized t) (kind a b : ℕ) where
             formed = λ h. well-formed t′ (c .formed);
           })
 
-      by-room : (full? : Bool) → allocates o && leb 64 x ≡ full? → Dec (Enabled o x (heapOf t)) → Promise
-      by-room true r d = let same = full t o r ∙ e in promised (stays t (Refused Full)) same (stayed t kind a b (Refused Full) (refused-stays Full) same)
-      by-room false r (no n) = let same = blocked t o r n ∙ e in promised (stays t Blocked) same (stayed t kind a b Blocked blocked-stays same)
-      by-room false r (yes d) = let c = changed t s f o (named-allowed (t .variables) kind a b o named) d r in moves (c .0) (c .1)
+      by-room : (full? : Bool) → allocates o && leb 64 (lowestUnused (t .used)) ≡ full? → Dec (Enabled o (choice t value o) (heapOf t)) → Promise
+      by-room true r d = let same = full t value o r ∙ e in promised (stays t (Refused Full)) same (stayed t kind a b value (Refused Full) (refused-stays Full) same)
+      by-room false r (no n) = let same = blocked t value o r n ∙ e in promised (stays t Blocked) same (stayed t kind a b value Blocked blocked-stays same)
+      by-room false r (yes d) = let c = changed t s f value lent o (named-allowed (t .variables) kind a b o named) d r in moves (c .0) (c .1)
 
   pub steps : Promise
   unfolding stepOf
@@ -89,45 +97,45 @@ module _ (t : Heap64) (s : Sized t) (kind a b : ℕ) where
     where
       by-form : (w : Bool) → wellFormed t ≡ w → (o : Option Op) → operation (t .variables) kind a b ≡ o → Promise
       by-form false w o e =
-          let same : stays t (Refused IllFormed) ≡ stepOf t kind a b = rw w refl in
-          promised (stays t (Refused IllFormed)) same (stayed t kind a b (Refused IllFormed) (refused-stays IllFormed) same)
+          let same : stays t (Refused IllFormed) ≡ stepOf t kind a b value = rw w refl in
+          promised (stays t (Refused IllFormed)) same (stayed t kind a b value (Refused IllFormed) (refused-stays IllFormed) same)
       by-form true w none e =
-          let same : stays t (Refused BadOperation) ≡ stepOf t kind a b = rw (w, e) refl in
-          promised (stays t (Refused BadOperation)) same (stayed t kind a b (Refused BadOperation) (refused-stays BadOperation) same)
+          let same : stays t (Refused BadOperation) ≡ stepOf t kind a b value = rw (w, e) refl in
+          promised (stays t (Refused BadOperation)) same (stayed t kind a b value (Refused BadOperation) (refused-stays BadOperation) same)
       by-form true w (some o) e = by-operation (formed t w) o e (rw (w, e) refl)
 
 -- a step keeps the lengths of the arrays
-pub sized-step : (t : Heap64) (kind a b : ℕ) → Sized t → Sized (stepOf t kind a b .heap)
+pub sized-step : (t : Heap64) (kind a b value : ℕ) → Sized t → Sized (stepOf t kind a b value .heap)
 unfolding stepOf perform tableOf
-sized-step t kind a b s = by-form (wellFormed t) (operation (t .variables) kind a b)
+sized-step t kind a b value s = by-form (wellFormed t) (operation (t .variables) kind a b)
   where
     by-room : {P : Type 0} (o : Op) (full? : Bool) (d : Dec P)
-        → Sized (cond full? (stays t (Refused Full)) (ite d (stays (tableAfter t o) Moved) (stays t Blocked)) .heap)
+        → Sized (cond full? (stays t (Refused Full)) (ite d (stays (tableAfter t o (choice t value o)) Moved) (stays t Blocked)) .heap)
     by-room o true d = s
-    by-room o false (yes p) = record { vars = refl; used = refl; links = refl }
+    by-room o false (yes p) = record { vars = refl; used = refl; links = refl; values = refl }
     by-room o false (no n) = s
 
-    by-form : (w : Bool) (o : Option Op) → Sized (cond w (performNamed t o) (stays t (Refused IllFormed)) .heap)
+    by-form : (w : Bool) (o : Option Op) → Sized (cond w (performNamed t value o) (stays t (Refused IllFormed)) .heap)
     by-form false o = s
     by-form true none = s
-    by-form true (some o) = by-room o (allocates o && leb 64 (lowestUnused (t .used))) (enabled? o (lowestUnused (t .used)) (heapOf t))
+    by-form true (some o) = by-room o (allocates o && leb 64 (lowestUnused (t .used))) (enabled? o (choice t value o) (heapOf t))
 
 -- ---- a step in the order in which the code takes it
 
-module _ (t : Heap64) (kind a b : ℕ) where
-  pub ill-formed : wellFormed t ≡ false → stays t (Refused IllFormed) ≡ stepOf t kind a b
+module _ (t : Heap64) (kind a b value : ℕ) where
+  pub ill-formed : wellFormed t ≡ false → stays t (Refused IllFormed) ≡ stepOf t kind a b value
   unfolding stepOf
   ill-formed w = rw w refl
 
-  pub by-table : wellFormed t ≡ true → performNamed t (operation (t .variables) kind a b) ≡ stepOf t kind a b
+  pub by-table : wellFormed t ≡ true → performNamed t value (operation (t .variables) kind a b) ≡ stepOf t kind a b value
   unfolding stepOf
   by-table w = rw w refl
 
-  pub not-allowed : wellFormed t ≡ true → allowed (t .variables) kind a b ≡ false → stays t (Refused BadOperation) ≡ stepOf t kind a b
+  pub not-allowed : wellFormed t ≡ true → allowed (t .variables) kind a b ≡ false → stays t (Refused BadOperation) ≡ stepOf t kind a b value
   unfolding allowed
   not-allowed w h = go (operation (t .variables) kind a b) refl h ∙ by-table w
     where
       go : (o : Option Op) → operation (t .variables) kind a b ≡ o → isSome o ≡ false
-          → stays t (Refused BadOperation) ≡ performNamed t (operation (t .variables) kind a b)
+          → stays t (Refused BadOperation) ≡ performNamed t value (operation (t .variables) kind a b)
       go none e d = rw e refl
       go (some o) e d = let z : _≡_ {A = ℕ} 0 1 = cc in absurd (omega arith)

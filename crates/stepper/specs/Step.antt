@@ -5,8 +5,8 @@ use mathlib.Core.Logic.{ite}
 use mathlib.Core.Option.{Option, none, some}
 use mathlib.Core.Path.{_≡_}
 use Prim.Native.Nat.{ℕ, suc}
-use lib.Dec.{leb}
-use Rattle.heap.specs.Operation.{Op, equal, different, assign, load, store, new, delete, Enabled, enabled?, after, operation}
+use lib.Dec.{eqb, leb, ltb}
+use Rattle.heap.specs.Operation.{Op, equal, different, assign, load, store, new, delete, equalValue, belowValue, copy, larger, smaller, read, Enabled, enabled?, after, operation}
 use Rattle.stepper.specs.Table.{heapOf, tableOf, wellFormed}
 use Rattle.stepper.specs.declared.Heap64.{Heap64}
 use Rattle.stepper.specs.declared.Outcome.{Outcome}
@@ -38,38 +38,74 @@ allocates (load a b) = false
 allocates (store a b) = false
 allocates (new a) = true
 allocates (delete a) = false
+allocates (equalValue a b) = false
+allocates (belowValue a b) = false
+allocates (copy a b) = false
+allocates (larger a b) = false
+allocates (smaller a b) = false
+allocates (read a) = false
+
+-- What an operation leaves open is chosen so: new takes the lowest unused cell; larger, smaller and read write the value that is lent. The
+-- others leave nothing open.
+abbrev pub choice : Heap64 → ℕ → Op → ℕ
+choice t value o = cond (allocates o) (lowestUnused (t .used)) value
 
 -- a = b or a ≠ b
 abbrev pub comparison : Bool → ℕ → ℕ → Op
 comparison true = equal
 comparison false = different
 
--- the table of the heap after an operation, new at the lowest unused cell
-abbrev pub tableAfter : Heap64 → Op → Heap64
-tableAfter t o = tableOf (t .variables) (after o (lowestUnused (t .used)) (heapOf t))
+-- the test equal or below of two values
+abbrev pub valueTest : Bool → ℕ → ℕ → Op
+valueTest true = equalValue
+valueTest false = belowValue
 
--- an operation on a well formed table: refusal 15, or the operation on the heap that the table stands for, or blocked
-unfoldable pub perform : Heap64 → Op → Stepped
-perform t o =
+-- the test of two codes of values, v and w: there are values, and they are equal, or the first is below the second
+abbrev pub codesMeet : Bool → ℕ → ℕ → Bool
+codesMeet is-equal v w = ltb 0 v && cond is-equal (eqb v w) (ltb v w)
+
+-- a larger or a smaller value
+abbrev pub otherValue : Bool → ℕ → ℕ → Op
+otherValue true = larger
+otherValue false = smaller
+
+-- the value with code w is larger than the one with code v, or smaller, and there are both
+abbrev pub codesDiffer : Bool → ℕ → ℕ → Bool
+codesDiffer is-larger v w = cond is-larger (codesMeet false v w) (codesMeet false w v)
+
+-- the table of the heap after an operation with that choice
+abbrev pub tableAfter : Heap64 → Op → ℕ → Heap64
+tableAfter t o x = tableOf (t .variables) (after o x (heapOf t))
+
+-- an operation on a well formed table, with a value lent: refusal 15, or the operation on the heap that the table stands for, or blocked
+unfoldable pub perform : Heap64 → ℕ → Op → Stepped
+perform t value o =
     cond (allocates o && leb 64 (lowestUnused (t .used))) (stays t (Refused Full))
-    (ite (enabled? o (lowestUnused (t .used)) (heapOf t)) (stays (tableAfter t o) Moved) (stays t Blocked))
+    (ite (enabled? o (choice t value o) (heapOf t)) (stays (tableAfter t o (choice t value o)) Moved) (stays t Blocked))
 
-abbrev pub performNamed : Heap64 → Option Op → Stepped
-performNamed t none = stays t (Refused BadOperation)
-performNamed t (some o) = perform t o
+abbrev pub performNamed : Heap64 → ℕ → Option Op → Stepped
+performNamed t value none = stays t (Refused BadOperation)
+performNamed t value (some o) = perform t value o
+
+-- for operations that leave no value open: such a one is performed, whatever value is lent
+abbrev pub Performs : Heap64 → Op → Stepped → Type 0
+Performs t o r = (value : ℕ) → r ≡ perform t value o
+
+abbrev pub PerformsNamed : Heap64 → Option Op → Stepped → Type 0
+PerformsNamed t o r = (value : ℕ) → r ≡ performNamed t value o
 
 -- "The stepper tries 13, then 14, then 15."
-unfoldable pub stepOf : Heap64 → ℕ → ℕ → ℕ → Stepped
-stepOf t kind a b =
-    cond (wellFormed t) (performNamed t (operation (t .variables) kind a b)) (stays t (Refused IllFormed))
+unfoldable pub stepOf : Heap64 → ℕ → ℕ → ℕ → ℕ → Stepped
+stepOf t kind a b value =
+    cond (wellFormed t) (performNamed t value (operation (t .variables) kind a b)) (stays t (Refused IllFormed))
 
 -- What the stepper promises. A step that moved has done the operation on the heap that the table stands for; and a well formed table
 -- stays well formed.
-pub record Steps (t : Heap64) (kind a b : ℕ) (r : Stepped) : Type 0 where
-  pub result : r ≡ stepOf t kind a b
+pub record Steps (t : Heap64) (kind a b value : ℕ) (r : Stepped) : Type 0 where
+  pub result : r ≡ stepOf t kind a b value
   pub does :
       r .outcome ≡ Moved
-      → (o : Op) × (operation (t .variables) kind a b ≡ some o) × Enabled o (lowestUnused (t .used)) (heapOf t)
-      × (heapOf (r .heap) ≡ after o (lowestUnused (t .used)) (heapOf t))
+      → (o : Op) × (operation (t .variables) kind a b ≡ some o) × Enabled o (choice t value o) (heapOf t)
+      × (heapOf (r .heap) ≡ after o (choice t value o) (heapOf t))
   pub returns : (r .outcome ≡ Moved → ⊥) → r .heap ≡ t
   pub formed : wellFormed t ≡ true → wellFormed (r .heap) ≡ true

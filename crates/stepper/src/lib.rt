@@ -1,4 +1,4 @@
-// The stepper: one operation on a heap of up to 64 cells.
+// The stepper: one operation on a heap of up to 64 cells, which may have values.
 use place::DANGLING;
 use place::FIRST_CELL;
 use place::NOWHERE;
@@ -8,19 +8,21 @@ ghost use mathlib.Core.Path.{_≡_};
 ghost use Prim.Native.Nat.{_≤_};
 ghost use lib.ListN.{length};
 ghost use Rattle.heap.specs.Codes.{varIn, linkIn};
-ghost use Rattle.heap.specs.Operation.{assign, load, store, new, delete, operation};
+ghost use Rattle.heap.specs.Operation.{assign, load, store, new, delete, copy, read, operation};
 ghost use Rattle.kinds.specs.Kinds.{allowed};
 ghost use Rattle.lists.specs.Test.{allFrom};
 ghost use Rattle.place.specs.Place.{codes};
-ghost use Rattle.stepper.specs.Step.{outcomeCode, lowestUnused, comparison, perform, performNamed, Steps};
-ghost use Rattle.stepper.specs.Table.{aimed, slotFits, cellFits, wellFormed, Sized, FormedTable, dangleVars, dangleLinks};
+ghost use Rattle.stepper.specs.Step.{outcomeCode, lowestUnused, comparison, valueTest, codesMeet, otherValue, codesDiffer, perform, performNamed, Performs, PerformsNamed, Steps};
+ghost use Rattle.stepper.specs.Table.{aimed, slotFits, cellFits, valueFits, wellFormed, Sized, FormedTable, codeIn, mostCode, dangleVars, dangleLinks};
 
-// A heap of up to 64 cells: how many variables there are, where each stands, which cells are used, where their links stand.
+// A heap of up to 64 cells: how many variables there are, where each stands, which cells are used, where their links stand, and the codes of
+// their values: 0 for none, v + 1 for the value v.
 pub struct Heap64 {
     pub variables: u8,
     pub vars: [Place; 8],
     pub used: [bool; 64],
     pub links: [Place; 64],
+    pub values: [u32; 64],
 }
 
 // Why a step is refused: document 01's 13, 14 and 15.
@@ -73,6 +75,39 @@ fn is_aimed(used: &[bool; 64], code: u8) -> bool
     used[i]
 }
 
+// The largest code of a used cell's value, and of an unused one's.
+fn most_code(used: bool) -> u32
+    ensures { λ r. ⌜ r ≡ mostCode used ⌝ }
+{
+    if used {
+        return 65536;
+    }
+    0
+}
+
+// Whether codes of values are those of two equal values, or the first that of a value below the second's.
+fn codes_meet(equal: bool, v: u32, w: u32) -> bool
+    ensures { λ r. ⌜ r ≡ codesMeet equal v w ⌝ }
+{
+    if v == 0 {
+        return false;
+    }
+    if equal {
+        return v == w;
+    }
+    v < w
+}
+
+// Whether w is the code of a value larger than v's, or smaller.
+fn codes_differ(larger: bool, v: u32, w: u32) -> bool
+    ensures { λ r. ⌜ r ≡ codesDiffer larger v w ⌝ }
+{
+    if larger {
+        return codes_meet(false, v, w);
+    }
+    codes_meet(false, w, v)
+}
+
 impl Heap64 {
     // Whether the slots of variables are right.
     fn slots_fit(self) -> bool
@@ -116,6 +151,22 @@ impl Heap64 {
         true
     }
 
+    // Whether the codes of values are right: at most 65,536 where a cell is used, else 0.
+    fn values_fit(self) -> bool
+        ensures { λ r. ⌜ r ≡ allFrom 64 0 (valueFits self) ⌝ }
+    {
+        let mut fits = true;
+        let mut i: usize = 0;
+        while i < 64 {
+            let most = most_code(self.used[i]);
+            if most < self.values[i] {
+                fits = false;
+            }
+            i += 1;
+        }
+        fits
+    }
+
     // Whether the heap is well formed.
     fn is_well_formed(self) -> bool
         ensures { λ r. ⌜ (r ≡ wellFormed self) × Sized self ⌝ }
@@ -130,7 +181,10 @@ impl Heap64 {
         if !self.slots_fit() {
             return false;
         }
-        self.cells_fit()
+        if !self.cells_fit() {
+            return false;
+        }
+        self.values_fit()
     }
 
     // Where an operand stands.
@@ -157,6 +211,21 @@ impl Heap64 {
         }
         let i = (code - FIRST_CELL) as usize;
         self.links[i]
+    }
+
+    // The code of the value of the cell at a place: 0, if no cell is there or it has none.
+    fn value_of(self, p: Place) -> u32
+        ensures { λ r. ⌜ r ≡ codeIn (self .values) (p .code) ⌝ }
+    {
+        let code = p.code;
+        if code < FIRST_CELL {
+            return 0;
+        }
+        if 66 < code {
+            return 0;
+        }
+        let i = (code - FIRST_CELL) as usize;
+        self.values[i]
     }
 
     // The lowest unused cell, 64 if all are used.
@@ -204,7 +273,7 @@ impl Heap64 {
     // a = b, or a != b.
     fn compare(self, equal: bool, a: usize, b: usize) -> Stepped
         requires { ⌜ (FormedTable self) × (a ≤ self .variables) × (b ≤ self .variables) ⌝ }
-        ensures { λ r. ⌜ r ≡ perform self (comparison equal a b) ⌝ }
+        ensures { λ r. ⌜ Performs self (comparison equal a b) r ⌝ }
     {
         let p = self.place_of(a);
         let q = self.place_of(b);
@@ -247,7 +316,7 @@ impl Heap64 {
     // a := b.
     fn assign(self, a: usize, b: usize) -> Stepped
         requires { ⌜ (FormedTable self) × (1 ≤ a) × (a ≤ self .variables) × (b ≤ self .variables) ⌝ }
-        ensures { λ r. ⌜ r ≡ perform self (assign a b) ⌝ }
+        ensures { λ r. ⌜ Performs self (assign a b) r ⌝ }
     {
         let p = self.place_of(b);
         if p.code == DANGLING {
@@ -267,7 +336,7 @@ impl Heap64 {
     // a := b.next.
     fn load(self, a: usize, b: usize) -> Stepped
         requires { ⌜ (FormedTable self) × (1 ≤ a) × (a ≤ self .variables) × (b ≤ self .variables) ⌝ }
-        ensures { λ r. ⌜ r ≡ perform self (load a b) ⌝ }
+        ensures { λ r. ⌜ Performs self (load a b) r ⌝ }
     {
         let at = self.place_of(b);
         let p = self.link_of(at);
@@ -294,7 +363,7 @@ impl Heap64 {
     // a.next := b.
     fn store(self, a: usize, b: usize) -> Stepped
         requires { ⌜ (FormedTable self) × (a ≤ self .variables) × (b ≤ self .variables) ⌝ }
-        ensures { λ r. ⌜ r ≡ perform self (store a b) ⌝ }
+        ensures { λ r. ⌜ Performs self (store a b) r ⌝ }
     {
         let at = self.place_of(a);
         let link = self.link_of(at);
@@ -323,7 +392,7 @@ impl Heap64 {
     // new(a), at the lowest unused cell.
     fn take_cell(self, a: usize) -> Stepped
         requires { ⌜ (FormedTable self) × (1 ≤ a) × (a ≤ self .variables) ⌝ }
-        ensures { λ r. ⌜ r ≡ perform self (new a) ⌝ }
+        ensures { λ r. ⌜ Performs self (new a) r ⌝ }
     {
         let i = self.lowest_unused();
         if 64 <= i {
@@ -346,7 +415,7 @@ impl Heap64 {
     // delete(a).
     fn free_cell(self, a: usize) -> Stepped
         requires { ⌜ (FormedTable self) × (a ≤ self .variables) ⌝ }
-        ensures { λ r. ⌜ r ≡ perform self (delete a) ⌝ }
+        ensures { λ r. ⌜ Performs self (delete a) r ⌝ }
     {
         let at = self.place_of(a);
         let link = self.link_of(at);
@@ -361,16 +430,92 @@ impl Heap64 {
         let mut next = self.dangle_vars(code).dangle_links(code);
         next.used[i] = false;
         next.links[i] = Place::NOWHERE;
+        next.values[i] = 0;
         Stepped {
             heap: next,
             outcome: Outcome::Moved,
         }
     }
 
-    // An operation that keeps to the table of kinds, on a well formed heap.
-    fn perform(self, kind: usize, a: usize, b: usize) -> Stepped
-        requires { ⌜ (FormedTable self) × (allowed (self .variables) kind a b ≡ true) ⌝ }
-        ensures { λ r. ⌜ r ≡ performNamed self (operation (self .variables) kind a b) ⌝ }
+    // The tests of two values: a's equals b's, or is below it.
+    fn compare_values(self, equal: bool, a: usize, b: usize) -> Stepped
+        requires { ⌜ (FormedTable self) × (a ≤ self .variables) × (b ≤ self .variables) ⌝ }
+        ensures { λ r. ⌜ Performs self (valueTest equal a b) r ⌝ }
+    {
+        let p = self.place_of(a);
+        let q = self.place_of(b);
+        let v = self.value_of(p);
+        let w = self.value_of(q);
+        if codes_meet(equal, v, w) {
+            return Stepped {
+                heap: self,
+                outcome: Outcome::Moved,
+            };
+        }
+        Stepped {
+            heap: self,
+            outcome: Outcome::Blocked,
+        }
+    }
+
+    // read(a): the value of a's cell becomes the one that is lent.
+    fn read_value(self, a: usize, value: u16) -> Stepped
+        requires { ⌜ (FormedTable self) × (a ≤ self .variables) ⌝ }
+        ensures { λ r. ⌜ r ≡ perform self value (read a) ⌝ }
+    {
+        let at = self.place_of(a);
+        let link = self.link_of(at);
+        if link.code == NOWHERE {
+            return Stepped {
+                heap: self,
+                outcome: Outcome::Blocked,
+            };
+        }
+        let i = (at.code - FIRST_CELL) as usize;
+        let mut next = self;
+        next.values[i] = value as u32 + 1;
+        Stepped {
+            heap: next,
+            outcome: Outcome::Moved,
+        }
+    }
+
+    // copy(a, b): where b's cell has a value, a's cell reads that one.
+    fn copy_value(self, a: usize, b: usize) -> Stepped
+        requires { ⌜ (FormedTable self) × (a ≤ self .variables) × (b ≤ self .variables) ⌝ }
+        ensures { λ r. ⌜ Performs self (copy a b) r ⌝ }
+    {
+        let q = self.place_of(b);
+        let w = self.value_of(q);
+        if w == 0 {
+            return Stepped {
+                heap: self,
+                outcome: Outcome::Blocked,
+            };
+        }
+        self.read_value(a, (w - 1) as u16)
+    }
+
+    // A larger value than b's, or a smaller: where the one that is lent is so, a's cell reads it.
+    fn read_other(self, larger: bool, a: usize, b: usize, value: u16) -> Stepped
+        requires { ⌜ (FormedTable self) × (a ≤ self .variables) × (b ≤ self .variables) ⌝ }
+        ensures { λ r. ⌜ r ≡ perform self value (otherValue larger a b) ⌝ }
+    {
+        let q = self.place_of(b);
+        let w = self.value_of(q);
+        if !codes_differ(larger, w, value as u32 + 1) {
+            return Stepped {
+                heap: self,
+                outcome: Outcome::Blocked,
+            };
+        }
+        self.read_value(a, value)
+    }
+
+    // An operation of kinds 1 to 7 that keeps to the table of kinds, on a well formed heap.
+    fn perform_on_links(self, kind: usize, a: usize, b: usize) -> Stepped
+        requires { ⌜ (FormedTable self) × (kind ≤ 7) × (allowed (self .variables) kind a b ≡ true) ⌝ }
+        ensures { λ r. ⌜ PerformsNamed self (operation (self .variables) kind a b) r ⌝ }
     {
         match kind {
             1 => self.compare(true, a, b),
@@ -383,9 +528,24 @@ impl Heap64 {
         }
     }
 
-    // One operation, by its kind and operands.
-    pub fn step(self, kind: u32, a: u32, b: u32) -> Stepped
-        ensures { λ r. ⌜ Steps self kind a b r ⌝ }
+    // One of kinds 8 to 13.
+    fn perform_on_values(self, kind: usize, a: usize, b: usize, value: u16) -> Stepped
+        requires { ⌜ (FormedTable self) × (8 ≤ kind) × (allowed (self .variables) kind a b ≡ true) ⌝ }
+        ensures { λ r. ⌜ r ≡ performNamed self value (operation (self .variables) kind a b) ⌝ }
+    {
+        match kind {
+            8 => self.compare_values(true, a, b),
+            9 => self.compare_values(false, a, b),
+            10 => self.copy_value(a, b),
+            11 => self.read_other(true, a, b, value),
+            12 => self.read_other(false, a, b, value),
+            _ => self.read_value(a, value),
+        }
+    }
+
+    // One operation, by its kind and operands. A larger value, a smaller value and read write the value that is lent; the other kinds ignore it.
+    pub fn step(self, kind: u32, a: u32, b: u32, value: u16) -> Stepped
+        ensures { λ r. ⌜ Steps self kind a b value r ⌝ }
     {
         if !self.is_well_formed() {
             return Stepped {
@@ -400,6 +560,9 @@ impl Heap64 {
                 outcome: Outcome::Refused(StepRefusal::BadOperation),
             };
         }
-        self.perform(kind as usize, a as usize, b as usize)
+        if kind <= 7 {
+            return self.perform_on_links(kind as usize, a as usize, b as usize);
+        }
+        self.perform_on_values(kind as usize, a as usize, b as usize, value)
     }
 }

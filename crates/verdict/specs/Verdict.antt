@@ -7,7 +7,7 @@ use Rattle.number.specs.CallResult.{CallResult}
 use Rattle.verdict.specs.declared.Reached.{Reached}
 use Rattle.verdict.specs.declared.Reached.the-variants.{At, Refused as ReachedRefused}
 use Rattle.verdict.specs.declared.Refusal.{Refusal}
-use Rattle.verdict.specs.declared.Refusal.the-variants.{JobLength, CertificateLength, JobUnreadable, JobRange, JobLeft, CertificateUnreadable, CertificateRange, StartSatisfied, CoverFails, CertificateLeft}
+use Rattle.verdict.specs.declared.Refusal.the-variants.{JobLength, CertificateLength, JobUnreadable, JobRange, JobLeft, CertificateUnreadable, CertificateRange, StartSatisfied, CoverFails, CertificateLeft, VersionsDiffer}
 use Rattle.verdict.specs.declared.Verdict.{Verdict as Answer}
 use Rattle.verdict.specs.declared.Verdict.the-variants.{Accepted, Refused}
 
@@ -23,6 +23,7 @@ reasonOf CertificateRange = refusal 7
 reasonOf StartSatisfied = refusal 8
 reasonOf (CoverFails broken) = broken-rule (broken .rule) (broken .name)
 reasonOf CertificateLeft = refusal 10
+reasonOf VersionsDiffer = refusal 20
 
 -- the number of the rule that broke, and the name; 0 where none did
 abbrev pub ruleTold : Reason → ℕ

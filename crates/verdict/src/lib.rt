@@ -14,13 +14,15 @@ pub const LINK_MISSES: u8 = 4;
 
 pub const SHARED_PATH: u8 = 5;
 
+pub const FACT_MISSING: u8 = 6;
+
 // The rule of a cover that broke, and the cell (from 0) or the variable (from 1) that is named; 0 for the state.
 pub struct Broken {
     pub rule: u8,
     pub name: u8,
 }
 
-// The refusals 1 to 10 of document 01, in their order.
+// The refusals 1 to 10 of document 01, in their order, and 20 of document 02.
 pub enum Refusal {
     JobLength,
     CertificateLength,
@@ -32,6 +34,7 @@ pub enum Refusal {
     StartSatisfied,
     CoverFails(Broken),
     CertificateLeft,
+    VersionsDiffer,
 }
 
 // The counts of an accepted pair: forbidden shapes, members, covers, and the links followed for all covers.
@@ -69,6 +72,7 @@ pub fn refusal_number(refusal: Refusal) -> u32
         Refusal::StartSatisfied => 8,
         Refusal::CoverFails(_) => 9,
         Refusal::CertificateLeft => 10,
+        Refusal::VersionsDiffer => 20,
     }
 }
 
@@ -87,6 +91,7 @@ pub fn rule_number(refusal: Refusal) -> u32
         Refusal::StartSatisfied => 0,
         Refusal::CoverFails(broken) => broken.rule as u32,
         Refusal::CertificateLeft => 0,
+        Refusal::VersionsDiffer => 0,
     }
 }
 
@@ -105,5 +110,6 @@ pub fn rule_name(refusal: Refusal) -> u32
         Refusal::StartSatisfied => 0,
         Refusal::CoverFails(broken) => broken.name as u32,
         Refusal::CertificateLeft => 0,
+        Refusal::VersionsDiffer => 0,
     }
 }

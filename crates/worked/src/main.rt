@@ -198,11 +198,20 @@ fn sizes() {
     );
 }
 
-// Kind 4 where b's link is at *: variable 1 at the one used cell, which is linked to *.
+// Prints what becomes of a step of that kind, both operands variable 1.
+fn say_step(name: &[u8], heap: Heap64, kind: u32) {
+    let stepped = heap.step(kind, 1, 1, 0);
+    let outcome = stepped.outcome;
+    say_number(name, stepper::outcome_code(outcome) as u64);
+    say(b"\n");
+}
+
+// Variable 1 at the one used cell, which is linked to * and has no value: kind 4 finds b's link at *, kind 8 no value.
 fn blocked() {
     let mut vars = [Place::NOWHERE; 8];
     let mut used = [false; 64];
     let mut links = [Place::NOWHERE; 64];
+    let values = [0u32; 64];
     vars[0] = Place::cell(0);
     used[0] = true;
     links[0] = Place::DANGLING;
@@ -211,14 +220,10 @@ fn blocked() {
         vars,
         used,
         links,
+        values,
     };
-    let stepped = heap.step(4, 1, 1);
-    let outcome = stepped.outcome;
-    say_number(
-        b"b's link at *, step 4 ",
-        stepper::outcome_code(outcome) as u64,
-    );
-    say(b"\n");
+    say_step(b"b's link at *, step 4 ", heap, 4);
+    say_step(b"no value, step 8 ", heap, 8);
 }
 
 // All cases, in the order of the rules.

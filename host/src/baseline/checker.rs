@@ -1,28 +1,38 @@
 //! The verdict on a job and a certificate, fast.
 
-use super::embedding::{broken, follow, variables_agree, ENDS, NO_IMAGES};
+use super::embedding::{broken, follow, variables_agree, Images, ENDS, NO_IMAGES};
 use super::job::{Entry, Job};
 use super::predecessor::each_predecessor;
 use super::reader::{Reader, Stopped};
 use super::shape::{Located, Shape, CELL};
+use super::values;
 use crate::reference::certificate::MOST_MEMBERS;
 use crate::reference::checker::MOST_BYTES;
-use crate::reference::job::VERSION;
-use crate::verdict::{Counts, Refusal, Verdict};
+use crate::reference::version::Version;
+use crate::verdict::{Broken, Counts, Refusal, Verdict};
 
 /// The verdict on two buffers.
 pub fn check(job: &[u8], certificate: &[u8]) -> Verdict {
-    verdict(job, certificate, |job, certificate| {
-        let mut covers = Covers::new(certificate);
-        covers
-            .check_all(job)
-            .map_err(|Stopped| covers.reader.refusal)?;
-        Ok(Counted {
-            members: covers.members.len() as u64,
-            covers: covers.count,
-            links: covers.links,
-        })
-    })
+    match is_of_version_2(job) {
+        true => values::check(job, certificate),
+        false => verdict(job, certificate, count),
+    }
+}
+
+/// Whether the version number of a job is 2.
+#[inline(always)]
+pub fn is_of_version_2(job: &[u8]) -> bool {
+    job.first() == Some(&(Version::Two as u8))
+}
+
+/// Checks a certificate of version 1, and counts what it has.
+#[inline(always)]
+fn count(job: &Job<Located>, certificate: &[u8]) -> Result<Counted, Refusal> {
+    let mut covers = Covers::new(certificate);
+    covers
+        .check_all(job)
+        .map_err(|Stopped| covers.reader.refusal)?;
+    Ok(covers.counted())
 }
 
 /// What is counted in a certificate.
@@ -64,7 +74,21 @@ fn check_length(bytes: &[u8], number: u32) -> Result<(), Refusal> {
     }
 }
 
+/// An entry with its shape and state as one part.
+pub trait Member: Entry {
+    fn located(&self) -> &Located;
+}
+
+impl Member for Located {
+    #[inline(always)]
+    fn located(&self) -> &Located {
+        self
+    }
+}
+
 impl Entry for Located {
+    const VERSION: Version = Version::One;
+
     #[inline(always)]
     fn read(reader: &mut Reader, variables: u16, states: u16) -> Result<Located, Stopped> {
         reader.located(variables, states)
@@ -72,25 +96,15 @@ impl Entry for Located {
 }
 
 /// The members, and how far the covers have been read.
-pub struct Covers<'a> {
+pub struct Covers<'a, M> {
     pub reader: Reader<'a>,
-    pub members: Vec<Located>,
+    pub members: Vec<M>,
     pub variables: usize,
     pub count: u64,
     pub links: u64,
 }
 
-impl<'a> Covers<'a> {
-    fn new(certificate: &'a [u8]) -> Covers<'a> {
-        Covers {
-            reader: Reader::new(certificate, 6, 7),
-            members: Vec::new(),
-            variables: 0,
-            count: 0,
-            links: 0,
-        }
-    }
-
+impl Covers<'_, Located> {
     fn check_all(&mut self, job: &Job<Located>) -> Result<(), Stopped> {
         self.read_members(job)?;
         for bad in &job.forbidden {
@@ -107,17 +121,43 @@ impl<'a> Covers<'a> {
         self.reader.end(10)
     }
 
+    /// Reads the next cover and tests that it holds for a shape at a state.
+    pub fn check(&mut self, state: u8, covered: &Shape) -> Result<(), Stopped> {
+        self.check_with(state, covered, |_, _| None)
+    }
+}
+
+impl<'a, M: Member> Covers<'a, M> {
+    pub fn new(certificate: &'a [u8]) -> Covers<'a, M> {
+        Covers {
+            reader: Reader::new(certificate, 6, 7),
+            members: Vec::new(),
+            variables: 0,
+            count: 0,
+            links: 0,
+        }
+    }
+
+    pub fn counted(&self) -> Counted {
+        Counted {
+            members: self.members.len() as u64,
+            covers: self.count,
+            links: self.links,
+        }
+    }
+
     /// Reads the members, and refuses one that the empty heap satisfies at the start.
-    fn read_members(&mut self, job: &Job<Located>) -> Result<(), Stopped> {
+    pub fn read_members(&mut self, job: &Job<M>) -> Result<(), Stopped> {
         self.variables = job.variables.into();
-        self.reader.number(VERSION as u16, VERSION as u16)?;
+        self.reader.version(M::VERSION)?;
         let count = self.reader.number(1, MOST_MEMBERS as u16)?;
         self.members.reserve_exact(count.into());
         let mut satisfied = None;
         for _ in 0..count {
             let place = self.reader.place;
-            let member = self.reader.located(job.variables, job.states)?;
-            if member.state == job.start && member.shape.empty_heap_satisfies() {
+            let member = M::read(&mut self.reader, job.variables, job.states)?;
+            let Located { state, shape } = member.located();
+            if *state == job.start && shape.empty_heap_satisfies() {
                 satisfied = satisfied.or(Some(place));
             }
             self.members.push(member);
@@ -128,11 +168,19 @@ impl<'a> Covers<'a> {
         }
     }
 
-    /// Reads the next cover and tests that it holds for a shape at a state.
-    pub fn check(&mut self, state: u8, covered: &Shape) -> Result<(), Stopped> {
+    /// Reads the next cover and tests that it holds for a shape at a state, given the test of what its
+    /// member has beside a shape, by images that make the shape embed.
+    #[inline(always)]
+    pub fn check_with(
+        &mut self,
+        state: u8,
+        covered: &Shape,
+        besides: impl FnOnce(&M, &Images) -> Option<Broken>,
+    ) -> Result<(), Stopped> {
         let place = self.reader.place;
         let number = self.reader.number(0, self.members.len() as u16 - 1)?;
-        let member = &self.members[usize::from(number)];
+        let whole = &self.members[usize::from(number)];
+        let member = whole.located();
         let mut images = NO_IMAGES;
         let mut marks = ENDS;
         let mut twice = 0;
@@ -145,13 +193,20 @@ impl<'a> Covers<'a> {
         let may_hold = twice == 0
             && member.state == state
             && variables_agree(&member.shape, covered, &images, self.variables);
-        if may_hold {
-            if let Some(paths) = follow(&member.shape, covered, &images, marks) {
-                self.links += u64::from(paths.links);
-                return Ok(());
+        let followed = match may_hold {
+            true => follow(&member.shape, covered, &images, marks),
+            false => None,
+        };
+        let broken = match followed {
+            Some(paths) => {
+                let Some(broken) = besides(whole, &images) else {
+                    self.links += u64::from(paths.links);
+                    return Ok(());
+                };
+                broken
             }
-        }
-        let broken = broken(member, state, covered, &images, self.variables);
+            None => broken(member, state, covered, &images, self.variables),
+        };
         self.reader.refusal = Refusal::of_cover(place, broken);
         Err(Stopped)
     }

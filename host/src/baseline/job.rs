@@ -1,13 +1,15 @@
 //! A job, read once, for any way in which a checker keeps shapes.
 
 use super::reader::{Reader, Stopped};
-use crate::reference::job::{
-    MOST_FORBIDDEN, MOST_STATES, MOST_TRANSITIONS, MOST_VARIABLES, VERSION,
-};
+use crate::reference::job::{MOST_FORBIDDEN, MOST_STATES, MOST_TRANSITIONS, MOST_VARIABLES};
 use crate::reference::operation::Operation;
+use crate::reference::version::Version;
 
 /// A shape at a state, as a checker keeps it.
 pub trait Entry: Sized {
+    /// The version of the files that have such entries.
+    const VERSION: Version;
+
     fn read(reader: &mut Reader, variables: u16, states: u16) -> Result<Self, Stopped>;
 }
 
@@ -30,7 +32,8 @@ pub struct Job<S> {
 
 impl<S: Entry> Job<S> {
     pub fn read(reader: &mut Reader) -> Result<Job<S>, Stopped> {
-        reader.number(VERSION as u16, VERSION as u16)?;
+        let version = S::VERSION.number() as u16;
+        reader.number(version, version)?;
         let variables = reader.number(1, MOST_VARIABLES as u16)?;
         let states = reader.number(1, MOST_STATES as u16)?;
         let start = reader.number(0, states - 1)? as u8;
@@ -40,7 +43,7 @@ impl<S: Entry> Job<S> {
         for _ in 0..count {
             transitions.push(Transition {
                 from: reader.number(0, states - 1)? as u8,
-                operation: reader.operation(variables)?,
+                operation: reader.operation(S::VERSION, variables)?,
                 next: None,
             });
             targets.push(reader.number(0, states - 1)?);

@@ -1,8 +1,9 @@
 //! Listings, fast: one pass over the text, with arrays of fixed size.
 
-use crate::reference::job::{MOST_STATES, MOST_VARIABLES, VERSION};
+use crate::reference::job::{MOST_STATES, MOST_VARIABLES};
 use crate::reference::listing::{MARKS, MOST_OPEN, NO_STATE};
 use crate::reference::operation::{ASSIGN, DELETE, DIFFERENT, EQUAL, LOAD, NEW, STORE};
+use crate::reference::version::Version;
 
 /// The numbers ahead of the transitions.
 const HEAD: usize = 5;
@@ -101,7 +102,7 @@ impl Translation {
         let transitions = (self.filled - HEAD) / 5;
         let variables = self.variables.max(1);
         self.job[..HEAD].copy_from_slice(&[
-            VERSION as u8,
+            Version::One as u8,
             variables,
             self.state + 1,
             0,

@@ -13,3 +13,4 @@ pub mod quicker;
 mod reader;
 pub mod shape;
 pub mod stepper;
+mod values;

@@ -6,7 +6,7 @@ use crate::reference::operation::{Operation, ASSIGN, DELETE, DIFFERENT, EQUAL, L
 
 /// A choice for a variable that is placed.
 #[derive(Clone, Copy, PartialEq, Eq)]
-enum Choice {
+pub enum Choice {
     /// At a cell or #.
     At(u8),
     /// At a fresh cell without a link.
@@ -19,7 +19,10 @@ use Choice::{At, Fresh, Within};
 
 /// Visits all choices, in their order.
 #[inline]
-fn each_choice<E>(shape: &Shape, mut visit: impl FnMut(Choice) -> Result<(), E>) -> Result<(), E> {
+pub fn each_choice<E>(
+    shape: &Shape,
+    mut visit: impl FnMut(Choice) -> Result<(), E>,
+) -> Result<(), E> {
     for cell in CELL..shape.fresh() {
         visit(At(cell))?;
     }
@@ -34,7 +37,7 @@ fn each_choice<E>(shape: &Shape, mut visit: impl FnMut(Choice) -> Result<(), E>)
 }
 
 /// The shape with a variable placed.
-fn placed(shape: &Shape, variable: usize, choice: Choice) -> Shape {
+pub fn placed(shape: &Shape, variable: usize, choice: Choice) -> Shape {
     let mut shape = *shape;
     let fresh = shape.fresh();
     shape.variables[variable] = fresh;

@@ -1,8 +1,9 @@
 //! Reading numbers in turn, with a short way for those of one byte.
 
 use super::shape::{Located, Shape};
-use crate::reference::operation::{range_of_a, range_of_b, Operation, KINDS};
+use crate::reference::operation::{range_of_a, range_of_b, Operation};
 use crate::reference::shape::MOST_CELLS;
+use crate::reference::version::Version;
 use crate::verdict::Refusal;
 
 /// Reading stopped; the reader's refusal says why.
@@ -41,6 +42,12 @@ impl<'a> Reader<'a> {
         Err(Stopped)
     }
 
+    /// The refusal of a number that reads but breaks its range.
+    #[cold]
+    pub fn refuse_range<T>(&mut self, place: usize) -> Result<T, Stopped> {
+        self.refuse(self.out_of_range, place)
+    }
+
     /// The next number, from lowest to highest.
     #[inline]
     pub fn number(&mut self, lowest: u16, highest: u16) -> Result<u16, Stopped> {
@@ -61,7 +68,7 @@ impl<'a> Reader<'a> {
             return self.refuse(self.unreadable, self.place);
         };
         if number < lowest || number > highest {
-            return self.refuse(self.out_of_range, self.place);
+            return self.refuse_range(self.place);
         }
         self.place = next;
         Ok(number)
@@ -104,9 +111,20 @@ impl<'a> Reader<'a> {
         self.longer_number(1, 0).map(|_| 0)
     }
 
+    /// The version of a certificate, which has to be the job's.
     #[inline(always)]
-    pub fn operation(&mut self, variables: u16) -> Result<Operation, Stopped> {
-        let kind = self.number(*KINDS.start() as u16, *KINDS.end() as u16)?;
+    pub fn version(&mut self, of_job: Version) -> Result<(), Stopped> {
+        let number = self.number(Version::One as u16, Version::Two as u16)?;
+        match number == of_job as u16 {
+            true => Ok(()),
+            false => self.refuse(20, 0),
+        }
+    }
+
+    #[inline(always)]
+    pub fn operation(&mut self, version: Version, variables: u16) -> Result<Operation, Stopped> {
+        let kinds = version.kinds();
+        let kind = self.number(*kinds.start() as u16, *kinds.end() as u16)?;
         let range = range_of_a(kind.into(), variables.into());
         let a = self.number(*range.start() as u16, *range.end() as u16)?;
         let range = range_of_b(kind.into(), variables.into());

@@ -2,12 +2,12 @@
 
 use super::operations;
 use super::shape::{CELL, DANGLING, NOWHERE, NULL};
-use crate::reference::operation::operation;
+use crate::reference::operation::{operation, KINDS};
 use crate::reference::stepper::{CELLS, HEAP_BYTES, LINKS, MARKS, SLOTS};
 
 type Heap = [u8; HEAP_BYTES];
 
-/// One step on the bytes of a heap, with the answer for a host in C.
+/// One step on the bytes of a heap without values, with the answer for a host in C.
 #[inline(never)]
 pub fn step(bytes: &mut [u8], kind: u32, a: u32, b: u32) -> u32 {
     let Ok(heap) = <&mut Heap>::try_from(bytes) else {
@@ -16,7 +16,8 @@ pub fn step(bytes: &mut [u8], kind: u32, a: u32, b: u32) -> u32 {
     if !is_well_formed(heap) {
         return 13;
     }
-    let Some(operation) = operation(kind.into(), a.into(), b.into(), heap[0].into()) else {
+    let operation = operation(kind.into(), a.into(), b.into(), heap[0].into());
+    let Some(operation) = operation.filter(|operation| KINDS.contains(&operation.kind)) else {
         return 14;
     };
     operations::apply(heap, operation) as u32
@@ -102,7 +103,7 @@ mod tests {
     /// The answer and the bytes afterwards, by the reference.
     fn expected(bytes: &[u8], kind: u32, a: u32, b: u32) -> (u32, Vec<u8>) {
         match stepper::step(bytes, kind.into(), a.into(), b.into()) {
-            Step::Moved(after) => (0, after.to_vec()),
+            Step::Moved(after) => (0, stepper::bytes_of(&after).to_vec()),
             Step::Blocked => (100, bytes.to_vec()),
             Step::IllFormed => (13, bytes.to_vec()),
             Step::OutsideTable => (14, bytes.to_vec()),

@@ -3,10 +3,13 @@
 use crate::pairs::{anything, pair_with, Pair};
 use crate::reference::certificate::Cover;
 use crate::reference::cover::owed;
+use crate::reference::facts::Fact;
 use crate::reference::job::{Job, Located, Transition};
 use crate::reference::operation::{Operation, DIFFERENT};
 use crate::reference::shape::Shape;
+use crate::reference::version::Version;
 use crate::text::thousands;
+use crate::value_extremes::in_order;
 use crate::verdict::Rule;
 
 /// No shape is at the start. What is covered is at one state, a member that has another state at the
@@ -23,28 +26,42 @@ const LINKS: [u64; 12] = [4, 5, 6, 7, 8, 9, 10, 11, 12, 14, 14, 1];
 
 /// The pairs with their names, by rule: first those that are refused at the first cover.
 pub fn pairs() -> Vec<(String, Pair)> {
-    let first = Rule::ALL.map(|rule| {
+    let first = Rule::ALL.iter().map(|&rule| {
         let (_, pair) = broken(rule, false);
         (format!("rule {} at the first cover", rule as u8), pair)
     });
-    let last = Rule::ALL.map(|rule| {
+    let last = Rule::ALL.iter().map(|&rule| {
         let (covers, pair) = broken(rule, true);
         let covers = thousands(covers as u64);
         let name = format!("rule {} at the last of {covers} covers", rule as u8);
         (name, pair)
     });
-    first.into_iter().chain(last).collect()
+    first.chain(last).collect()
+}
+
+/// Facts are those of version 2.
+fn version_of(rule: Rule) -> Version {
+    match rule {
+        Rule::Fact => Version::Two,
+        _ => Version::One,
+    }
 }
 
 /// How many covers there are, and the pair. The first covers the forbidden shape, which is that of
 /// the last member too; the last covers this member's last predecessor, in which variables 1 and 2
-/// stand at cells 12 and 13 behind cell 11.
+/// stand at cells 12 and 13 behind cell 11. In version 2 all cells are in order.
 fn broken(rule: Rule, is_last: bool) -> (usize, Pair) {
+    let version = version_of(rule);
+    let facts = match version {
+        Version::One => Vec::new(),
+        Version::Two => in_order(),
+    };
     let whole = Located {
         state: COVERED,
-        shape: Shape::of_codes(&VARIABLES, &LINKS),
+        shape: Shape::of_codes(&VARIABLES, &LINKS).with_facts(facts),
     };
     let job = Job {
+        version,
         variables: 8,
         states: 3,
         start: START,
@@ -105,9 +122,13 @@ fn changed(rule: Rule, mut links: [u64; 12], mut images: Vec<usize>) -> (Located
         Rule::Image => images[11] = images[10],
         Rule::Variable => variables[7] = 1,
         Rule::Link => links[11] = 2,
-        Rule::Path => {}
+        Rule::Path | Rule::Fact => {}
     }
-    let shape = Shape::of_codes(&variables, &links);
+    let facts = match rule {
+        Rule::Fact => [&in_order()[..10], &[Fact::equal(11, 0)]].concat(),
+        _ => Vec::new(),
+    };
+    let shape = Shape::of_codes(&variables, &links).with_facts(facts);
     (Located { state, shape }, images)
 }
 
@@ -120,23 +141,23 @@ mod tests {
 
     #[test]
     fn each_breaks_its_rule_at_its_cover() {
-        let names = [0, 10, 8, 11, 10];
+        let names = [0, 10, 8, 11, 10, 11];
         let expected: Vec<Broken> = Rule::ALL
             .into_iter()
             .zip(names)
             .map(|(rule, name)| Broken { rule, name })
             .collect();
         let pairs = pairs();
-        assert_eq!(pairs.len(), 10);
+        assert_eq!(pairs.len(), 12);
         for (number, (name, Pair { job, certificate })) in pairs.into_iter().enumerate() {
             let Verdict::Refused(refusal) = check(&job, &certificate) else {
                 panic!("{name}");
             };
-            assert_eq!(refusal.broken, Some(expected[number % 5]), "{name}");
+            assert_eq!(refusal.broken, Some(expected[number % 6]), "{name}");
             let job = Job::read(&job).unwrap();
             let cover = cover_at(&job, &certificate, refusal.place).unwrap();
             let after = refusal.place + 1 + cover.cover.images.len();
-            let is_last = number >= 5;
+            let is_last = number >= 6;
             assert_eq!(after == certificate.len(), is_last, "{name}");
             let cells = if is_last { 14 } else { 12 };
             assert_eq!(cover.owed.covered.shape.cells(), cells, "{name}");

@@ -22,9 +22,9 @@ pub fn pairs() -> Vec<(&'static str, Pair)> {
         ("no job", of(&[], &CERTIFICATE)),
         ("no certificate", of(&JOB, &[])),
         ("the job too long", of(&[1; MOST_BYTES + 1], &CERTIFICATE)),
-        ("the job's first number", of(&[2], &CERTIFICATE)),
+        ("the job's first number", of(&[3], &CERTIFICATE)),
         ("the job's last number", of(&JOB[..13], &CERTIFICATE)),
-        ("the certificate's first number", of(&JOB, &[2])),
+        ("the certificate's first number", of(&JOB, &[3])),
         ("the first cover", of(&JOB, &[1, 1, 1, 0, 2, 0])),
         ("a large job's last number", large_job_cut()),
         ("the first number after a large job", after_large_job()),
@@ -52,7 +52,7 @@ fn large_job_cut() -> Pair {
 }
 
 fn after_large_job() -> Pair {
-    of(&large().job, &[2])
+    of(&large().job, &[3])
 }
 
 /// At the start state only the last member is satisfied by the empty heap.

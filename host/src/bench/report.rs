@@ -17,6 +17,8 @@ pub fn print(suite: &mut Suite, calls: &[Cost]) {
     with_time(&suite.corpus, true);
     println!("\n### Worst cases\n");
     with_time(&suite.extremes, false);
+    println!("\n### Version 2: worst cases and every kind on values, the largest ratios\n");
+    largest(&suite.values);
     println!("\n### Growth with the members, one cover each\n");
     growth(&suite.in_members);
     println!("\n### Growth with the covers, twenty members\n");

@@ -9,6 +9,7 @@ use crate::corpus;
 use crate::extremes::extremes;
 use crate::pairs::{Pair, Pairs};
 use crate::sweep;
+use crate::value_extremes::value_extremes;
 
 /// A pair with a name for the tables, and its instructions once they are counted.
 pub struct Case {
@@ -22,6 +23,7 @@ pub struct Case {
 pub struct Suite {
     pub corpus: Vec<Case>,
     pub extremes: Vec<Case>,
+    pub values: Vec<Case>,
     pub refused: Vec<Case>,
     pub broken: Vec<Case>,
     pub in_members: Vec<Case>,
@@ -33,6 +35,9 @@ pub struct Suite {
 /// How often an operation is undone in each pair of the sweep.
 const VISITS: usize = 4_096;
 
+/// The same for those on values.
+const VALUE_VISITS: usize = 256;
+
 const RANDOM: usize = 1_000;
 const SEED: u64 = 0x0011_5eed;
 
@@ -42,6 +47,7 @@ impl Suite {
         Ok(Suite {
             corpus: named(corpus::certified()?),
             extremes: named(extremes()),
+            values: named(with_values()),
             refused: named(refused::pairs()),
             broken: named(broken::pairs()),
             in_members: numbered(growth::in_members()),
@@ -56,6 +62,7 @@ impl Suite {
         let groups = [
             &mut self.corpus,
             &mut self.extremes,
+            &mut self.values,
             &mut self.refused,
             &mut self.broken,
             &mut self.in_members,
@@ -77,6 +84,13 @@ impl Suite {
         }
         fs::write(file, bytes)
     }
+}
+
+/// Those of version 2 that cost most, and every kind on values.
+fn with_values() -> Vec<(String, Pair)> {
+    let extremes = value_extremes().into_iter();
+    let extremes = extremes.map(|(name, pair)| (name.to_string(), pair));
+    extremes.chain(sweep::value_pairs(VALUE_VISITS)).collect()
 }
 
 fn named<N: Into<String>>(pairs: impl IntoIterator<Item = (N, Pair)>) -> Vec<Case> {

@@ -7,15 +7,24 @@ use std::env;
 use std::process::ExitCode;
 
 use vorruda_host::compare::listings::Translate;
+use vorruda_host::compare::verdicts::Checker;
 use vorruda_host::compare::{listings, lists, numbers, ready, steps, verdicts, Tally};
-use vorruda_host::verdict::Check;
 use vorruda_host::{baseline, check, library};
 
 /// The checkers that are compared with the reference.
-const CHECKERS: [(&str, Check); 3] = [
-    ("the proved checker's verdicts", check::check),
-    ("the baseline's verdicts", baseline::checker::check),
-    ("the quicker baseline's verdicts", baseline::quicker::check),
+const CHECKERS: [Checker; 3] = [
+    Checker {
+        title: "the proved checker's verdicts",
+        check: check::check,
+    },
+    Checker {
+        title: "the baseline's verdicts",
+        check: baseline::checker::check,
+    },
+    Checker {
+        title: "the quicker baseline's verdicts",
+        check: baseline::quicker::check,
+    },
 ];
 
 /// The translators of listings that are compared with it.
@@ -44,12 +53,11 @@ fn tallies() -> Result<Vec<Tally>, String> {
         numbers::compare(),
         lists::compare_writing(),
         lists::compare_round_trips(),
-        steps::compare(),
         ready::compare(seed)?,
     ];
     let verdicts = verdicts::compare(&CHECKERS, verdicts::pairs(seed, pairs)?);
     let listings = listings::compare(&TRANSLATORS, seed);
-    let all = calls.into_iter().chain(listings);
+    let all = calls.into_iter().chain(steps::compare()).chain(listings);
     Ok(all.chain(verdicts).collect())
 }
 

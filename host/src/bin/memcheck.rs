@@ -1,8 +1,8 @@
 //! Calls the proved library with buffers that end where their allocation ends, so that valgrind sees
 //! a byte read or written beside them, and compares its answers with the reference.
 //!
-//! `memcheck [PAIRS [SEED]]`: how many random pairs, as many with a cover that breaks rules, and as many
-//! with deletes; and from which seed.
+//! `memcheck [PAIRS [SEED]]`: how many random pairs, as many with a cover that breaks rules, as many
+//! with deletes, and as many of version 2 if the library takes them; and from which seed.
 
 use std::env;
 use std::process::ExitCode;
@@ -10,11 +10,12 @@ use std::process::ExitCode;
 use vorruda_host::compare::ready::forbid_in_library;
 use vorruda_host::library;
 use vorruda_host::listings::{edges, Listings};
-use vorruda_host::pairs::{broken_pairs, delete_pairs, Pair, Pairs};
+use vorruda_host::pairs::{broken_pairs, delete_pairs, Pair, Pairs, ValuedPairs};
 use vorruda_host::random::Random;
 use vorruda_host::reference::heap::Heap;
 use vorruda_host::reference::listing::{translate, MARKS};
 use vorruda_host::reference::ready::{forbid, Set};
+use vorruda_host::reference::version::Version;
 use vorruda_host::reference::{checker, number, stepper};
 use vorruda_host::sweep;
 
@@ -37,10 +38,11 @@ fn main() -> ExitCode {
         return ExitCode::from(2);
     };
     let kinds = sweep::pairs(2).into_iter().map(|(_, pair)| pair);
-    let broken = broken_pairs(seed).take(pairs as usize);
+    let broken = broken_pairs(Version::One, seed).take(pairs as usize);
     let deletes = delete_pairs(seed).take(pairs as usize);
     let checked = Pairs::new(seed).take(pairs as usize).chain(broken);
-    let checked = checked.chain(deletes).chain(kinds);
+    let values = ValuedPairs::new(seed).take(pairs as usize);
+    let checked = checked.chain(deletes).chain(kinds).chain(values);
     let checked = checked.enumerate().map(check).count();
     let mut random = Random::new(seed);
     (0..LISTS).for_each(|_| numbers(&mut random));
@@ -127,19 +129,27 @@ fn numbers(random: &mut Random) {
 /// A walk from the empty heap, with a damaged or shortened heap now and then.
 fn steps(random: &mut Random) {
     let mut heap = exact(&stepper::bytes_of(&Heap::empty(4)));
+    let mut values = exact(&stepper::NO_VALUES);
     for _ in 0..STEPS {
-        let kind = random.pick(&[1, 2, 3, 4, 5, 5, 6, 6, 6, 7, 8]);
+        let kind = random.pick(&[1, 2, 3, 4, 5, 5, 6, 6, 6, 7, 8, 9, 10, 11, 12, 13, 13, 14]);
         let (a, b) = (random.below(6) as u32, random.pick(&[0, 0, 1, 2, 3, 4]));
+        let value = random.below(5) as u16;
         if random.once_in(10) {
             let mut damaged = exact(&heap[random.below(3)..]);
             damaged[random.below(134)] = random.below(256) as u8;
             library::step(&mut damaged, kind, a, b);
+            let mut short = exact(&values[random.below(64)..]);
+            library::step_values(&mut damaged, &mut short, (kind, a, b), value);
         }
-        let expected = match stepper::step(&heap, kind.into(), a.into(), b.into()) {
-            stepper::Step::Moved(after) => exact(&after),
-            _ => heap.clone(),
+        let numbers = (kind.into(), a.into(), b.into());
+        let expected = match stepper::step_values(&heap, &values, numbers, value) {
+            stepper::Step::Moved(after) => (
+                exact(&stepper::bytes_of(&after)),
+                exact(&stepper::values_of(&after)),
+            ),
+            _ => (heap.clone(), values.clone()),
         };
-        library::step(&mut heap, kind, a, b);
-        assert_eq!(heap, expected);
+        library::step_values(&mut heap, &mut values, (kind, a, b), value);
+        assert_eq!((&heap, &values), (&expected.0, &expected.1));
     }
 }

@@ -18,17 +18,17 @@ const SHOWN: usize = 10;
 
 /// Counts the cases of one comparison by their outcome, and holds the differences.
 pub struct Tally {
-    title: &'static str,
+    title: String,
     outcomes: BTreeMap<String, u64>,
     differences: u64,
 }
 
 impl Tally {
     /// A tally of nothing yet; each of the expected outcomes has to come up, and no other may.
-    pub fn new(title: &'static str, expected: &[&str]) -> Tally {
+    pub fn new(title: impl Into<String>, expected: &[&str]) -> Tally {
         let outcomes = expected.iter().map(|&name| (name.to_string(), 0));
         Tally {
-            title,
+            title: title.into(),
             outcomes: outcomes.collect(),
             differences: 0,
         }

@@ -11,6 +11,7 @@ use crate::reference::operation::{Operation, ASSIGN, LOAD, STORE};
 use crate::reference::ready::{forbid, Set};
 use crate::reference::refused::Refused;
 use crate::reference::shape::Shape;
+use crate::reference::version::Version;
 
 const NOT_LIST: &str = "written, not a proper list";
 const LOST_BLOCK: &str = "written, lost block";
@@ -93,6 +94,7 @@ fn job(variables: u64, forbidden: u64, steps: usize, others: usize) -> Job {
     let other = (0..others).map(|number| transition(number, ASSIGN));
     let nothing = vec![0; variables as usize];
     Job {
+        version: Version::One,
         variables,
         states: 64,
         start: 5,

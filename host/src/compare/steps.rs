@@ -1,93 +1,140 @@
-//! The stepper.
+//! The stepper, on heaps with values and on bytes alone.
 
 use super::Tally;
 use crate::library;
 use crate::random::Random;
 use crate::reference::heap::Heap;
-use crate::reference::operation::{operation, KINDS};
+use crate::reference::operation::{operation, KINDS, VALUE_KINDS};
 use crate::reference::stepper::{self, Step, CELLS, HEAP_BYTES, LINKS, MARKS, SLOTS, VARIABLES};
+use crate::reference::stepper::{LARGEST_VALUE, NO_VALUES};
 
-pub fn compare() -> Tally {
+/// Both calls: on heaps with values, and on bytes alone.
+pub fn compare() -> Vec<Tally> {
     let mut stepper = Stepper {
-        tally: Tally::new("steps", &expected_outcomes()),
+        with_values: tally("steps", true),
+        alone: tally("steps on bytes alone", false),
         random: Random::new(0x0004_5eed),
     };
     stepper.every_operation(300);
     stepper.walks(40, 5_000);
     stepper.random_heaps(40_000);
     stepper.damaged_heaps(6_000);
-    stepper.tally
+    vec![stepper.with_values, stepper.alone]
 }
 
 struct Stepper {
-    tally: Tally,
+    with_values: Tally,
+    alone: Tally,
     random: Random,
 }
 
-type Bytes = [u8; HEAP_BYTES];
+/// What is lent to a step.
+#[derive(Clone, Debug, PartialEq, Eq)]
+struct Lent {
+    heap: Vec<u8>,
+    values: Vec<u32>,
+}
 
-fn expected_outcomes() -> Vec<&'static str> {
-    let moved_or_blocked = [
-        "kind 1 moved",
-        "kind 2 moved",
-        "kind 3 moved",
-        "kind 4 moved",
-        "kind 5 moved",
-        "kind 6 moved",
-        "kind 7 moved",
-        "kind 1 blocked",
-        "kind 2 blocked",
-        "kind 3 blocked",
-        "kind 4 blocked",
-        "kind 5 blocked",
-        "kind 7 blocked",
-        "14 operation outside the table",
-        "15 all cells used",
-    ];
+impl Lent {
+    fn of(heap: &Heap) -> Lent {
+        Lent {
+            heap: stepper::bytes_of(heap).to_vec(),
+            values: stepper::values_of(heap).to_vec(),
+        }
+    }
+}
+
+/// A kind and its operands.
+type Numbers = (u32, u32, u32);
+
+const WELL_FORMED: &str = "13 on a well formed heap";
+
+/// A tally of the outcomes that a call can have.
+fn tally(title: &'static str, with_values: bool) -> Tally {
+    let last = if with_values { VALUE_KINDS } else { KINDS };
+    let moved = (1..=*last.end()).map(|kind| format!("kind {kind} moved"));
+    let blocked = (1..=*last.end()).filter(|&kind| kind != 6);
+    let blocked = blocked.map(|kind| format!("kind {kind} blocked"));
+    let refused = ["14 operation outside the table", "15 all cells used"];
     let damages = DAMAGES.iter().map(|&(name, _)| name);
-    moved_or_blocked.into_iter().chain(damages).collect()
+    let value_damages = VALUE_DAMAGES.iter().map(|&(name, _)| name);
+    let value_damages = value_damages.filter(|_| with_values);
+    let named = refused.into_iter().chain(damages).chain(value_damages);
+    let outcomes: Vec<String> = moved
+        .chain(blocked)
+        .chain(named.map(str::to_string))
+        .collect();
+    let outcomes: Vec<&str> = outcomes.iter().map(String::as_str).collect();
+    Tally::new(title, &outcomes)
+}
+
+/// The returned number that the reference stands for, and the outcome's name.
+fn told(step: &Step, kind: u32, ill_formed: &str) -> (u32, String) {
+    match step {
+        Step::Moved(_) => (0, format!("kind {kind} moved")),
+        Step::Blocked => (100, format!("kind {kind} blocked")),
+        Step::IllFormed => (13, ill_formed.to_string()),
+        Step::OutsideTable => (14, "14 operation outside the table".to_string()),
+        Step::Full => (15, "15 all cells used".to_string()),
+    }
 }
 
 impl Stepper {
-    /// Compares one step, and gives the heap after it where it moved.
-    fn step(&mut self, heap: &[u8], kind: u32, a: u32, b: u32, ill_formed: &str) -> Option<Bytes> {
+    /// Compares one step, with a random value lent, and gives the heap after it where it moved.
+    fn step(&mut self, lent: &Lent, numbers: Numbers, ill_formed: &str) -> Option<Lent> {
+        let (kind, a, b) = numbers;
+        let value = random_value(&mut self.random) as u16;
+        let mut after = lent.clone();
+        let returned = library::step_values(&mut after.heap, &mut after.values, numbers, value);
+        let wide = (kind.into(), a.into(), b.into());
+        let reference = stepper::step_values(&lent.heap, &lent.values, wide, value);
+        let (expected_return, outcome) = told(&reference, kind, ill_formed);
+        let moved = match reference {
+            Step::Moved(heap) => Some(Lent::of(&heap)),
+            _ => None,
+        };
+        let expected = moved.clone().unwrap_or_else(|| lent.clone());
+        self.with_values.add(
+            &outcome,
+            &(expected_return, expected),
+            &(returned, after),
+            || format!("kind {kind}, a {a}, b {b}, value {value} on {lent:?}"),
+        );
+        moved
+    }
+
+    /// Compares one step on the bytes alone.
+    fn step_alone(&mut self, heap: &[u8], (kind, a, b): Numbers, ill_formed: &str) {
         let mut after = heap.to_vec();
         let returned = library::step(&mut after, kind, a, b);
         let reference = stepper::step(heap, kind.into(), a.into(), b.into());
-        let mut expected = heap.to_vec();
-        let mut moved = None;
-        let (expected_return, outcome) = match reference {
-            Step::Moved(bytes) => {
-                expected = bytes.to_vec();
-                moved = Some(bytes);
-                (0, format!("kind {kind} moved"))
-            }
-            Step::Blocked => (100, format!("kind {kind} blocked")),
-            Step::IllFormed => (13, ill_formed.to_string()),
-            Step::OutsideTable => (14, "14 operation outside the table".to_string()),
-            Step::Full => (15, "15 all cells used".to_string()),
+        let (expected_return, outcome) = told(&reference, kind, ill_formed);
+        let expected = match reference {
+            Step::Moved(after) => stepper::bytes_of(&after).to_vec(),
+            _ => heap.to_vec(),
         };
-        self.tally.add(
+        self.alone.add(
             &outcome,
             &(expected_return, expected),
             &(returned, after),
             || format!("kind {kind}, a {a}, b {b} on {heap:?}"),
         );
-        moved
     }
 
-    fn step_well_formed(&mut self, heap: &[u8], kind: u32, a: u32, b: u32) -> Option<Bytes> {
-        self.step(heap, kind, a, b, "13 on a well formed heap")
+    /// Both calls, on a well formed heap.
+    fn step_well_formed(&mut self, lent: &Lent, numbers: Numbers) -> Option<Lent> {
+        self.step_alone(&lent.heap, numbers, WELL_FORMED);
+        self.step(lent, numbers, WELL_FORMED)
     }
 
     /// All kinds and operands, in and just out of range, on random heaps.
     fn every_operation(&mut self, heaps: usize) {
         for _ in 0..heaps {
-            let heap = random_heap(&mut self.random);
-            for kind in 0..=9 {
+            let lent = random_lent(&mut self.random);
+            for kind in 0..=*VALUE_KINDS.end() as u32 + 1 {
                 for a in 0..=SLOTS as u32 + 1 {
                     for b in 0..=SLOTS as u32 + 1 {
-                        self.step_well_formed(&heap, kind, a, b);
+                        self.step_well_formed(&lent, (kind, a, b));
                     }
                 }
             }
@@ -97,19 +144,19 @@ impl Stepper {
     /// Walks from the empty heap: long enough that the cells run out and come back.
     fn walks(&mut self, walks: usize, length: usize) {
         for walk in 0..walks {
-            let mut heap = stepper::bytes_of(&Heap::empty(1 + walk % SLOTS));
+            let mut lent = Lent::of(&Heap::empty(1 + walk % SLOTS));
             for _ in 0..length {
-                let (kind, a, b) = self.random_operation(heap[0].into());
-                heap = self.step_well_formed(&heap, kind, a, b).unwrap_or(heap);
+                let numbers = self.random_operation(lent.heap[0].into());
+                lent = self.step_well_formed(&lent, numbers).unwrap_or(lent);
             }
         }
     }
 
     fn random_heaps(&mut self, heaps: usize) {
         for _ in 0..heaps {
-            let heap = random_heap(&mut self.random);
-            let (kind, a, b) = self.random_operation(heap[0].into());
-            self.step_well_formed(&heap, kind, a, b);
+            let lent = random_lent(&mut self.random);
+            let numbers = self.random_operation(lent.heap[0].into());
+            self.step_well_formed(&lent, numbers);
         }
     }
 
@@ -119,17 +166,25 @@ impl Stepper {
             for (name, make) in DAMAGES {
                 let mut heap = random_heap(&mut self.random).to_vec();
                 make(&mut heap, &mut self.random);
-                let (kind, a, b) = self.random_operation(heap.first().map_or(1, |&v| v.into()));
-                self.step(&heap, kind, a, b, name);
+                let numbers = self.random_operation(heap.first().map_or(1, |&v| v.into()));
+                self.step_alone(&heap, numbers, name);
+                let values = NO_VALUES.to_vec();
+                self.step(&Lent { heap, values }, numbers, name);
+            }
+            for (name, make) in VALUE_DAMAGES {
+                let mut lent = random_lent(&mut self.random);
+                make(&mut lent, &mut self.random);
+                let numbers = self.random_operation(lent.heap[0].into());
+                self.step(&lent, numbers, name);
             }
         }
     }
 
     /// Mostly an operation of the table, now and then a kind or an operand outside.
-    fn random_operation(&mut self, variables: u32) -> (u32, u32, u32) {
+    fn random_operation(&mut self, variables: u32) -> Numbers {
         let random = &mut self.random;
         loop {
-            let kind = random.below(*KINDS.end() as usize) as u32 + 1;
+            let kind = random.below(*VALUE_KINDS.end() as usize) as u32 + 1;
             let a = random.below(variables as usize + 1) as u32;
             let b = random.below(variables as usize + 1) as u32;
             if random.once_in(12) {
@@ -144,7 +199,7 @@ impl Stepper {
 
 /// The operation with one of its three numbers made strange.
 fn strange_operation(random: &mut Random, kind: u32, a: u32, b: u32) -> (u32, u32, u32) {
-    let strange = random.pick(&[0, 8, 9, 255, 256, 257, 1 << 16, 1 << 31, u32::MAX]);
+    let strange = random.pick(&[0, 8, 9, 13, 14, 255, 256, 257, 1 << 16, 1 << 31, u32::MAX]);
     match random.below(3) {
         0 => (strange, a, b),
         1 => (kind, strange, b),
@@ -153,7 +208,7 @@ fn strange_operation(random: &mut Random, kind: u32, a: u32, b: u32) -> (u32, u3
 }
 
 /// A well formed heap: often sparse, sometimes full.
-fn random_heap(random: &mut Random) -> Bytes {
+fn random_heap(random: &mut Random) -> [u8; HEAP_BYTES] {
     let mut heap = [0; HEAP_BYTES];
     let count = 1 + random.below(SLOTS);
     heap[0] = count as u8;
@@ -179,6 +234,46 @@ fn random_heap(random: &mut Random) -> Bytes {
     }
     heap
 }
+
+/// A value: mostly small, so that two are often equal, now and then at the upper end.
+fn random_value(random: &mut Random) -> u32 {
+    match random.below(8) {
+        0 => LARGEST_VALUE - random.below(2) as u32,
+        _ => random.below(4) as u32,
+    }
+}
+
+/// A well formed heap, most of its cells with values.
+fn random_lent(random: &mut Random) -> Lent {
+    let heap = random_heap(random).to_vec();
+    let used = heap[MARKS].iter().map(|&mark| mark == 1);
+    let values = used.map(|used| match used && !random.once_in(4) {
+        true => random_value(random) + 1,
+        false => 0,
+    });
+    let values = values.collect();
+    Lent { heap, values }
+}
+
+/// A way of making a well formed heap ill formed by its values, with its name.
+type ValueDamage = (&'static str, fn(&mut Lent, &mut Random));
+
+const VALUE_DAMAGES: &[ValueDamage] = &[
+    ("13 value above 65,535", |lent, random| {
+        let cell = use_a_cell(&mut lent.heap, random);
+        lent.values[cell] = random.pick(&[65_537, 65_538, 1 << 17, 1 << 31, u32::MAX]);
+    }),
+    ("13 unused cell with a value", |lent, random| {
+        let unused = usize::from(free_a_cell(&mut lent.heap, random)) - 3;
+        lent.values[unused] = 1 + random_value(random);
+    }),
+    ("13 too few values", |lent, random| {
+        lent.values.truncate(random.below(CELLS))
+    }),
+    ("13 too many values", |lent, random| {
+        lent.values.resize(CELLS + 1 + random.below(100), 0)
+    }),
+];
 
 /// A way of making a well formed heap ill formed, with its name.
 type Damage = (&'static str, fn(&mut Vec<u8>, &mut Random));

@@ -7,8 +7,9 @@ use crate::reference::checker::MOST_BYTES;
 use crate::reference::job::{
     self, Job, Transition, MOST_FORBIDDEN, MOST_STATES, MOST_TRANSITIONS, MOST_VARIABLES,
 };
-use crate::reference::operation::{operation, Operation, KINDS};
+use crate::reference::operation::{operation, Operation};
 use crate::reference::shape as reference;
+use crate::reference::version::Version;
 use crate::search::before::{each_before, forbidden};
 use crate::search::covers::certificate_of;
 use crate::search::generalise::simplifications;
@@ -81,6 +82,7 @@ fn random_job(random: &mut Random, size: &Size) -> Job {
     // Mostly no transition leaves the last state, so that it can be the start.
     let left = states - usize::from(states > 1 && !random.once_in(4));
     Job {
+        version: Version::One,
         variables: variables as u64,
         states: states as u64,
         start: 0,
@@ -97,7 +99,7 @@ fn random_job(random: &mut Random, size: &Size) -> Job {
 }
 
 /// A number up to one of the usual bounds, rarely up to the largest.
-fn up_to(random: &mut Random, usual: &[usize], largest: usize) -> usize {
+pub fn up_to(random: &mut Random, usual: &[usize], largest: usize) -> usize {
     let bound = match random.once_in(40) {
         true => largest,
         false => random.pick(usual),
@@ -115,14 +117,14 @@ fn random_transition(
     let to = random.below(states) as u64;
     Transition {
         from,
-        operation: random_operation(random, variables),
+        operation: random_operation(random, Version::One, variables),
         to,
     }
 }
 
-pub fn random_operation(random: &mut Random, variables: usize) -> Operation {
+pub fn random_operation(random: &mut Random, version: Version, variables: usize) -> Operation {
     loop {
-        let kind = 1 + random.below(*KINDS.end() as usize) as u64;
+        let kind = 1 + random.below(*version.kinds().end() as usize) as u64;
         let (a, b) = (random.below(variables + 1), random.below(variables + 1));
         if let Some(operation) = operation(kind, a as u64, b as u64, variables as u64) {
             return operation;

@@ -3,6 +3,7 @@
 
 use super::accepted::random_operation;
 use super::codes::{some_index, some_numbers, Codes};
+use super::facts::random_facts;
 use super::{anything, pair_with, Pair};
 use crate::random::Random;
 use crate::reference::certificate::Cover;
@@ -10,6 +11,7 @@ use crate::reference::cover::{owed, Reason};
 use crate::reference::embedding::Map;
 use crate::reference::job::{Job, Located, Transition, MOST_VARIABLES};
 use crate::reference::shape::{Shape, MOST_CELLS};
+use crate::reference::version::Version;
 use crate::verdict::Rule;
 
 /// No shape is at the start. What is covered is at one state, a member that has another state at the
@@ -25,31 +27,48 @@ const WHOLE: usize = 1;
 /// How often members of one shape are tried, before another shape is.
 const TRIES: usize = 20;
 
-/// The first rule that is broken, or none; and which of the others are.
-const FIRSTS: usize = Rule::ALL.len() + 1;
-const CHOICES: usize = 1 << (Rule::ALL.len() - 1);
+/// The rules that a cover can break.
+fn rules_of(version: Version) -> &'static [Rule] {
+    match version {
+        Version::One => &Rule::WITHOUT_FACTS,
+        Version::Two => &Rule::ALL,
+    }
+}
+
+/// How many rules can be the first that is broken, none among them; and choices of those behind it.
+fn choices_of(version: Version) -> (usize, usize) {
+    let rules = rules_of(version).len();
+    (rules + 1, 1 << (rules - 1))
+}
 
 /// The pair of a turn. Each rule is the first that is broken as often as the others, and as often
 /// none is; behind the first, every choice of the others comes in its turn.
-pub fn broken(random: &mut Random, turn: usize) -> Pair {
-    let first = turn % FIRSTS;
-    let of_predecessor = turn / FIRSTS % 2 == 1;
-    let others = turn / (2 * FIRSTS) % CHOICES;
-    let numbered = Rule::ALL.into_iter().enumerate();
+pub fn broken(random: &mut Random, version: Version, turn: usize) -> Pair {
+    let (firsts, choices) = choices_of(version);
+    let first = turn % firsts;
+    let of_predecessor = turn / firsts % 2 == 1;
+    let others = turn / (2 * firsts) % choices;
+    let numbered = rules_of(version).iter().enumerate();
     let chosen = numbered.filter(|&(n, _)| n == first || n > first && others >> (n - 1) & 1 == 1);
-    let rules: Vec<Rule> = chosen.map(|(_, rule)| rule).collect();
+    let rules: Vec<Rule> = chosen.map(|(_, rule)| *rule).collect();
     loop {
-        if let Some(pair) = attempt(random, &rules, of_predecessor) {
+        if let Some(pair) = attempt(random, version, &rules, of_predecessor) {
             return pair;
         }
     }
 }
 
 /// A pair in which one cover breaks just these rules, if it is found.
-fn attempt(random: &mut Random, rules: &[Rule], of_predecessor: bool) -> Option<Pair> {
+fn attempt(
+    random: &mut Random,
+    version: Version,
+    rules: &[Rule],
+    of_predecessor: bool,
+) -> Option<Pair> {
     let variables = 1 + random.below(MOST_VARIABLES as usize);
-    let job = random_job(random, variables);
-    let mut members = vec![anything(COVERED, variables), whole(random, variables)];
+    let job = random_job(random, version, variables);
+    let whole = whole(random, version, variables);
+    let mut members = vec![anything(COVERED, variables), whole];
     let is_wanted = |reason: Reason| match reason {
         Reason::Forbidden(_) => !of_predecessor,
         Reason::Before { member, .. } => of_predecessor && member == WHOLE,
@@ -72,29 +91,34 @@ fn attempt(random: &mut Random, rules: &[Rule], of_predecessor: bool) -> Option<
     Some(pair_with(&job, members, number, chosen))
 }
 
-fn random_job(random: &mut Random, variables: usize) -> Job {
+fn random_job(random: &mut Random, version: Version, variables: usize) -> Job {
     let transitions = 1 + random.below(2);
     let shapes = 1 + random.below(4);
     Job {
+        version,
         variables: variables as u64,
         states: 3,
         start: START,
         transitions: (0..transitions)
             .map(|_| Transition {
                 from: COVERED,
-                operation: random_operation(random, variables),
+                operation: random_operation(random, version, variables),
                 to: COVERED,
             })
             .collect(),
         forbidden: (0..shapes)
-            .map(|_| many_cells(random, variables).located(COVERED))
+            .map(|_| many_cells(random, version, variables).located(COVERED))
             .collect(),
     }
 }
 
-fn many_cells(random: &mut Random, variables: usize) -> Codes {
+fn many_cells(random: &mut Random, version: Version, variables: usize) -> Codes {
     let cells = mostly_many(random, MOST_CELLS as usize);
-    Codes::random(random, variables, cells)
+    let mut codes = Codes::random(random, variables, cells);
+    if version == Version::Two {
+        codes.facts = random_facts(random, cells);
+    }
+    codes
 }
 
 /// A number up to a bound, the larger of two.
@@ -103,8 +127,8 @@ fn mostly_many(random: &mut Random, most: usize) -> usize {
 }
 
 /// A member in which every other variable stands nowhere, so that it has many predecessors.
-fn whole(random: &mut Random, variables: usize) -> Located {
-    let mut whole = many_cells(random, variables);
+fn whole(random: &mut Random, version: Version, variables: usize) -> Located {
+    let mut whole = many_cells(random, version, variables);
     for place in &mut whole.variables {
         if random.once_in(2) {
             *place = 0;
@@ -127,6 +151,9 @@ fn breaking(random: &mut Random, covered: &Shape, rules: &[Rule]) -> Option<(Loc
     }
     for _ in 0..changes(random, rules, Rule::Link) {
         part.change_link(random);
+    }
+    for _ in 0..changes(random, rules, Rule::Fact) {
+        part.add_fact(random);
     }
     let state = match rules.contains(&Rule::State) {
         true => OTHER,
@@ -168,16 +195,19 @@ mod tests {
     use super::*;
     use crate::reference::checker::check;
     use crate::reference::cover::{cover_at, CoverRead};
+    use crate::reference::facts::{closed, Fact};
     use crate::verdict::{Refusal, Verdict};
 
-    /// Every choice of rules, for a forbidden shape and for a predecessor.
-    const ROUND: usize = 2 * FIRSTS * CHOICES;
+    /// How often every choice of rules comes up, for a forbidden shape and for a predecessor.
     const ROUNDS: usize = 12;
 
     /// The covers that are refused, each with its refusal.
-    fn refused() -> Vec<(CoverRead, Refusal)> {
+    fn refused(version: Version) -> Vec<(CoverRead, Refusal)> {
         let mut random = Random::new(0x15_5eed);
-        let pairs = (0..ROUND * ROUNDS).map(|turn| broken(&mut random, turn));
+        let (firsts, choices) = choices_of(version);
+        let rounds = if version == Version::One { ROUNDS } else { 3 };
+        let turns = 0..rounds * 2 * firsts * choices;
+        let pairs = turns.map(|turn| broken(&mut random, version, turn));
         let refused =
             pairs.filter_map(
                 |Pair { job, certificate }| match check(&job, &certificate) {
@@ -194,21 +224,23 @@ mod tests {
 
     #[test]
     fn every_choice_of_rules() {
-        let mut seen = BTreeSet::new();
-        for (cover, _) in refused() {
-            let breaks = |rule: Rule| match rule {
-                Rule::State => cover.member.state != cover.owed.covered.state,
-                _ => cover.map().lowest(rule).is_some(),
-            };
-            let of_predecessor = matches!(cover.owed.reason, Reason::Before { .. });
-            seen.insert((of_predecessor, Rule::ALL.map(breaks)));
+        for (version, expected) in [(Version::One, 31), (Version::Two, 63)] {
+            let mut seen = BTreeSet::new();
+            for (cover, _) in refused(version) {
+                let breaks = |rule: Rule| match rule {
+                    Rule::State => cover.member.state != cover.owed.covered.state,
+                    _ => cover.map().lowest(rule).is_some(),
+                };
+                let of_predecessor = matches!(cover.owed.reason, Reason::Before { .. });
+                seen.insert((of_predecessor, Rule::ALL.map(breaks)));
+            }
+            assert_eq!(seen.len(), 2 * expected);
         }
-        assert_eq!(seen.len(), 2 * 31);
     }
 
     #[test]
     fn names_are_low_and_high_and_shapes_large() {
-        let refused = refused();
+        let refused = refused(Version::One);
         for (rule, lowest, highest) in [
             (Rule::State, 0, 0),
             (Rule::Image, 0, 10),
@@ -229,7 +261,7 @@ mod tests {
     /// Whoever judges cell by cell would name the later rule here.
     #[test]
     fn later_rules_are_broken_at_lower_cells() {
-        let refused = refused();
+        let refused = refused(Version::One);
         for (first, later) in [
             (Rule::Image, Rule::Link),
             (Rule::Image, Rule::Path),
@@ -255,7 +287,29 @@ mod tests {
             let named = named.map(|broken| images[usize::from(broken.name)]);
             named.is_some() && named != again.map(|cell| images[cell])
         };
-        let count = refused().iter().filter(is_within).count();
+        let count = refused(Version::One).iter().filter(is_within).count();
         assert!(count > 5, "only {count}");
+    }
+
+    /// A fact of equality, listed behind all of order, names a lower cell than these in many.
+    #[test]
+    fn missing_facts_are_low_and_high_and_out_of_order() {
+        let mut names = BTreeSet::new();
+        let mut out_of_order = 0;
+        for (cover, refusal) in refused(Version::Two) {
+            let Some(broken) = refusal.broken.filter(|broken| broken.rule == Rule::Fact) else {
+                continue;
+            };
+            let told = closed(&cover.owed.covered.shape.facts);
+            let image = |fact: &Fact| fact.renamed(|cell| cover.cover.images[cell]);
+            let mut listed = cover.member.shape.facts.iter();
+            let first = listed.find(|fact| !told.contains(&image(fact)));
+            let first = first.expect("a fact is missing").i;
+            out_of_order += usize::from(first != broken.name.into());
+            names.insert(broken.name);
+        }
+        assert_eq!(names.first(), Some(&0));
+        assert!(names.last() > Some(&9), "{names:?}");
+        assert!(out_of_order > 3, "only {out_of_order}");
     }
 }

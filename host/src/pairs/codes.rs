@@ -1,20 +1,24 @@
 //! Shapes as codes of places, and the parts of them that embed.
 
+use super::facts::{in_order, random_fact};
 use crate::random::Random;
+use crate::reference::facts::{closed, Fact};
 use crate::reference::job::Located;
 use crate::reference::shape::Shape;
+use crate::reference::version::Version;
 
 /// The code of cell 0.
 const CELL: u64 = 3;
 
-/// A shape as codes of places.
+/// A shape as codes of places, with facts.
 pub struct Codes {
     pub variables: Vec<u64>,
     pub links: Vec<u64>,
+    pub facts: Vec<Fact>,
 }
 
 impl Codes {
-    /// Most links are to cells, so that paths are long and many meet.
+    /// Most links are to cells, so that paths are long and many meet. There are no facts.
     pub fn random(random: &mut Random, variables: usize, cells: usize) -> Codes {
         let mut place = || match random.below(8) {
             0 => random.below(3) as u64,
@@ -23,23 +27,28 @@ impl Codes {
         Codes {
             variables: (0..variables).map(|_| place()).collect(),
             links: (0..cells).map(|_| place()).collect(),
+            facts: Vec::new(),
         }
     }
 
+    /// Those of a shape, with all that follows from its facts.
     pub fn of(shape: &Shape) -> Codes {
-        let numbers = shape.numbers();
+        let numbers = shape.numbers(Version::One);
         let (variables, links) = numbers[1..].split_at(shape.variables.len());
         Codes {
             variables: variables.to_vec(),
             links: links.to_vec(),
+            facts: closed(&shape.facts),
         }
     }
 
-    /// The shape of the images and the paths between them; some places are left out. It embeds by
-    /// these images unless one is used twice or two paths meet.
+    /// The shape of the images and the paths between them; some places and facts are left out. It
+    /// embeds by these images unless one is used twice or two paths meet.
     pub fn part(&self, random: &mut Random, images: &[usize]) -> Codes {
+        let facts = self.facts_of_part(random, images);
         let mut sometimes = |place: u64| if random.once_in(5) { 0 } else { place };
         Codes {
+            facts,
             variables: self
                 .variables
                 .iter()
@@ -50,6 +59,20 @@ impl Codes {
                 .map(|&cell| sometimes(self.first_met(cell, images)))
                 .collect(),
         }
+    }
+
+    /// Some of the facts on images, as facts of the part.
+    fn facts_of_part(&self, random: &mut Random, images: &[usize]) -> Vec<Fact> {
+        let part_of = |cell: usize| images.iter().position(|&image| image == cell);
+        let both = |fact: &Fact| {
+            Some(Fact {
+                relation: fact.relation,
+                i: part_of(fact.i)?,
+                j: part_of(fact.j)?,
+            })
+        };
+        let facts = self.facts.iter().filter_map(both);
+        in_order(facts.filter(|_| random.once_in(2)).collect())
     }
 
     /// What following links from a cell meets first, as a place of the part; nowhere if nothing.
@@ -78,6 +101,13 @@ impl Codes {
         }
     }
 
+    /// Adds any fact, if there are cells.
+    pub fn add_fact(&mut self, random: &mut Random) {
+        if !self.links.is_empty() {
+            self.facts.push(random_fact(random, self.links.len()));
+        }
+    }
+
     fn any_place(&self, random: &mut Random) -> u64 {
         random.below(CELL as usize + self.links.len()) as u64
     }
@@ -85,7 +115,8 @@ impl Codes {
     pub fn located(&self, state: u64) -> Located {
         Located {
             state,
-            shape: Shape::of_codes(&self.variables, &self.links),
+            shape: Shape::of_codes(&self.variables, &self.links)
+                .with_facts(in_order(self.facts.clone())),
         }
     }
 }

@@ -12,6 +12,7 @@ use crate::reference::job::{Job, Located, Transition, MOST_VARIABLES};
 use crate::reference::operation::{Operation, DELETE, EQUAL};
 use crate::reference::predecessor::predecessors;
 use crate::reference::shape::{Shape, MOST_CELLS};
+use crate::reference::version::Version;
 
 /// No shape is at the start. The delete leads from one state to another.
 const START: u64 = 0;
@@ -105,6 +106,7 @@ fn with_delete(random: &mut Random, dangling: usize, listed: Listed) -> Pair {
     let covers = numbers.iter().map(|&number| covers[number].clone());
     let (ahead, behind) = (random.below(2), random.below(2));
     let job = Job {
+        version: Version::One,
         variables: variables as u64,
         states: 3,
         start: START,

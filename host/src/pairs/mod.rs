@@ -5,20 +5,28 @@ mod broken;
 mod codes;
 mod damage;
 mod deletes;
+mod facts;
+mod many_facts;
 mod near;
 mod series;
+mod valued;
+mod valued_damage;
 
 use crate::random::Random;
 use crate::reference::certificate::{Certificate, Cover};
 use crate::reference::cover::owed;
 use crate::reference::job::{Job, Located};
 use crate::reference::shape::Shape;
+use crate::reference::version::Version;
 use accepted::accepted;
 use broken::broken;
 use damage::damaged;
 use deletes::deletes;
+use many_facts::many_facts;
 use near::near;
 use series::series;
+use valued::{valued, Valued};
+use valued_damage::damaged_values;
 
 /// The bytes of a job and of a certificate.
 #[derive(Clone, Debug)]
@@ -30,9 +38,14 @@ pub struct Pair {
 impl Pair {
     /// The bytes of a job and of a certificate with these members and covers.
     pub fn of(job: &Job, members: Vec<Located>, covers: Vec<Cover>) -> Pair {
+        let certificate = Certificate {
+            version: job.version,
+            members,
+            covers,
+        };
         Pair {
             job: job.bytes(),
-            certificate: Certificate { members, covers }.bytes(),
+            certificate: certificate.bytes(),
         }
     }
 }
@@ -92,6 +105,38 @@ impl Iterator for Pairs {
     }
 }
 
+/// An endless, deterministic supply of pairs of version 2.
+pub struct ValuedPairs {
+    random: Random,
+    accepted: Valued,
+    left: usize,
+}
+
+impl ValuedPairs {
+    pub fn new(seed: u64) -> ValuedPairs {
+        let mut random = Random::new(seed);
+        ValuedPairs {
+            accepted: valued(&mut random),
+            random,
+            left: DAMAGED,
+        }
+    }
+}
+
+impl Iterator for ValuedPairs {
+    type Item = Pair;
+
+    fn next(&mut self) -> Option<Pair> {
+        if self.left > 0 {
+            self.left -= 1;
+            return Some(damaged_values(&mut self.random, &self.accepted));
+        }
+        self.left = DAMAGED;
+        let next = valued(&mut self.random);
+        Some(std::mem::replace(&mut self.accepted, next).pair())
+    }
+}
+
 /// Endless accepted pairs.
 pub fn accepted_pairs(seed: u64) -> impl Iterator<Item = Pair> {
     let mut random = Random::new(seed);
@@ -110,10 +155,16 @@ pub fn near_pairs(seed: u64) -> impl Iterator<Item = Pair> {
     std::iter::repeat_with(move || near(&mut random))
 }
 
-/// Endless pairs in which one cover breaks every choice of rules in turn.
-pub fn broken_pairs(seed: u64) -> impl Iterator<Item = Pair> {
+/// Endless pairs of a version in which one cover breaks every choice of rules in turn.
+pub fn broken_pairs(version: Version, seed: u64) -> impl Iterator<Item = Pair> {
     let mut random = Random::new(seed);
-    (0..).map(move |turn| broken(&mut random, turn))
+    (0..).map(move |turn| broken(&mut random, version, turn))
+}
+
+/// Endless pairs of version 2 with as many facts as there may be, or nearly.
+pub fn many_fact_pairs(seed: u64) -> impl Iterator<Item = Pair> {
+    let mut random = Random::new(seed);
+    (0..).map(move |turn| many_facts(&mut random, turn))
 }
 
 /// Endless pairs whose covers follow each other closely.

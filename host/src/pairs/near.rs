@@ -7,6 +7,7 @@ use crate::random::Random;
 use crate::reference::certificate::Cover;
 use crate::reference::job::Job;
 use crate::reference::shape::MOST_CELLS;
+use crate::reference::version::Version;
 
 /// The state of all shapes; the start is another.
 const STATE: u64 = 1;
@@ -39,6 +40,7 @@ pub fn near(random: &mut Random) -> Pair {
         covers.push(Cover { member, images });
     }
     let job = Job {
+        version: Version::One,
         variables: variables as u64,
         states: 2,
         start: 0,

@@ -10,6 +10,7 @@ use crate::reference::embedding::embeds;
 use crate::reference::job::{Job, Located, Transition};
 use crate::reference::operation::{Operation, DIFFERENT};
 use crate::reference::shape::MOST_CELLS;
+use crate::reference::version::Version;
 
 /// No shape is at the start.
 const START: u64 = 0;
@@ -113,6 +114,7 @@ fn by_size(random: &mut Random) -> Pair {
 
 fn job(variables: usize, transitions: Vec<Transition>, forbidden: Vec<Located>) -> Job {
     Job {
+        version: Version::One,
         variables: variables as u64,
         states: 2,
         start: START,

@@ -1,8 +1,9 @@
 //! Certificates: members, and covers in the order of what they cover.
 
-use super::job::{Job, Located, VERSION};
+use super::job::{Job, Located};
 use super::number;
 use super::reader::Reader;
+use super::version::Version;
 use crate::verdict::Refusal;
 
 pub const MOST_MEMBERS: u64 = 512;
@@ -16,6 +17,7 @@ pub struct Cover {
 
 #[derive(Clone, Debug, PartialEq, Eq)]
 pub struct Certificate {
+    pub version: Version,
     pub members: Vec<Located>,
     pub covers: Vec<Cover>,
 }
@@ -23,8 +25,9 @@ pub struct Certificate {
 impl Certificate {
     /// The bytes of the certificate.
     pub fn bytes(&self) -> Vec<u8> {
-        let mut numbers = vec![VERSION, self.members.len() as u64];
-        numbers.extend(self.members.iter().flat_map(Located::numbers));
+        let mut numbers = vec![self.version.number(), self.members.len() as u64];
+        let located = self.members.iter();
+        numbers.extend(located.flat_map(|member| member.numbers(self.version)));
         for cover in &self.covers {
             numbers.push(cover.member as u64);
             numbers.extend(cover.images.iter().map(|&image| image as u64));
@@ -39,14 +42,17 @@ pub struct MemberRead {
     pub place: usize,
 }
 
-/// Reads the version and the members.
+/// Reads the version, which has to be the job's, and the members.
 pub fn read_members(reader: &mut Reader, job: &Job) -> Result<Vec<MemberRead>, Refusal> {
-    reader.number(VERSION..=VERSION)?;
+    let version = reader.version()?;
+    if version != job.version {
+        return Err(Refusal::at(20, 0));
+    }
     let count = reader.number(1..=MOST_MEMBERS)?;
     let mut member = || {
         Ok(MemberRead {
             place: reader.place,
-            located: Located::read(reader, job.variables, job.states)?,
+            located: Located::read(reader, version, job.variables, job.states)?,
         })
     };
     (0..count).map(|_| member()).collect()

@@ -138,7 +138,8 @@ mod tests {
         assert_eq!(check(&JOB[..13], &good), refused(3, 13));
         assert_eq!(check(&[&JOB[..], &[0]].concat(), &good), refused(5, 14));
         let rows = [
-            (0, 2),
+            (0, 0),
+            (0, 3),
             (1, 0),
             (1, 9),
             (2, 0),
@@ -174,7 +175,7 @@ mod tests {
 
     #[test]
     fn certificates_are_read_number_by_number() {
-        assert_eq!(check(&JOB, &[2]), refused(7, 0));
+        assert_eq!(check(&JOB, &[3]), refused(7, 0));
         assert_eq!(check(&JOB, &[1]), refused(6, 1));
         assert_eq!(check(&JOB, &[1, 0]), refused(7, 1));
         assert_eq!(check(&JOB, &[1, 129, 4]), refused(7, 1));
@@ -194,5 +195,135 @@ mod tests {
         assert_eq!(with(&[0]), refused(6, 7));
         assert_eq!(with(&[0, 0]), refused(7, 7));
         assert_eq!(with(&[0, 128]), refused(6, 7));
+    }
+
+    /// State 0, one state, one variable, no transitions; forbidden there: a cell with a value.
+    const VALUED: [u8; 14] = [2, 1, 1, 0, 0, 1, 0, 1, 0, 0, 1, 1, 0, 0];
+
+    /// The same as the only member, which covers it.
+    const VALUED_MEMBER: [u8; 12] = [2, 1, 0, 1, 0, 0, 1, 1, 0, 0, 0, 0];
+
+    fn with(bytes: &[u8], at: usize, byte: u8) -> Vec<u8> {
+        let mut bytes = bytes.to_vec();
+        bytes[at] = byte;
+        bytes
+    }
+
+    #[test]
+    fn pairs_of_version_2() {
+        assert_eq!(check(&VALUED, &VALUED_MEMBER), accepted(1, 1, 1, 0));
+        let without_fact = [2, 1, 0, 1, 0, 0, 0, 0, 0];
+        assert_eq!(check(&VALUED, &without_fact), accepted(1, 1, 1, 0));
+        // The member then asks for more than is told.
+        let unvalued = [2, 1, 1, 0, 0, 1, 0, 1, 0, 0, 0];
+        assert_eq!(check(&unvalued, &VALUED_MEMBER), not_covered(10, 6, 0));
+        // A cell below itself equals itself.
+        let contradictory = with(&VALUED, 11, 0);
+        assert_eq!(check(&contradictory, &VALUED_MEMBER), accepted(1, 1, 1, 0));
+        let member_too = with(&VALUED_MEMBER, 7, 0);
+        assert_eq!(check(&VALUED, &member_too), not_covered(10, 6, 0));
+        assert_eq!(check(&contradictory, &member_too), accepted(1, 1, 1, 0));
+    }
+
+    #[test]
+    fn versions_have_to_be_the_same() {
+        let good = [1, 1, 1, 0, 1, 0];
+        assert_eq!(check(&JOB, &VALUED_MEMBER), refused(20, 0));
+        assert_eq!(check(&VALUED, &good), refused(20, 0));
+        assert_eq!(check(&VALUED, &[1]), refused(20, 0));
+        assert_eq!(check(&VALUED, &[3]), refused(7, 0));
+        assert_eq!(check(&VALUED, &[0]), refused(7, 0));
+        assert_eq!(check(&VALUED, &[130, 0]), refused(6, 0));
+        assert_eq!(check(&VALUED[..13], &good), refused(3, 13));
+        assert_eq!(check(&[&VALUED[..], &[0]].concat(), &good), refused(5, 14));
+        assert_eq!(check(&VALUED, &[]), refused(2, 0));
+    }
+
+    #[test]
+    fn kinds_above_7_are_of_version_2() {
+        let good = [1, 1, 1, 0, 1, 0];
+        let in_version_2 = |kind, b| [2, 1, 2, 0, 1, 0, kind, 1, b, 1, 1, 1, 0, 1, 0];
+        let member = [2, 1, 1, 0, 1, 0, 0];
+        for kind in 8..=13 {
+            assert_eq!(check(&job_with(6, kind), &good), refused(4, 6));
+            let b = u8::from(kind != 13);
+            // The forbidden variable is at #, so that nothing comes before.
+            assert_eq!(check(&in_version_2(kind, b), &member), accepted(1, 1, 1, 0));
+            assert_eq!(check(&in_version_2(kind, 1 - b), &member), refused(4, 8));
+            assert_eq!(check(&in_version_2(kind, 2), &member), refused(4, 8));
+        }
+        assert_eq!(check(&in_version_2(14, 1), &member), refused(4, 6));
+    }
+
+    /// Three cells; the facts begin at byte 12 of the job, and at byte 8 of the certificate.
+    #[test]
+    fn facts_are_judged_number_by_number() {
+        let job = |facts: &[u8]| [&[2, 1, 1, 0, 0, 1, 0, 3, 0, 0, 0, 0][..], facts].concat();
+        let member = |facts: &[u8]| [&[2, 1, 0, 3, 0, 0, 0, 0][..], facts].concat();
+        let rows: [(&[u8], usize); 13] = [
+            (&[161, 2], 0),
+            (&[1, 2, 3, 3], 1),
+            (&[1, 1, 3, 3], 2),
+            (&[1, 1, 2, 3], 3),
+            (&[2, 0, 1, 1, 0, 1, 1], 6),
+            (&[2, 0, 1, 1, 0, 1, 0], 6),
+            (&[2, 0, 1, 1, 0, 0, 2], 6),
+            (&[2, 1, 0, 0, 0, 2, 2], 6),
+            (&[2, 1, 0, 0, 0, 2, 3], 6),
+            (&[2, 1, 0, 0, 0, 3, 0], 5),
+            (&[2, 0, 0, 1, 1, 0, 3], 6),
+            (&[3, 0, 0, 1, 0, 0, 2, 0, 0, 2], 9),
+            (&[3, 0, 2, 2, 1, 0, 0, 0, 2, 2], 9),
+        ];
+        let good = [2, 1, 0, 0, 0, 0, 0];
+        for (facts, at) in rows {
+            assert_eq!(check(&job(facts), &good), refused(4, 12 + at), "{facts:?}");
+            let verdict = check(&job(&[0]), &member(facts));
+            assert_eq!(verdict, refused(7, 8 + at), "{facts:?}");
+        }
+        let cut: [&[u8]; 6] = [&[], &[1], &[1, 0], &[1, 0, 1], &[2, 0, 1, 1, 1], &[128, 2]];
+        for facts in cut {
+            let end = facts.len();
+            assert_eq!(check(&job(facts), &good), refused(3, 12 + end), "{facts:?}");
+            let verdict = check(&job(&[0]), &member(facts));
+            assert_eq!(verdict, refused(6, 8 + end), "{facts:?}");
+        }
+        assert_eq!(check(&job(&[128, 0]), &good), refused(3, 12));
+        // A shape without cells has no facts.
+        let no_cells = [2, 1, 1, 0, 0, 1, 0, 0, 0, 1, 0, 0, 0];
+        assert_eq!(check(&no_cells, &good), refused(4, 11));
+    }
+
+    /// All facts of twelve cells are 288, of which few follow from one that puts a cell below itself.
+    #[test]
+    fn as_many_facts_as_there_may_be() {
+        let mut facts = vec![160, 2];
+        for relation in 0..2 {
+            for i in 0..12 {
+                facts.extend((0..12).flat_map(|j| [relation, i, j]));
+            }
+        }
+        let shape = |facts: &[u8]| [&[0, 12, 0][..], &[0; 12], facts].concat();
+        let job = |facts: &[u8]| [vec![2, 1, 2, 1, 0, 1], shape(facts)].concat();
+        let images: Vec<u8> = (0..12).collect();
+        let by = |facts: &[u8]| [vec![2, 1], shape(facts), vec![0], images.clone()].concat();
+        assert_eq!(check(&job(&facts), &by(&facts)), accepted(1, 1, 1, 0));
+        assert_eq!(check(&job(&facts), &by(&[0])), accepted(1, 1, 1, 0));
+        let own = [1, 0, 11, 11];
+        let verdict = check(&job(&own), &by(&facts));
+        assert_eq!(verdict, not_covered(2 + 15 + facts.len(), 6, 0));
+        assert_eq!(
+            check(&job(&own), &by(&[1, 1, 11, 11])),
+            accepted(1, 1, 1, 0)
+        );
+        // In a ring of order all are below each other, but only of equal ones it follows that they are.
+        let ring = |relation: u8| (0..12).flat_map(move |i| [relation, i, (i + 1) % 12]);
+        let of_order: Vec<u8> = [12].into_iter().chain(ring(0)).collect();
+        let verdict = check(&job(&of_order), &by(&facts));
+        assert_eq!(verdict, not_covered(2 + 15 + facts.len(), 6, 0));
+        let below: Vec<u8> = [144, 1].into_iter().chain(facts[2..434].to_vec()).collect();
+        assert_eq!(check(&job(&of_order), &by(&below)), accepted(1, 1, 1, 0));
+        let of_both: Vec<u8> = [24].into_iter().chain(ring(0)).chain(ring(1)).collect();
+        assert_eq!(check(&job(&of_both), &by(&facts)), accepted(1, 1, 1, 0));
     }
 }

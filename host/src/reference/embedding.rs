@@ -1,5 +1,6 @@
 //! When a shape embeds in another by given images of its cells, and what keeps it from that.
 
+use super::facts::{closed, Fact};
 use super::heap::Place;
 use super::shape::Shape;
 use crate::verdict::{Broken, Rule};
@@ -66,6 +67,7 @@ impl Map<'_> {
             Rule::Variable => variables.find(|&variable| self.is_elsewhere(variable)),
             Rule::Link => cells.find(|&cell| self.misses(cell)),
             Rule::Path => cells.find(|&cell| self.shared(cell).is_some()),
+            Rule::Fact => self.missing().map(|fact| fact.i),
         }
     }
 
@@ -130,6 +132,18 @@ impl Map<'_> {
             let shared = between.iter().find(|passed| other.contains(passed));
             shared.map(|&passed| (lower, passed))
         })
+    }
+
+    /// Of the facts listed that aren't among the closed facts of the other shape, the first with the
+    /// lowest i.
+    pub fn missing(&self) -> Option<Fact> {
+        let told = closed(&self.other.facts);
+        let is_missing = |fact: &&Fact| {
+            let image = fact.renamed(|cell| self.images[cell]);
+            !told.contains(&image)
+        };
+        let missing = self.shape.facts.iter().filter(is_missing);
+        missing.min_by_key(|fact| fact.i).copied()
     }
 
     /// The cells strictly between on the path of a cell's link; none without a link.
@@ -256,6 +270,39 @@ mod tests {
             broken(&holds_but_for_a_path, &other, &[0, 1, 2, 3]),
             Some((5, 1))
         );
+    }
+
+    /// Cells 2 and 0 are below 1, which equals 3.
+    #[test]
+    fn facts_are_among_the_closed_ones() {
+        let listed = vec![Fact::below(0, 1), Fact::below(2, 1), Fact::equal(1, 3)];
+        let other = Shape::of_codes(&[0], &[0; 4]).with_facts(listed);
+        let told = |facts: &[Fact], images: &[usize]| {
+            let shape = Shape::of_codes(&[0], &vec![0; images.len()]);
+            broken(&shape.with_facts(facts.to_vec()), &other, images)
+        };
+        assert_eq!(told(&[Fact::below(0, 1)], &[2, 3]), None);
+        assert_eq!(told(&[Fact::below(0, 1)], &[3, 2]), Some((6, 0)));
+        assert_eq!(told(&[Fact::has_value(1)], &[3, 2]), None);
+        assert_eq!(told(&[Fact::equal(0, 1)], &[0, 2]), Some((6, 0)));
+        assert_eq!(told(&[Fact::below(1, 0)], &[0, 1]), Some((6, 1)));
+    }
+
+    /// A fact of equality is listed later than any of order, but names the lower cell.
+    #[test]
+    fn the_lowest_cell_of_a_missing_fact_is_named() {
+        let facts = [Fact::below(2, 0), Fact::equal(0, 0), Fact::equal(1, 2)];
+        let other = Shape::of_codes(&[0], &[0; 3]).with_facts(vec![Fact::has_value(0)]);
+        let shape = |facts: &[Fact]| Shape::of_codes(&[0], &[0; 3]).with_facts(facts.to_vec());
+        assert_eq!(broken(&shape(&facts), &other, &[0, 1, 2]), Some((6, 1)));
+        assert_eq!(broken(&shape(&facts), &other, &[1, 0, 2]), Some((6, 0)));
+        assert_eq!(
+            broken(&shape(&facts[..2]), &other, &[0, 1, 2]),
+            Some((6, 2))
+        );
+        assert_eq!(broken(&shape(&facts), &other, &[0, 1, 1]), Some((2, 1)));
+        let linked = Shape::of_codes(&[0], &[0, 0, 1]).with_facts(facts.to_vec());
+        assert_eq!(broken(&linked, &other, &[0, 1, 2]), Some((4, 2)));
     }
 
     #[test]

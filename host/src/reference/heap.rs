@@ -1,8 +1,10 @@
-//! Heaps of any size and what the operations do to them (source 000, Appendix C).
+//! Heaps of any size and what the operations do to them (source 000, Appendix C; document 02,
+//! Wish 6).
 
 use std::collections::BTreeMap;
 
 use super::operation::{Operation, ASSIGN, DELETE, DIFFERENT, EQUAL, LOAD, NEW, STORE};
+use super::operation::{BELOW_VALUE, COPY, EQUAL_VALUE, LARGER, READ, SMALLER};
 
 /// Where a variable or a link stands.
 #[derive(Clone, Copy, Debug, PartialEq, Eq, PartialOrd, Ord, Hash)]
@@ -36,11 +38,12 @@ impl Place {
     }
 }
 
-/// The cells with their links, and the variables.
+/// The cells with their links, the variables, and the values of the cells that have one.
 #[derive(Clone, Debug, PartialEq, Eq, PartialOrd, Ord, Hash)]
 pub struct Heap {
     pub variables: Vec<Place>,
     pub links: BTreeMap<usize, Place>,
+    pub values: BTreeMap<usize, usize>,
 }
 
 impl Heap {
@@ -49,6 +52,7 @@ impl Heap {
         Heap {
             variables: vec![Dangling; variables],
             links: BTreeMap::new(),
+            values: BTreeMap::new(),
         }
     }
 
@@ -60,9 +64,18 @@ impl Heap {
         }
     }
 
-    /// The heap after an operation, nothing where it isn't enabled. New takes the cell `fresh`,
-    /// which isn't in the heap.
-    pub fn after(&self, operation: Operation, fresh: usize) -> Option<Heap> {
+    /// The value of the cell at a place, if there is a cell and it has one.
+    fn value(&self, place: Place) -> Option<usize> {
+        match place {
+            Cell(cell) => self.values.get(&cell).copied(),
+            _ => None,
+        }
+    }
+
+    /// The heap after an operation, nothing where it isn't enabled. `choice` is what the operation
+    /// leaves open: new takes that cell, which isn't in the heap; larger, smaller and read write
+    /// that value.
+    pub fn after(&self, operation: Operation, choice: usize) -> Option<Heap> {
         let Operation { kind, a, b } = operation;
         let (at_a, at_b) = (self.place(a), self.place(b));
         let neither_dangles = at_a != Dangling && at_b != Dangling;
@@ -81,13 +94,33 @@ impl Heap {
                 _ => None,
             },
             NEW => Some(
-                self.with_link(fresh, Dangling)
-                    .with_variable(a, Cell(fresh)),
+                self.with_link(choice, Dangling)
+                    .with_variable(a, Cell(choice)),
             ),
             DELETE => match at_a {
                 Cell(cell) => Some(self.without(cell)),
                 _ => None,
             },
+            _ => self.after_on_values(operation, choice),
+        }
+    }
+
+    /// The same for the kinds that test or write values.
+    fn after_on_values(&self, operation: Operation, choice: usize) -> Option<Heap> {
+        let Operation { kind, a, b } = operation;
+        let Cell(at_a) = self.place(a) else {
+            return None;
+        };
+        if kind == READ {
+            return Some(self.with_value(at_a, choice));
+        }
+        let of_b = self.value(self.place(b))?;
+        match kind {
+            EQUAL_VALUE => (*self.values.get(&at_a)? == of_b).then(|| self.clone()),
+            BELOW_VALUE => (*self.values.get(&at_a)? < of_b).then(|| self.clone()),
+            COPY => Some(self.with_value(at_a, of_b)),
+            LARGER => (choice > of_b).then(|| self.with_value(at_a, choice)),
+            SMALLER => (choice < of_b).then(|| self.with_value(at_a, choice)),
             _ => unreachable!("an operation has a kind of the table"),
         }
     }
@@ -104,10 +137,17 @@ impl Heap {
         heap
     }
 
-    /// The heap without a cell: what stood at it dangles.
+    fn with_value(&self, cell: usize, value: usize) -> Heap {
+        let mut heap = self.clone();
+        heap.values.insert(cell, value);
+        heap
+    }
+
+    /// The heap without a cell: its value goes with it, and what stood at it dangles.
     fn without(&self, cell: usize) -> Heap {
         let mut heap = self.clone();
         heap.links.remove(&cell);
+        heap.values.remove(&cell);
         for place in heap.variables.iter_mut().chain(heap.links.values_mut()) {
             if *place == Cell(cell) {
                 *place = Dangling;
@@ -125,6 +165,7 @@ mod tests {
         Heap {
             variables: variables.to_vec(),
             links: links.iter().copied().collect(),
+            values: BTreeMap::new(),
         }
     }
 
@@ -205,5 +246,74 @@ mod tests {
         assert_eq!(after(&sample(), DELETE, 2, 0), Some(expected));
         assert_eq!(after(&sample(), DELETE, 3, 0), None);
         assert_eq!(after(&heap(&[Null], &[]), DELETE, 1, 0), None);
+    }
+    /// x at cell 0 with value 5, y at cell 1 with value 7, z at cell 2 without one, u at null.
+    fn valued() -> Heap {
+        let cells = [(0, Null), (1, Null), (2, Null)];
+        let mut heap = heap(&[Cell(0), Cell(1), Cell(2), Null], &cells);
+        heap.values = [(0, 5), (1, 7)].into();
+        heap
+    }
+
+    fn with(kind: u64, a: usize, b: usize, value: usize) -> Option<BTreeMap<usize, usize>> {
+        let after = valued().after(Operation { kind, a, b }, value)?;
+        assert_eq!(
+            (&after.variables, &after.links),
+            (&valued().variables, &valued().links)
+        );
+        Some(after.values)
+    }
+
+    #[test]
+    fn values_are_compared_where_both_are_there() {
+        let same = Some(valued().values);
+        assert_eq!(with(EQUAL_VALUE, 1, 1, 0), same);
+        assert_eq!(with(EQUAL_VALUE, 1, 2, 0), None);
+        assert_eq!(with(BELOW_VALUE, 1, 2, 0), same);
+        assert_eq!(with(BELOW_VALUE, 2, 1, 0), None);
+        assert_eq!(with(BELOW_VALUE, 1, 1, 0), None);
+        for kind in [EQUAL_VALUE, BELOW_VALUE] {
+            for (a, b) in [(1, 3), (3, 1), (3, 3), (1, 4), (4, 1)] {
+                assert_eq!(with(kind, a, b, 0), None);
+            }
+        }
+    }
+
+    #[test]
+    fn values_are_written_to_cells() {
+        let written = |cell, value| {
+            let mut values = valued().values;
+            values.insert(cell, value);
+            Some(values)
+        };
+        assert_eq!(with(COPY, 3, 2, 0), written(2, 7));
+        assert_eq!(with(COPY, 1, 1, 0), written(0, 5));
+        assert_eq!(with(COPY, 1, 3, 0), None);
+        assert_eq!(with(COPY, 4, 1, 0), None);
+        assert_eq!(with(LARGER, 3, 1, 6), written(2, 6));
+        assert_eq!(with(LARGER, 1, 1, 6), written(0, 6));
+        assert_eq!(with(LARGER, 3, 1, 5), None);
+        assert_eq!(with(SMALLER, 3, 1, 4), written(2, 4));
+        assert_eq!(with(SMALLER, 3, 1, 5), None);
+        for kind in [LARGER, SMALLER] {
+            assert_eq!(with(kind, 1, 3, 6), None);
+            assert_eq!(with(kind, 4, 1, 6), None);
+        }
+        assert_eq!(with(READ, 3, 0, 9), written(2, 9));
+        assert_eq!(with(READ, 4, 0, 9), None);
+    }
+
+    #[test]
+    fn a_value_goes_with_its_cell() {
+        assert_eq!(with_deleted(1), [(1, 7)].into());
+        assert_eq!(with_deleted(3), [(0, 5), (1, 7)].into());
+    }
+
+    /// The values after the cell of a variable is deleted and one is taken again.
+    fn with_deleted(a: usize) -> BTreeMap<usize, usize> {
+        let deleted = after(&valued(), DELETE, a, 0).expect("a is at a cell");
+        let cell = a - 1;
+        let taken = deleted.after(Operation { kind: NEW, a, b: 0 }, cell);
+        taken.expect("new is always enabled").values
     }
 }

@@ -1,13 +1,11 @@
 //! Jobs: transitions between states, and the shapes forbidden at states.
 
 use super::number;
-use super::operation::{range_of_a, range_of_b, Operation, KINDS};
+use super::operation::{range_of_a, range_of_b, Operation};
 use super::reader::Reader;
 use super::shape::Shape;
+use super::version::Version;
 use crate::verdict::Refusal;
-
-/// The version of jobs and certificates.
-pub const VERSION: u64 = 1;
 
 pub const MOST_VARIABLES: u64 = 8;
 pub const MOST_STATES: u64 = 64;
@@ -30,6 +28,7 @@ pub struct Located {
 
 #[derive(Clone, Debug, PartialEq, Eq)]
 pub struct Job {
+    pub version: Version,
     pub variables: u64,
     pub states: u64,
     pub start: u64,
@@ -41,20 +40,21 @@ impl Job {
     /// Reads a job that fills the bytes.
     pub fn read(bytes: &[u8]) -> Result<Job, Refusal> {
         let mut reader = Reader::of_job(bytes);
-        reader.number(VERSION..=VERSION)?;
+        let version = reader.version()?;
         let variables = reader.number(1..=MOST_VARIABLES)?;
         let states = reader.number(1..=MOST_STATES)?;
         let start = reader.number(0..states)?;
         let count = reader.number(0..=MOST_TRANSITIONS)?;
         let transitions = (0..count)
-            .map(|_| Transition::read(&mut reader, variables, states))
+            .map(|_| Transition::read(&mut reader, version, variables, states))
             .collect::<Result<_, _>>()?;
         let count = reader.number(1..=MOST_FORBIDDEN)?;
         let forbidden = (0..count)
-            .map(|_| Located::read(&mut reader, variables, states))
+            .map(|_| Located::read(&mut reader, version, variables, states))
             .collect::<Result<_, _>>()?;
         reader.end(5)?;
         Ok(Job {
+            version,
             variables,
             states,
             start,
@@ -66,26 +66,32 @@ impl Job {
     /// The bytes of the job.
     pub fn bytes(&self) -> Vec<u8> {
         let mut numbers = vec![self.forbidden.len() as u64];
-        numbers.extend(self.forbidden.iter().flat_map(Located::numbers));
+        let located = self.forbidden.iter();
+        numbers.extend(located.flat_map(|bad| bad.numbers(self.version)));
         let forbidden = numbers.into_iter().flat_map(number::bytes_of);
-        let mut bytes = bytes_ahead(self.variables, self.states, self.start, &self.transitions);
+        let mut bytes = self.bytes_ahead();
         bytes.extend(forbidden);
         bytes
     }
-}
 
-/// The bytes of a job ahead of the number of its forbidden shapes.
-pub fn bytes_ahead(variables: u64, states: u64, start: u64, transitions: &[Transition]) -> Vec<u8> {
-    let mut numbers = vec![VERSION, variables, states, start];
-    numbers.push(transitions.len() as u64);
-    numbers.extend(transitions.iter().flat_map(Transition::numbers));
-    numbers.into_iter().flat_map(number::bytes_of).collect()
+    /// Those ahead of the number of its forbidden shapes.
+    pub fn bytes_ahead(&self) -> Vec<u8> {
+        let mut numbers = vec![self.version.number(), self.variables, self.states];
+        numbers.extend([self.start, self.transitions.len() as u64]);
+        numbers.extend(self.transitions.iter().flat_map(Transition::numbers));
+        numbers.into_iter().flat_map(number::bytes_of).collect()
+    }
 }
 
 impl Transition {
-    fn read(reader: &mut Reader, variables: u64, states: u64) -> Result<Transition, Refusal> {
+    fn read(
+        reader: &mut Reader,
+        version: Version,
+        variables: u64,
+        states: u64,
+    ) -> Result<Transition, Refusal> {
         let from = reader.number(0..states)?;
-        let kind = reader.number(KINDS)?;
+        let kind = reader.number(version.kinds())?;
         let a = reader.number(range_of_a(kind, variables))? as usize;
         let b = reader.number(range_of_b(kind, variables))? as usize;
         let to = reader.number(0..states)?;
@@ -103,14 +109,19 @@ impl Transition {
 }
 
 impl Located {
-    pub fn read(reader: &mut Reader, variables: u64, states: u64) -> Result<Located, Refusal> {
+    pub fn read(
+        reader: &mut Reader,
+        version: Version,
+        variables: u64,
+        states: u64,
+    ) -> Result<Located, Refusal> {
         Ok(Located {
             state: reader.number(0..states)?,
-            shape: reader.shape(variables)?,
+            shape: reader.shape(version, variables)?,
         })
     }
 
-    pub fn numbers(&self) -> Vec<u64> {
-        [vec![self.state], self.shape.numbers()].concat()
+    pub fn numbers(&self, version: Version) -> Vec<u64> {
+        [vec![self.state], self.shape.numbers(version)].concat()
     }
 }

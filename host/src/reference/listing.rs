@@ -1,9 +1,10 @@
 //! Listings, routines as the desk writes them: from the text to a job's bytes ahead of B, and the
 //! states of the marks.
 
-use super::job::{bytes_ahead, Transition, MOST_STATES, MOST_VARIABLES};
+use super::job::{Job, Transition, MOST_STATES, MOST_VARIABLES};
 use super::operation::{Operation, ASSIGN, DELETE, DIFFERENT, EQUAL, LOAD, NEW, STORE};
 use super::refused::{in_room, Refused};
+use super::version::Version;
 
 /// "at most 16 `while` and `if` open at once".
 pub const MOST_OPEN: usize = 16;
@@ -272,8 +273,15 @@ impl Translation {
 
     /// "V is their number, or 1 if none".
     fn bytes(&self) -> Vec<u8> {
-        let variables = self.names.len().max(1) as u64;
-        bytes_ahead(variables, self.states, 0, &self.transitions)
+        let job = Job {
+            version: Version::One,
+            variables: self.names.len().max(1) as u64,
+            states: self.states,
+            start: 0,
+            transitions: self.transitions.clone(),
+            forbidden: Vec::new(),
+        };
+        job.bytes_ahead()
     }
 }
 

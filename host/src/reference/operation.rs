@@ -1,4 +1,4 @@
-//! The seven operations and the ranges of their operands.
+//! The operations and the ranges of their operands.
 
 use std::ops::RangeInclusive;
 
@@ -9,9 +9,18 @@ pub const LOAD: u64 = 4;
 pub const STORE: u64 = 5;
 pub const NEW: u64 = 6;
 pub const DELETE: u64 = 7;
+pub const EQUAL_VALUE: u64 = 8;
+pub const BELOW_VALUE: u64 = 9;
+pub const COPY: u64 = 10;
+pub const LARGER: u64 = 11;
+pub const SMALLER: u64 = 12;
+pub const READ: u64 = 13;
 
-/// The kinds there are.
+/// The kinds that neither test nor write values.
 pub const KINDS: RangeInclusive<u64> = EQUAL..=DELETE;
+
+/// The kinds that do.
+pub const VALUE_KINDS: RangeInclusive<u64> = EQUAL_VALUE..=READ;
 
 /// An operation with operands that fit its kind: 0 is null, 1 and up are variables.
 #[derive(Clone, Copy, Debug, PartialEq, Eq)]
@@ -33,14 +42,14 @@ pub fn range_of_a(kind: u64, variables: u64) -> RangeInclusive<u64> {
 pub fn range_of_b(kind: u64, variables: u64) -> RangeInclusive<u64> {
     match kind {
         EQUAL | DIFFERENT | ASSIGN | STORE => 0..=variables,
-        LOAD => 1..=variables,
+        LOAD | EQUAL_VALUE | BELOW_VALUE | COPY | LARGER | SMALLER => 1..=variables,
         _ => 0..=0,
     }
 }
 
 /// The operation, where kind and operands fit the table of kinds.
 pub fn operation(kind: u64, a: u64, b: u64, variables: u64) -> Option<Operation> {
-    let fits = KINDS.contains(&kind)
+    let fits = (KINDS.contains(&kind) || VALUE_KINDS.contains(&kind))
         && range_of_a(kind, variables).contains(&a)
         && range_of_b(kind, variables).contains(&b);
     fits.then_some(Operation {

@@ -1,11 +1,30 @@
 //! The predecessors of a shape under an operation, in their order.
 
 use super::heap::Place;
-use super::operation::{Operation, ASSIGN, DELETE, DIFFERENT, EQUAL, LOAD, NEW, STORE};
+use super::operation::{
+    Operation, ASSIGN, DELETE, DIFFERENT, EQUAL, LOAD, NEW, STORE, VALUE_KINDS,
+};
 use super::shape::Shape;
+use super::value_predecessor::before_values;
 
-/// All predecessors: every placing is made, and the ones that don't fit are dropped.
+/// All predecessors: every placing is made, and the ones that don't fit are dropped, those too in which
+/// the facts put a cell below itself. If those of the shape do, all are.
 pub fn predecessors(shape: &Shape, operation: Operation) -> Vec<Shape> {
+    let Some(shape) = shape.clone().settled() else {
+        return Vec::new();
+    };
+    match VALUE_KINDS.contains(&operation.kind) {
+        true => before_values(&shape, operation),
+        false => {
+            let before = before_places(&shape, operation).into_iter();
+            before.filter_map(Shape::settled).collect()
+        }
+    }
+}
+
+/// The predecessors under an operation that neither tests nor writes values, with the facts as they
+/// are.
+fn before_places(shape: &Shape, operation: Operation) -> Vec<Shape> {
     let Operation { kind, a, b } = operation;
     match kind {
         EQUAL => from_placings(shape, a, b, |placed| {
@@ -33,7 +52,7 @@ pub fn predecessors(shape: &Shape, operation: Operation) -> Vec<Shape> {
 }
 
 /// Places a, then b, starting from each result in turn; what `before` gives nothing for is dropped.
-fn from_placings(
+pub fn from_placings(
     shape: &Shape,
     a: usize,
     b: usize,
@@ -135,14 +154,18 @@ fn before_new(mut shape: Shape, a: usize) -> Option<Shape> {
     };
     let mut places = shape.variables.iter().chain(&shape.links);
     let stood_at = places.any(|&place| place == Some(Place::Cell(cell)));
-    if stood_at || !matches!(shape.links[cell], None | Some(Place::Dangling)) {
+    let has_value = shape.facts.iter().any(|fact| fact.names(cell));
+    if stood_at || has_value || !matches!(shape.links[cell], None | Some(Place::Dangling)) {
         return None;
     }
     shape.links.remove(cell);
+    let moved_down = |number: usize| number - usize::from(number > cell);
+    for fact in &mut shape.facts {
+        *fact = fact.renamed(moved_down);
+    }
     for place in shape.variables.iter_mut().chain(&mut shape.links) {
-        match place {
-            Some(Place::Cell(number)) if *number > cell => *number -= 1,
-            _ => {}
+        if let Some(Place::Cell(number)) = place {
+            *number = moved_down(*number);
         }
     }
     Some(shape)
@@ -175,6 +198,7 @@ fn before_delete(shape: &Shape, a: usize) -> Vec<Shape> {
 #[cfg(test)]
 mod tests {
     use super::*;
+    use crate::reference::facts::{closed, Fact};
 
     fn before(variables: &[u64], links: &[u64], kind: u64, a: usize, b: usize) -> Vec<Shape> {
         predecessors(&Shape::of_codes(variables, links), Operation { kind, a, b })
@@ -279,6 +303,47 @@ mod tests {
         assert_eq!(before(&[1], &[], DELETE, 1, 0), vec![]);
         assert_eq!(before(&[3], &[0], DELETE, 1, 0), vec![]);
         assert_eq!(before(&[3, 2], &[0], DELETE, 1, 0), vec![]);
+    }
+
+    #[test]
+    fn facts_are_closed_before_every_operation() {
+        let listed = vec![Fact::below(0, 1), Fact::equal(1, 2)];
+        let shape = Shape::of_codes(&[0, 3], &[0, 1, 4]).with_facts(listed.clone());
+        let contradictory = shape.clone().with_facts(vec![Fact::below(1, 1)]);
+        for (kind, a, b) in [
+            (EQUAL, 1, 0),
+            (DIFFERENT, 1, 2),
+            (ASSIGN, 1, 2),
+            (LOAD, 1, 2),
+            (LOAD, 1, 1),
+            (STORE, 2, 1),
+            (NEW, 1, 0),
+            (DELETE, 1, 0),
+        ] {
+            let operation = Operation { kind, a, b };
+            let all = predecessors(&shape, operation);
+            assert!(!all.is_empty(), "{operation:?}");
+            assert!(all.iter().all(|before| before.facts == closed(&listed)));
+            assert_eq!(predecessors(&contradictory, operation), vec![]);
+        }
+    }
+
+    #[test]
+    fn a_cell_with_a_fact_is_not_new() {
+        let with = |variables: &[u64], cells: usize, facts: &[Fact]| {
+            let shape = Shape::of_codes(variables, &vec![0; cells]).with_facts(facts.to_vec());
+            let (kind, a, b) = (NEW, 1, 0);
+            predecessors(&shape, Operation { kind, a, b })
+        };
+        assert_eq!(with(&[3], 1, &[Fact::has_value(0)]), vec![]);
+        assert_eq!(with(&[3], 2, &[Fact::below(1, 0)]), vec![]);
+        let facts_moved_down =
+            Shape::of_codes(&[0, 3], &[0, 0]).with_facts(closed(&[Fact::below(1, 0)]));
+        let facts = [Fact::below(2, 0)];
+        assert_eq!(with(&[4, 3], 3, &facts), vec![facts_moved_down]);
+        let nowhere = with(&[0], 1, &[Fact::has_value(0)]);
+        let fresh = Shape::of_codes(&[0], &[0]).with_facts(vec![Fact::has_value(0)]);
+        assert_eq!(nowhere, vec![fresh]);
     }
 
     /// The other variable was at * already, or stood at the deleted cell.

@@ -340,6 +340,7 @@ mod tests {
         let heap = |links: &[(usize, Place)]| Heap {
             variables: vec![Cell(links[0].0)],
             links: links.iter().copied().collect(),
+            values: Default::default(),
         };
         let heaps = [
             heap(&[(0, Null)]),

@@ -63,6 +63,7 @@ use std::ops::RangeInclusive;
 
 use crate::reference::job::Job;
 use crate::reference::operation::{Operation, ASSIGN, DELETE, DIFFERENT, EQUAL, LOAD, NEW, STORE};
+use crate::reference::operation::{BELOW_VALUE, COPY, EQUAL_VALUE, LARGER, READ, SMALLER};
 
 /// A job with the names that a person gave.
 #[derive(Clone, Debug)]
@@ -164,6 +165,12 @@ pub fn words<'a>(operation: Operation, name: impl Fn(usize) -> &'a str) -> Strin
         STORE => format!("{a}.next := {b}"),
         NEW => format!("new({a})"),
         DELETE => format!("delete({a})"),
+        EQUAL_VALUE => format!("{a}.num = {b}.num"),
+        BELOW_VALUE => format!("{a}.num < {b}.num"),
+        COPY => format!("{a}.num := {b}.num"),
+        LARGER => format!("{a}.num :=> {b}.num"),
+        SMALLER => format!("{a}.num :=< {b}.num"),
+        READ => format!("read({a})"),
         _ => unreachable!("an operation has a kind of the table"),
     }
 }

@@ -8,6 +8,7 @@ use super::{forbidden_text, operation_text, sets, Origin, Routine};
 use crate::reference::job::{
     Job, Located, Transition, MOST_FORBIDDEN, MOST_STATES, MOST_TRANSITIONS, MOST_VARIABLES,
 };
+use crate::reference::version::Version;
 use crate::text::{counted, nearest};
 
 /// Words that name no variable.
@@ -290,6 +291,7 @@ impl<'a> Parser<'a> {
             title: self.title,
             statements,
             job: Job {
+                version: Version::One,
                 variables: self.variables.all.len() as u64,
                 states: self.states.all.len() as u64,
                 start: start as u64,

@@ -4,6 +4,7 @@
 use crate::library;
 use crate::reference::job::{Job, Located, Transition};
 use crate::reference::shape::Shape;
+use crate::reference::version::Version;
 
 /// No ready set has more bytes than a job with it in this room.
 const ROOM: usize = 1_024;
@@ -39,6 +40,7 @@ pub fn bad_steps(variables: usize, transition: Transition) -> Vec<Located> {
 /// A job with these transitions, and one forbidden shape, since there has to be one.
 fn job(variables: usize, transitions: &[Transition]) -> Vec<u8> {
     let job = Job {
+        version: Version::One,
         variables: variables as u64,
         states: 64,
         start: 0,

@@ -15,6 +15,7 @@ pub fn shape(mut words: Words, variables: &Names) -> Result<Shape, Mistake> {
         shape: Shape {
             variables: vec![None; variables.all.len()],
             links: Vec::new(),
+            facts: Vec::new(),
         },
     };
     loop {

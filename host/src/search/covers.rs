@@ -21,6 +21,7 @@ pub fn certificate_of(job: &Job, members: &[Located]) -> Certificate {
         shape: member.shape.to_reference(job.variables as usize),
     };
     Certificate {
+        version: job.version,
         members: members.iter().map(located).collect(),
         covers: covers(job, members),
     }

@@ -6,7 +6,6 @@ use lib.ListN.{getD}
 use lib.Dec.{eqb}
 use mathlib.Core.Bool.{false}
 use Rattle.lists.proofs.Range.{Filled, fill-none, fill-more, fill-all}
-use Rattle.heapbytes.specs.HeapBytes.{heapFrom}
 use borrow.Author.Needs.{needs}
 use Rattle.call_step.proofs.marks_from.Statement.{statement}
 use Rattle.call_step.proofs.marks_from.Tie as tie
@@ -39,7 +38,6 @@ loop-again : tie.Need-loop-again Inv-loop μ-loop
 loop-again c = fill-more _ _ _ _ _ _ (c .before .before .loop .inv) (omega arith) refl
 
 returns : tie.Need-returns Inv-loop μ-loop
-unfolding heapFrom
 returns c = fill-all _ _ _ _ _ (c .before .loop .inv) (omega arith)
 
 pub marks-from-spec : {M : Type 1} → statement M

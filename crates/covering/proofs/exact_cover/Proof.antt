@@ -1,8 +1,9 @@
--- Each return is the case of `readCover` that the tests before it leave.
+-- Each return is the case of `readCoverBy` that the tests before it leave.
 use Prim.Native.Nat.{_<_}
 use mathlib.Core.Path.{_∙_, refl, sym, ap}
 use native.Mathlib.Omega.{arith}
 use borrow.Author.Needs.{needs}
+use Rattle.factrows.specs.Rows.{rowsTest}
 use Rattle.layout.specs.ShapeArray.{shapeIn}
 use Rattle.covering.specs.Answer.{answerOf}
 use Rattle.covering.proofs.CoverCases.{take-refused, take-broken, take-holding}
@@ -25,7 +26,7 @@ returns : tie.Need-returns
 returns c =
     let a = c .before .before .before .before .before .before .args in
     let byte : a .state < 256 = omega (arith, c .before .before .before .before .before .before .fits .state) in
-    take-refused _ _ _ _ _ byte (shapeIn (a .variables) (a .s .now)) _ refl _ _ (c .before .before .before .read-cover .ensures) _ _ _ (c .refused .ensures) (c .before .enum-told .given .1)
+    take-refused _ _ _ _ _ byte (shapeIn (a .variables) (a .s .now)) _ refl _ _ (c .before .before .before .read-cover .ensures) (rowsTest (a .facts .now)) _ _ _ (c .refused .ensures) (c .before .enum-told .given .1)
 
 mul-start : tie.Need-mul-start
 mul-start c = let b = c .before .before .before .read-cover .ensures .member _ _ (c .before .r .given .1) in search needs
@@ -54,13 +55,13 @@ returns-2 c =
     let byte : a .state < 256 = omega (arith, c .before .before .before .before .before .before .before .before .before .before .before .before .before .fits .state) in
     let told = c .before .answer .given .1 in
     let answered = c .before .before .before .cover-answer .ensures in
-    take-holding _ _ _ _ _ byte (shapeIn (a .variables) (a .s .now)) _ refl _ _ (c .before .before .before .before .before .before .before .before .before .before .read-cover .ensures) _ _ (c .before .before .before .before .before .before .before .before .r .given .1) _ (sym (ap answerOf told) ∙ answered .0) (rw told at (answered .1))
+    take-holding _ _ _ _ _ byte (shapeIn (a .variables) (a .s .now)) _ refl _ _ (c .before .before .before .before .before .before .before .before .before .before .read-cover .ensures) (rowsTest (a .facts .now)) _ _ (c .before .before .before .before .before .before .before .before .r .given .1) _ (sym (ap answerOf told) ∙ answered .0) (rw told at (answered .1))
 
 returns-3 : tie.Need-returns-3
 returns-3 c =
     let a = c .before .before .before .before .before .before .before .before .before .before .before .before .before .args in
     let byte : a .state < 256 = omega (arith, c .before .before .before .before .before .before .before .before .before .before .before .before .before .fits .state) in
-    take-broken _ _ _ _ _ byte (shapeIn (a .variables) (a .s .now)) _ refl _ _ (c .before .before .before .before .before .before .before .before .before .before .read-cover .ensures) _ _ (c .before .before .before .before .before .before .before .before .r .given .1) _ (sym (ap answerOf (c .before .answer2 .given .1)) ∙ c .before .before .before .cover-answer .ensures .0)
+    take-broken _ _ _ _ _ byte (shapeIn (a .variables) (a .s .now)) _ refl _ _ (c .before .before .before .before .before .before .before .before .before .before .read-cover .ensures) (rowsTest (a .facts .now)) _ _ (c .before .before .before .before .before .before .before .before .r .given .1) _ (sym (ap answerOf (c .before .answer2 .given .1)) ∙ c .before .before .before .cover-answer .ensures .0)
 
 pub exact-cover-spec : {M : Type 1} → statement M
 exact-cover-spec =

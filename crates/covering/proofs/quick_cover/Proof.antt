@@ -1,5 +1,6 @@
 -- Where 0 is given, nothing is to be shown. Else the member stands whole, and its number and images are read and embed it.
 use Prim.Native.Nat.{_≤_, _<_}
+use mathlib.Core.Logic.{⊎-elim}
 use mathlib.Core.Path.{_≡_, refl, _∙_, sym}
 use native.Mathlib.Omega.{arith}
 use lib.ListN.{length, getD}
@@ -7,60 +8,27 @@ use borrow.Author.Needs.{needs}
 use borrow.Author.Tests.{not-false}
 use Rattle.number.specs.Number.{numberAt}
 use Rattle.number.specs.declared.Read.the-variants.{Number}
-use Rattle.layout.specs.Entries.{Whole}
-use Rattle.number.proofs.Reading.{number-inside}
+use Rattle.number.proofs.Reading.{number-inside, one-byte, two-bytes}
+use Rattle.layout.specs.Entries.{versionOf, Whole}
 use Rattle.covering.proofs.CoverCases.{quick-embedding}
+use Rattle.covering.proofs.Facts.{bare-facts, bare-whole}
 use Rattle.covering.proofs.quick_cover.Statement.{statement}
 use Rattle.covering.proofs.quick_cover.Tie as tie
 
-read-number-requires : tie.Need-read-number-requires
-read-number-requires c κs = search needs
-
-enum-known-r : tie.Need-enum-known-r
-enum-known-r c = search needs
-
-enum-told : tie.Need-enum-told
-enum-told c = search needs
+version-of-requires : tie.Need-version-of-requires
+version-of-requires c κs = search needs
 
 returns : tie.Need-returns
-returns c = λ o. absurd (o refl)
+returns c = λ _ o. absurd (o refl)
 
 returns-2 : tie.Need-returns-2
-returns-2 c = λ o. absurd (o refl)
+returns-2 c = λ _ o. absurd (o refl)
 
--- the member's number, and the place after it
-number-read : (c : tie.Else1) → let a = c .before .before .before .before .before .before .before .args in let g = c .before .before .r .given .0 in numberAt (a .cert .now) (a .at) ≡ Number (g .0) (g .1 .0)
-number-read c = sym (c .before .before .before .before .read-number .ensures) ∙ c .before .before .r .given .1
-
-number-ends : (c : tie.Else1) → c .before .before .r .given .0 .1 .0 ≤ length (c .before .before .before .before .before .before .before .args .cert .now)
-number-ends c = number-inside (c .before .before .before .before .before .before .before .args .cert .now) _ _ _ (number-read c)
-
-mul-start : tie.Need-mul-start
-mul-start c = search needs
-
-shared-slice-read-start : tie.Need-shared-slice-read-start
-shared-slice-read-start c = search needs
-
-cast-start : tie.Need-cast-start
-cast-start c = omega (arith, c .shared-slice-known3 .given (c .before .before .before .r .given .0 .0))
+sub-if3 : tie.Need-sub-if3
+sub-if3 c = search needs
 
 returns-3 : tie.Need-returns-3
-returns-3 c = λ o. absurd (o refl)
-
-add-if3 : tie.Need-add-if3
-add-if3 c = omega (arith, c .before .shared-slice-known3 .given (c .before .before .before .before .r .given .0 .0))
-
-returns-4 : tie.Need-returns-4
-returns-4 c = λ o. absurd (o refl)
-
-shared-slice-read-if4 : tie.Need-shared-slice-read-if4
-shared-slice-read-if4 c = search needs
-
-returns-5 : tie.Need-returns-5
-returns-5 c = λ o. absurd (o refl)
-
-add-wide : tie.Need-add-wide
-add-wide c = search needs
+returns-3 c = λ _ o. absurd (o refl)
 
 shared-slice-read-wide : tie.Need-shared-slice-read-wide
 shared-slice-read-wide c = search needs
@@ -68,59 +36,159 @@ shared-slice-read-wide c = search needs
 wide-requires : tie.Need-wide-requires
 wide-requires c κs = search needs
 
-returns-6 : tie.Need-returns-6
-returns-6 c = λ o. absurd (o refl)
+add-first : tie.Need-add-first
+add-first c = search needs
 
-sub-if6 : tie.Need-sub-if6
-sub-if6 c = number-ends (c .before .before .before .before .before .before .before .before)
+add-wide : tie.Need-add-wide
+add-wide c = search needs
+
+shared-slice-read-wide-2 : tie.Need-shared-slice-read-wide-2
+shared-slice-read-wide-2 c = search needs
+
+wide-requires-2 : tie.Need-wide-requires-2
+wide-requires-2 c κs = search needs
+
+returns-4 : tie.Need-returns-4
+returns-4 c = λ _ o. absurd (o refl)
+
+returns-5 : tie.Need-returns-5
+returns-5 c = λ _ o. absurd (o refl)
+
+mul-m : tie.Need-mul-m
+mul-m c = search needs
+
+add-m : tie.Need-add-m
+add-m c = search needs
+
+add-first-2 : tie.Need-add-first-2
+add-first-2 c = search needs
+
+returns-6 : tie.Need-returns-6
+returns-6 c = λ _ o. absurd (o refl)
+
+mul-start : tie.Need-mul-start
+mul-start c = search needs
+
+shared-slice-read-start : tie.Need-shared-slice-read-start
+shared-slice-read-start c = search needs
+
+-- the member's number, of one byte or two, and the place after it
+number-read : (c : tie.Joined4) → let a = c .before .before .before .before .before .before .before .before .before .args in numberAt (a .cert .now) (a .at) ≡ Number (c .if4 .m) (c .if4 .first)
+number-read c =
+    let a = c .before .before .before .before .before .before .before .before .before .args in
+    let w = c .before .wide in
+    ⊎-elim
+    (λ (i, _, v, n, h, m-is, first-is). rw (m-is, first-is) (sym (two-bytes (a .cert .now) (a .at) (w .result) (w .ensures .0) (i .taken) (v .result) (v .ensures .0) (omega arith) (n .left) (h .left))))
+    (λ (i, m-is, first-is). rw (m-is, first-is) (sym (one-byte (a .cert .now) (a .at) (w .result) (w .ensures .0) (omega arith) (i .left))))
+    (c .if4 .came)
+
+number-ends : (c : tie.Joined4) → c .if4 .first ≤ length (c .before .before .before .before .before .before .before .before .before .args .cert .now)
+number-ends c = number-inside (c .before .before .before .before .before .before .before .before .before .args .cert .now) _ _ _ (number-read c)
+
+cast-start : tie.Need-cast-start
+cast-start c = omega (arith, c .shared-slice-known5 .given (c .before .before .before .if4 .m))
 
 returns-7 : tie.Need-returns-7
-returns-7 c = λ o. absurd (o refl)
+returns-7 c = λ _ o. absurd (o refl)
 
--- the member stands whole
-stands : (c : tie.Else6) → let a = c .before .before .before .before .before .before .before .before .before .before .before .before .before .before .before .before .args in Whole (a .cert .now) (a .variables) (getD (a .starts .now) (c .before .before .before .before .before .before .before .before .before .before .before .r .given .0 .0) 0)
-stands c = let e = c .before .before .wide .ensures .0 in record { variables-most = omega arith; cells = omega arith; inside = omega arith }
-
-images-embed-requires : tie.Need-images-embed-requires
-images-embed-requires c κs = let k = number-ends (c .before .before .before .before .before .before .before .before .before) in (stands c, c .before .before .wide .ensures .0, omega arith)
+add-if9 : tie.Need-add-if9
+add-if9 c = omega (arith, c .before .shared-slice-known5 .given (c .before .before .before .before .if4 .m))
 
 returns-8 : tie.Need-returns-8
-returns-8 c = λ o. absurd (o refl)
+returns-8 c = λ _ o. absurd (o refl)
 
-add-t17 : tie.Need-add-t17
-add-t17 c = search needs
+shared-slice-read-if10 : tie.Need-shared-slice-read-if10
+shared-slice-read-if10 c = search needs
 
 returns-9 : tie.Need-returns-9
-returns-9 c = λ _.
-    let a = c .before .before .before .before .before .before .before .before .before .before .before .before .before .before .before .before .before .before .before .args in
-    let byte : a .state < 256 = omega (arith, c .before .before .before .before .before .before .before .before .before .before .before .before .before .before .before .before .before .before .before .fits .state) in
-    quick-embedding _ _ (a .starts .now) _ _ byte _ _ _ (number-read (c .before .before .before .before .before .before .before .before .before .before .before .before)) (omega arith) (stands (c .before .before .before)) (sym (c .before .before .before .before .before .before .before .if4 .left)) _ (c .before .before .before .before .before .wide .ensures .0)
-    _ (c .before .before .images-embed .ensures (not-false _ (c .if7 .left)))
+returns-9 c = λ _ o. absurd (o refl)
+
+add-wide-2 : tie.Need-add-wide-2
+add-wide-2 c = search needs
+
+shared-slice-read-wide-3 : tie.Need-shared-slice-read-wide-3
+shared-slice-read-wide-3 c = search needs
+
+wide-requires-3 : tie.Need-wide-requires-3
+wide-requires-3 c κs = search needs
+
+returns-10 : tie.Need-returns-10
+returns-10 c = λ _ o. absurd (o refl)
+
+sub-if12 : tie.Need-sub-if12
+sub-if12 c = number-ends (c .before .before .before .before .before .before .before .before .before .before .before)
+
+returns-11 : tie.Need-returns-11
+returns-11 c = λ _ o. absurd (o refl)
+
+-- the member stands whole, and has no facts
+first-version : (c : tie.Joined4) → let a = c .before .before .before .before .before .before .before .before .before .args in versionOf (a .cert .now) ≡ 2 → ⊥
+first-version c e = c .before .before .before .before .before .if1 .left (c .before .before .before .before .before .before .version-of .ensures ∙ e)
+
+stands : (c : tie.Else12) → let j = c .before .before .before .before .before .before .before .before .before .before .before .before in let a = j .before .before .before .before .before .before .before .before .before .args in Whole (a .cert .now) (a .variables) (getD (a .starts .now) (j .if4 .m) 0)
+stands c =
+    let cells = c .before .before .before .wide3 .ensures .0 in
+    bare-whole _ _ _ (first-version (c .before .before .before .before .before .before .before .before .before .before .before .before)) (omega arith) (omega arith) (omega arith)
+
+images-embed-requires : tie.Need-images-embed-requires
+images-embed-requires c κs =
+    let j = c .before .before .before .before .before .before .before .before .before .before .before .before in
+    let k = number-ends j in
+    (stands c, bare-facts _ _ _ (first-version j), c .before .before .before .wide3 .ensures .0, omega arith)
+
+returns-12 : tie.Need-returns-12
+returns-12 c = λ _ o. absurd (o refl)
+
+add-t15 : tie.Need-add-t15
+add-t15 c = search needs
+
+returns-13 : tie.Need-returns-13
+returns-13 c = λ among _.
+    let i = c .before .before in
+    let w = i .before .before .before .before in
+    let e = i .before .before .before .before .before .before .before .before .before .before .before .before in
+    let j = e .before in
+    let o = j .before .before .before .before .before .before .before .before .before in
+    let byte : o .args .state < 256 = omega (arith, o .fits .state) in
+    quick-embedding _ _ (o .args .starts .now) _ _ byte _ _ _ (number-read j) (omega (arith, e .if7 .left)) (stands (i .before)) (sym (w .before .before .if10 .left)) _ (w .wide3 .ensures .0)
+    _ (i .images-embed .ensures (not-false _ (c .if13 .left))) among
 
 pub quick-cover-spec : {M : Type 1} → statement M
 quick-cover-spec =
     tie.close
     (tie.spec
-    read-number-requires
-    enum-known-r
-    enum-told
+    version-of-requires
     returns
     returns-2
+    sub-if3
+    returns-3
+    shared-slice-read-wide
+    wide-requires
+    add-first
+    add-wide
+    shared-slice-read-wide-2
+    wide-requires-2
+    returns-4
+    returns-5
+    mul-m
+    add-m
+    add-first-2
+    returns-6
     mul-start
     shared-slice-read-start
     cast-start
-    returns-3
-    add-if3
-    returns-4
-    shared-slice-read-if4
-    returns-5
-    add-wide
-    shared-slice-read-wide
-    wide-requires
-    returns-6
-    sub-if6
     returns-7
-    images-embed-requires
+    add-if9
     returns-8
-    add-t17
-    returns-9)
+    shared-slice-read-if10
+    returns-9
+    add-wide-2
+    shared-slice-read-wide-3
+    wide-requires-3
+    returns-10
+    sub-if12
+    returns-11
+    images-embed-requires
+    returns-12
+    add-t15
+    returns-13)

@@ -1,4 +1,4 @@
--- Each return is the case of `readCover` that the reading so far leaves.
+-- Each return is the case of `readCoverBy` that the reading so far leaves.
 use Prim.Native.Nat.{_+_}
 use mathlib.Core.Path.{_∙_, refl, sym}
 use native.Mathlib.Omega.{arith}

@@ -1,20 +1,25 @@
 -- By the set that is asked for: what is put is the bytes of its shapes, and there is room for them.
+use mathlib.Core.Path.{ap}
 use native.Mathlib.Omega.{arith}
+use Rattle.forbidding.specs.Answers.{countBytes}
 use Rattle.forbidding.proofs.Answers.{point-in, asked-inside, asked-room, asked-whole, asked-put, steps-in}
 use borrow.Author.Needs.{needs}
 use Rattle.forbidding.proofs.put_set.Statement.{statement}
 use Rattle.forbidding.proofs.put_set.Tie as tie
+
+version-of-requires : tie.Need-version-of-requires
+version-of-requires c κs = search needs
 
 enum-known-asked : tie.Need-enum-known-asked
 enum-known-asked c = search needs
 
 put-not-list-requires : tie.Need-put-not-list-requires
 put-not-list-requires c κs =
-    let s = c .before .before .before .before .before .before in
+    let s = c .before .before .before .before .before .before .before in
     let h = s .args .h in
     let e = c .before .before .asked .given .1 in (
-      point-in _ _ (h .variables) (h .states) (s .pre .0 .variables .1) (s .pre .0 .states .1) (asked-inside (s .args .job .now) h _ _ e (s .pre .1)),
-      omega (arith, asked-room (s .args .job .now) h _ _ e _ _ (s .pre .2)),
+      point-in _ _ (h .variables) (h .states) (c .before .before .before .before .version-of .result) (s .pre .0 .variables .1) (s .pre .0 .states .1) (asked-inside (s .args .job .now) h _ _ e (s .pre .1)),
+      omega (arith, asked-room (s .args .job .now) h _ _ e _ _ (s .pre .2), ap countBytes (c .before .before .before .before .version-of .ensures)),
     )
 
 enum-known-asked-2 : tie.Need-enum-known-asked-2
@@ -22,11 +27,11 @@ enum-known-asked-2 c = search needs
 
 put-lost-block-requires : tie.Need-put-lost-block-requires
 put-lost-block-requires c κs =
-    let s = c .before .before .before .before .before .before in
+    let s = c .before .before .before .before .before .before .before in
     let h = s .args .h in
     let e = c .before .before .asked2 .given .1 in (
-      point-in _ _ (h .variables) (h .states) (s .pre .0 .variables .1) (s .pre .0 .states .1) (asked-inside (s .args .job .now) h _ _ e (s .pre .1)),
-      omega (arith, asked-room (s .args .job .now) h _ _ e _ _ (s .pre .2)),
+      point-in _ _ (h .variables) (h .states) (c .before .before .before .before .version-of .result) (s .pre .0 .variables .1) (s .pre .0 .states .1) (asked-inside (s .args .job .now) h _ _ e (s .pre .1)),
+      omega (arith, asked-room (s .args .job .now) h _ _ e _ _ (s .pre .2), ap countBytes (c .before .before .before .before .version-of .ensures)),
     )
 
 enum-told : tie.Need-enum-told
@@ -34,12 +39,11 @@ enum-told c = search needs
 
 put-steps-requires : tie.Need-put-steps-requires
 put-steps-requires c κs =
-    let s = c .before .before .before .before .before in
-    let h = s .args .h in
-    let e = c .before .enum-told .given .1 in (
+    let s = c .before .before .before .before .before .before in
+    let h = s .args .h in (
       steps-in (s .args .job .now) h (s .pre .0),
       s .pre .0 .variables .1,
-      asked-whole (s .args .job .now) h _ _ e _ _ (s .pre .2),
+      asked-whole (s .args .job .now) h _ _ (c .before .enum-told .given .1) _ _ (s .pre .2),
     )
 
 same-length : tie.Need-same-length
@@ -47,35 +51,30 @@ same-length c = search needs
 
 returns : tie.Need-returns
 returns c =
-    let s = c .before .before .before .before .before .before .before .before .before in
-    let h = s .args .h in
-    let e = c .before .before .before .before .before .asked .given .1 in
-    asked-put (s .args .job .now) h _ _ e (c .before .before .put-not-list .ensures)
+    let s = c .before .before .before .before .before .before .before .before .before .before in
+    asked-put (s .args .job .now) (s .args .h) _ _ (c .before .before .before .before .before .asked .given .1) (rw (c .before .before .before .before .before .before .before .version-of .ensures) at (c .before .before .put-not-list .ensures))
 
 same-length-2 : tie.Need-same-length-2
 same-length-2 c = search needs
 
 returns-2 : tie.Need-returns-2
 returns-2 c =
-    let s = c .before .before .before .before .before .before .before .before .before in
-    let h = s .args .h in
-    let e = c .before .before .before .before .before .asked2 .given .1 in
-    asked-put (s .args .job .now) h _ _ e (c .before .before .put-lost-block .ensures)
+    let s = c .before .before .before .before .before .before .before .before .before .before in
+    asked-put (s .args .job .now) (s .args .h) _ _ (c .before .before .before .before .before .asked2 .given .1) (rw (c .before .before .before .before .before .before .before .version-of .ensures) at (c .before .before .put-lost-block .ensures))
 
 same-length-3 : tie.Need-same-length-3
 same-length-3 c = search needs
 
 returns-3 : tie.Need-returns-3
 returns-3 c =
-    let s = c .before .before .before .before .before .before .before .before in
-    let h = s .args .h in
-    let e = c .before .before .before .before .enum-told .given .1 in
-    asked-put (s .args .job .now) h _ _ e (c .before .before .put-steps .ensures)
+    let s = c .before .before .before .before .before .before .before .before .before in
+    asked-put (s .args .job .now) (s .args .h) _ _ (c .before .before .before .before .enum-told .given .1) (c .before .before .put-steps .ensures)
 
 pub put-set-spec : {M : Type 1} → statement M
 put-set-spec =
     tie.close
     (tie.spec
+    version-of-requires
     enum-known-asked
     put-not-list-requires
     enum-known-asked-2

@@ -90,12 +90,12 @@ module _ {M : Type 1} (𝓤 : URA M) (H : Heap 𝓤) (A : Atoms 𝓤) (W : Given
 
   -- what the six calls say together
   told : (r₀ : Reader) (u₀ : Val) (r₁ : Reader) (u₁ : Val) (r₂ : Reader) (u₂ : Val) (r₃ : Reader) (u₃ : Val) (r₄ : Reader) (u₄ : Val) (r₅ : Reader)
-      → NewSaid 𝓤 H A W mem run κ q s 0 r₀ → NextSaid 𝓤 H A W mem run κ q r₀ u₀ 1 2 r₁ → NextSaid 𝓤 H A W mem run κ q r₁ u₁ 1 9 r₂ → NextSaid 𝓤 H A W mem run κ q r₂ u₂ 1 65 r₃
+      → NewSaid 𝓤 H A W mem run κ q s 0 r₀ → NextSaid 𝓤 H A W mem run κ q r₀ u₀ 1 3 r₁ → NextSaid 𝓤 H A W mem run κ q r₁ u₁ 1 9 r₂ → NextSaid 𝓤 H A W mem run κ q r₂ u₂ 1 65 r₃
       → NextSaid 𝓤 H A W mem run κ q r₃ u₃ 0 (r₃ .number) r₄ → NextSaid 𝓤 H A W mem run κ q r₄ u₄ 0 257 r₅ → made r₂ r₃ r₄ r₅ ≡ preambleRead (jobBuffer (now s))
   unfolding preambleRead
   told r₀ u₀ r₁ u₁ r₂ u₂ r₃ u₃ r₄ u₄ r₅ (s₀, at-first, _, none) (s₁, e₁) (s₂, e₂) (s₃, e₃) (s₄, e₄) (s₅, e₅) =
       let p = ranged (jobBuffer (now s)) in
-      let version : LastRead = lastReadOf (p 1 2 0) in
+      let version : LastRead = lastReadOf (p 1 3 0) in
       let variables : LastRead = lastReadAfter version (p 1 9) in
       let states : LastRead = lastReadAfter variables (p 1 65) in
       let start : LastRead = lastReadAfter states (p 0 (states .number)) in
@@ -104,7 +104,7 @@ module _ {M : Type 1} (𝓤 : URA M) (H : Heap 𝓤) (A : Atoms 𝓤) (W : Given
       let z₂ : r₂ .src ≡ s = s₂ ∙ z₁ in
       let z₃ : r₃ .src ≡ s = s₃ ∙ z₂ in
       let z₄ : r₄ .src ≡ s = s₄ ∙ z₃ in
-      let q₁ : lastReadIn r₁ ≡ version = read-next r₀ r₁ 1 2 (lastReadIn r₀) s₀ refl e₁ ∙ rw (at-first, none) refl in
+      let q₁ : lastReadIn r₁ ≡ version = read-next r₀ r₁ 1 3 (lastReadIn r₀) s₀ refl e₁ ∙ rw (at-first, none) refl in
       let q₂ : lastReadIn r₂ ≡ variables = read-next r₁ r₂ 1 9 version z₁ q₁ e₂ in
       let q₃ : lastReadIn r₃ ≡ states = read-next r₂ r₃ 1 65 variables z₂ q₂ e₃ in
       let q₄ : lastReadIn r₄ ≡ start = read-next r₃ r₄ 0 (r₃ .number) states z₃ q₃ e₄ ∙ ap (λ (n : ℕ). lastReadAfter states (p 0 n)) (ap (λ (x : LastRead). x .number) q₃) in
@@ -135,10 +135,10 @@ module _ {M : Type 1} (𝓤 : URA M) (H : Heap 𝓤) (A : Atoms 𝓤) (W : Given
         split ! $ move ! (1 ∷ []) $ use1 W (raw (fact 𝓤 (NewSaid 𝓤 H A W mem run κ q s 0 r₀))) (new-said 𝓤 H A W mem run κ q s 0 r₀) $ heard ! (NewSaid 𝓤 H A W mem run κ q s 0 r₀) (λ e₀. split ! $ move ! (1 ∷ []) $
         peeks ! (B (κ, tt)) (Is (B (κ, tt))) (shows 𝓤 H A (B (κ, tt))) r₀ (u₀ ∷ []) (λ is₀.
         land ! (from ! (stop !)) (init ! 25 refl (LL.lawful (T.the-type αᵉ) (T′.the-laws αᵉ) 𝓤 H A W .typed r₀ _ is₀ .0)) $
-        use2 W (raw (Next 𝓤 H A mem run .pre (to-next 𝓤 H A W mem run κ q r₀ u₀ 1 2))) (goes-next 𝓤 H A W mem run κ q r₀ u₀ 1 2 (omega arith) (omega arith)) $
-        calls-at ! fm (Next 𝓤 H A mem run) known-next (to-next 𝓤 H A W mem run κ q r₀ u₀ 1 2) (and-then ! (load ! (from ! (stop !)) (look ! 24 refl)) (and-then ! (lit ! tt) (and-then ! (lit ! tt) (no-more !)))) (λ u₁.
-        use1 W (later (some (λ (t : Reader). ((‵ (flft κ q) ⊛ ‵ ftrue) ⊛ ‵ (B (κ, tt) .own t (u₁ ∷ []))) ⊛ raw (ensured 𝓤 H A next.ended (next.clauses 𝓤 H A mem run) (κ, tt) (r₀, (1, (2, tt))) tt t)))) (id⊢ 𝓤 _) $ await ! tt $ pick ! (λ r₁.
-        split ! $ move ! (1 ∷ []) $ use1 W (raw (fact 𝓤 (NextSaid 𝓤 H A W mem run κ q r₀ u₀ 1 2 r₁))) (next-said 𝓤 H A W mem run κ q r₀ u₀ 1 2 r₁) $ heard ! (NextSaid 𝓤 H A W mem run κ q r₀ u₀ 1 2 r₁) (λ e₁. split ! $ move ! (1 ∷ []) $
+        use2 W (raw (Next 𝓤 H A mem run .pre (to-next 𝓤 H A W mem run κ q r₀ u₀ 1 3))) (goes-next 𝓤 H A W mem run κ q r₀ u₀ 1 3 (omega arith) (omega arith)) $
+        calls-at ! fm (Next 𝓤 H A mem run) known-next (to-next 𝓤 H A W mem run κ q r₀ u₀ 1 3) (and-then ! (load ! (from ! (stop !)) (look ! 24 refl)) (and-then ! (lit ! tt) (and-then ! (lit ! tt) (no-more !)))) (λ u₁.
+        use1 W (later (some (λ (t : Reader). ((‵ (flft κ q) ⊛ ‵ ftrue) ⊛ ‵ (B (κ, tt) .own t (u₁ ∷ []))) ⊛ raw (ensured 𝓤 H A next.ended (next.clauses 𝓤 H A mem run) (κ, tt) (r₀, (1, (3, tt))) tt t)))) (id⊢ 𝓤 _) $ await ! tt $ pick ! (λ r₁.
+        split ! $ move ! (1 ∷ []) $ use1 W (raw (fact 𝓤 (NextSaid 𝓤 H A W mem run κ q r₀ u₀ 1 3 r₁))) (next-said 𝓤 H A W mem run κ q r₀ u₀ 1 3 r₁) $ heard ! (NextSaid 𝓤 H A W mem run κ q r₀ u₀ 1 3 r₁) (λ e₁. split ! $ move ! (1 ∷ []) $
         peeks ! (B (κ, tt)) (Is (B (κ, tt))) (shows 𝓤 H A (B (κ, tt))) r₁ (u₁ ∷ []) (λ is₁.
         land ! (from ! (stop !)) (init ! 35 refl (LL.lawful (T.the-type αᵉ) (T′.the-laws αᵉ) 𝓤 H A W .typed r₁ _ is₁ .0)) $
         assigns ! (of-opd ! (load ! (from ! (stop !)) (look ! 35 refl))) (from ! (stop !)) (init ! 23 refl (LL.lawful (T.the-type αᵉ) (T′.the-laws αᵉ) 𝓤 H A W .typed r₁ _ is₁ .0)) $

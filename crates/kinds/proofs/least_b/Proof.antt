@@ -23,7 +23,7 @@ array-read-result c = search needs
 
 returns-2 : tie.Need-returns-2
 unfolding leastB
-returns-2 c = same-table (λ k. getD (0 ∷ 0 ∷ 0 ∷ 0 ∷ 1 ∷ 0 ∷ 0 ∷ 0 ∷ []) k 0) leastB (suc lastKind) refl (c .before .args .kind) (omega arith)
+returns-2 c = same-table (λ k. getD (0 ∷ 0 ∷ 0 ∷ 0 ∷ 1 ∷ 0 ∷ 0 ∷ 0 ∷ 1 ∷ 1 ∷ 1 ∷ 1 ∷ 1 ∷ 0 ∷ []) k 0) leastB (suc lastKind) refl (c .before .args .kind) (omega arith)
 
 pub least-b-spec : {M : Type 1} → statement M
 least-b-spec = tie.close (tie.spec returns mul-result array-read-result returns-2)

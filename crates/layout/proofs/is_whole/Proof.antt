@@ -1,56 +1,19 @@
--- Test after test: room for the variables, at most 12 cells, and all bytes there.
-use Prim.Native.Nat.{_+_}
-use native.Mathlib.Omega.{arith}
-use Rattle.layout.proofs.Whole.{not-whole, whole-left}
+-- The entry has an end.
+use Rattle.layout.proofs.Whole.{end-tells}
 use borrow.Author.Needs.{needs}
 use Rattle.layout.proofs.is_whole.Statement.{statement}
 use Rattle.layout.proofs.is_whole.Tie as tie
+use Rattle.layout.proofs.is_whole.Reads as reads
+use Rattle.layout.proofs.is_whole.Lts as lts
+use Rattle.layout.proofs.entry_end.Reads as entry-end-reads
 
+-- src/lib.rt:101:5
+entry-end-requires : tie.Need-entry-end-requires
+entry-end-requires c κs = search needs
+
+-- src/lib.rt:98:1
 returns : tie.Need-returns
-returns c = let a = c .before .args in not-whole (a .bytes .now) (a .variables) (a .at) (λ w. omega (arith, w .variables-most))
-
-add-if2 : tie.Need-add-if2
-add-if2 c = search needs
-
-returns-2 : tie.Need-returns-2
-returns-2 c = let a = c .before .before .args in not-whole (a .bytes .now) (a .variables) (a .at) (λ w. omega (arith, w .inside))
-
-sub-last : tie.Need-sub-last
-sub-last c = search needs
-
-sub-last-2 : tie.Need-sub-last-2
-sub-last-2 c = search needs
-
-returns-3 : tie.Need-returns-3
-returns-3 c = let a = c .before .before .before .args in not-whole (a .bytes .now) (a .variables) (a .at) (λ w. omega (arith, w .inside))
-
-add-n : tie.Need-add-n
-add-n c = search needs
-
-shared-slice-read-n : tie.Need-shared-slice-read-n
-shared-slice-read-n c = search needs
-
-cast-n : tie.Need-cast-n
-cast-n c = omega (arith, c .shared-slice-known .given (c .before .before .before .before .args .at + 1))
-
-returns-4 : tie.Need-returns-4
-returns-4 c = let a = c .before .before .before .before .before .args in not-whole (a .bytes .now) (a .variables) (a .at) (λ w. omega (arith, w .cells))
-
-returns-5 : tie.Need-returns-5
-returns-5 c = let a = c .before .before .before .before .before .args in whole-left (a .bytes .now) (a .variables) (a .at) _ (omega arith) (omega arith) (omega arith)
+returns c = let a = c .before .before .args in end-tells (a .bytes .now) (a .variables) (a .at) (c .entry-end .result) (c .entry-end .ensures)
 
 pub is-whole-spec : {M : Type 1} → statement M
-is-whole-spec =
-    tie.close
-    (tie.spec
-    returns
-    add-if2
-    returns-2
-    sub-last
-    sub-last-2
-    returns-3
-    add-n
-    shared-slice-read-n
-    cast-n
-    returns-4
-    returns-5)
+is-whole-spec = tie.close (tie.spec entry-end-requires returns)

@@ -1,26 +1,26 @@
--- The codes are loaded, and the two stores after them make `loadedShape`, where the entry stands whole.
+-- The codes are loaded, and the two stores after them make `loadedShape`, where its links are inside.
 use mathlib.Core.Bool.{true}
 use mathlib.Core.Path.{_≡_, refl, sym, _∙_}
 use native.Mathlib.Omega.{arith}
 use borrow.Author.Tests.{not-true, not-false}
-use Rattle.layout.specs.Entries.{isWhole, Whole}
-use Rattle.layout.proofs.Whole.{whole}
+use Rattle.layout.specs.Entries.{linksInside}
+use Rattle.layout.proofs.Whole.{Inside, inside}
 use borrow.Author.Needs.{needs}
 use Rattle.layout.proofs.load_shape.Statement.{statement}
 use Rattle.layout.proofs.load_shape.Tie as tie
 
-is-whole-requires : tie.Need-is-whole-requires
-is-whole-requires c κs = search needs
+links-inside-requires : tie.Need-links-inside-requires
+links-inside-requires c κs = search needs
 
 returns : tie.Need-returns
-returns c = rw (sym (c .before .is-whole .ensures) ∙ not-true _ (c .if1 .taken)) refl
+returns c = rw (sym (c .before .links-inside .ensures) ∙ not-true _ (c .if1 .taken)) refl
 
--- the entry is whole
-passed : (c : tie.Else1) → let a = c .before .before .before .args in isWhole (a .bytes .now) (a .variables) (a .at) ≡ true
-passed c = sym (c .before .is-whole .ensures) ∙ not-false _ (c .if1 .left)
+-- its links are inside
+passed : (c : tie.Else1) → let a = c .before .before .before .args in linksInside (a .bytes .now) (a .variables) (a .at) ≡ true
+passed c = sym (c .before .links-inside .ensures) ∙ not-false _ (c .if1 .left)
 
-stands : (c : tie.Else1) → let a = c .before .before .before .args in Whole (a .bytes .now) (a .variables) (a .at)
-stands c = let a = c .before .before .before .args in whole (a .bytes .now) (a .variables) (a .at) (passed c)
+stands : (c : tie.Else1) → let a = c .before .before .before .args in Inside (a .bytes .now) (a .variables) (a .at)
+stands c = let a = c .before .before .before .args in inside (a .bytes .now) (a .variables) (a .at) (passed c)
 
 add-n : tie.Need-add-n
 add-n c = let w = stands c in omega arith
@@ -53,7 +53,7 @@ pub load-shape-spec : {M : Type 1} → statement M
 load-shape-spec =
     tie.close
     (tie.spec
-    is-whole-requires
+    links-inside-requires
     returns
     add-n
     shared-slice-read-n

@@ -1,7 +1,7 @@
 -- By kind, what is wanted beside a placed variable.
 use mathlib.Core.Path.{_∙_}
 use native.Mathlib.Omega.{arith}
-use Rattle.placing.proofs.Tests.{beside-different, beside-equal, beside-source, beside-target}
+use Rattle.placing.proofs.Tests.{beside-different, beside-equal, beside-source, beside-cells, beside-target}
 use borrow.Author.Needs.{needs}
 use Rattle.placing.proofs.wanted_beside.Statement.{statement}
 use Rattle.placing.proofs.wanted_beside.Tie as tie
@@ -15,11 +15,21 @@ returns-2 c = let a = c .before .before .before .args in beside-equal (a .starti
 returns-3 : tie.Need-returns-3
 returns-3 c = let a = c .before .before .before .before .args in beside-source (a .starting) (a .kind) (a .links .now) (a .q) (omega arith) (omega arith)
 
+cell-beside-requires : tie.Need-cell-beside-requires
+cell-beside-requires c κs = search needs
+
+returns-4 : tie.Need-returns-4
+returns-4 c =
+    let a = c .before .before .before .before .before .before .args in
+    c .cell-beside .ensures ∙ beside-cells (a .starting) (a .kind) (a .links .now) (a .q) (omega arith) (c .before .before .if3 .left) (omega arith)
+
 target-of-requires : tie.Need-target-of-requires
 target-of-requires c κs = search needs
 
-returns-4 : tie.Need-returns-4
-returns-4 c = let a = c .before .before .before .before .before .args in c .target-of .ensures ∙ beside-target (a .starting) (a .kind) (a .links .now) (a .q) (omega arith) (c .before .if3 .left)
+returns-5 : tie.Need-returns-5
+returns-5 c =
+    let a = c .before .before .before .before .before .before .args in
+    c .target-of .ensures ∙ beside-target (a .starting) (a .kind) (a .links .now) (a .q) (omega arith) (c .before .before .if3 .left) (omega arith)
 
 pub wanted-beside-spec : {M : Type 1} → statement M
-wanted-beside-spec = tie.close (tie.spec returns returns-2 returns-3 target-of-requires returns-4)
+wanted-beside-spec = tie.close (tie.spec returns returns-2 returns-3 cell-beside-requires returns-4 target-of-requires returns-5)

@@ -1,7 +1,8 @@
--- `reader::quick_entry`: 0 promises nothing; where all tests pass, the parser of an entry ends at the place after its bytes.
+-- `reader::quick_entry`: 0 promises nothing; where all tests pass, the parser of an entry goes on with its facts.
 use mathlib.Core.Path.{refl, sym, _∙_}
 use native.Mathlib.Omega.{arith}
 use Rattle.format.specs.Parser.{certificateBuffer}
+use Rattle.layout.specs.Entries.{versionOf}
 use Rattle.reader.proofs.Quick.{entry-quick}
 use borrow.Author.Needs.{needs}
 use Rattle.reader.proofs.quick_entry.Statement.{statement}
@@ -70,9 +71,12 @@ all-below-requires c κs = search needs
 returns-8 : tie.Need-returns-8
 returns-8 c =
     let a = c .before .before .before .before .before .before .before .before .before .before .before .before .args in
-    λ z.
-    entry-quick (certificateBuffer (a .cert .now)) (a .variables) (a .states) (a .at) (omega arith) (omega arith) (omega arith) (omega arith)
-    (sym (c .before .all-below .ensures) ∙ c .if8 .taken)
+    λ z. (
+      omega arith,
+      omega arith,
+      entry-quick (certificateBuffer (a .cert .now)) (versionOf (a .cert .now)) (a .variables) (a .states) (a .at) (omega arith) (omega arith) (omega arith) (omega arith)
+          (sym (c .before .all-below .ensures) ∙ c .if8 .taken),
+    )
 
 returns-9 : tie.Need-returns-9
 returns-9 c = λ z. absurd (z refl)

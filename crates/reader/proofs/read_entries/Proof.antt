@@ -8,6 +8,7 @@ use native.Mathlib.Omega.{arith}
 use Rattle.run.specs.Run.{Located}
 use Rattle.format.specs.Certificate.{readMember}
 use Rattle.format.specs.Job.{readLocated}
+use Rattle.layout.specs.Entries.{versionOf}
 use Rattle.format.specs.Parser.{parsed, many, certificateBuffer}
 use Rattle.verdict.specs.Verdict.{reachedOf}
 use Rattle.reader.specs.Number.{withoutValue}
@@ -21,7 +22,7 @@ use Rattle.reader.proofs.read_entries.Tie as tie
 
 abbrev Inv-loop : tie.InvT-loop
 Inv-loop cert first count variables states start starts₀ at₀ seen₀ i₀ starts at seen i =
-    Noting (readMember (certificateBuffer cert) variables states) count first starts₀ starts at i
+    Noting (readMember (certificateBuffer cert) (versionOf cert) variables states) count first starts₀ starts at i
     × (seen ≡ false → Passing cert variables states start first count at i)
 
 abbrev μ-loop : tie.MeasureT-loop
@@ -30,7 +31,7 @@ abbrev μ-loop : tie.MeasureT-loop
 loop-holds : tie.Need-loop-holds Inv-loop μ-loop
 loop-holds c =
     let a = c .before .before .args in (
-      note-none (readMember (certificateBuffer (a .cert .now)) (a .variables) (a .states)) (a .count) (a .first) (a .starts .now),
+      note-none (readMember (certificateBuffer (a .cert .now)) (versionOf (a .cert .now)) (a .variables) (a .states)) (a .count) (a .first) (a .starts .now),
       λ _. pass-none (a .cert .now) (a .variables) (a .states) (a .start) (a .first) (a .count),
     )
 
@@ -60,7 +61,7 @@ returns c =
     let a = c .before .before .before .before .before .before .before .args in
     let e = c .enum-told .given .1 in
     let l = c .before .before .before .before .loop in
-    let p = readMember (certificateBuffer (a .cert .now)) (a .variables) (a .states) in
+    let p = readMember (certificateBuffer (a .cert .now)) (versionOf (a .cert .now)) (a .variables) (a .states) in
     let refused = sym (as-entry (a .cert .now) (a .variables) (a .states) (l .at)) ∙ reached-lost (c .before .before .read-member .ensures) e in (
       ap reachedOf e
           ∙ read-lost (a .cert .now) (a .variables) (a .states) (a .start) (a .first) (a .count) _ _
@@ -71,7 +72,7 @@ returns c =
 -- the member that was read
 got-member : (c : tie.After-known-told Inv-loop μ-loop) → let a = c .before .before .before .before .before .before .before .before .args in
     let l = c .before .before .before .before .before .loop in
-    (m : Located) × (readLocated (certificateBuffer (a .cert .now)) (a .variables) (a .states) (l .at) ≡ parsed m (c .before .r .given .0 .0))
+    (m : Located) × (readLocated (versionOf (a .cert .now)) (certificateBuffer (a .cert .now)) (a .variables) (a .states) (l .at) ≡ parsed m (c .before .r .given .0 .0))
 got-member c = remembered _ _ (reached-got (c .before .before .before .read-member .ensures) (c .before .r .given .1))
 
 may-refuse-requires : tie.Need-may-refuse-requires Inv-loop μ-loop
@@ -89,7 +90,7 @@ loop-again c =
     let a = k .before .before .before .before .before .before .before .before .args in
     let l = k .before .before .before .before .before .loop in
     let (m, g) = got-member k in (
-      note-more (readMember (certificateBuffer (a .cert .now)) (a .variables) (a .states)) (a .count) (a .first) (a .starts .now) (l .starts) (l .at) (l .i)
+      note-more (readMember (certificateBuffer (a .cert .now)) (versionOf (a .cert .now)) (a .variables) (a .states)) (a .count) (a .first) (a .starts .now) (l .starts) (l .at) (l .i)
           (l .inv .0) (omega arith) (omega arith) _
           (sym (as-entry (a .cert .now) (a .variables) (a .states) (l .at)) ∙ ap withoutValue g),
       λ z. ⊎-elim (λ (t, y). let v : _≡_ {A = ℕ} 0 1 = cc in absurd (omega arith))
@@ -102,7 +103,7 @@ test-members-requires : tie.Need-test-members-requires Inv-loop μ-loop
 test-members-requires c κs =
     let a = c .before .before .before .before .before .args in
     let l = c .before .before .loop in
-    let p = readMember (certificateBuffer (a .cert .now)) (a .variables) (a .states) in
+    let p = readMember (certificateBuffer (a .cert .now)) (versionOf (a .cert .now)) (a .variables) (a .states) in
     let (ms, g) = remembered (many (a .count) p (a .first)) _ (sym (left-all p (a .count) (a .first) (l .at) (l .i) (l .inv .0 .left) (omega arith))) in
     (ms, _, g)
 
@@ -113,7 +114,7 @@ returns-2 : tie.Need-returns-2 Inv-loop μ-loop
 returns-2 c =
     let a = c .before .before .before .before .before .before .args in
     let l = c .before .before .before .loop in
-    let p = readMember (certificateBuffer (a .cert .now)) (a .variables) (a .states) in
+    let p = readMember (certificateBuffer (a .cert .now)) (versionOf (a .cert .now)) (a .variables) (a .states) in
     (c .test-members .ensures, note-all p (a .count) (a .first) (a .starts .now) (l .starts) (l .at) (l .i) (l .inv .0) (omega arith) (omega arith))
 
 same-length-3 : tie.Need-same-length-3 Inv-loop μ-loop
@@ -123,7 +124,7 @@ returns-3 : tie.Need-returns-3 Inv-loop μ-loop
 returns-3 c =
     let a = c .before .before .before .before .before .args in
     let l = c .before .before .loop in
-    let p = readMember (certificateBuffer (a .cert .now)) (a .variables) (a .states) in (
+    let p = readMember (certificateBuffer (a .cert .now)) (versionOf (a .cert .now)) (a .variables) (a .states) in (
       pass-all (a .cert .now) (a .variables) (a .states) (a .start) (a .first) (a .count) (l .at) (l .i) (l .inv .1 (c .if2 .left)) (omega arith),
       note-all p (a .count) (a .first) (a .starts .now) (l .starts) (l .at) (l .i) (l .inv .0) (omega arith) (omega arith),
     )

@@ -1,6 +1,6 @@
 -- By where a stands.
-use mathlib.Core.Path.{_≡_, refl}
-use Prim.Native.Nat.{suc, _+_, _-_}
+use mathlib.Core.Path.{refl, ap}
+use Prim.Native.Nat.{ℕ, _-_}
 use native.Mathlib.Omega.{arith}
 use borrow.Author.Tests.{lt-ltb, le-ltb, eq-eqb, ne-eqb}
 use Rattle.shapes.specs.Change.{casesOfNew}
@@ -28,8 +28,7 @@ unfolding casesOfNew
 returns c =
     let o = c .before .before .before in
     let w = o .before .before .before .wide in
-    let next : w .result + 1 ≡ suc (w .result) = omega arith in
-    rw (← w .ensures .0, ← o .operand-at .ensures, eq-eqb (o .operand-at .result) 0 (omega arith), next) (refl, c .before .forget-operand .ensures)
+    rw (← w .ensures .0, ← o .operand-at .ensures, eq-eqb (o .operand-at .result) 0 (omega arith)) (ap (λ (e : ℕ). record { first = 0; end = e }) (omega arith), c .before .forget-operand .ensures)
 
 returns-2 : tie.Need-returns-2
 unfolding casesOfNew
@@ -49,8 +48,7 @@ unfolding casesOfNew
 returns-3 c =
     let o = c .before .before .before .before in
     let x = o .operand-at .result in
-    let next : x - 3 + 1 ≡ suc (x - 3) = omega arith in
-    rw (← o .operand-at .ensures, ne-eqb x 0 (c .before .if1 .left), le-ltb x 3 (omega arith), next) (refl, c .before .before .forget-operand .ensures)
+    rw (← o .operand-at .ensures, ne-eqb x 0 (c .before .if1 .left), le-ltb x 3 (omega arith)) (ap (λ (e : ℕ). record { first = x - 3; end = e }) (omega arith), c .before .before .forget-operand .ensures)
 
 pub prepare-new-spec : {M : Type 1} → statement M
 prepare-new-spec =

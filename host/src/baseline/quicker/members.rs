@@ -6,8 +6,8 @@ use crate::baseline::job::{Entry, Job};
 use crate::baseline::reader::{Reader, Stopped};
 use crate::baseline::shape::{CELL, NULL};
 use crate::reference::certificate::MOST_MEMBERS;
-use crate::reference::job::VERSION;
 use crate::reference::shape::MOST_CELLS;
+use crate::reference::version::Version;
 
 /// The most bytes of a member's entry: state, cells, eight variables, twelve links.
 const ENTRY: usize = 22;
@@ -15,7 +15,7 @@ const ENTRY: usize = 22;
 /// Reads the members, and refuses one that the empty heap satisfies at the start.
 #[inline(always)]
 pub fn read_members(reader: &mut Reader, job: &Job<Places>) -> Result<Vec<Places>, Stopped> {
-    reader.number(VERSION as u16, VERSION as u16)?;
+    reader.version(Places::VERSION)?;
     let count = reader.number(1, MOST_MEMBERS as u16)?;
     let mut members = vec![Places::EMPTY; count.into()];
     let mut satisfied = None;
@@ -33,6 +33,8 @@ pub fn read_members(reader: &mut Reader, job: &Job<Places>) -> Result<Vec<Places
 }
 
 impl Entry for Places {
+    const VERSION: Version = Version::One;
+
     fn read(reader: &mut Reader, variables: u16, states: u16) -> Result<Places, Stopped> {
         let mut places = Places::EMPTY;
         fill(&mut places, reader, variables, states)?;

@@ -10,19 +10,23 @@ returns : tie.Need-returns
 unfolding undoneIn
 returns c = let a = c .before .args in rw (lt-ltb (a .kind) 3 (c .if1 .taken)) refl
 
+returns-2 : tie.Need-returns-2
+unfolding undoneIn
+returns-2 c = let a = c .before .before .args in rw (le-ltb (a .kind) 3 (c .before .if1 .left), lt-ltb 5 (a .kind) (c .if2 .taken)) refl
+
 add-to : tie.Need-add-to
 add-to c = search needs
 
-returns-2 : tie.Need-returns-2
+returns-3 : tie.Need-returns-3
 unfolding undoneIn
-returns-2 c = let a = c .before .before .before .args in rw (le-ltb (a .kind) 3 (c .before .before .if1 .left), eq-eqb (a .kind) 3 (c .before .if2 .taken), eq-eqb (a .a) (a .b) (c .if3 .taken)) refl
+returns-3 c = let a = c .before .before .before .before .args in rw (le-ltb (a .kind) 3 (c .before .before .before .if1 .left), le-ltb 5 (a .kind) (c .before .before .if2 .left), eq-eqb (a .kind) 3 (c .before .if3 .taken), eq-eqb (a .a) (a .b) (c .if4 .taken)) refl
 
 element-write-s : tie.Need-element-write-s
 element-write-s c = search needs
 
-returns-3 : tie.Need-returns-3
+returns-4 : tie.Need-returns-4
 unfolding undoneIn
-returns-3 c = let a = c .before .before .before .args in rw (le-ltb (a .kind) 3 (c .before .before .if1 .left), eq-eqb (a .kind) 3 (c .before .if2 .taken), ne-eqb (a .a) (a .b) (c .if3 .left)) refl
+returns-4 c = let a = c .before .before .before .before .args in rw (le-ltb (a .kind) 3 (c .before .before .before .if1 .left), le-ltb 5 (a .kind) (c .before .before .if2 .left), eq-eqb (a .kind) 3 (c .before .if3 .taken), ne-eqb (a .a) (a .b) (c .if4 .left)) refl
 
 element-copy-out-x : tie.Need-element-copy-out-x
 element-copy-out-x c = search needs
@@ -33,9 +37,9 @@ cast-s c = search needs
 element-write-s-2 : tie.Need-element-write-s-2
 element-write-s-2 c = search needs
 
-returns-4 : tie.Need-returns-4
+returns-5 : tie.Need-returns-5
 unfolding undoneIn
-returns-4 c = let a = c .before .before .before .before .args in rw (le-ltb (a .kind) 3 (c .before .before .before .if1 .left), ne-eqb (a .kind) 3 (c .before .before .if2 .left), eq-eqb (a .kind) 5 (c .if4 .taken)) refl
+returns-5 c = let a = c .before .before .before .before .before .args in rw (le-ltb (a .kind) 3 (c .before .before .before .before .if1 .left), le-ltb 5 (a .kind) (c .before .before .before .if2 .left), ne-eqb (a .kind) 3 (c .before .before .if3 .left), eq-eqb (a .kind) 5 (c .if5 .taken)) refl
 
 add-from : tie.Need-add-from
 add-from c = search needs
@@ -55,36 +59,37 @@ element-write-s-4 c = search needs
 element-write-s-5 : tie.Need-element-write-s-5
 element-write-s-5 c = search needs
 
-returns-5 : tie.Need-returns-5
+returns-6 : tie.Need-returns-6
 unfolding undoneIn
-returns-5 c = let a = c .before .before .before .before .before .before .args in rw (le-ltb (a .kind) 3 (c .before .before .before .before .before .if1 .left), ne-eqb (a .kind) 3 (c .before .before .before .before .if2 .left), ne-eqb (a .kind) 5 (c .before .before .if4 .left), lt-ltb (a .variables) (a .b) (c .if5 .taken)) refl
+returns-6 c = let a = c .before .before .before .before .before .before .before .args in rw (le-ltb (a .kind) 3 (c .before .before .before .before .before .before .if1 .left), le-ltb 5 (a .kind) (c .before .before .before .before .before .if2 .left), ne-eqb (a .kind) 3 (c .before .before .before .before .if3 .left), ne-eqb (a .kind) 5 (c .before .before .if5 .left), lt-ltb (a .variables) (a .b) (c .if6 .taken)) refl
 
 element-write-s-6 : tie.Need-element-write-s-6
 element-write-s-6 c = search needs
 
-returns-6 : tie.Need-returns-6
+returns-7 : tie.Need-returns-7
 unfolding undoneIn
-returns-6 c = let a = c .before .before .before .before .before .before .args in rw (le-ltb (a .kind) 3 (c .before .before .before .before .before .if1 .left), ne-eqb (a .kind) 3 (c .before .before .before .before .if2 .left), ne-eqb (a .kind) 5 (c .before .before .if4 .left), le-ltb (a .variables) (a .b) (c .if5 .left)) refl
+returns-7 c = let a = c .before .before .before .before .before .before .before .args in rw (le-ltb (a .kind) 3 (c .before .before .before .before .before .before .if1 .left), le-ltb 5 (a .kind) (c .before .before .before .before .before .if2 .left), ne-eqb (a .kind) 3 (c .before .before .before .before .if3 .left), ne-eqb (a .kind) 5 (c .before .before .if5 .left), le-ltb (a .variables) (a .b) (c .if6 .left)) refl
 
 pub undo-spec : {M : Type 1} → statement M
 undo-spec =
     tie.close
     (tie.spec
     returns
-    add-to
     returns-2
-    element-write-s
+    add-to
     returns-3
+    element-write-s
+    returns-4
     element-copy-out-x
     cast-s
     element-write-s-2
-    returns-4
+    returns-5
     add-from
     element-copy-out-y
     cast-s-2
     element-write-s-3
     element-write-s-4
     element-write-s-5
-    returns-5
+    returns-6
     element-write-s-6
-    returns-6)
+    returns-7)

@@ -6,28 +6,29 @@ use Prim.Native.Nat.{_+_, _-_, _<_}
 use native.Mathlib.Omega.{arith}
 use Rattle.layout.specs.ShapeArray.{cellCount, linksIn}
 use Rattle.layout.specs.Members.{membersFrom}
-use Rattle.placing.specs.Chosen.{firstOf}
 use Rattle.placing.specs.Wanted.{fitsIn}
-use Rattle.placing.proofs.Ranges.{Covers, step-most}
-use Rattle.shapes.specs.Operands.{shapeUnder, wantedFirstIn}
-use Rattle.shapes.proofs.Steps.{first-covers, first-range, first-none, first-some, first-placed}
+use Rattle.placing.proofs.Ranges.{stretch, Covers, step-most}
+use Rattle.shapes.specs.Operands.{wantedFirstIn}
+use Rattle.shapes.proofs.Steps.{first-some, first-placed}
 use Rattle.checker.specs.Checking.{Checks}
+use Rattle.undoing.specs.Before.{choicesRowed}
+use Rattle.checker.proofs.Given.{firstGiven, first-tried, first-all, first-nothing}
 use Rattle.checker.proofs.ChoiceLoop.{ChoiceLoop, loop-none, loop-past, loop-more, loop-stop, loop-all}
 use borrow.Author.Needs.{needs}
 use Rattle.checker.proofs.choices.check_first_choices.Statement.{statement}
 use Rattle.checker.proofs.choices.check_first_choices.Tie as tie
 
 abbrev Inv-loop : tie.InvT-loop
-Inv-loop cert starts variables by s wanted c t₀ k₀ t k = ChoiceLoop cert (membersFrom cert variables starts) (by .from) (firstOf variables (by .kind) (by .a) (by .b) (shapeUnder variables (by .b) s)) c 0 (cellCount s + (2 + cellCount s)) t₀ k t
+Inv-loop cert starts variables by s facts wanted c t₀ k₀ t k = ChoiceLoop cert (membersFrom cert variables starts) (by .from) (firstGiven variables by s facts) c 0 (cellCount s + (2 + cellCount s)) t₀ k t
 
 abbrev μ-loop : tie.MeasureT-loop
-μ-loop cert starts variables by s wanted c t₀ k₀ t k = c .to - k
+μ-loop cert starts variables by s facts wanted c t₀ k₀ t k = c .to - k
 
 -- the choices to try leave none out
 covers : (c : tie.After-choices-of Inv-loop μ-loop)
     → let a = c .before .before .before .before .before .args in
-    Covers (c .choices-of .result) (λ j. firstOf (a .variables) (a .by .kind) (a .by .a) (a .by .b) (shapeUnder (a .variables) (a .by .b) (a .s .now)) j ≡ []) 0 (cellCount (a .s .now) + (2 + cellCount (a .s .now)))
-covers c = first-covers (c .before .before .before .before .before .pre .0) (c .before .before .wanted-of-first .ensures) (c .choices-of .ensures)
+    Covers (c .choices-of .result) (λ j. firstGiven (a .variables) (a .by) (a .s .now) (a .facts .now) j ≡ []) 0 (cellCount (a .s .now) + (2 + cellCount (a .s .now)))
+covers c = let o = c .before .before .before .before .before in first-tried (o .args .variables) (o .args .by) (o .args .s .now) (o .args .facts .now) (o .pre .0) (c .before .before .wanted-of-first .ensures) (c .choices-of .ensures)
 
 -- this choice is wanted
 fits : (c : tie.Then2 Inv-loop μ-loop)
@@ -44,11 +45,18 @@ past c = let l = c .before .before .before .before .before in omega (arith, cove
 taken : (c : tie.After-check-last-choices Inv-loop μ-loop)
     → let l = c .before .before .before .before .before .before .before .before .before .before in
     let a = l .before .before .before .before .before .before .args in
-    Checks (a .cert .now) (membersFrom (a .cert .now) (a .variables) (a .starts .now)) (a .by .from) (firstOf (a .variables) (a .by .kind) (a .by .a) (a .by .b) (shapeUnder (a .variables) (a .by .b) (a .s .now)) (l .loop .k)) (l .loop .t) (c .check-last-choices .result)
+    Checks (a .cert .now) (membersFrom (a .cert .now) (a .variables) (a .starts .now)) (a .by .from) (firstGiven (a .variables) (a .by) (a .s .now) (a .facts .now) (l .loop .k)) (l .loop .t) (c .check-last-choices .result)
 taken c =
     let l = c .before .before .before .before .before .before .before .before .before .before in
     let i = c .before .before .before .before .before in
     rw (first-some (l .before .before .before .before .before .before .pre .0) (l .loop .k) (fits i) (past i), ← c .before .before .place-first .ensures) (c .check-last-choices .ensures)
+
+-- all choices give all
+whole : (c : tie.After-choices-of Inv-loop μ-loop)
+    → let a = c .before .before .before .before .before .args in
+    stretch (firstGiven (a .variables) (a .by) (a .s .now) (a .facts .now)) 0 (cellCount (a .s .now) + (2 + cellCount (a .s .now)))
+    ≡ choicesRowed (a .variables) (a .by .kind) (a .by .a) (a .by .b) (a .s .now) (a .facts .now)
+whole c = let o = c .before .before .before .before .before in first-all (o .args .variables) (o .args .by) (o .args .s .now) (o .args .facts .now) (o .pre .0)
 
 wanted-of-first-requires : tie.Need-wanted-of-first-requires Inv-loop μ-loop
 wanted-of-first-requires c κs =
@@ -101,7 +109,7 @@ returns : tie.Need-returns Inv-loop μ-loop
 returns c =
     let o = c .before .before in
     let l = o .before .before .before .before .before .before .before .before .before .before in
-    loop-stop (covers (l .before)) (l .loop .inv) (o .before .before .before .before .before .before .before .before .if1 .taken) (taken o) (c .enum-told .given .1) (first-range (l .before .before .before .before .before .before .pre .0))
+    loop-stop (covers (l .before)) (l .loop .inv) (o .before .before .before .before .before .before .before .before .if1 .taken) (taken o) (c .enum-told .given .1) (whole (l .before))
 
 loop-less : tie.Need-loop-less Inv-loop μ-loop
 loop-less c =
@@ -123,12 +131,12 @@ loop-again-2 : tie.Need-loop-again-2 Inv-loop μ-loop
 loop-again-2 c =
     let l = c .before .before .before .before .before in
     loop-past (covers (l .before)) (l .loop .inv) (c .before .before .before .if1 .taken)
-    (first-none (l .before .before .before .before .before .before .pre .0) (l .loop .k) (rw (← l .before .before .before .wanted-of-first .ensures) (sym (c .before .is-wanted-in .ensures) ∙ c .if2 .left)))
+    (let o = l .before .before .before .before .before .before in first-nothing (o .args .variables) (o .args .by) (o .args .s .now) (o .args .facts .now) (o .pre .0) (l .loop .k) (rw (← l .before .before .before .wanted-of-first .ensures) (sym (c .before .is-wanted-in .ensures) ∙ c .if2 .left)))
 
 returns-2 : tie.Need-returns-2 Inv-loop μ-loop
 returns-2 c =
     let l = c .before .before in
-    loop-all (covers (l .before)) (l .loop .inv) (c .if1 .left) (first-range (l .before .before .before .before .before .before .pre .0))
+    loop-all (covers (l .before)) (l .loop .inv) (c .if1 .left) (whole (l .before))
 
 pub check-first-choices-spec : {M : Type 1} → statement M
 check-first-choices-spec =

@@ -1,33 +1,35 @@
 -- The loop: the covers of the choices before the k-th of the operand placed last are checked, and what is skipped is not wanted.
 use mathlib.Core.Bool.{true}
-use mathlib.Core.List.{[]}
+use mathlib.Core.List.{[], append-nil}
 use mathlib.Core.Path.{_≡_, _∙_, sym}
 use Prim.Native.Nat.{_+_, _-_, _<_}
 use native.Mathlib.Omega.{arith}
 use Rattle.layout.specs.ShapeArray.{cellCount, linksIn}
 use Rattle.layout.specs.Members.{membersFrom}
-use Rattle.placing.specs.Chosen.{lastOf}
 use Rattle.placing.specs.Wanted.{fitsIn}
-use Rattle.placing.proofs.Ranges.{Covers, step-most}
-use Rattle.shapes.specs.Operands.{shapeUnder, wantedLastIn}
-use Rattle.shapes.proofs.Steps.{last-covers, last-range, last-none, last-one}
+use Rattle.placing.proofs.Ranges.{stretch, Covers, step-most}
+use Rattle.shapes.specs.Operands.{wantedLastIn}
+use Rattle.shapes.proofs.Steps.{last-one}
 use Rattle.checker.specs.Checking.{Checks}
+use Rattle.undoing.specs.Before.{valuedBefore, choicesRowed}
+use Rattle.checker.proofs.Given.{lastGiven, last-tried, last-all, last-nothing, last-left}
+use Rattle.checker.proofs.Rowed.{facts-valued}
 use Rattle.checker.proofs.ChoiceLoop.{ChoiceLoop, loop-none, loop-past, loop-more, loop-stop, loop-all}
 use borrow.Author.Needs.{needs}
 use Rattle.checker.proofs.choices.check_last_choices.Statement.{statement}
 use Rattle.checker.proofs.choices.check_last_choices.Tie as tie
 
 abbrev Inv-loop : tie.InvT-loop
-Inv-loop cert starts variables by s operand wanted c t₀ k₀ t k = ChoiceLoop cert (membersFrom cert variables starts) (by .from) (lastOf variables (by .kind) (by .a) (by .b) (shapeUnder variables (by .b) s)) c 0 (cellCount s + (2 + cellCount s)) t₀ k t
+Inv-loop cert starts variables by s facts operand wanted c t₀ k₀ t k = ChoiceLoop cert (membersFrom cert variables starts) (by .from) (lastGiven variables by s facts) c 0 (cellCount s + (2 + cellCount s)) t₀ k t
 
 abbrev μ-loop : tie.MeasureT-loop
-μ-loop cert starts variables by s operand wanted c t₀ k₀ t k = c .to - k
+μ-loop cert starts variables by s facts operand wanted c t₀ k₀ t k = c .to - k
 
 -- the choices to try leave none out
 covers : (c : tie.After-choices-of Inv-loop μ-loop)
     → let a = c .before .before .before .before .before .before .args in
-    Covers (c .choices-of .result) (λ j. lastOf (a .variables) (a .by .kind) (a .by .a) (a .by .b) (shapeUnder (a .variables) (a .by .b) (a .s .now)) j ≡ []) 0 (cellCount (a .s .now) + (2 + cellCount (a .s .now)))
-covers c = last-covers (c .before .before .before .before .before .before .pre .0) (c .before .before .wanted-of-last .ensures) (c .choices-of .ensures)
+    Covers (c .choices-of .result) (λ j. lastGiven (a .variables) (a .by) (a .s .now) (a .facts .now) j ≡ []) 0 (cellCount (a .s .now) + (2 + cellCount (a .s .now)))
+covers c = let o = c .before .before .before .before .before .before in last-tried (o .args .variables) (o .args .by) (o .args .s .now) (o .args .facts .now) (o .pre .0) (c .before .before .wanted-of-last .ensures) (c .choices-of .ensures)
 
 -- this choice is wanted
 fits : (c : tie.Then2 Inv-loop μ-loop)
@@ -40,15 +42,38 @@ fits c = let l = c .before .before .before .before .before in rw (← l .before 
 past : (c : tie.Then2 Inv-loop μ-loop) → let l = c .before .before .before .before .before in let a = l .before .before .before .before .before .before .before .args in l .loop .k < (cellCount (a .s .now) + (2 + cellCount (a .s .now)))
 past c = let l = c .before .before .before .before .before in omega (arith, covers (l .before) .most, c .before .before .before .if1 .taken)
 
--- what it gives is checked
-taken : (c : tie.After-check-quickly Inv-loop μ-loop)
-    → let l = c .before .before .before .before .before .before .before .before .before .before in
+-- what it gives is checked: of kinds 8 to 13, and of 1 to 5
+valued : (c : tie.After-check-valued Inv-loop μ-loop)
+    → let l = c .before .before .before .before .before .before .before .before .before .before .before .before in
     let a = l .before .before .before .before .before .before .before .args in
-    Checks (a .cert .now) (membersFrom (a .cert .now) (a .variables) (a .starts .now)) (a .by .from) (lastOf (a .variables) (a .by .kind) (a .by .a) (a .by .b) (shapeUnder (a .variables) (a .by .b) (a .s .now)) (l .loop .k)) (l .loop .t) (c .check-quickly .result)
-taken c =
-    let l = c .before .before .before .before .before .before .before .before .before .before in
-    let i = c .before .before .before .before .before in
-    rw (last-one (l .before .before .before .before .before .before .before .pre .0) (l .loop .k) (fits i), ← l .before .before .before .before .last-operand .ensures, ← c .before .before .undo-choice .ensures .same) (c .check-quickly .ensures)
+    Checks (a .cert .now) (membersFrom (a .cert .now) (a .variables) (a .starts .now)) (a .by .from) (lastGiven (a .variables) (a .by) (a .s .now) (a .facts .now) (l .loop .k)) (l .loop .t) (c .check-valued .result)
+valued c =
+    let l = c .before .before .before .before .before .before .before .before .before .before .before .before in
+    let i = c .before .before .before .before .before .before .before in
+    let a = l .before .before .before .before .before .before .before .args in
+    let u = c .before .before .before .before .undo-choice in
+    rw (last-one (l .before .before .before .before .before .before .before .pre .0) (l .loop .k) (fits i), ← l .before .before .before .before .last-operand .ensures, ← u .ensures .same, facts-valued (a .variables) (a .by .kind) (a .by .a) (a .by .b) _ (a .facts .now) (c .before .before .if3 .taken) (u .ensures .array), append-nil (valuedBefore (a .variables) (a .by .kind) (a .by .a) (a .by .b) (u .last .1 .1 .1 .0) (a .facts .now)))
+    (c .check-valued .ensures)
+
+left : (c : tie.After-check-cover Inv-loop μ-loop)
+    → let l = c .before .before .before .before .before .before .before .before .before .before .before .before in
+    let a = l .before .before .before .before .before .before .before .args in
+    Checks (a .cert .now) (membersFrom (a .cert .now) (a .variables) (a .starts .now)) (a .by .from) (lastGiven (a .variables) (a .by) (a .s .now) (a .facts .now) (l .loop .k)) (l .loop .t) (c .check-cover .result)
+left c =
+    let l = c .before .before .before .before .before .before .before .before .before .before .before .before in
+    let i = c .before .before .before .before .before .before .before in
+    let o = l .before .before .before .before .before .before .before in
+    let a = o .args in
+    let u = c .before .before .before .before .undo-choice in
+    rw (last-left (a .variables) (a .by) (a .s .now) (a .facts .now) (o .pre .0) (l .loop .k) (fits i) (c .before .before .if3 .left) _ (rw (l .before .before .before .before .last-operand .ensures) at (u .ensures)))
+    (c .check-cover .ensures)
+
+-- all choices give all
+whole : (c : tie.After-choices-of Inv-loop μ-loop)
+    → let a = c .before .before .before .before .before .before .args in
+    stretch (lastGiven (a .variables) (a .by) (a .s .now) (a .facts .now)) 0 (cellCount (a .s .now) + (2 + cellCount (a .s .now)))
+    ≡ choicesRowed (a .variables) (a .by .kind) (a .by .a) (a .by .b) (a .s .now) (a .facts .now)
+whole c = let o = c .before .before .before .before .before .before in last-all (o .args .variables) (o .args .by) (o .args .s .now) (o .args .facts .now) (o .pre .0)
 
 last-operand-requires : tie.Need-last-operand-requires Inv-loop μ-loop
 last-operand-requires c κs =
@@ -90,10 +115,11 @@ undo-choice-requires c κs =
     let i = c .before .before in
     (l .before .before .before .before .before .before .before .pre .0, l .before .before .before .before .last-operand .ensures, past i, fits i)
 
-check-quickly-requires : tie.Need-check-quickly-requires Inv-loop μ-loop
-check-quickly-requires c κs =
-    let l = c .before .before .before .before .before .before .before .before .before in
-    l .loop .inv .progress .within
+check-valued-requires : tie.Need-check-valued-requires Inv-loop μ-loop
+check-valued-requires c κs =
+    let l = c .before .before .before .before .before .before .before .before .before .before .before in
+    let o = l .before .before .before .before .before .before .before .pre .0 .work .operands in
+    (omega (arith, o .a-most, o .variables-most), omega (arith, o .b-most, o .variables-most), l .loop .inv .progress .within)
 
 enum-known-g : tie.Need-enum-known-g Inv-loop μ-loop
 enum-known-g c = search needs
@@ -104,35 +130,63 @@ enum-told c = search needs
 returns : tie.Need-returns Inv-loop μ-loop
 returns c =
     let o = c .before .before in
-    let l = o .before .before .before .before .before .before .before .before .before .before in
-    loop-stop (covers (l .before)) (l .loop .inv) (o .before .before .before .before .before .before .before .before .if1 .taken) (taken o) (c .enum-told .given .1) (last-range (l .before .before .before .before .before .before .before .pre .0))
+    let l = o .before .before .before .before .before .before .before .before .before .before .before .before in
+    loop-stop (covers (l .before)) (l .loop .inv) (o .before .before .before .before .before .before .before .before .before .before .if1 .taken) (valued o) (c .enum-told .given .1) (whole (l .before))
 
 loop-less : tie.Need-loop-less Inv-loop μ-loop
 loop-less c =
-    let l = c .before .before .before .before .before .before .before .before .before .before .before .before .before in
-    omega (arith, covers (l .before) .forward, c .before .before .before .before .before .before .before .before .before .before .before .if1 .taken)
+    let l = c .before .before .before .before .before .before .before .before .before .before .before .before .before .before .before in
+    omega (arith, covers (l .before) .forward, c .before .before .before .before .before .before .before .before .before .before .before .before .before .if1 .taken)
 
 loop-again : tie.Need-loop-again Inv-loop μ-loop
 loop-again c =
     let o = c .before .before .before in
-    let l = o .before .before .before .before .before .before .before .before .before .before in
-    loop-more (covers (l .before)) (l .loop .inv) (o .before .before .before .before .before .before .before .before .if1 .taken) (taken o) (c .before .g .given .1)
+    let l = o .before .before .before .before .before .before .before .before .before .before .before .before in
+    loop-more (covers (l .before)) (l .loop .inv) (o .before .before .before .before .before .before .before .before .before .before .if1 .taken) (valued o) (c .before .g .given .1)
 
-loop-less-2 : tie.Need-loop-less-2 Inv-loop μ-loop
-loop-less-2 c =
-    let l = c .before .before .before .before .before in
-    omega (arith, covers (l .before) .forward, c .before .before .before .if1 .taken)
+check-cover-requires : tie.Need-check-cover-requires Inv-loop μ-loop
+check-cover-requires c κs =
+    let l = c .before .before .before .before .before .before .before .before .before .before .before in
+    l .loop .inv .progress .within
 
-loop-again-2 : tie.Need-loop-again-2 Inv-loop μ-loop
-loop-again-2 c =
-    let l = c .before .before .before .before .before in
-    loop-past (covers (l .before)) (l .loop .inv) (c .before .before .before .if1 .taken)
-    (last-none (l .before .before .before .before .before .before .before .pre .0) (l .loop .k) (rw (← l .before .before .before .wanted-of-last .ensures) (sym (c .before .is-wanted-in .ensures) ∙ c .if2 .left)))
+enum-known-g-2 : tie.Need-enum-known-g-2 Inv-loop μ-loop
+enum-known-g-2 c = search needs
+
+enum-told-2 : tie.Need-enum-told-2 Inv-loop μ-loop
+enum-told-2 c = search needs
 
 returns-2 : tie.Need-returns-2 Inv-loop μ-loop
 returns-2 c =
+    let o = c .before .before in
+    let l = o .before .before .before .before .before .before .before .before .before .before .before .before in
+    loop-stop (covers (l .before)) (l .loop .inv) (o .before .before .before .before .before .before .before .before .before .before .if1 .taken) (left o) (c .enum-told2 .given .1) (whole (l .before))
+
+loop-less-2 : tie.Need-loop-less-2 Inv-loop μ-loop
+loop-less-2 c =
+    let l = c .before .before .before .before .before .before .before .before .before .before .before .before .before .before .before in
+    omega (arith, covers (l .before) .forward, c .before .before .before .before .before .before .before .before .before .before .before .before .before .if1 .taken)
+
+loop-again-2 : tie.Need-loop-again-2 Inv-loop μ-loop
+loop-again-2 c =
+    let o = c .before .before .before in
+    let l = o .before .before .before .before .before .before .before .before .before .before .before .before in
+    loop-more (covers (l .before)) (l .loop .inv) (o .before .before .before .before .before .before .before .before .before .before .if1 .taken) (left o) (c .before .g2 .given .1)
+
+loop-less-3 : tie.Need-loop-less-3 Inv-loop μ-loop
+loop-less-3 c =
+    let l = c .before .before .before .before .before in
+    omega (arith, covers (l .before) .forward, c .before .before .before .if1 .taken)
+
+loop-again-3 : tie.Need-loop-again-3 Inv-loop μ-loop
+loop-again-3 c =
+    let l = c .before .before .before .before .before in
+    loop-past (covers (l .before)) (l .loop .inv) (c .before .before .before .if1 .taken)
+    (let o = l .before .before .before .before .before .before .before in last-nothing (o .args .variables) (o .args .by) (o .args .s .now) (o .args .facts .now) (o .pre .0) (l .loop .k) (rw (← l .before .before .before .wanted-of-last .ensures) (sym (c .before .is-wanted-in .ensures) ∙ c .if2 .left)))
+
+returns-3 : tie.Need-returns-3 Inv-loop μ-loop
+returns-3 c =
     let l = c .before .before in
-    loop-all (covers (l .before)) (l .loop .inv) (c .if1 .left) (last-range (l .before .before .before .before .before .before .before .pre .0))
+    loop-all (covers (l .before)) (l .loop .inv) (c .if1 .left) (whole (l .before))
 
 pub check-last-choices-spec : {M : Type 1} → statement M
 check-last-choices-spec =
@@ -149,12 +203,18 @@ check-last-choices-spec =
     add-k
     is-wanted-in-requires
     undo-choice-requires
-    check-quickly-requires
+    check-valued-requires
     enum-known-g
     enum-told
     returns
     loop-less
     loop-again
+    check-cover-requires
+    enum-known-g-2
+    enum-told-2
+    returns-2
     loop-less-2
     loop-again-2
-    returns-2)
+    loop-less-3
+    loop-again-3
+    returns-3)

@@ -1,35 +1,17 @@
--- By kind and operands: the helper plays b, or b itself does.
+-- The second operand is the one that is placed.
 use Prim.Native.Nat.{ℕ}
 use mathlib.Core.Path.{ap}
-use native.Mathlib.Omega.{arith}
-use Rattle.checker.proofs.Helper.{second-helper, second-itself}
 use borrow.Author.Needs.{needs}
 use Rattle.checker.proofs.choices.with_helper.Statement.{statement}
 use Rattle.checker.proofs.choices.with_helper.Tie as tie
 
+second-operand-requires : tie.Need-second-operand-requires
+second-operand-requires c κs = search needs
+
 returns : tie.Need-returns
 returns c =
-    let a = c .before .before .args in
-    ap (λ (q : ℕ). record { from = a .by .from; kind = a .by .kind; a = a .by .a; b = q; to = a .by .to })
-    (second-itself (a .variables) (a .by .kind) (a .by .a) (a .by .b) (λ k. absurd (c .if1 .taken k)))
-
-returns-2 : tie.Need-returns-2
-returns-2 c =
-    let a = c .before .before .before .before .args in
-    ap (λ (q : ℕ). record { from = a .by .from; kind = a .by .kind; a = a .by .a; b = q; to = a .by .to })
-    (second-itself (a .variables) (a .by .kind) (a .by .a) (a .by .b) (λ _. c .if2 .taken))
-
-add-t4 : tie.Need-add-t4
-add-t4 c = search needs
-
-cast-t5 : tie.Need-cast-t5
-cast-t5 c = search needs
-
-returns-3 : tie.Need-returns-3
-returns-3 c =
-    let a = c .before .before .before .before .args in
-    ap (λ (q : ℕ). record { from = a .by .from; kind = a .by .kind; a = a .by .a; b = q; to = a .by .to })
-    (second-helper (a .variables) (a .by .kind) (a .by .a) (a .by .b) (omega arith) (omega arith))
+    let a = c .before .args in
+    ap (λ (q : ℕ). record { from = a .by .from; kind = a .by .kind; a = a .by .a; b = q; to = a .by .to }) (c .second-operand .ensures)
 
 pub with-helper-spec : {M : Type 1} → statement M
-with-helper-spec = tie.close (tie.spec returns returns-2 add-t4 cast-t5 returns-3)
+with-helper-spec = tie.close (tie.spec second-operand-requires returns)

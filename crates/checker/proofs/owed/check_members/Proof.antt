@@ -5,10 +5,13 @@ use native.Mathlib.Omega.{arith}
 use native.Mathlib.Numerals.{add-one}
 use lib.ListN.{length, getD, drop, drop-of-length-le}
 use lib.Seq.{drop-cons}
-use mathlib.Core.List.{List, _∷_}
+use mathlib.Core.List.{List, _∷_, _++_, map-append}
 use Rattle.lists.specs.List.{concatMap}
+use Rattle.format.specs.Certificate.{readCover}
+use Rattle.format.specs.Parser.{certificateBuffer}
 use Rattle.layout.specs.Entries.{locatedAt, membersAt}
 use Rattle.layout.specs.Members.{membersFrom}
+use Rattle.checker.specs.Checking.{coversOf}
 use Rattle.checker.specs.Jobs.{owedBy}
 use Rattle.checker.proofs.Checking.{Progress, begin, advance, halt, finish}
 use borrow.Author.Needs.{needs}
@@ -17,8 +20,8 @@ use Rattle.checker.proofs.owed.check_members.Tie as tie
 
 abbrev Inv-loop : tie.InvT-loop
 Inv-loop job h index cert starts t₀ m₀ t m =
-    Progress cert (membersFrom cert (h .variables) starts) (concatMap (owedBy job h) (membersAt cert (h .variables) starts)) t₀
-    (concatMap (owedBy job h) (membersAt cert (h .variables) (drop m starts))) t
+    Progress cert (coversOf cert (membersFrom cert (h .variables) starts) (concatMap (owedBy job h) (membersAt cert (h .variables) starts))) t₀
+    (coversOf cert (membersFrom cert (h .variables) starts) (concatMap (owedBy job h) (membersAt cert (h .variables) (drop m starts)))) t
 
 abbrev μ-loop : tie.MeasureT-loop
 μ-loop job h index cert starts t₀ m₀ t m = length starts - m
@@ -26,6 +29,20 @@ abbrev μ-loop : tie.MeasureT-loop
 -- member m is the next
 next : (starts : List ℕ) (m : ℕ) → m < length starts → drop m starts ≡ getD starts m 0 ∷ drop (m + 1) starts
 next starts m b = rw (add-one m) (drop-cons starts m 0 b)
+
+-- what is owed for it, and then for the others
+owing : (l : tie.At-loop Inv-loop μ-loop)
+    → let a = l .before .before .before .before .args in
+    let ms = membersFrom (a .cert .now) (a .h .variables) (a .starts .now) in
+    l .loop .m < length (a .starts .now)
+    → Progress (a .cert .now) (coversOf (a .cert .now) ms (concatMap (owedBy (a .job .now) (a .h)) (membersAt (a .cert .now) (a .h .variables) (a .starts .now)))) (a .from)
+    (coversOf (a .cert .now) ms (owedBy (a .job .now) (a .h) (locatedAt (a .cert .now) (a .h .variables) (getD (a .starts .now) (l .loop .m) 0)))
+    ++ coversOf (a .cert .now) ms (concatMap (owedBy (a .job .now) (a .h)) (membersAt (a .cert .now) (a .h .variables) (drop (l .loop .m + 1) (a .starts .now))))) (l .loop .t)
+owing l b =
+    let a = l .before .before .before .before .args in
+    let ms = membersFrom (a .cert .now) (a .h .variables) (a .starts .now) in
+    rw (map-append (readCover (certificateBuffer (a .cert .now)) ms) (owedBy (a .job .now) (a .h) (locatedAt (a .cert .now) (a .h .variables) (getD (a .starts .now) (l .loop .m) 0))) (concatMap (owedBy (a .job .now) (a .h)) (membersAt (a .cert .now) (a .h .variables) (drop (l .loop .m + 1) (a .starts .now))))) at
+    (rw (next (a .starts .now) (l .loop .m) b) at (l .loop .inv))
 
 loop-holds : tie.Need-loop-holds Inv-loop μ-loop
 loop-holds c = begin (c .before .before .before .pre .3)
@@ -44,9 +61,7 @@ enum-told c = search needs
 
 returns : tie.Need-returns Inv-loop μ-loop
 returns c =
-    let a = c .before .before .before .before .before .before .before .before .args in
-    let l = c .before .before .before .before .loop in
-    halt (owedBy (a .job .now) (a .h) (locatedAt (a .cert .now) (a .h .variables) (getD (a .starts .now) (l .m) 0))) _ (rw (next (a .starts .now) (l .m) (omega arith)) at (l .inv)) (c .before .before .check-member .ensures) (c .enum-told .given .1)
+    halt _ _ (owing (c .before .before .before .before) (omega arith)) (c .before .before .check-member .ensures) (c .enum-told .given .1)
 
 add-m : tie.Need-add-m Inv-loop μ-loop
 add-m c = search needs
@@ -56,9 +71,7 @@ loop-less c = search needs
 
 loop-again : tie.Need-loop-again Inv-loop μ-loop
 loop-again c =
-    let a = c .before .before .before .before .before .before .before .before .before .args in
-    let l = c .before .before .before .before .before .loop in
-    advance (owedBy (a .job .now) (a .h) (locatedAt (a .cert .now) (a .h .variables) (getD (a .starts .now) (l .m) 0))) _ (rw (next (a .starts .now) (l .m) (omega arith)) at (l .inv)) (c .before .before .before .check-member .ensures) (c .before .g .given .1)
+    advance _ _ (owing (c .before .before .before .before .before) (omega arith)) (c .before .before .before .check-member .ensures) (c .before .g .given .1)
 
 returns-2 : tie.Need-returns-2 Inv-loop μ-loop
 returns-2 c =

@@ -2,12 +2,12 @@
 use mathlib.Core.Path.{_≡_, ap, _∙_, sym}
 use Prim.Native.Nat.{_<_}
 use native.Mathlib.Omega.{arith}
-use Rattle.format.specs.Certificate.{readCover}
-use Rattle.format.specs.Parser.{parsed, certificateBuffer}
+use Rattle.format.specs.Parser.{parsed}
 use Rattle.layout.specs.ShapeArray.{shapeIn}
 use Rattle.layout.specs.Members.{membersFrom}
 use Rattle.covering.specs.Answer.{coverAnswerOf}
-use Rattle.checker.specs.Checking.{located}
+use Rattle.checker.specs.Checking.{coverRowed}
+use Rattle.undoing.specs.Rowed.{rowed}
 use Rattle.checker.proofs.Checks.{counted-fits, one-taken, one-refused}
 use borrow.Author.Needs.{needs}
 use Rattle.checker.proofs.single.check_cover.Statement.{statement}
@@ -24,17 +24,17 @@ small : (c : tie.After-known-told) → c .before .r .given .0 .1 .0 < 65536
 small c = omega (arith, c .known-told .given)
 
 -- what the exact test says of the cover
-held : (c : tie.After-r) → let a = c .before .before .before .before .before .args in parsed (c .r .given .0 .1 .0) (c .r .given .0 .0) ≡ readCover (certificateBuffer (a .cert .now)) (membersFrom (a .cert .now) (a .variables) (a .starts .now)) (located (a .state) (shapeIn (a .variables) (a .s .now))) (a .t .at)
+held : (c : tie.After-r) → let a = c .before .before .before .before .before .args in parsed (c .r .given .0 .1 .0) (c .r .given .0 .0) ≡ coverRowed (a .cert .now) (membersFrom (a .cert .now) (a .variables) (a .starts .now)) (a .state) (rowed (a .facts .now) (shapeIn (a .variables) (a .s .now))) (a .t .at)
 held c = ap coverAnswerOf (sym (c .r .given .1)) ∙ c .before .before .exact-cover .ensures
 
-add-t13 : tie.Need-add-t13
-add-t13 c = let s = c .before .before .before .before .before .before .before in omega (arith, counted-fits (s .args .cert .now) (s .args .t) (s .pre))
+add-t14 : tie.Need-add-t14
+add-t14 c = let s = c .before .before .before .before .before .before .before in omega (arith, counted-fits (s .args .cert .now) (s .args .t) (s .pre))
 
-cast-t14 : tie.Need-cast-t14
-cast-t14 c = search needs
+cast-t15 : tie.Need-cast-t15
+cast-t15 c = search needs
 
-add-t15 : tie.Need-add-t15
-add-t15 c = let s = c .before .before .before .before .before .before .before in omega (arith, counted-fits (s .args .cert .now) (s .args .t) (s .pre), small (c .before))
+add-t16 : tie.Need-add-t16
+add-t16 c = let s = c .before .before .before .before .before .before .before in omega (arith, counted-fits (s .args .cert .now) (s .args .t) (s .pre), small (c .before))
 
 enum-known-r-2 : tie.Need-enum-known-r-2
 enum-known-r-2 c = search needs
@@ -42,16 +42,16 @@ enum-known-r-2 c = search needs
 returns : tie.Need-returns
 returns c =
     let s = c .before .before .before .before .before .before .before in
-    one-taken (s .args .cert .now) _ _ (s .args .t) _ _ (held (c .before .before)) (s .pre) (small (c .before))
+    one-taken (s .args .cert .now) _ _ _ (s .args .t) _ _ (held (c .before .before)) (s .pre) (small (c .before))
 
 returns-2 : tie.Need-returns-2
 returns-2 c =
     let a = c .before .before .before .before .before .before .args in
     let ms = membersFrom (a .cert .now) (a .variables) (a .starts .now) in
-    let o = located (a .state) (shapeIn (a .variables) (a .s .now)) in
+    let o = rowed (a .facts .now) (shapeIn (a .variables) (a .s .now)) in
     let v = c .before .r2 .given .0 in
-    (one-refused (a .cert .now) ms o (a .t) (v .0) (v .1 .0) (ap coverAnswerOf (sym (c .before .r2 .given .1)) ∙ c .before .before .before .exact-cover .ensures), tt)
+    (one-refused (a .cert .now) ms (a .state) o (a .t) (v .0) (v .1 .0) (ap coverAnswerOf (sym (c .before .r2 .given .1)) ∙ c .before .before .before .exact-cover .ensures), tt)
 
 pub check-cover-spec : {M : Type 1} → statement M
 check-cover-spec =
-    tie.close (tie.spec exact-cover-requires enum-known-r add-t13 cast-t14 add-t15 enum-known-r-2 returns returns-2)
+    tie.close (tie.spec exact-cover-requires enum-known-r add-t14 cast-t15 add-t16 enum-known-r-2 returns returns-2)

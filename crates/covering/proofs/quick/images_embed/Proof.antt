@@ -1,6 +1,6 @@
 -- Where all three tests pass, the images are read and the cover holds, if its state is right.
 use Prim.Native.Nat.{ℕ}
-use mathlib.Core.Path.{_≡_, refl, sym}
+use mathlib.Core.Path.{_≡_, sym}
 use native.Mathlib.Omega.{arith}
 use borrow.Author.Needs.{needs}
 use borrow.Author.Tests.{not-false}
@@ -14,7 +14,7 @@ cells-held-requires c κs = search needs
 
 read-and-mark-requires : tie.Need-read-and-mark-requires
 read-and-mark-requires c κs =
-    let (w, e, inside) = c .before .before .before .before .pre in
+    let (w, _, e, inside) = c .before .before .before .before .pre in
     let most = c .before .before .cells-held .ensures .1 in
     (inside, omega (arith, w .cells), most, images-none _ most)
 
@@ -38,18 +38,18 @@ add-quick-links-2 c = search needs
 
 quick-links-requires : tie.Need-quick-links-requires
 quick-links-requires c κs =
-    let (w, e, _) = c .before .before .before .before .before .before .before .before .before .before .before .pre in
+    let (w, _, e, _) = c .before .before .before .before .before .before .before .before .before .before .before .pre in
     let h = c .before .before .before .before .before .before .before .before .before .cells-held .ensures in
     let t = c .before .before .before .before .before .before .read-and-mark .ensures .whole (not-false _ (c .before .before .before .before .before .if1 .left)) in
     (_, _, taken-linking _ _ _ _ _ w (sym (h .2)) _ _ e _ _ t)
 
 returns-3 : tie.Need-returns-3
 returns-3 c = λ z.
-    let (w, e, _) = c .before .before .before .before .before .before .before .before .before .before .before .before .pre in
+    let (w, bare, e, _) = c .before .before .before .before .before .before .before .before .before .before .before .before .pre in
     let h = c .before .before .before .before .before .before .before .before .before .before .cells-held .ensures in
     let t = c .before .before .before .before .before .before .before .read-and-mark .ensures .whole (not-false _ (c .before .before .before .before .before .before .if1 .left)) in
     let l = taken-linking _ _ _ _ _ w (sym (h .2)) _ _ e _ _ t in
-    taken-embed _ _ _ _ _ w (sym (h .2)) _ _ e _ _ t (c .before .before .before .before .quick-vars .ensures (not-false _ (c .before .before .before .if2 .left))) _ (c .quick-links .ensures _ _ l z)
+    taken-embed _ _ _ _ _ w (sym (h .2)) _ _ e _ _ t bare (c .before .before .before .before .quick-vars .ensures (not-false _ (c .before .before .before .if2 .left))) _ (c .quick-links .ensures _ _ l z)
 
 pub images-embed-spec : {M : Type 1} → statement M
 images-embed-spec =

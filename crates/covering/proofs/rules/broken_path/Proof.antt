@@ -1,5 +1,4 @@
 -- A link that misses is found first; where there is none, the path that failed shares a cell.
-use mathlib.Core.Path.{_∙_, refl}
 use native.Mathlib.Omega.{arith}
 use Rattle.covering.proofs.Whole.{linking-read, miss-found, share-found}
 use borrow.Author.Needs.{needs}
@@ -30,19 +29,19 @@ cast-t15 : tie.Need-cast-t15
 cast-t15 c = search needs
 
 returns : tie.Need-returns
-returns c =
+returns c = λ missing.
     let (t, marked, _, _) = c .before .before .before .before .before .pre in
     let read = c .before .before .wide .ensures .0 in
-    miss-found _ _ _ _ _ t _ read _ (c .before .link-misses .ensures _ _ (linking-read _ _ _ _ _ t _ read _ (rw read marked))) (c .if1 .taken)
+    miss-found _ _ _ _ _ t _ read _ (c .before .link-misses .ensures _ _ (linking-read _ _ _ _ _ t _ read _ (rw read marked))) missing (c .if1 .taken)
 
 cast-t12 : tie.Need-cast-t12
 cast-t12 c = search needs
 
 returns-2 : tie.Need-returns-2
-returns-2 c =
+returns-2 c = λ missing.
     let (t, marked, _, first) = c .before .before .before .before .before .pre in
     let read = c .before .before .wide .ensures .0 in
-    share-found _ _ _ _ _ t _ read _ (c .before .link-misses .ensures _ _ (linking-read _ _ _ _ _ t _ read _ (rw read marked))) _ first (omega arith)
+    share-found _ _ _ _ _ t _ read _ (c .before .link-misses .ensures _ _ (linking-read _ _ _ _ _ t _ read _ (rw read marked))) missing _ first (omega arith)
 
 pub broken-path-spec : {M : Type 1} → statement M
 broken-path-spec =

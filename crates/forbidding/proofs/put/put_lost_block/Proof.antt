@@ -26,7 +26,7 @@ same-length c = search needs
 returns : tie.Need-returns
 returns c =
     let p = c .before .before .before .before .before .before .before .before .before .before .before .before .before .before .before .args .p in
-    put-lost (p .variables) (p .variable) (p .state) (c .before .before .before .before .before .before .before .before .before .before .before .before .put-loose .ensures .1)
+    put-lost (p .version) (p .variables) (p .variable) (p .state) (c .before .before .before .before .before .before .before .before .before .before .before .before .put-loose .ensures .1)
     (put-more (c .before .before .before .before .before .before .before .put-shape .ensures .1) (put-end (c .before .before .put-shape2 .ensures .1)))
 
 pub put-lost-block-spec : {M : Type 1} → statement M

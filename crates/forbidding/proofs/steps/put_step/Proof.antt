@@ -1,5 +1,7 @@
 -- Two shapes where the transition steps through a variable, else none.
+use mathlib.Core.Path.{ap}
 use native.Mathlib.Omega.{arith}
+use Rattle.forbidding.specs.Answers.{countBytes}
 use Rattle.forbidding.proofs.Stepping.{from-is, step-bytes, put-through, put-nothing, variable-in}
 use borrow.Author.Needs.{needs}
 use Rattle.forbidding.proofs.steps.put_step.Statement.{statement}
@@ -14,25 +16,26 @@ steps-through-requires c κs = search needs
 enum-known-step : tie.Need-enum-known-step
 enum-known-step c = search needs
 
+version-of-requires : tie.Need-version-of-requires
+version-of-requires c κs = search needs
+
 cast-state : tie.Need-cast-state
 cast-state c = search needs
 
 put-bad-step-requires : tie.Need-put-bad-step-requires
 put-bad-step-requires c κs =
-    let at-step = c .before .before .before in
-    let s = c .before .before .before .before .before .before .before .before .before in
-    let job = s .args .job .now in
-    let t = c .before .before .before .before .before .before .transition-at in
-    let step = c .before .before .before .before .before .steps-through in
-    let in-range = variable-in job (s .args .from) (t .result) (t .ensures) (s .pre .0 .whole) (step .result) (step .ensures) (s .args .variables) _ (at-step .step .given .1) (s .pre .0) in
-    let size = step-bytes job (s .args .from) (t .result) (t .ensures) (s .pre .0 .whole) (step .result) (step .ensures) (s .args .variables) _ (at-step .step .given .1) in (
+    let s = c .before .before .before .before .before .before .before .before .before .before in
+    let t = c .before .before .before .before .before .before .before .transition-at in
+    let step = c .before .before .before .before .before .before .steps-through in
+    let in-range = variable-in (s .args .job .now) (s .args .from) (t .result) (t .ensures) (s .pre .0 .whole) (step .result) (step .ensures) (s .args .variables) _ (c .before .before .before .before .step .given .1) (s .pre .0) in
+    let size = step-bytes (s .args .job .now) (s .args .from) (t .result) (t .ensures) (s .pre .0 .whole) (step .result) (step .ensures) (s .args .variables) _ (c .before .before .before .before .step .given .1) in (
       record {
         most = s .pre .1;
         some = in-range .0;
         variable = in-range .1;
-        state = omega (arith, from-is job (s .args .from) (t .result) (t .ensures) (s .pre .0 .whole), s .pre .0 .from);
+        state = omega (arith, from-is (s .args .job .now) (s .args .from) (t .result) (t .ensures) (s .pre .0 .whole), s .pre .0 .from);
       },
-      omega (arith, size, s .pre .2),
+      omega (arith, size, s .pre .2, ap countBytes (c .before .before .version-of .ensures)),
     )
 
 enum-told : tie.Need-enum-told
@@ -43,19 +46,17 @@ same-length c = search needs
 
 returns : tie.Need-returns
 returns c =
-    let s = c .before .before .before .before .before .before .before .before .before .before .before .before in
-    let t = c .before .before .before .before .before .before .before .before .before .transition-at in
-    let step = c .before .before .before .before .before .before .before .before .steps-through in
-    put-through (s .args .job .now) (s .args .from) (t .result) (t .ensures) (s .pre .0 .whole) (step .result) (step .ensures) (s .args .variables) _ (c .before .before .before .before .before .before .step .given .1)
-    (c .before .before .put-bad-step .ensures)
+    let s = c .before .before .before .before .before .before .before .before .before .before .before .before .before in
+    let t = c .before .before .before .before .before .before .before .before .before .before .transition-at in
+    let step = c .before .before .before .before .before .before .before .before .before .steps-through in
+    put-through (s .args .job .now) (s .args .from) (t .result) (t .ensures) (s .pre .0 .whole) (step .result) (step .ensures) (s .args .variables) _ (c .before .before .before .before .before .before .before .step .given .1) (rw (c .before .before .before .before .before .version-of .ensures) at (c .before .before .put-bad-step .ensures))
 
 returns-2 : tie.Need-returns-2
 returns-2 c =
     let s = c .before .before .before .before .before .before in
     let t = c .before .before .before .transition-at in
     let step = c .before .before .steps-through in
-    put-nothing (s .args .job .now) (s .args .from) (t .result) (t .ensures) (s .pre .0 .whole) (step .result) (step .ensures) (s .args .variables) _ _ (c .enum-told .given .1)
-    (omega (arith, s .pre .2))
+    put-nothing (s .args .job .now) (s .args .from) (t .result) (t .ensures) (s .pre .0 .whole) (step .result) (step .ensures) (s .args .variables) _ _ (c .enum-told .given .1) (omega (arith, s .pre .2))
 
 pub put-step-spec : {M : Type 1} → statement M
 put-step-spec =
@@ -64,6 +65,7 @@ put-step-spec =
     transition-at-requires
     steps-through-requires
     enum-known-step
+    version-of-requires
     cast-state
     put-bad-step-requires
     enum-told

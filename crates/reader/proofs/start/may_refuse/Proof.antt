@@ -36,7 +36,7 @@ empty-at-requires c κs =
     let a = c .before .before .before .before .args in
     let (states, l, next, h) = c .before .before .before .before .pre in
     let (_, w) = stand-byte (a .cert .now) (a .variables) states (a .start) (a .at) l next h (omega arith) in
-    omega (arith, w .after, w .inside)
+    omega (arith, w .links-inside)
 
 returns-3 : tie.Need-returns-3
 returns-3 c = λ states l next h z.

@@ -1,11 +1,13 @@
--- Test after test: another state, a cell, a variable at #; else the member is refused.
+-- Refused at the start state where its bytes say that the empty heap satisfies it; else the facts are gone over, for the place after them.
 use Prim.Native.Nat.{ℕ, _≤_}
-use mathlib.Core.Path.{_≡_, sym, ap, _∙_}
+use mathlib.Core.Logic.{⊎-elim}
+use mathlib.Core.Path.{_≡_, sym, _∙_}
 use native.Mathlib.Omega.{arith}
 use lib.ListN.{length}
 use Rattle.run.specs.Run.{Located}
 use Rattle.format.specs.Job.{readLocated}
 use Rattle.format.specs.Parser.{parsed, certificateBuffer}
+use Rattle.layout.specs.Entries.{versionOf}
 use Rattle.reader.proofs.Answers.{got, lost}
 use Rattle.reader.proofs.Standing.{EntryAfter}
 use Rattle.reader.proofs.Testing.{state-read, stand, other-state, not-empty, satisfied}
@@ -32,7 +34,7 @@ returns c = λ l next h.
     absurd (state-read (a .cert .now) (a .variables) (a .states) (a .start) (a .at) l next h e)
 
 told : (c : tie.After-known-told) → let a = c .before .before .before .before .before .args in let v = c .before .number .given in
-    (l : Located) (next : ℕ) → readLocated (certificateBuffer (a .cert .now)) (a .variables) (a .states) (a .at) ≡ parsed l next
+    (l : Located) (next : ℕ) → readLocated (versionOf (a .cert .now)) (certificateBuffer (a .cert .now)) (a .variables) (a .states) (a .at) ≡ parsed l next
     → (l .state ≡ v .0 .0) × EntryAfter (certificateBuffer (a .cert .now)) (a .variables) (a .states) (a .at) (v .0 .1 .0) l next
 told c l next h =
     let a = c .before .before .before .before .before .args in
@@ -43,48 +45,50 @@ here : (c : tie.After-known-told) → let a = c .before .before .before .before 
     EntryAfter (certificateBuffer (a .cert .now)) (a .variables) (a .states) (a .at) (c .before .number .given .0 .1 .0) (p .0) (p .1)
 here c = let p = c .before .before .before .before .before .pre in told c (p .0) (p .1) (p .2) .1
 
-add-next : tie.Need-add-next
-add-next c = let w = here c in omega (arith, w .some, w .after, w .inside)
+empty-at-requires : tie.Need-empty-at-requires
+empty-at-requires c κs = let w = here (c .before) in omega (arith, w .links-inside)
 
-add-next-2 : tie.Need-add-next-2
-add-next-2 c = let w = here c in omega (arith, w .some, w .after, w .inside)
+returns-2 : tie.Need-returns-2
+returns-2 c =
+    λ l next h.
+    let a = c .before .before .before .before .before .before .before .before .args in
+    let (state-is, w) = told (c .before .before .before) l next h in
+    satisfied (a .cert .now) (a .variables) (a .states) (a .start) (a .at) l next h _ w (state-is ∙ c .before .before .if1 .taken) (sym (c .before .empty-at .ensures) ∙ c .if2 .taken)
 
-shared-slice-read-next : tie.Need-shared-slice-read-next
-shared-slice-read-next c = let w = here (c .before) in omega (arith, w .some, w .after, w .inside)
+shared-slice-read-cells : tie.Need-shared-slice-read-cells
+shared-slice-read-cells c = let w = here (c .before .before) in omega (arith, w .some, w .links-inside)
 
-cast-next : tie.Need-cast-next
-cast-next c =
-    let l = c .before .before .before .before .before .before .pre .0 in
-    let w = here (c .before) in
+cast-cells : tie.Need-cast-cells
+cast-cells c =
+    let l = c .before .before .before .before .before .before .before .pre .0 in
+    let w = here (c .before .before) in
     let most : length (l .shape .links) ≤ 12 = w .shape .cells in
     omega (arith, w .cells)
 
-add-next-3 : tie.Need-add-next-3
-add-next-3 c = let w = here (c .before) in omega (arith, w .some, w .after, w .inside)
+add-read-facts : tie.Need-add-read-facts
+add-read-facts c = let w = here (c .before .before) in omega (arith, w .some, w .links-inside)
 
-returns-2 : tie.Need-returns-2
-returns-2 c = λ l next h.
-    let a = c .before .before .before .before .before .before .before .args in
-    let (state-is, w) = told (c .before .before) l next h in
-    ap (parsed tt) (sym (w .after)) ∙ other-state (a .cert .now) (a .variables) (a .states) (a .start) (a .at) l next h _ w (λ e. c .if1 .taken (sym state-is ∙ e))
+add-read-facts-2 : tie.Need-add-read-facts-2
+add-read-facts-2 c = let w = here (c .before .before) in omega (arith, w .some, w .links-inside)
 
-empty-at-requires : tie.Need-empty-at-requires
-empty-at-requires c κs = let w = here (c .before .before) in omega (arith, w .after, w .inside)
+add-read-facts-3 : tie.Need-add-read-facts-3
+add-read-facts-3 c = let w = here (c .before .before) in omega (arith, w .some, w .links-inside)
+
+read-facts-requires : tie.Need-read-facts-requires
+read-facts-requires c κs =
+    let l = c .before .before .before .before .before .before .before .pre .0 in
+    let w = here (c .before .before) in
+    let most : length (l .shape .links) ≤ 12 = w .shape .cells in
+    omega (arith, w .cells)
 
 returns-3 : tie.Need-returns-3
-returns-3 c = λ l next h.
-    let a = c .before .before .before .before .before .before .before .before .before .args in
-    let (state-is, w) = told (c .before .before .before .before) l next h in
-    satisfied (a .cert .now) (a .variables) (a .states) (a .start) (a .at) l next h _ w (state-is ∙ c .before .before .if1 .left)
-    (sym (c .before .empty-at .ensures) ∙ c .if2 .taken)
-
-returns-4 : tie.Need-returns-4
-returns-4 c = λ l next h.
-    let a = c .before .before .before .before .before .before .before .before .before .args in
-    let (state-is, w) = told (c .before .before .before .before) l next h in
-    ap (parsed tt) (sym (w .after))
-    ∙ not-empty (a .cert .now) (a .variables) (a .states) (a .start) (a .at) l next h _ w (state-is ∙ c .before .before .if1 .left)
-    (sym (c .before .empty-at .ensures) ∙ c .if2 .left)
+returns-3 c =
+    λ l next h.
+    let a = c .before .before .before .before .before .before .before .before .args in
+    let (state-is, w) = told (c .before .before .before) l next h in
+    c .read-facts .ensures ∙ w .read-facts
+    ∙ ⊎-elim (λ (t, e, o). not-empty (a .cert .now) (a .variables) (a .states) (a .start) (a .at) l next h _ w (state-is ∙ t .taken) (sym (e .ensures) ∙ o .left))
+    (λ o. other-state (a .cert .now) (a .variables) (a .states) (a .start) (a .at) l next h _ w (λ e. o .left (sym state-is ∙ e))) (c .before .before .if1 .came)
 
 pub test-member-spec : {M : Type 1} → statement M
 test-member-spec =
@@ -95,12 +99,12 @@ test-member-spec =
     enum-told
     reached-requires
     returns
-    add-next
-    add-next-2
-    shared-slice-read-next
-    cast-next
-    add-next-3
-    returns-2
     empty-at-requires
-    returns-3
-    returns-4)
+    returns-2
+    shared-slice-read-cells
+    cast-cells
+    add-read-facts
+    add-read-facts-2
+    add-read-facts-3
+    read-facts-requires
+    returns-3)

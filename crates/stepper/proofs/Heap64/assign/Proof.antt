@@ -17,7 +17,7 @@ returns : tie.Need-returns
 returns c =
     let start = c .before .before .before in
     let t = start .args .self in
-    blocked t (assign (start .args .a) (start .args .b)) refl
+    λ x. blocked t x (assign (start .args .a) (start .args .b)) refl
     (λ d. d (sym (c .before .before .place-of .ensures) ∙ c .if1 .taken))
 
 sub-p : tie.Need-sub-p
@@ -36,8 +36,8 @@ returns-2 c =
     let b = start .args .b in
     let f = formed t (start .pre .0 .formed) in
     let p = c .before .before .place-of in
-    moved t (assign a b) (withVar t (a - 1) (p .result))
-    (put t (start .pre .0 .sized) f (assign a b) a (p .result) refl (λ z. c .if1 .left (p .ensures ∙ z)) (omega arith) (omega arith) (rw (p .ensures) (operand-stands t (start .pre .0 .sized) f b (omega arith))) (rw (p .ensures) refl))
+    λ x. moved t x (assign a b) (withVar t (a - 1) (p .result))
+    (put t (start .pre .0 .sized) f x (assign a b) a (p .result) refl (λ z. c .if1 .left (p .ensures ∙ z)) (omega arith) (omega arith) (rw (p .ensures) (operand-stands t (start .pre .0 .sized) f b (omega arith))) (rw (p .ensures) refl))
 
 pub assign-spec : {M : Type 1} → statement M
 assign-spec = tie.close (tie.spec place-of-requires returns sub-p element-set-from-p returns-2)

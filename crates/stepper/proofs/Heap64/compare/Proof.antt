@@ -41,19 +41,19 @@ returns : tie.Need-returns
 returns c =
     let p = c .before .before in
     let a = start p .args in
-    dangling-a (t p) (s p) (f p) (a .equal) (a .a) (a .b) (sym (pa p) ∙ c .if1 .taken)
+    λ x. dangling-a (t p) (s p) (f p) x (a .equal) (a .a) (a .b) (sym (pa p) ∙ c .if1 .taken)
 
 returns-2 : tie.Need-returns-2
 returns-2 c =
     let p = c .before .before .before .before in
     let a = start p .args in
-    dangling-b (t p) (s p) (f p) (a .equal) (a .a) (a .b) (sym (pb p) ∙ c .if2 .taken)
+    λ x. dangling-b (t p) (s p) (f p) x (a .equal) (a .a) (a .b) (sym (pb p) ∙ c .if2 .taken)
 
 returns-3 : tie.Need-returns-3
 returns-3 c =
     let p = c .before .before .before .before .before .before .before .before in
     let a = start p .args in
-    same-equal (t p) (s p) (f p) (a .equal) (a .a) (a .b)
+    λ x. same-equal (t p) (s p) (f p) x (a .equal) (a .a) (a .b)
     (λ z. c .before .before .before .before .before .before .if1 .left (pa p ∙ z)) (λ z. c .before .before .before .before .if2 .left (pb p ∙ z))
     (sym (pa p) ∙ c .before .if3 .taken ∙ pb p) (c .if4 .taken)
 
@@ -61,7 +61,7 @@ returns-4 : tie.Need-returns-4
 returns-4 c =
     let p = c .before .before .before .before .before .before .before .before in
     let a = start p .args in
-    same-different (t p) (s p) (f p) (a .equal) (a .a) (a .b)
+    λ x. same-different (t p) (s p) (f p) x (a .equal) (a .a) (a .b)
     (λ z. c .before .before .before .before .before .before .if1 .left (pa p ∙ z)) (λ z. c .before .before .before .before .if2 .left (pb p ∙ z))
     (sym (pa p) ∙ c .before .if3 .taken ∙ pb p) (c .if4 .left)
 
@@ -69,7 +69,7 @@ returns-5 : tie.Need-returns-5
 returns-5 c =
     let p = c .before .before .before .before .before .before .before .before in
     let a = start p .args in
-    other-equal (t p) (s p) (f p) (a .equal) (a .a) (a .b)
+    λ x. other-equal (t p) (s p) (f p) x (a .equal) (a .a) (a .b)
     (λ z. c .before .before .before .before .before .before .if1 .left (pa p ∙ z)) (λ z. c .before .before .before .before .if2 .left (pb p ∙ z))
     (λ z. c .before .if3 .left (pa p ∙ z ∙ sym (pb p))) (c .if5 .taken)
 
@@ -77,7 +77,7 @@ returns-6 : tie.Need-returns-6
 returns-6 c =
     let p = c .before .before .before .before .before .before .before .before in
     let a = start p .args in
-    other-different (t p) (s p) (f p) (a .equal) (a .a) (a .b)
+    λ x. other-different (t p) (s p) (f p) x (a .equal) (a .a) (a .b)
     (λ z. c .before .before .before .before .before .before .if1 .left (pa p ∙ z)) (λ z. c .before .before .before .before .if2 .left (pb p ∙ z))
     (λ z. c .before .if3 .left (pa p ∙ z ∙ sym (pb p))) (c .if5 .left)
 

@@ -16,7 +16,7 @@ use Rattle.stepper.proofs.Heap64.dangle_links.Statement.{statement}
 use Rattle.stepper.proofs.Heap64.dangle_links.Tie as tie
 
 abbrev with : Heap64 → List Place → Heap64
-with t l = record { variables = t .variables; vars = t .vars; used = t .used; links = l }
+with t l = record { variables = t .variables; vars = t .vars; used = t .used; links = l; values = t .values }
 
 abbrev Inv-loop : tie.InvT-loop
 Inv-loop code self₀ i₀ self i = (i ≤ 64) × (self ≡ with self₀ (swept (danglePlace code) (self₀ .links) i))

@@ -16,7 +16,7 @@ use Rattle.stepper.proofs.Heap64.dangle_vars.Statement.{statement}
 use Rattle.stepper.proofs.Heap64.dangle_vars.Tie as tie
 
 abbrev with : Heap64 → List Place → Heap64
-with t l = record { variables = t .variables; vars = l; used = t .used; links = t .links }
+with t l = record { variables = t .variables; vars = l; used = t .used; links = t .links; values = t .values }
 
 abbrev Inv-loop : tie.InvT-loop
 Inv-loop code self₀ i₀ self i = (i ≤ 8) × (self ≡ with self₀ (swept (danglePlace code) (self₀ .vars) i))

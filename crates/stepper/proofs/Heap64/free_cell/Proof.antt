@@ -24,7 +24,7 @@ returns : tie.Need-returns
 returns c =
     let start = c .before .before .before .before in
     let t = start .args .self in
-    blocked t (delete (start .args .a)) refl
+    λ x. blocked t x (delete (start .args .a)) refl
     (λ d. d (sym (c .before .before .link-of .ensures ∙ ap (linkIn (codes (t .links))) (c .before .before .before .place-of .ensures)) ∙ c .if1 .taken))
 
 -- a stands at a used cell
@@ -51,6 +51,12 @@ element-write-next c = omega (arith, at-cell (c .before .before) .is-cell, at-ce
 element-set-from-next : tie.Need-element-set-from-next
 element-set-from-next c = omega (arith, at-cell (c .before .before) .is-cell, at-cell (c .before .before) .inside)
 
+mul-next : tie.Need-mul-next
+mul-next c = search needs
+
+element-write-next-2 : tie.Need-element-write-next-2
+element-write-next-2 c = omega (arith, at-cell (c .before .before) .is-cell, at-cell (c .before .before) .inside)
+
 returns-2 : tie.Need-returns-2
 returns-2 c =
     let at-place-of = c .before .before .before .before .before in
@@ -58,9 +64,9 @@ returns-2 c =
     let t = start .args .self in
     let y = at-place-of .place-of .result .code in
     let same = c .dangle-links .ensures ∙ ap (λ (u : Heap64). dangleLinks u y) (c .before .dangle-vars .ensures) in
-    ap (λ (u : Heap64). stays (cut u y) Moved) same
-    ∙ moved t (delete (start .args .a)) (withoutPlace t y)
-    (freed t (start .pre .0 .sized) (formed t (start .pre .0 .formed)) (start .args .a) y (at-place-of .place-of .ensures) (λ z. c .before .before .if1 .left (c .before .before .before .before .link-of .ensures ∙ z)))
+    λ x. ap (λ (u : Heap64). stays (cut u y) Moved) same
+    ∙ moved t x (delete (start .args .a)) (withoutPlace t y)
+    (freed t (start .pre .0 .sized) (formed t (start .pre .0 .formed)) x (start .args .a) y (at-place-of .place-of .ensures) (λ z. c .before .before .if1 .left (c .before .before .before .before .link-of .ensures ∙ z)))
 
 pub free-cell-spec : {M : Type 1} → statement M
 free-cell-spec =
@@ -75,4 +81,6 @@ free-cell-spec =
     dangle-links-requires
     element-write-next
     element-set-from-next
+    mul-next
+    element-write-next-2
     returns-2)

@@ -1,4 +1,4 @@
--- Both tests, of the slots and of the cells, make that of the definition.
+-- The tests of the slots, of the cells and of the values make that of the definition.
 use borrow.Author.Tests.{le-leb, lt-leb, not-true, not-false}
 use lib.ListN.{length-map}
 use Rattle.stepper.specs.Table.{wellFormed, Sized}
@@ -13,6 +13,7 @@ sizes c =
       vars = simp length-map at (c .good .0 .1 .1 .1 .0 .1 .0 .1);
       used = search needs;
       links = simp length-map at (c .good .0 .1 .1 .1 .1 .1 .0 .1 .0 .1);
+      values = search needs;
     }
 
 returns : tie.Need-returns
@@ -43,12 +44,23 @@ cells-fit-requires c κs = search needs
 returns-4 : tie.Need-returns-4
 unfolding wellFormed
 returns-4 c = (
-  let n = c .before .before .before .before .before .args .self .variables in simp
-      (le-leb 1 n (c .before .before .before .before .if1 .left), le-leb n 8 (c .before .before .before .if2 .left), ← c .before .before .slots-fit .ensures, not-false (c .before .before .slots-fit .result) (c .before .if3 .left), c .cells-fit .ensures),
-  sizes (c .before .before .before .before .before),
+  let n = c .before .before .before .before .before .before .args .self .variables in simp
+      (le-leb 1 n (c .before .before .before .before .before .if1 .left), le-leb n 8 (c .before .before .before .before .if2 .left), ← c .before .before .before .slots-fit .ensures, not-false (c .before .before .before .slots-fit .result) (c .before .before .if3 .left), ← c .before .cells-fit .ensures, not-true (c .before .cells-fit .result) (c .if4 .taken)),
+  sizes (c .before .before .before .before .before .before),
+)
+
+values-fit-requires : tie.Need-values-fit-requires
+values-fit-requires c κs = search needs
+
+returns-5 : tie.Need-returns-5
+unfolding wellFormed
+returns-5 c = (
+  let n = c .before .before .before .before .before .before .before .args .self .variables in simp
+      (le-leb 1 n (c .before .before .before .before .before .before .if1 .left), le-leb n 8 (c .before .before .before .before .before .if2 .left), ← c .before .before .before .before .slots-fit .ensures, not-false (c .before .before .before .before .slots-fit .result) (c .before .before .before .if3 .left), ← c .before .before .cells-fit .ensures, not-false (c .before .before .cells-fit .result) (c .before .if4 .left), c .values-fit .ensures),
+  sizes (c .before .before .before .before .before .before .before),
 )
 
 pub is-well-formed-spec : {M : Type 1} → statement M
 is-well-formed-spec =
     tie.close
-    (tie.spec returns returns-2 slots-fit-requires returns-3 cells-fit-requires returns-4)
+    (tie.spec returns returns-2 slots-fit-requires returns-3 cells-fit-requires returns-4 values-fit-requires returns-5)

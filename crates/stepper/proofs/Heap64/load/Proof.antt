@@ -23,7 +23,7 @@ returns c =
     let start = c .before .before .before .before in
     let t = start .args .self in
     let le = c .before .before .link-of .ensures ∙ ap (linkIn (codes (t .links))) (c .before .before .before .place-of .ensures) in
-    blocked t (load (start .args .a) (start .args .b)) refl
+    λ x. blocked t x (load (start .args .a) (start .args .b)) refl
     (λ d. d .0 (sym le ∙ c .if1 .taken))
 
 returns-2 : tie.Need-returns-2
@@ -31,7 +31,7 @@ returns-2 c =
     let start = c .before .before .before .before .before .before in
     let t = start .args .self in
     let le = c .before .before .before .before .link-of .ensures ∙ ap (linkIn (codes (t .links))) (c .before .before .before .before .before .place-of .ensures) in
-    blocked t
+    λ x. blocked t x
     (load (start .args .a) (start .args .b)) refl
     (λ d. d .1 (sym le ∙ c .if2 .taken))
 
@@ -52,9 +52,9 @@ returns-3 c =
     let s = start .pre .0 .sized in
     let f = formed t (start .pre .0 .formed) in
     let le = at-link-of .link-of .ensures ∙ ap (linkIn (codes (t .links))) (c .before .before .before .before .before .place-of .ensures) in
-    moved t (load (start .args .a) (start .args .b))
+    λ x. moved t x (load (start .args .a) (start .args .b))
     (withVar t (start .args .a - 1) (at-link-of .link-of .result))
-    (put t s f (load (start .args .a) (start .args .b)) (start .args .a) (at-link-of .link-of .result) refl (λ z. c .before .before .if1 .left (le ∙ z), λ z. c .if2 .left (le ∙ z)) (omega arith) (omega arith) (rw le (linked-stands t s f (varIn (codes (t .vars)) (start .args .b)) (λ z. c .before .before .if1 .left (le ∙ z)))) (rw le refl))
+    (put t s f x (load (start .args .a) (start .args .b)) (start .args .a) (at-link-of .link-of .result) refl (λ z. c .before .before .if1 .left (le ∙ z), λ z. c .if2 .left (le ∙ z)) (omega arith) (omega arith) (rw le (linked-stands t s f (varIn (codes (t .vars)) (start .args .b)) (λ z. c .before .before .if1 .left (le ∙ z)))) (rw le refl))
 
 pub load-spec : {M : Type 1} → statement M
 load-spec =

@@ -24,7 +24,7 @@ returns c =
     let start = c .before .before .before .before in
     let t = start .args .self in
     let le = c .before .before .link-of .ensures ∙ ap (linkIn (codes (t .links))) (c .before .before .before .place-of .ensures) in
-    blocked t (store (start .args .a) (start .args .b)) refl
+    λ x. blocked t x (store (start .args .a) (start .args .b)) refl
     (λ d. d .0 (sym le ∙ c .if1 .taken))
 
 place-of-requires-2 : tie.Need-place-of-requires-2
@@ -36,7 +36,7 @@ returns-2 : tie.Need-returns-2
 returns-2 c =
     let start = c .before .before .before .before .before .before .before in
     let t = start .args .self in
-    blocked t
+    λ x. blocked t x
     (store (start .args .a) (start .args .b))
     refl (λ d. d .1 (sym (c .before .before .place-of2 .ensures) ∙ c .if2 .taken))
 
@@ -69,8 +69,8 @@ returns-3 c =
     let start = at-place-of .before in
     let t = start .args .self in
     let le = c .before .before .before .before .before .before .link-of .ensures ∙ ap (linkIn (codes (t .links))) (at-place-of .place-of .ensures) in
-    rw (at-place-of .place-of .ensures)
-    (moved t (store (start .args .a) (start .args .b)) (withLink t (varIn (codes (t .vars)) (start .args .a) - 3) (at-place-of2 .place-of2 .result)) (stored t (start .pre .0 .sized) (formed t (start .pre .0 .formed)) (start .args .a) (start .args .b) (at-place-of2 .place-of2 .result) (λ z. c .before .before .before .before .if1 .left (le ∙ z)) (at-place-of2 .place-of2 .ensures) (c .before .if2 .left) (omega arith)))
+    λ x. rw (at-place-of .place-of .ensures)
+    (moved t x (store (start .args .a) (start .args .b)) (withLink t (varIn (codes (t .vars)) (start .args .a) - 3) (at-place-of2 .place-of2 .result)) (stored t (start .pre .0 .sized) (formed t (start .pre .0 .formed)) x (start .args .a) (start .args .b) (at-place-of2 .place-of2 .result) (λ z. c .before .before .before .before .if1 .left (le ∙ z)) (at-place-of2 .place-of2 .ensures) (c .before .if2 .left) (omega arith)))
 
 pub store-spec : {M : Type 1} → statement M
 store-spec =

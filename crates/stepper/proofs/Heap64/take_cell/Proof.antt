@@ -16,7 +16,7 @@ lowest-unused-requires c κs = search needs
 
 returns : tie.Need-returns
 returns c =
-    full (c .before .before .args .self) (new (c .before .before .args .a))
+    λ x. full (c .before .before .args .self) x (new (c .before .before .args .a))
     (rw (← c .before .lowest-unused .ensures) (le-leb 64 (c .before .lowest-unused .result) (c .if1 .taken)))
 
 cast-cell : tie.Need-cast-cell
@@ -43,8 +43,8 @@ returns-2 : tie.Need-returns-2
 returns-2 c =
     let start = c .before .before .before in
     let t = start .args .self in
-    rw (c .cell .ensures)
-    (moved t (new (start .args .a)) (withVar (withCell t (c .before .before .lowest-unused .result)) (start .args .a - 1) (cellPlace (c .before .before .lowest-unused .result))) (taken t (start .pre .0 .sized) (formed t (start .pre .0 .formed)) (start .args .a) (c .before .before .lowest-unused .result) (c .before .before .lowest-unused .ensures) (omega arith) (omega arith) (omega arith)))
+    λ x. rw (c .cell .ensures)
+    (moved t x (new (start .args .a)) (withVar (withCell t (c .before .before .lowest-unused .result)) (start .args .a - 1) (cellPlace (c .before .before .lowest-unused .result))) (taken t (start .pre .0 .sized) (formed t (start .pre .0 .formed)) x (start .args .a) (c .before .before .lowest-unused .result) (c .before .before .lowest-unused .ensures) (omega arith) (omega arith) (omega arith)))
 
 pub take-cell-spec : {M : Type 1} → statement M
 take-cell-spec =

@@ -1,0 +1,10 @@
+pub mod Digits
+pub mod Turning
+pub mod Shrinking
+pub mod Cases
+pub mod Reading
+pub mod Adding
+pub mod Cells
+pub mod Standing
+pub mod Predecessors
+pub mod Covers
