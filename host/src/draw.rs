@@ -2,6 +2,7 @@
 
 use std::fmt::Write;
 
+use crate::facts_text::facts_text;
 use crate::reference::heap::{Heap, Place};
 use crate::reference::shape::Shape;
 use crate::routine::Routine;
@@ -9,42 +10,60 @@ use crate::search::chain::Chain;
 use crate::search::run::Run;
 
 /// Draws a shape, a line for each run of cells: `[1 x] -> [2] -> #`. Cells are numbered from 1,
-/// with the variables that stand at them; an arrow is a link or a path of several.
+/// with the variables that stand at them; an arrow is a link or a path of several. The last line has
+/// the facts: `1 < 2`.
 pub fn shape(shape: &Shape, variables: &[String]) -> Vec<String> {
-    let numbers: Vec<usize> = (1..=shape.cells()).collect();
-    lines(shape, &numbers, variables)
+    shape_from(1, shape, variables)
 }
 
 /// Draws a shape in the same way with its cells numbered as in files, from 0.
 pub fn shape_as_in_files(shape: &Shape, variables: &[String]) -> Vec<String> {
-    let numbers: Vec<usize> = (0..shape.cells()).collect();
-    lines(shape, &numbers, variables)
+    shape_from(0, shape, variables)
 }
 
-/// Draws a heap in the same way; here an arrow is one link, and a cell's number is its own.
-pub fn heap(heap: &Heap, variables: &[String]) -> Vec<String> {
-    let numbers: Vec<usize> = heap.links.keys().map(|cell| cell + 1).collect();
-    lines(&Shape::of_heap(heap), &numbers, variables)
-}
-
-fn lines(shape: &Shape, numbers: &[usize], variables: &[String]) -> Vec<String> {
+fn shape_from(first: usize, shape: &Shape, variables: &[String]) -> Vec<String> {
+    let numbers: Vec<usize> = (first..first + shape.cells()).collect();
     let drawing = Drawing {
         shape,
-        numbers,
+        numbers: &numbers,
+        values: &vec![None; shape.cells()],
         variables,
     };
-    let mut drawn = Vec::new();
-    let mut lines = Vec::new();
-    for cell in drawing.starts() {
-        if !drawn.contains(&cell) {
-            lines.push(drawing.run(cell, &mut drawn));
-        }
-    }
-    lines.extend(drawing.without_cell());
-    if lines.is_empty() {
-        lines.push("anything".to_string());
-    }
+    let mut lines = drawing.lines();
+    lines.extend(facts_text(&shape.facts, &numbers));
     lines
+}
+
+/// Draws a heap in the same way; here an arrow is one link, and a cell's number is its own. Its value,
+/// if it has one, stands behind a colon: `[1 x: 5] -> [2: 7] -> #`.
+pub fn heap(heap: &Heap, variables: &[String]) -> Vec<String> {
+    let cells = heap.links.keys();
+    let drawing = Drawing {
+        shape: &Shape::of_heap(heap),
+        numbers: &cells.clone().map(|cell| cell + 1).collect::<Vec<_>>(),
+        values: &cells
+            .map(|cell| heap.values.get(cell).copied())
+            .collect::<Vec<_>>(),
+        variables,
+    };
+    drawing.lines()
+}
+
+/// How to read drawings of shapes: arrows, and facts where there are any.
+pub fn key<'a>(shapes: impl IntoIterator<Item = &'a Shape>) -> &'static str {
+    let mut shapes = shapes.into_iter();
+    match shapes.all(|shape| shape.facts.is_empty()) {
+        true => "-> is a link or a path",
+        false => "-> is a link or a path, < and = compare values",
+    }
+}
+
+/// How to read the drawing of a run: # and *, and values where there are any.
+pub fn key_of_run(run: &Run) -> &'static str {
+    match run.heaps.iter().all(|heap| heap.values.is_empty()) {
+        true => "# is null, * dangling",
+        false => "# is null, * dangling, the number behind : a value",
+    }
 }
 
 /// Where something stands, in words.
@@ -61,10 +80,28 @@ struct Drawing<'a> {
     shape: &'a Shape,
     /// The number that is drawn of each cell.
     numbers: &'a [usize],
+    /// The value that is drawn of each cell, if there is one.
+    values: &'a [Option<usize>],
     variables: &'a [String],
 }
 
 impl Drawing<'_> {
+    /// The lines of cells, and one for the variables at none.
+    fn lines(&self) -> Vec<String> {
+        let mut drawn = Vec::new();
+        let mut lines = Vec::new();
+        for cell in self.starts() {
+            if !drawn.contains(&cell) {
+                lines.push(self.run(cell, &mut drawn));
+            }
+        }
+        lines.extend(self.without_cell());
+        if lines.is_empty() {
+            lines.push("anything".to_string());
+        }
+        lines
+    }
+
     /// Where lines may begin: first the cells that no link stands at.
     fn starts(&self) -> Vec<usize> {
         let linked = |&cell: &usize| self.shape.links.contains(&Some(Place::Cell(cell)));
@@ -98,11 +135,15 @@ impl Drawing<'_> {
         }
     }
 
-    /// A cell with its number and the variables at it.
+    /// A cell with its number, the variables at it and its value.
     fn cell(&self, cell: usize) -> String {
         let names = self.at(Place::Cell(cell));
         let words = std::iter::once(self.numbers[cell].to_string()).chain(names);
-        format!("[{}]", words.collect::<Vec<_>>().join(" "))
+        let words = words.collect::<Vec<_>>().join(" ");
+        match self.values[cell] {
+            Some(value) => format!("[{words}: {value}]"),
+            None => format!("[{words}]"),
+        }
     }
 
     fn at(&self, place: Place) -> Vec<String> {
@@ -169,15 +210,23 @@ impl Table {
     }
 }
 
+/// The shapes of a chain.
+pub fn shapes(chain: &Chain, routine: &Routine) -> Vec<Shape> {
+    let variables = routine.variables.len();
+    let links = chain.links.iter();
+    links
+        .map(|link| link.located.shape.to_reference(variables))
+        .collect()
+}
+
 /// Draws a chain from the forbidden shape back to the start.
 pub fn chain(chain: &Chain, routine: &Routine) -> String {
     let mut text = String::new();
     let lengths = routine.states.iter().map(|state| state.chars().count());
     let states = lengths.max().unwrap_or(0).max("state".len());
-    for link in &chain.links {
+    for (link, of_link) in chain.links.iter().zip(shapes(chain, routine)) {
         let state = &routine.states[usize::from(link.located.state)];
-        let reference = link.located.shape.to_reference(routine.variables.len());
-        for (index, line) in shape(&reference, &routine.variables).iter().enumerate() {
+        for (index, line) in shape(&of_link, &routine.variables).iter().enumerate() {
             let at = if index == 0 { state } else { "" };
             writeln!(text, "  {at:<states$}  {line}").expect("a string takes all");
         }
@@ -217,6 +266,41 @@ mod tests {
         assert_eq!(drawn(&[0, 0, 4], &[4, 3]), ["[1] -> [2 z] -> back to [1]"]);
         assert_eq!(drawn(&[0, 0, 0], &[2]), ["[1] -> *"]);
         assert_eq!(drawn(&[0, 0, 0], &[]), ["anything"]);
+    }
+
+    #[test]
+    fn facts_have_a_line_of_their_own() {
+        use crate::reference::facts::Fact;
+        let names = ["x", "y"].map(str::to_string);
+        let facts = vec![Fact::below(2, 0), Fact::equal(0, 1)];
+        let of_list = Shape::of_codes(&[3, 1], &[4, 5, 1]).with_facts(facts);
+        assert_eq!(
+            shape(&of_list, &names),
+            ["[1 x] -> [2] -> [3] -> #", "y at #", "3 < 1 = 2"]
+        );
+        assert_eq!(
+            shape_as_in_files(&of_list, &names),
+            ["[0 x] -> [1] -> [2] -> #", "y at #", "2 < 0 = 1"]
+        );
+    }
+
+    #[test]
+    fn values_stand_behind_a_colon() {
+        use Place::{Cell, Dangling, Null};
+        let names = ["x", "y", "z"].map(str::to_string);
+        let valued = Heap {
+            variables: vec![Cell(4), Cell(4), Dangling],
+            links: [(1, Cell(3)), (3, Null), (4, Cell(1)), (6, Cell(6))].into(),
+            values: [(1, 70), (4, 0), (6, 5)].into(),
+        };
+        assert_eq!(
+            heap(&valued, &names),
+            [
+                "[5 x y: 0] -> [2: 70] -> [4] -> #",
+                "[7: 5] -> back to [7: 5]",
+                "z at *"
+            ]
+        );
     }
 
     #[test]

@@ -1,6 +1,6 @@
 //! Pairs within the limits of the format that cost a checker most.
 
-use crate::baseline::shape::{Located, Shape};
+use crate::baseline::shape::Shape;
 use crate::pairs::Pair;
 use crate::reference::certificate::MOST_MEMBERS;
 use crate::reference::job::{self, Job, Transition, MOST_TRANSITIONS};
@@ -8,6 +8,7 @@ use crate::reference::operation::{Operation, ASSIGN, DELETE, DIFFERENT, EQUAL, L
 use crate::reference::shape as reference;
 use crate::reference::version::Version;
 use crate::search::covers::certificate_of;
+use crate::search::shape::Located;
 
 /// The state that all members are at; no transition touches the start.
 const BUSY: u64 = 0;
@@ -65,7 +66,7 @@ pub fn pair(
     };
     let located = members.iter().map(|&shape| Located {
         state: BUSY as u8,
-        shape,
+        shape: shape.into(),
     });
     Pair {
         job: job.bytes(),

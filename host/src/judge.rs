@@ -8,7 +8,7 @@ use crate::reference::certificate::Certificate;
 use crate::reference::job::Job;
 use crate::search::chain::Chain;
 use crate::search::run::{Bound, Run};
-use crate::search::{search, Outcome};
+use crate::search::{search, Limit, Outcome};
 use crate::verdict::Verdict;
 
 /// How a job ends.
@@ -20,7 +20,7 @@ pub enum Ending {
     /// No certificate exists, because of the chain, and no run within the bound is wrong.
     Beyond(Chain, Bound),
     /// The search came to a limit, and no run within the bound is wrong.
-    Undecided(String, Bound),
+    Undecided(Limit, Bound),
 }
 
 /// An ending, and how long it took to search and check.

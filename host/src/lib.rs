@@ -9,6 +9,7 @@ pub mod corpus;
 pub mod definitions;
 pub mod draw;
 pub mod extremes;
+pub mod facts_text;
 pub mod judge;
 pub mod library;
 pub mod listings;

@@ -90,7 +90,7 @@ impl<'a> RefusedCover<'a> {
         }
     }
 
-    /// The covered shape and the member, drawn.
+    /// The covered shape and the member, drawn, each with its facts below.
     pub fn drawn(&self) -> Vec<String> {
         let (cover, covered) = (&self.cover.cover, &self.cover.owed.covered);
         let images: Vec<String> = cover.images.iter().map(usize::to_string).collect();
@@ -99,9 +99,10 @@ impl<'a> RefusedCover<'a> {
             false => format!(", with the images {}", images.join(" ")),
         };
         let mut lines = vec![format!(
-            "To be covered at {}, since {} (cells from 0, -> is a link or a path):",
+            "To be covered at {}, since {} (cells from 0, {}):",
             self.state(covered),
             self.reason(),
+            draw::key([&covered.shape, &self.cover.member.shape]),
         )];
         lines.extend(self.shape(covered));
         lines.push(format!(
@@ -180,7 +181,8 @@ mod tests {
     use crate::pairs::{broken_pairs, Pair};
     use crate::reference::certificate::{Certificate, Cover};
     use crate::reference::checker::check;
-    use crate::reference::job::Job;
+    use crate::reference::job::{Job, Transition};
+    use crate::reference::operation::BELOW_VALUE;
     use crate::reference::shape::Shape;
     use crate::reference::version::Version;
     use crate::routine::parse;
@@ -381,6 +383,62 @@ the deleted cell (cells from 0, -> is a link or a path):
 By member 2, at made:
        y at #";
         assert_eq!(format!("\n{}", refused.drawn().join("\n")), expected);
+    }
+
+    /// The facts of the predecessor are closed, those of the member are listed.
+    #[test]
+    fn the_facts_of_the_two_shapes_are_drawn() {
+        let located = |variables, links, facts: &[Fact]| Located {
+            state: 0,
+            shape: Shape::of_codes(variables, links).with_facts(facts.to_vec()),
+        };
+        let (below, equal) = (Fact::below, Fact::equal);
+        let bad = located(&[3, 4], &[5, 1, 1], &[below(2, 0), equal(1, 2)]);
+        let job = Job {
+            version: Version::Two,
+            variables: 2,
+            states: 1,
+            start: 0,
+            transitions: vec![Transition {
+                from: 0,
+                operation: Operation {
+                    kind: BELOW_VALUE,
+                    a: 2,
+                    b: 1,
+                },
+                to: 0,
+            }],
+            forbidden: vec![bad.clone()],
+        };
+        let member = located(&[3, 0], &[0, 0, 0], &[below(2, 0), equal(0, 1)]);
+        let images_of = |member, images: &[usize]| Cover {
+            member,
+            images: images.to_vec(),
+        };
+        let certificate = Certificate {
+            version: Version::Two,
+            members: vec![bad, member],
+            covers: vec![images_of(0, &[0, 1, 2]), images_of(1, &[0, 2, 1])],
+        };
+        let bytes = certificate.bytes();
+        let verdict = check(&job.bytes(), &bytes);
+        let routine = Routine::of_job(job);
+        let refused = RefusedCover::of(&routine, &bytes, &verdict).expect("a cover is refused");
+        let expected = "
+A fact is missing: it isn't told of the covered shape that cell 0 equals cell 2, the images of cells \
+0 and 1.
+To be covered at state 0, since `v2.num < v1.num` leads from there to member 0 (cells from 0, -> is a \
+link or a path, < and = compare values):
+       [0 v1] -> [2] -> #
+       [1 v2] -> #
+       1 = 2 < 0
+By member 1, at state 0, with the images 0 2 1:
+       [0 v1]
+       [1]
+       [2]
+       2 < 0 = 1";
+        let said = format!("\n{}\n{}", refused.how(), refused.drawn().join("\n"));
+        assert_eq!(said, expected);
     }
 
     /// Whatever is broken, the sentence of its rule is said of it.

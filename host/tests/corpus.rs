@@ -11,6 +11,7 @@ use vorruda_host::baseline;
 use vorruda_host::check as proved;
 use vorruda_host::corpus::{self, Entry, Expected};
 use vorruda_host::reference::checker::check;
+use vorruda_host::reference::version::Version;
 use vorruda_host::search::{search, Outcome};
 use vorruda_host::verdict::Verdict;
 
@@ -30,6 +31,13 @@ fn the_corpus_is_large_enough() {
     assert!(of(Expected::Certified) >= 40);
     assert!(of(Expected::Wrong) >= 12);
     assert!(of(Expected::Beyond) >= 1);
+    let of_values = |expected| {
+        let of = entries.iter().filter(|entry| entry.expected == expected);
+        of.filter(|entry| entry.routine.job.version == Version::Two)
+            .count()
+    };
+    assert!(of_values(Expected::Certified) >= 8);
+    assert!(of_values(Expected::Wrong) >= 4);
     let is_listing = |entry: &&Entry| !entry.routine.statements.is_empty();
     let listings = entries.iter().filter(is_listing).count();
     assert!(2 * listings >= entries.len(), "{listings} listings");

@@ -144,6 +144,21 @@ fn lines_outside_the_grammar() {
         ),
         (
             "x := y\n",
+            "x.num := y.num\n",
+            "line 7, column 1: `x.num`: a listing has no values: expected a routine of transitions",
+        ),
+        (
+            "while any",
+            "while x.num < y.num",
+            "line 4, column 7: `x.num`: a listing has no values: expected a routine of transitions",
+        ),
+        (
+            "new(y)",
+            "read(y)",
+            "line 5, column 1: `read`: a listing has no values: expected a routine of transitions",
+        ),
+        (
+            "x := y\n",
             "skip\n",
             "line 7, column 1: `skip`: a listing has `null = null` for it",
         ),

@@ -45,7 +45,7 @@ fn mistakes_in_operations() {
             "y := x.next",
             "y == x",
             "line 7, column 13: `==`: expected `:=`, which sets, or `=` or \
-             `!=`, which test",
+             `!=`, which test; for values also `:=>`, `:=<` and `<`",
         ),
         (
             "y := x.next",
@@ -84,11 +84,68 @@ fn mistakes_in_operations() {
             "leave ",
             "line 8, column 11: `leave`: expected one of `a = b`, `a != b`, \
              `a := b`, `a := b.next`, `a.next := b`, `new(a)`, `delete(a)`, \
-             `skip`",
+             `skip`, `a.num = b.num`, `a.num < b.num`, `a.num := b.num`, \
+             `a.num :=> b.num`, `a.num :=< b.num`, `read(a)`",
         ),
     ];
     for (old, new, what) in rows {
         assert_eq!(mistake(old, new), what);
+    }
+}
+
+/// In place of `y := x.next`.
+#[test]
+fn mistakes_in_operations_on_values() {
+    let rows = [
+        (
+            "y.num := x",
+            "20: `x`: did you mean `x.num`? A value goes with a value",
+        ),
+        (
+            "y := x.num",
+            "11: `y`: did you mean `y.num`? A value goes with a value",
+        ),
+        (
+            "y.num = x.next",
+            "19: `x.next`: did you mean `x.num`? A value goes with a value",
+        ),
+        (
+            "y < x",
+            "11: `y`: did you mean `y.num`? A value goes with a value",
+        ),
+        (
+            "y.num :=> x",
+            "21: `x`: did you mean `x.num`? A value goes with a value",
+        ),
+        ("y.num := null", "20: `null`: null has no value"),
+        ("null.num < x.num", "11: `null.num`: null has no value"),
+        (
+            "y.num != x.num",
+            "17: `!=`: values differ if one is below the other: expected two transitions with `<`",
+        ),
+        (
+            "y.num > x.num",
+            "17: `>`: expected `:=`, which sets, or `=` or `!=`, which test; for values also \
+             `:=>`, `:=<` and `<`",
+        ),
+        ("y.nmu = x.num", "11: `y.nmu`: did you mean `y.num`?"),
+        (
+            "y.value = x.num",
+            "11: `y.value`: did you mean `y.next` or `y.num`?",
+        ),
+        (
+            "z.num = x.num",
+            "11: `z.num`: expected a variable, one of x, y",
+        ),
+        ("raed(x)", "11: `raed`: did you mean `read`?"),
+        ("read(null)", "16: `null`: expected a variable"),
+        ("read(x.num)", "16: `x.num`: expected a variable"),
+    ];
+    for (new, what) in rows {
+        assert_eq!(
+            mistake("y := x.next", new),
+            format!("line 7, column {what}")
+        );
     }
 }
 
@@ -167,8 +224,8 @@ fn mistakes_in_what_is_forbidden() {
         (
             "x at c",
             "x within c",
-            "line 11, column 13: `within`: expected `x at p`, `c -> p` or \
-             `cell c`, where p is a cell, # or *",
+            "line 11, column 13: `within`: expected `x at p`, `c -> p`, \
+             `cell c`, `c < d`, `c = d` or `value c`, where p is a cell, # or *",
         ),
         ("d -> *", "c -> *", "line 11, column 27: `c`: is told twice"),
         (
@@ -196,7 +253,7 @@ fn mistakes_in_what_is_forbidden() {
             "steps",
             "end sorted: x",
             "line 12, column 5: `sorted`: expected a ready set, one of no \
-             list, lost block, ring, no ring, shared",
+             list, lost block, ring, no ring, shared, not sorted",
         ),
         (
             "steps",
@@ -208,6 +265,45 @@ fn mistakes_in_what_is_forbidden() {
     for (old, new, what) in rows {
         assert_eq!(mistake(old, new), what);
     }
+}
+
+/// In place of `d -> *`.
+#[test]
+fn mistakes_in_facts_on_values() {
+    let inconsistent = "up to here a cell is below itself, so that no heap has the shape";
+    let rows = [
+        ("c < d, d < c", format!("38: `c`: {inconsistent}")),
+        ("c < d = c", format!("35: `c`: {inconsistent}")),
+        ("c < c", format!("31: `c`: {inconsistent}")),
+        (
+            "c < x",
+            "31: `x`: is a variable, so no cell can have its name".to_string(),
+        ),
+        (
+            "c < #",
+            "31: `#`: expected the name of a cell".to_string(),
+        ),
+        (
+            "value *",
+            "33: `*`: expected the name of a cell".to_string(),
+        ),
+        (
+            "c <",
+            "30: `,`: expected the name of a cell".to_string(),
+        ),
+        ("c < d < e -> #", "37: `->`: expected `,`".to_string()),
+        (
+            "c > d",
+            "29: `>`: expected `x at p`, `c -> p`, `cell c`, `c < d`, `c = d` or `value c`, where p \
+             is a cell, # or *"
+                .to_string(),
+        ),
+    ];
+    for (new, what) in rows {
+        assert_eq!(mistake("d -> *", new), format!("line 11, column {what}"));
+    }
+    let two = mistake("steps", "end not sorted: x y");
+    assert_eq!(two, "line 12, column 21: expected one variable");
 }
 
 /// A job with a dead end, or with a state that no run comes to, is a right one.

@@ -8,7 +8,16 @@ use std::time::Duration;
 use vorruda_host::corpus::{self, Expected};
 use vorruda_host::judge::{Ending, Judged};
 use vorruda_host::reference::checker::check;
+use vorruda_host::reference::facts::Fact;
+use vorruda_host::reference::heap::Heap;
+use vorruda_host::reference::job::{Job, Located, Transition};
+use vorruda_host::reference::operation::{Operation, BELOW_VALUE, LARGER, READ};
+use vorruda_host::reference::operation::{ASSIGN, NEW, STORE};
+use vorruda_host::reference::shape::Shape;
+use vorruda_host::reference::version::Version;
 use vorruda_host::report::routine_page;
+use vorruda_host::routine::{Origin, Routine};
+use vorruda_host::search::run::Run;
 use vorruda_host::search::{search, Outcome};
 
 /// Runs the command, and gives the folder of its pages.
@@ -125,4 +134,106 @@ fn the_page_of_a_refused_certificate() {
     );
     assert!(verdict.to_string().ends_with(" rule 2 of 0"), "{verdict}");
     assert!(page.contains(&said), "{page}");
+}
+
+/// Each kind with its operands, and the cell or the value that it leaves open.
+const STEPS: [(u64, usize, usize, usize); 8] = [
+    (NEW, 1, 0, 0),
+    (READ, 1, 0, 250),
+    (STORE, 1, 0, 0),
+    (NEW, 2, 0, 1),
+    (LARGER, 2, 1, 65_535),
+    (BELOW_VALUE, 1, 2, 0),
+    (STORE, 2, 1, 0),
+    (ASSIGN, 1, 2, 0),
+];
+
+/// Puts a block with a larger value ahead of another; at the end that is forbidden, and equal values.
+fn unsorted() -> Routine {
+    let transition = |(from, &(kind, a, b, _)): (usize, &(u64, usize, usize, usize))| Transition {
+        from: from as u64,
+        operation: Operation { kind, a, b },
+        to: from as u64 + 1,
+    };
+    let forbidden = |fact| Located {
+        state: STEPS.len() as u64,
+        shape: Shape::of_codes(&[3, 0], &[4, 0]).with_facts(vec![fact]),
+    };
+    let job = Job {
+        version: Version::Two,
+        variables: 2,
+        states: STEPS.len() as u64 + 1,
+        start: 0,
+        transitions: STEPS.iter().enumerate().map(transition).collect(),
+        forbidden: vec![forbidden(Fact::below(1, 0)), forbidden(Fact::equal(0, 1))],
+    };
+    let origin = |text: &str| Origin {
+        line: Some(9),
+        text: text.to_string(),
+    };
+    Routine {
+        title: "Sorts wrongly.".to_string(),
+        variables: ["x", "y"].map(str::to_string).to_vec(),
+        origins: ["not sorted: x", "x at c, c -> d, c = d"]
+            .map(origin)
+            .to_vec(),
+        ..Routine::of_job(job)
+    }
+}
+
+/// The run through all of its steps.
+fn run_of(routine: &Routine) -> Run {
+    let mut heaps = vec![Heap::empty(2)];
+    for (transition, (_, _, _, choice)) in routine.job.transitions.iter().zip(STEPS) {
+        let after = heaps[heaps.len() - 1].after(transition.operation, choice);
+        heaps.push(after.expect("the step is enabled"));
+    }
+    Run {
+        transitions: (0..STEPS.len()).collect(),
+        heaps,
+        forbidden: 0,
+    }
+}
+
+#[test]
+fn the_page_of_a_run_with_values() {
+    let routine = unsorted();
+    let judged = Judged {
+        ending: Ending::Wrong(run_of(&routine)),
+        time: Duration::ZERO,
+    };
+    let page = routine_page("unsorted", &routine, &judged);
+    assert_stands_alone("unsorted", &page);
+    for text in [
+        "<h2>Wrong: The list is out of order</h2>",
+        "<code>read(x)</code> <span class=\"what\">a value is read into x's block: 250</span>",
+        "<code>y.num :=&gt; x.num</code> <span class=\"what\">y's block gets a larger value than \
+         x's: 65535</span>",
+        "<span class=\"what\">x's block has a smaller value than y's: 250 &lt; 65535</span>",
+        "aria-label=\"[1 x: 250] -&gt; *; y at *\"",
+        ">1: <tspan class=\"value new\">250</tspan></text>",
+        ">2: <tspan class=\"value new\">65535</tspan></text>",
+        "at the end.\nWhere a block has a value, its pick, it stands in the box",
+        "line 9 of the routine forbids <code>not sorted: x</code>. The shape that is met:",
+        "at no block.\nBelow a shape, <code>1 &lt; 2 = 3</code> says",
+        "aria-label=\"[1 x] -&gt; [2]; 1 = 2\"",
+    ] {
+        assert!(page.contains(text), "{text}\n{page}");
+    }
+    let counted = |text: &str| page.matches(text).count();
+    assert_eq!(counted("<tspan class=\"value bad\">"), 2);
+    assert_eq!(counted("<span class=\"facts\">2 &lt; 1</span>"), 2);
+    assert_eq!(counted("<span class=\"facts\">1 = 2</span>"), 1);
+}
+
+/// Of values nothing is said where there are none.
+#[test]
+fn the_pages_of_routines_without_values() {
+    for name in ["wrong_delete_linked", "beyond_delete_first", "reverse"] {
+        let page = page(&report("without_values", &[name]), name);
+        for text in ["value", "pick, it", "&lt; 2"] {
+            let body = page.split_once("<body>").expect("a page has a body").1;
+            assert!(!body.contains(text), "{name}: {text}");
+        }
+    }
 }

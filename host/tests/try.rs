@@ -193,6 +193,28 @@ By member 0, at state 1:
     assert_eq!(refused, (1, elsewhere.to_string()));
 }
 
+/// Forbidden is a list whose second cell is below the first; in the member they are equal.
+#[test]
+fn a_pair_with_facts() {
+    let job = [2, 1, 1, 0, 0, 1, 0, 2, 3, 4, 0, 1, 0, 1, 0];
+    let certificate = [2, 1, 0, 2, 3, 4, 0, 1, 1, 0, 1, 0, 0, 1];
+    let expected = "\
+refused 9 at 11 rule 6 of 0
+A fact is missing: it isn't told of the covered shape that cell 0 equals cell 1, the images of cells \
+0 and 1.
+
+To be covered at state 0, since `shape 0` is forbidden (cells from 0, -> is a link or a path, < and = \
+compare values):
+       [0 v1] -> [1]
+       1 < 0
+By member 0, at state 0, with the images 0 1:
+       [0 v1] -> [1]
+       0 = 1
+";
+    let refused = tried_pair("facts", &job, &certificate);
+    assert_eq!(refused, (1, expected.to_string()));
+}
+
 #[test]
 fn a_pair_that_does_not_read() {
     let cut = tried_pair("cut", &JOB[..13], &HOLDS);

@@ -13,4 +13,4 @@ pub mod quicker;
 mod reader;
 pub mod shape;
 pub mod stepper;
-mod values;
+pub mod values;

@@ -13,8 +13,10 @@ const LONG: f64 = 1_000.0;
 /// Measures the time where it is shown, and prints all tables.
 pub fn print(suite: &mut Suite, calls: &[Cost]) {
     summary(suite);
-    println!("\n### The corpus\n");
+    println!("\n### The corpus without values\n");
     with_time(&suite.corpus, true);
+    println!("\n### The corpus with values\n");
+    with_time(&suite.corpus_with_values, true);
     println!("\n### Worst cases\n");
     with_time(&suite.extremes, false);
     println!("\n### Version 2: worst cases and every kind on values, the largest ratios\n");
@@ -39,19 +41,25 @@ pub fn print(suite: &mut Suite, calls: &[Cost]) {
 
 /// The ratios of instructions on the corpus, and the largest on any pair.
 fn summary(suite: &mut Suite) {
-    let corpus = sorted_by_ratio(&suite.corpus);
-    let all: Cost = corpus.iter().map(|case| case.instructions).sum();
-    println!(
-        "Instructions on the corpus in all: **{:.2}** times the baseline's; on its pairs {:.2} to {:.2}.",
-        all.ratio(),
-        corpus[corpus.len() - 1].instructions.ratio(),
-        corpus[0].instructions.ratio(),
-    );
+    summary_of("corpus without values", &suite.corpus);
+    summary_of("corpus with values", &suite.corpus_with_values);
     let worst = sorted_by_ratio(suite.cases().map(|case| &*case))[0];
     println!(
         "On any pair measured: at most **{:.2}** times ({}).",
         worst.instructions.ratio(),
         worst.name,
+    );
+}
+
+/// The ratio of instructions on some pairs in all, and the smallest and largest.
+fn summary_of(name: &str, cases: &[Case]) {
+    let sorted = sorted_by_ratio(cases);
+    let all: Cost = sorted.iter().map(|case| case.instructions).sum();
+    println!(
+        "Instructions on the {name} in all: **{:.2}** times the baseline's; on its pairs {:.2} to {:.2}.",
+        all.ratio(),
+        sorted[sorted.len() - 1].instructions.ratio(),
+        sorted[0].instructions.ratio(),
     );
 }
 
@@ -165,7 +173,7 @@ fn largest(cases: &[Case]) {
 /// The corpus and the sweep in all, and the worst cases.
 fn quicker(suite: &Suite) {
     heading("| pairs | instructions | baseline | ratio | quicker baseline | ratio |");
-    row_with_quicker("**the corpus in all**", &suite.corpus);
+    row_with_quicker("**the corpus without values in all**", &suite.corpus);
     for case in &suite.extremes {
         row_with_quicker(&case.name, std::slice::from_ref(case));
     }

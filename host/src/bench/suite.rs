@@ -5,6 +5,7 @@ use std::io;
 use std::path::Path;
 
 use super::{broken, growth, refused, Cost};
+use crate::baseline::checker::is_of_version_2;
 use crate::corpus;
 use crate::extremes::extremes;
 use crate::pairs::{Pair, Pairs};
@@ -20,8 +21,11 @@ pub struct Case {
     pub quicker: f64,
 }
 
+/// The groups of pairs.
 pub struct Suite {
+    /// The routines of the corpus without values, and those with them.
     pub corpus: Vec<Case>,
+    pub corpus_with_values: Vec<Case>,
     pub extremes: Vec<Case>,
     pub values: Vec<Case>,
     pub refused: Vec<Case>,
@@ -44,10 +48,14 @@ const SEED: u64 = 0x0011_5eed;
 impl Suite {
     /// All pairs; the search finds those of the corpus.
     pub fn new() -> Result<Suite, String> {
+        let certified = corpus::certified()?.into_iter();
+        let (with_values, without): (Vec<_>, Vec<_>) =
+            certified.partition(|(_, pair)| is_of_version_2(&pair.job));
         Ok(Suite {
-            corpus: named(corpus::certified()?),
+            corpus: named(without),
+            corpus_with_values: named(with_values),
             extremes: named(extremes()),
-            values: named(with_values()),
+            values: named(made_with_values()),
             refused: named(refused::pairs()),
             broken: named(broken::pairs()),
             in_members: numbered(growth::in_members()),
@@ -61,6 +69,7 @@ impl Suite {
     pub fn cases(&mut self) -> impl Iterator<Item = &mut Case> {
         let groups = [
             &mut self.corpus,
+            &mut self.corpus_with_values,
             &mut self.extremes,
             &mut self.values,
             &mut self.refused,
@@ -87,7 +96,7 @@ impl Suite {
 }
 
 /// Those of version 2 that cost most, and every kind on values.
-fn with_values() -> Vec<(String, Pair)> {
+fn made_with_values() -> Vec<(String, Pair)> {
     let extremes = value_extremes().into_iter();
     let extremes = extremes.map(|(name, pair)| (name.to_string(), pair));
     extremes.chain(sweep::value_pairs(VALUE_VISITS)).collect()

@@ -152,7 +152,8 @@ fn tell(text: &mut String, routine: &Routine, ending: &Ending) -> std::fmt::Resu
             )?;
             writeln!(
                 text,
-                "From a forbidden shape back to the empty heap (-> is a link or a path):\n"
+                "From a forbidden shape back to the empty heap ({}):\n",
+                draw::key(&draw::shapes(chain, routine))
             )?;
             text.push_str(&draw::chain(chain, routine));
             writeln!(
@@ -174,7 +175,8 @@ fn tell_run(text: &mut String, routine: &Routine, run: &Run) -> std::fmt::Result
     let steps = counted(run.transitions.len(), "step");
     writeln!(
         text,
-        "Wrong: a run of {steps} meets what is forbidden (# is null, * dangling).\n"
+        "Wrong: a run of {steps} meets what is forbidden ({}).\n",
+        draw::key_of_run(run)
     )?;
     text.push_str(&draw::run(run, routine));
     let bad = &routine.job.forbidden[run.forbidden];
@@ -184,7 +186,8 @@ fn tell_run(text: &mut String, routine: &Routine, run: &Run) -> std::fmt::Result
     let statement = statement.map_or(String::new(), |line| format!(", `{line}`"));
     writeln!(
         text,
-        "\nThat is at {state}{statement}, where {origin}. What is met (-> is a link or a path):\n"
+        "\nThat is at {state}{statement}, where {origin}. What is met ({}):\n",
+        draw::key([&bad.shape])
     )?;
     for line in draw::shape(&bad.shape, &routine.variables) {
         writeln!(text, "       {line}")?;

@@ -59,7 +59,10 @@ pub fn compare(seed: u64) -> Result<Tally, String> {
     for job in Pairs::new(seed).take(RANDOM).map(jobs) {
         some_sets(&mut tally, &mut random, &job);
     }
-    for job in accepted_pairs(seed).take(EVERY_ROOM).map(jobs) {
+    for job in accepted_pairs(Version::One, seed)
+        .take(EVERY_ROOM)
+        .map(jobs)
+    {
         every_room(&mut tally, &mut random, &job);
     }
     Ok(tally)

@@ -1,7 +1,6 @@
 //! Random jobs with certificates that are accepted.
 
 use super::Pair;
-use crate::baseline::shape::{Located, Shape};
 use crate::random::Random;
 use crate::reference::checker::MOST_BYTES;
 use crate::reference::job::{
@@ -14,6 +13,7 @@ use crate::search::before::{each_before, forbidden};
 use crate::search::covers::certificate_of;
 use crate::search::generalise::simplifications;
 use crate::search::images::find_images;
+use crate::search::shape::{Located, Shape};
 
 /// How large a pair is wanted.
 struct Size {
@@ -187,7 +187,7 @@ fn covered_by(needed: &Located, member: &Located) -> bool {
 fn more_general(random: &mut Random, shape: Shape) -> Shape {
     let mut shape = shape;
     let mut left: usize = random.pick(&[0, 0, 1, 2, 4, 8]);
-    while left > 0 || u64::from(shape.cells) > reference::MOST_CELLS {
+    while left > 0 || u64::from(shape.places.cells) > reference::MOST_CELLS {
         let simpler = simplifications(&shape);
         if simpler.is_empty() {
             break;
@@ -202,7 +202,7 @@ fn more_general(random: &mut Random, shape: Shape) -> Shape {
 fn safe_start(random: &mut Random, job: &Job, members: &[Located]) -> Option<u64> {
     let unsafe_at = |state: u64| {
         let satisfied = |member: &Located| {
-            u64::from(member.state) == state && member.shape.empty_heap_satisfies()
+            u64::from(member.state) == state && member.shape.places.empty_heap_satisfies()
         };
         members.iter().any(satisfied)
     };

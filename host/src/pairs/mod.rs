@@ -137,10 +137,13 @@ impl Iterator for ValuedPairs {
     }
 }
 
-/// Endless accepted pairs.
-pub fn accepted_pairs(seed: u64) -> impl Iterator<Item = Pair> {
+/// Endless accepted pairs of a version.
+pub fn accepted_pairs(version: Version, seed: u64) -> impl Iterator<Item = Pair> {
     let mut random = Random::new(seed);
-    std::iter::repeat_with(move || accepted(&mut random))
+    std::iter::repeat_with(move || match version {
+        Version::One => accepted(&mut random),
+        Version::Two => valued(&mut random).pair(),
+    })
 }
 
 /// Endless damaged copies of a pair.

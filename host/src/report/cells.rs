@@ -1,25 +1,58 @@
-//! Heaps and shapes as pictures: a box for each cell in a row, variables above, links as arrows.
+//! Heaps and shapes as pictures: a box for each cell in a row, variables above, links as arrows. The
+//! value of a cell stands in its box behind a colon, as `1: 5`; facts stand below, as `1 < 2`.
 
 use std::collections::{BTreeMap, BTreeSet};
 
 use super::html::escape;
-use super::svg::{lanes, width_of, Area, Picture, LINE};
+use super::svg::{lanes, width_of, Area, Picture, Tail, LINE};
+use crate::facts_text::facts_text;
 use crate::reference::heap::{Heap, Place};
 use crate::reference::shape::Shape;
 
+/// The width of a box, if no value in it needs more, and the least there is beside its text.
 const BOX_WIDTH: i32 = 56;
+const BESIDE_LABEL: i32 = 40;
 const BOX_HEIGHT: i32 = 34;
-/// Between the left sides of two boxes, if the names of variables leave it at that.
-const PITCH: i32 = 104;
+/// Between two boxes, if the names of variables leave it at that.
+const GAP: i32 = 48;
+/// The length of an arrow to # or *.
+const TO_END: i32 = 34;
 const TAG: i32 = 20;
 const LANE: i32 = 12;
 
-/// Cells, links (by the cell) and variables that are drawn in another colour.
+/// Cells, links and values (by the cell) and variables that are drawn in another colour.
 #[derive(Clone, Debug, Default, PartialEq, Eq)]
 pub struct Marks {
     pub cells: BTreeSet<usize>,
     pub links: BTreeSet<usize>,
+    pub values: BTreeSet<usize>,
     pub variables: BTreeSet<usize>,
+}
+
+/// What the pictures of a run have in common, so that a cell stays at its place.
+#[derive(Clone, Debug, Default)]
+pub struct Frame {
+    /// The cells from left to right, and those that have a place though they aren't there.
+    columns: Vec<usize>,
+    /// The width of the widest number of a cell with its value.
+    label: i32,
+}
+
+impl Frame {
+    pub fn of(heaps: &[Heap]) -> Frame {
+        let values = heaps.iter().flat_map(|heap| &heap.values);
+        let widths = values
+            .map(|(&cell, value)| width_of(&ahead_of_value(cell)) + width_of(&value.to_string()));
+        Frame {
+            columns: columns(heaps),
+            label: widths.max().unwrap_or(0),
+        }
+    }
+}
+
+/// The number of a cell as it stands ahead of its value.
+fn ahead_of_value(cell: usize) -> String {
+    format!("{}: ", cell + 1)
 }
 
 /// What is drawn. Cells are named by a number, which is drawn one higher.
@@ -28,8 +61,11 @@ pub struct Scene<'a> {
     /// Where each variable stands; nothing is nowhere.
     pub variables: Vec<Option<Place>>,
     pub links: BTreeMap<usize, Option<Place>>,
-    /// The cells from left to right, and those that have a place though they aren't there.
-    pub columns: Vec<usize>,
+    /// The values of the cells that have one.
+    pub values: BTreeMap<usize, usize>,
+    /// The facts of a shape, if it has any.
+    pub facts: Option<String>,
+    pub frame: Frame,
     /// Cells that were deleted.
     pub gone: BTreeSet<usize>,
     /// Whether an arrow may stand for several links.
@@ -40,13 +76,15 @@ pub struct Scene<'a> {
 }
 
 impl<'a> Scene<'a> {
-    pub fn of_heap(heap: &Heap, names: &'a [String], columns: &[usize]) -> Scene<'a> {
+    pub fn of_heap(heap: &Heap, names: &'a [String], frame: &Frame) -> Scene<'a> {
         let links = heap.links.iter().map(|(&cell, &place)| (cell, Some(place)));
         Scene {
             names,
             variables: heap.variables.iter().copied().map(Some).collect(),
             links: links.collect(),
-            columns: columns.to_vec(),
+            values: heap.values.clone(),
+            facts: None,
+            frame: frame.clone(),
             gone: BTreeSet::new(),
             has_paths: false,
             forbidden: Marks::default(),
@@ -57,11 +95,18 @@ impl<'a> Scene<'a> {
     pub fn of_shape(shape: &Shape, names: &'a [String]) -> Scene<'a> {
         let links: BTreeMap<usize, Option<Place>> =
             shape.links.iter().copied().enumerate().collect();
+        let numbers: Vec<usize> = (1..=shape.cells()).collect();
+        let frame = Frame {
+            columns: in_order(&shape.variables, &links),
+            label: 0,
+        };
         Scene {
             names,
-            columns: in_order(&shape.variables, &links),
             variables: shape.variables.clone(),
             links,
+            values: BTreeMap::new(),
+            facts: facts_text(&shape.facts, &numbers),
+            frame,
             gone: BTreeSet::new(),
             has_paths: true,
             forbidden: Marks::default(),
@@ -69,19 +114,19 @@ impl<'a> Scene<'a> {
         }
     }
 
-    /// The picture, with the variables that stand at no cell below it.
+    /// The picture, with the variables that stand at no cell and the facts below it.
     pub fn figure(&self, words: &str) -> String {
         let picture = match self.is_drawn() {
             true => self.picture().element("cells", words),
             false => String::new(),
         };
-        format!("<figure>\n{picture}{}</figure>\n", self.chips())
+        format!("<figure>\n{picture}{}</figure>\n", self.caption())
     }
 
     /// Whether there is a box to draw.
     fn is_drawn(&self) -> bool {
         let has_box = |cell| self.links.contains_key(cell) || self.gone.contains(cell);
-        self.columns.iter().any(has_box)
+        self.frame.columns.iter().any(has_box)
     }
 
     /// The class of something that may be marked.
@@ -90,6 +135,18 @@ impl<'a> Scene<'a> {
             (true, _) => "bad",
             (false, true) => "new",
             (false, false) => "plain",
+        }
+    }
+
+    /// What stands below the picture.
+    fn caption(&self) -> String {
+        let facts = self.facts.as_ref().map_or(String::new(), |facts| {
+            format!("<span class=\"facts\">{}</span>\n", escape(facts))
+        });
+        let caption = self.chips() + &facts;
+        match caption.is_empty() {
+            true => caption,
+            false => format!("<figcaption>\n{caption}</figcaption>\n"),
         }
     }
 
@@ -109,47 +166,58 @@ impl<'a> Scene<'a> {
         if chips.is_empty() && !self.is_drawn() {
             chips = "<span class=\"chip plain\">anything</span>\n".to_string();
         }
-        match chips.is_empty() {
-            true => chips,
-            false => format!("<figcaption>\n{chips}</figcaption>\n"),
-        }
+        chips
     }
 
     pub fn picture(&self) -> Picture {
         let mut picture = Picture::default();
         let layout = Layout::of(self);
-        for &cell in &self.columns {
+        for &cell in &self.frame.columns {
             let area = layout.area(cell);
             if self.links.contains_key(&cell) {
-                self.draw_cell(cell, area, &mut picture);
+                self.draw_box(cell, area, &mut picture);
+                self.draw_tags(cell, area, &mut picture);
             } else if self.gone.contains(&cell) {
-                picture.labelled(area, "gone", "gone");
+                picture.labelled(area, "gone", "gone", None);
             }
         }
         self.draw_links(&layout, &mut picture);
         if !self.has_paths {
             // All heaps of a run are as wide, so that they are drawn to the same scale.
-            let right = layout.pitch * self.columns.len() as i32;
+            let right = layout.pitch * self.frame.columns.len() as i32;
             picture.reach(right, 0);
         }
         picture
     }
 
-    /// The box with its number, and above it the variables at it.
-    fn draw_cell(&self, cell: usize, area: Area, picture: &mut Picture) {
+    /// The box with the number of the cell and its value.
+    fn draw_box(&self, cell: usize, area: Area, picture: &mut Picture) {
         let class = self.class(|marks| marks.cells.contains(&cell));
-        picture.labelled(area, &format!("cell {class}"), &(cell + 1).to_string());
+        let class = format!("cell {class}");
+        let Some(value) = self.values.get(&cell) else {
+            return picture.labelled(area, &class, &(cell + 1).to_string(), None);
+        };
+        let of_value = self.class(|marks| marks.values.contains(&cell));
+        let tail = Tail {
+            class: &format!("value {of_value}"),
+            text: &value.to_string(),
+        };
+        picture.labelled(area, &class, &ahead_of_value(cell), Some(tail));
+    }
+
+    /// The variables at a cell, above its box.
+    fn draw_tags(&self, cell: usize, area: Area, picture: &mut Picture) {
         for (row, variable) in self.standing_at(cell).enumerate() {
             let name = &self.names[variable];
             let class = self.class(|marks| marks.variables.contains(&variable));
             let width = width_of(name) + 12;
             let tag = Area {
-                x: area.x + (BOX_WIDTH - width) / 2,
+                x: area.x + (area.width - width) / 2,
                 y: area.y - TAG * (row as i32 + 1),
                 width,
                 height: TAG - 2,
             };
-            picture.labelled(tag, &format!("tag {class}"), name);
+            picture.labelled(tag, &format!("tag {class}"), name, None);
         }
     }
 
@@ -164,7 +232,7 @@ impl<'a> Scene<'a> {
             let class = self.class(|marks| marks.links.contains(&cell));
             let class = format!("{class}{path}");
             let (x, y) = layout.dot(cell);
-            let end = x + BOX_WIDTH / 2 + 6;
+            let end = x + TO_END;
             match place {
                 None => continue,
                 Some(Place::Null) => {
@@ -198,6 +266,8 @@ impl<'a> Scene<'a> {
 /// Where everything stands.
 struct Layout {
     columns: Vec<usize>,
+    box_width: i32,
+    /// Between the left sides of two boxes.
     pitch: i32,
     /// The upper side of the boxes.
     top: i32,
@@ -212,9 +282,11 @@ impl Layout {
             .links
             .keys()
             .map(|&cell| scene.standing_at(cell).count());
+        let box_width = BOX_WIDTH.max(scene.frame.label + BESIDE_LABEL);
         let mut layout = Layout {
-            columns: scene.columns.clone(),
-            pitch: PITCH.max(widest.unwrap_or(0) + 20),
+            columns: scene.frame.columns.clone(),
+            box_width,
+            pitch: (box_width + GAP).max(widest.unwrap_or(0) + 20),
             top: 8 + TAG * rows.max().unwrap_or(0) as i32,
             lane_of: BTreeMap::new(),
         };
@@ -240,9 +312,9 @@ impl Layout {
 
     fn area(&self, cell: usize) -> Area {
         Area {
-            x: 8 + (self.pitch - PITCH) / 2 + self.pitch * self.column(cell),
+            x: 8 + (self.pitch - self.box_width - GAP) / 2 + self.pitch * self.column(cell),
             y: self.top,
-            width: BOX_WIDTH,
+            width: self.box_width,
             height: BOX_HEIGHT,
         }
     }
@@ -250,7 +322,7 @@ impl Layout {
     /// Where a cell's link begins.
     fn dot(&self, cell: usize) -> (i32, i32) {
         let area = self.area(cell);
-        (area.x + BOX_WIDTH - 10, area.y + BOX_HEIGHT / 2)
+        (area.x + area.width - 10, area.y + BOX_HEIGHT / 2)
     }
 }
 
@@ -277,13 +349,13 @@ fn in_order(variables: &[Option<Place>], links: &BTreeMap<usize, Option<Place>>)
 }
 
 /// Columns for all cells of a run's heaps, such that most links lead to the next column.
-pub fn columns(heaps: &[Heap]) -> Vec<usize> {
+fn columns(heaps: &[Heap]) -> Vec<usize> {
     let all: BTreeSet<usize> = heaps
         .iter()
         .flat_map(|heap| heap.links.keys().copied())
         .collect();
     let candidates = heaps.iter().map(|heap| {
-        let scene = Scene::of_heap(heap, &[], &[]);
+        let scene = Scene::of_heap(heap, &[], &Frame::default());
         let mut order = in_order(&scene.variables, &scene.links);
         let others: Vec<usize> = all
             .iter()
@@ -312,26 +384,83 @@ mod tests {
     use super::*;
     use crate::random::Random;
 
+    fn assert_apart(areas: &[Area], of: &dyn std::fmt::Debug) {
+        for (index, area) in areas.iter().enumerate() {
+            let mut others = areas[..index].iter();
+            assert!(others.all(|other| !area.overlaps(other)), "{of:?}");
+        }
+    }
+
     #[test]
-    fn nothing_overlaps_in_random_heaps() {
+    fn nothing_overlaps_in_random_shapes_and_heaps() {
         let mut random = Random::new(0x21_5eed);
         let names = ["x", "a_long_name", "t"].map(str::to_string);
         for _ in 0..500 {
             let cells = random.below(8);
-            let mut codes = |count: usize| -> Vec<u64> {
-                (0..count).map(|_| random.below(3 + cells) as u64).collect()
+            let mut codes = |count: usize, least: usize| -> Vec<u64> {
+                let code = |_| (least + random.below(3 + cells - least)) as u64;
+                (0..count).map(code).collect()
             };
-            let shape = Shape::of_codes(&codes(3), &codes(cells));
+            let shape = Shape::of_codes(&codes(3, 0), &codes(cells, 0));
             let areas = Scene::of_shape(&shape, &names).picture().areas;
             assert!(areas.len() >= cells);
-            for (index, area) in areas.iter().enumerate() {
-                let others = &areas[..index];
-                assert!(
-                    others.iter().all(|other| !area.overlaps(other)),
-                    "{shape:?}"
-                );
-            }
+            assert_apart(&areas, &shape);
+
+            let mut places = |count| codes(count, 1).into_iter().filter_map(Place::of_code);
+            let heap = Heap {
+                variables: places(3).collect(),
+                links: places(cells).enumerate().collect(),
+                values: (0..cells / 2)
+                    .map(|cell| (cell, 10usize.pow(2 * cell as u32)))
+                    .collect(),
+            };
+            let frame = Frame::of(std::slice::from_ref(&heap));
+            let areas = Scene::of_heap(&heap, &names, &frame).picture().areas;
+            assert!(areas.len() >= cells);
+            assert_apart(&areas, &heap);
         }
+    }
+
+    /// However long a value is, it stands in its box, and all heaps of a run are as wide.
+    #[test]
+    fn boxes_hold_their_values() {
+        let heap = |values: BTreeMap<usize, usize>| Heap {
+            variables: vec![Place::Cell(9)],
+            links: [(9, Place::Null)].into(),
+            values,
+        };
+        let heaps = [heap([].into()), heap([(9, 65_535)].into())];
+        let frame = Frame::of(&heaps);
+        let names = ["x".to_string()];
+        let [without, with] = heaps.map(|heap| {
+            let mut scene = Scene::of_heap(&heap, &names, &frame);
+            scene.changed.values.insert(9);
+            scene.picture()
+        });
+        let width = width_of("10: 65535") + BESIDE_LABEL;
+        assert_eq!(with.areas[0].width, width);
+        assert_eq!(without.areas, with.areas);
+        let label = format!(
+            "textLength=\"{}\" lengthAdjust=\"spacingAndGlyphs\">10: <tspan class=\"value \
+             new\">65535</tspan></text>",
+            width_of("10: 65535")
+        );
+        assert!(with.element("cells", "").contains(&label));
+    }
+
+    #[test]
+    fn facts_stand_below() {
+        use crate::reference::facts::Fact;
+        let facts = vec![Fact::below(1, 0)];
+        let names = ["x".to_string()];
+        let figure = |codes: &[u64]| {
+            let shape = Shape::of_codes(codes, &[4, 0]).with_facts(facts.clone());
+            Scene::of_shape(&shape, &names).figure("")
+        };
+        let line = "<span class=\"facts\">2 &lt; 1</span>\n</figcaption>\n";
+        let at_null = "<span class=\"chip plain\"><b>x</b> null</span>\n";
+        assert!(figure(&[3]).contains(&format!("<figcaption>\n{line}")));
+        assert!(figure(&[1]).contains(&format!("<figcaption>\n{at_null}{line}")));
     }
 
     #[test]

@@ -1,17 +1,22 @@
-//! What happens in a run, in plain words, and what to mark in its last heap.
+//! What the steps of a run do, in plain words.
 
-use std::collections::BTreeSet;
-
-use super::cells::Marks;
 use crate::reference::heap::{Heap, Place};
 use crate::reference::operation::Operation;
 use crate::reference::operation::{ASSIGN, DELETE, DIFFERENT, EQUAL, LOAD, NEW, STORE};
-use crate::reference::shape::Shape;
+use crate::reference::operation::{BELOW_VALUE, COPY, EQUAL_VALUE, LARGER, READ, SMALLER};
 use crate::routine::Routine;
-use crate::search::run::Run;
+
+/// What an operation has done, with the values it compared or wrote.
+pub fn step(routine: &Routine, operation: Operation, after: &Heap) -> String {
+    let words = operation_words(routine, operation);
+    match values(operation, after) {
+        Some(values) => format!("{words}: {values}"),
+        None => words,
+    }
+}
 
 /// What an operation does.
-pub fn operation(routine: &Routine, operation: Operation) -> String {
+fn operation_words(routine: &Routine, operation: Operation) -> String {
     let Operation { kind, a, b } = operation;
     let (x, y) = (routine.operand(a), routine.operand(b));
     match (kind, a, b) {
@@ -27,254 +32,31 @@ pub fn operation(routine: &Routine, operation: Operation) -> String {
         (STORE, ..) => format!("the link of {x}'s block is set to where {y} stands"),
         (NEW, ..) => format!("a new block, with {x} at it; its link is not set yet"),
         (DELETE, ..) => format!("{x}'s block is deleted; whatever led to it now dangles"),
+        (EQUAL_VALUE, ..) if a == b => format!("{x}'s block has a value"),
+        (EQUAL_VALUE, ..) => format!("{x}'s block has the same value as {y}'s"),
+        (BELOW_VALUE, ..) => format!("{x}'s block has a smaller value than {y}'s"),
+        (COPY, ..) if a == b => format!("{x}'s block keeps its value"),
+        (COPY, ..) => format!("{x}'s block gets the value of {y}'s"),
+        (LARGER, ..) if a == b => format!("{x}'s block gets a larger value than it had"),
+        (LARGER, ..) => format!("{x}'s block gets a larger value than {y}'s"),
+        (SMALLER, ..) if a == b => format!("{x}'s block gets a smaller value than it had"),
+        (SMALLER, ..) => format!("{x}'s block gets a smaller value than {y}'s"),
+        (READ, ..) => format!("a value is read into {x}'s block"),
         _ => unreachable!("an operation has a kind of the table"),
     }
 }
 
-/// What is wrong with the last heap of a run.
-#[derive(Clone, Debug, PartialEq, Eq)]
-pub struct Fault {
-    pub heading: String,
-    /// What the hooks would do.
-    pub meaning: String,
-    pub marks: Marks,
-}
-
-pub fn fault(routine: &Routine, run: &Run) -> Fault {
-    let bad = &routine.job.forbidden[run.forbidden];
-    let heap = run.heaps.last().expect("a run has a heap");
-    let met = Met {
-        routine,
-        shape: &bad.shape,
-        heap,
+/// The values that an operation compares or has written, as far as the heap after it has them.
+fn values(operation: Operation, after: &Heap) -> Option<String> {
+    let value = |operand: usize| match after.place(operand) {
+        Place::Cell(cell) => after.values.get(&cell),
+        _ => None,
     };
-    let text = &routine.origins[run.forbidden].text;
-    if text == "steps" {
-        met.blocked_step(bad.state)
-    } else if text.starts_with("lost block") {
-        met.lost()
-    } else if text.starts_with("shared") {
-        met.shared()
-    } else if has_ring(&bad.shape) {
-        met.ring()
-    } else if bad.shape.links.contains(&Some(Place::Dangling)) {
-        met.dangling_link()
-    } else if bad.shape.variables.contains(&Some(Place::Dangling)) {
-        met.dangling_variable()
-    } else if bad.shape.cells() > 0 && bad.shape.links.contains(&None) {
-        met.lost()
-    } else {
-        met.otherwise()
-    }
-}
-
-/// Whether following links from some cell of a shape comes back to it.
-fn has_ring(shape: &Shape) -> bool {
-    (0..shape.cells()).any(|start| {
-        let mut cell = start;
-        (0..shape.cells()).any(|_| match shape.links[cell] {
-            Some(Place::Cell(next)) => {
-                cell = next;
-                next == start
-            }
-            _ => false,
-        })
-    })
-}
-
-/// A forbidden shape and the heap that satisfies it.
-struct Met<'a> {
-    routine: &'a Routine,
-    shape: &'a Shape,
-    heap: &'a Heap,
-}
-
-impl Met<'_> {
-    /// The variables that the shape places, by number from 0.
-    fn placed(&self) -> Vec<usize> {
-        let places = self.shape.variables.iter().enumerate();
-        let placed = places.filter(|(_, place)| place.is_some());
-        placed.map(|(variable, _)| variable).collect()
-    }
-
-    fn name(&self, variable: usize) -> &str {
-        &self.routine.variables[variable]
-    }
-
-    /// The cells met by following links from a variable.
-    fn list(&self, variable: usize) -> BTreeSet<usize> {
-        let mut cells = BTreeSet::new();
-        let mut place = self.heap.variables[variable];
-        while let Place::Cell(cell) = place {
-            if !cells.insert(cell) {
-                break;
-            }
-            place = self.heap.links[&cell];
-        }
-        cells
-    }
-
-    /// The cells met from the variables that the shape places, from all where it places none.
-    fn lists(&self) -> BTreeSet<usize> {
-        let mut from = self.placed();
-        if from.is_empty() {
-            from = (0..self.routine.variables.len()).collect();
-        }
-        from.iter()
-            .flat_map(|&variable| self.list(variable))
-            .collect()
-    }
-
-    fn ring(&self) -> Fault {
-        let on_ring = |&cell: &usize| {
-            let mut place = self.heap.links[&cell];
-            for _ in 0..self.heap.links.len() {
-                match place {
-                    Place::Cell(next) if next == cell => return true,
-                    Place::Cell(next) => place = self.heap.links[&next],
-                    _ => return false,
-                }
-            }
-            false
-        };
-        let cells: BTreeSet<usize> = self.heap.links.keys().copied().filter(on_ring).collect();
-        Fault {
-            heading: "The list is closed into a ring".to_string(),
-            meaning: "The marked links lead back to a block that was lifted already. The hooks \
-                      lift the same blocks again and again while the pick count climbs."
-                .to_string(),
-            marks: Marks {
-                links: cells.clone(),
-                cells,
-                variables: BTreeSet::new(),
-            },
-        }
-    }
-
-    fn lost(&self) -> Fault {
-        let lists = self.lists();
-        let lost = self
-            .heap
-            .links
-            .keys()
-            .copied()
-            .filter(|cell| !lists.contains(cell));
-        Fault {
-            heading: "A block is lost".to_string(),
-            meaning: "No list leads to what is marked any more. Its part of the pattern is never \
-                      lifted again, and its memory is never given back."
-                .to_string(),
-            marks: Marks {
-                cells: lost.collect(),
-                ..Marks::default()
-            },
-        }
-    }
-
-    fn dangling_link(&self) -> Fault {
-        let lists = self.lists().into_iter();
-        let links: BTreeSet<usize> = lists
-            .filter(|cell| self.heap.links[cell] == Place::Dangling)
-            .collect();
-        Fault {
-            heading: "A link dangles".to_string(),
-            meaning: "The marked link leads to a block that is gone, or was never set. The \
-                      controller reads whatever its memory holds by now, and the hooks lift as \
-                      that happens to say."
-                .to_string(),
-            marks: Marks {
-                cells: links.clone(),
-                links,
-                variables: BTreeSet::new(),
-            },
-        }
-    }
-
-    fn dangling_variable(&self) -> Fault {
-        let dangling = |&variable: &usize| self.shape.variables[variable] == Some(Place::Dangling);
-        let variables: BTreeSet<usize> = self.placed().into_iter().filter(dangling).collect();
-        let names: Vec<&str> = variables
-            .iter()
-            .map(|&variable| self.name(variable))
-            .collect();
-        Fault {
-            heading: format!("{} dangles", names.join(", ")),
-            meaning: "It stands at a block that is gone, or was never set. The controller takes \
-                      whatever its memory holds by now for a pattern block."
-                .to_string(),
-            marks: Marks {
-                variables,
-                ..Marks::default()
-            },
-        }
-    }
-
-    /// A link is followed or set that isn't there.
-    fn blocked_step(&self, state: u64) -> Fault {
-        let placed = self.placed();
-        let steps = |operation: &Operation| match operation.kind {
-            LOAD => placed.contains(&(operation.b - 1)),
-            STORE => placed.contains(&(operation.a - 1)),
-            _ => false,
-        };
-        let transitions = self.routine.job.transitions.iter();
-        let next = transitions
-            .enumerate()
-            .filter(|(_, transition)| transition.from == state)
-            .find(|(_, transition)| steps(&transition.operation))
-            .map(|(number, _)| self.routine.operation(number))
-            .unwrap_or_default();
-        let names: Vec<&str> = placed.iter().map(|&variable| self.name(variable)).collect();
-        let names = names.join(", ");
-        let is_null = self.shape.variables.contains(&Some(Place::Null));
-        let why = match is_null {
-            true => "is null",
-            false => "stands at a block that is gone or was never set",
-        };
-        Fault {
-            heading: format!("{next} is next, but {names} has no block"),
-            meaning: format!(
-                "The operation needs the block at {names}, which {why}. The controller takes \
-                 whatever stands there in its memory for a block, or stops."
-            ),
-            marks: Marks {
-                variables: placed.into_iter().collect(),
-                ..Marks::default()
-            },
-        }
-    }
-
-    fn shared(&self) -> Fault {
-        let mut lists = self
-            .placed()
-            .into_iter()
-            .map(|variable| self.list(variable));
-        let first = lists.next().unwrap_or_default();
-        let cells = lists.fold(first, |shared, list| &shared & &list);
-        Fault {
-            heading: "Two lists share a block".to_string(),
-            meaning:
-                "The marked blocks are in both lists. An edit of one list changes the pattern \
-                      of the other."
-                    .to_string(),
-            marks: Marks {
-                cells,
-                ..Marks::default()
-            },
-        }
-    }
-
-    fn otherwise(&self) -> Fault {
-        let variables: BTreeSet<usize> = self.placed().into_iter().collect();
-        Fault {
-            heading: "A forbidden shape is met".to_string(),
-            meaning: "What the routine forbids here has come about.".to_string(),
-            marks: Marks {
-                cells: self.lists(),
-                variables,
-                ..Marks::default()
-            },
-        }
+    let Operation { kind, a, b } = operation;
+    match kind {
+        BELOW_VALUE => Some(format!("{} < {}", value(a)?, value(b)?)),
+        EQUAL_VALUE | COPY | LARGER | SMALLER | READ => value(a).map(usize::to_string),
+        _ => None,
     }
 }
 
@@ -282,54 +64,52 @@ impl Met<'_> {
 mod tests {
     use super::*;
     use crate::corpus;
-    use crate::judge::{judge, Ending};
 
-    fn of(name: &str) -> (Fault, Heap) {
-        let routine = corpus::find(name).unwrap().routine;
-        let Ending::Wrong(run) = judge(&routine.job).ending else {
-            panic!("{name} is not wrong");
+    /// x at a block with value 5, y at one with 7, z at one without.
+    fn assert_said(kind: u64, a: usize, b: usize, expected: &str) {
+        let mut routine = corpus::find("reverse").unwrap().routine;
+        routine.variables = ["x", "y", "z"].map(str::to_string).to_vec();
+        let after = Heap {
+            variables: [0, 1, 2].map(Place::Cell).to_vec(),
+            links: [0, 1, 2].map(|cell| (cell, Place::Null)).into(),
+            values: [(0, 5), (1, 7)].into(),
         };
-        (fault(&routine, &run), run.heaps.last().unwrap().clone())
+        assert_eq!(step(&routine, Operation { kind, a, b }, &after), expected);
     }
 
     #[test]
-    fn what_is_marked() {
-        let (ring, heap) = of("wrong_join_ring");
-        assert_eq!(ring.heading, "The list is closed into a ring");
-        assert!(!ring.marks.links.is_empty());
-        let is_marked = |cell: &usize| match heap.links[cell] {
-            Place::Cell(next) => ring.marks.cells.contains(&next),
-            _ => false,
-        };
-        assert!(ring.marks.cells.iter().all(is_marked));
-
-        let (lost, heap) = of("wrong_delete_loses");
-        assert_eq!(lost.heading, "A block is lost");
-        assert_eq!(lost.marks.cells.len(), heap.links.len());
-
-        let (link, heap) = of("wrong_delete_linked");
-        assert_eq!(link.heading, "A link dangles");
-        assert_eq!(link.marks.links.len(), 1);
-        let dangles = |cell: &usize| heap.links[cell] == Place::Dangling;
-        assert!(link.marks.links.iter().all(dangles));
-
-        let (step, _) = of("wrong_append_null");
-        assert_eq!(step.heading, "t := l.next is next, but l has no block");
-        assert_eq!(step.marks.variables, BTreeSet::from([3]));
-
-        let (shared, _) = of("wrong_copy_shares");
-        assert_eq!(shared.heading, "Two lists share a block");
-        assert!(!shared.marks.cells.is_empty());
+    fn values_are_told() {
+        assert_said(EQUAL_VALUE, 1, 1, "x's block has a value: 5");
+        assert_said(EQUAL_VALUE, 2, 1, "y's block has the same value as x's: 7");
+        assert_said(
+            BELOW_VALUE,
+            1,
+            2,
+            "x's block has a smaller value than y's: 5 < 7",
+        );
+        assert_said(COPY, 2, 1, "y's block gets the value of x's: 7");
+        assert_said(COPY, 2, 2, "y's block keeps its value: 7");
+        assert_said(LARGER, 2, 1, "y's block gets a larger value than x's: 7");
+        assert_said(LARGER, 1, 1, "x's block gets a larger value than it had: 5");
+        assert_said(SMALLER, 1, 2, "x's block gets a smaller value than y's: 5");
+        assert_said(
+            SMALLER,
+            2,
+            2,
+            "y's block gets a smaller value than it had: 7",
+        );
+        assert_said(READ, 2, 0, "a value is read into y's block: 7");
     }
 
-    /// Whatever is wrong, something is marked.
     #[test]
-    fn every_wrong_routine_has_marks() {
-        for entry in corpus::read().unwrap() {
-            if let Ending::Wrong(run) = judge(&entry.routine.job).ending {
-                let marks = fault(&entry.routine, &run).marks;
-                assert_ne!(marks, Marks::default(), "{}", entry.name);
-            }
-        }
+    fn where_there_is_no_value_none_is_told() {
+        assert_said(READ, 3, 0, "a value is read into z's block");
+        assert_said(BELOW_VALUE, 1, 3, "x's block has a smaller value than z's");
+        assert_said(
+            STORE,
+            1,
+            2,
+            "the link of x's block is set to where y stands",
+        );
     }
 }

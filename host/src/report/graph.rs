@@ -97,7 +97,7 @@ impl Graph<'_> {
                 (false, true) => "state start",
                 (false, false) => "state",
             };
-            picture.labelled(*area, class, &self.routine.states[state]);
+            picture.labelled(*area, class, &self.routine.states[state], None);
         }
     }
 

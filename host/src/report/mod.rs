@@ -3,8 +3,10 @@
 
 mod cells;
 mod explain;
+mod fault;
 mod graph;
 mod html;
+mod images;
 mod index_page;
 mod routine_page;
 mod svg;

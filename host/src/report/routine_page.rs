@@ -2,13 +2,15 @@
 
 use std::collections::BTreeSet;
 
-use super::cells::{columns, Marks, Scene};
+use super::cells::{Frame, Marks, Scene};
+use super::fault::fault;
 use super::html::{escape, page};
 use super::{explain, graph};
 use crate::draw;
 use crate::judge::{Ending, Judged};
 use crate::reference::certificate::Certificate;
 use crate::reference::heap::Heap;
+use crate::reference::shape::Shape;
 use crate::refused_cover::RefusedCover;
 use crate::routine::{Origin, Routine};
 use crate::search::chain::Chain;
@@ -28,6 +30,13 @@ every run begins, satisfies the last. A dashed arrow is one link or several.";
 const OF_SHAPES: &str = "\
 A dashed arrow is one link or several. Of what isn't drawn nothing is said. <code>steps</code>
 forbids following or setting the link of a variable that stands at no block.";
+
+/// What is said besides where cells have values, and where shapes have facts on them.
+const OF_VALUES: &str = "
+Where a block has a value, its pick, it stands in the box behind the number of the block.";
+const OF_FACTS: &str = "
+Below a shape, <code>1 &lt; 2 = 3</code> says that cell 1 has a smaller value than cell 2, and cell 3
+the same as cell 2.";
 
 pub fn routine_page(name: &str, routine: &Routine, judged: &Judged) -> String {
     let mut body = format!(
@@ -113,14 +122,15 @@ fn certified(routine: &Routine, certificate: &Certificate, verdict: &Verdict) ->
 
 /// The run from the start on, with what it ends with.
 fn wrong(routine: &Routine, run: &Run) -> String {
-    let fault = explain::fault(routine, run);
+    let fault = fault(routine, run);
     let origin = &routine.origins[run.forbidden];
     let mut text = banner("bad", &format!("Wrong: {}", fault.heading), &fault.meaning);
     text += &format!(
-        "<h2>How it comes about</h2>\n<p>A run of {}. {OF_RUNS}</p>\n<ol class=\"run\">\n",
+        "<h2>How it comes about</h2>\n<p>A run of {}. {OF_RUNS}{}</p>\n<ol class=\"run\">\n",
         counted(run.transitions.len(), "step"),
+        of_values(&run.heaps),
     );
-    let columns = columns(&run.heaps);
+    let frame = Frame::of(&run.heaps);
     let mut gone = BTreeSet::new();
     for (index, &number) in run.transitions.iter().enumerate() {
         let (before, after) = (&run.heaps[index], &run.heaps[index + 1]);
@@ -130,7 +140,7 @@ fn wrong(routine: &Routine, run: &Run) -> String {
             .keys()
             .filter(|cell| !after.links.contains_key(cell));
         gone.extend(removed.copied());
-        let mut scene = Scene::of_heap(after, &routine.variables, &columns);
+        let mut scene = Scene::of_heap(after, &routine.variables, &frame);
         scene.gone = gone.clone();
         scene.changed = changes(before, after);
         let is_last = index + 1 == run.transitions.len();
@@ -148,7 +158,7 @@ fn wrong(routine: &Routine, run: &Run) -> String {
             if is_last { " class=\"last\"" } else { "" },
             escape(&routine.states[transition.from as usize]),
             escape(&routine.operation(number)),
-            escape(&explain::operation(routine, transition.operation)),
+            escape(&explain::step(routine, transition.operation, after)),
         );
     }
     let bad = &routine.job.forbidden[run.forbidden];
@@ -165,6 +175,23 @@ fn wrong(routine: &Routine, run: &Run) -> String {
     text
 }
 
+/// How to read values, where there are any.
+fn of_values(heaps: &[Heap]) -> &'static str {
+    match heaps.iter().all(|heap| heap.values.is_empty()) {
+        true => "",
+        false => OF_VALUES,
+    }
+}
+
+/// How to read facts, where there are any.
+fn of_facts<'a>(shapes: impl IntoIterator<Item = &'a Shape>) -> &'static str {
+    let mut shapes = shapes.into_iter();
+    match shapes.all(|shape| shape.facts.is_empty()) {
+        true => "",
+        false => OF_FACTS,
+    }
+}
+
 /// Which line forbids a shape.
 fn forbids(origin: &Origin) -> String {
     let set = format!("<code>{}</code>", escape(&origin.text));
@@ -177,6 +204,7 @@ fn forbids(origin: &Origin) -> String {
 /// What a step has changed.
 fn changes(before: &Heap, after: &Heap) -> Marks {
     let cells = after.links.keys().copied();
+    let values = after.values.keys().copied();
     let variables = 0..after.variables.len();
     Marks {
         cells: cells
@@ -186,6 +214,9 @@ fn changes(before: &Heap, after: &Heap) -> Marks {
         links: cells
             .filter(|cell| before.links.get(cell) != after.links.get(cell))
             .collect(),
+        values: values
+            .filter(|cell| before.values.get(cell) != after.values.get(cell))
+            .collect(),
         variables: variables
             .filter(|&variable| before.variables[variable] != after.variables[variable])
             .collect(),
@@ -193,17 +224,20 @@ fn changes(before: &Heap, after: &Heap) -> Marks {
 }
 
 fn of_chain(routine: &Routine, chain: &Chain) -> String {
-    let mut text = format!("<h2>Why there is none</h2>\n<p>{OF_CHAINS}</p>\n<ol class=\"run\">\n");
-    for link in &chain.links {
-        let shape = link.located.shape.to_reference(routine.variables.len());
-        let words = draw::shape(&shape, &routine.variables).join("; ");
+    let shapes = draw::shapes(chain, routine);
+    let mut text = format!(
+        "<h2>Why there is none</h2>\n<p>{OF_CHAINS}{}</p>\n<ol class=\"run\">\n",
+        of_facts(&shapes),
+    );
+    for (link, shape) in chain.links.iter().zip(&shapes) {
+        let words = draw::shape(shape, &routine.variables).join("; ");
         let after = link.transition.map_or("the start".to_string(), |number| {
             format!("after <code>{}</code>", escape(&routine.operation(number)))
         });
         text += &format!(
             "<li>\n<p><span class=\"where\">{}</span> {after}</p>\n{}</li>\n",
             escape(&routine.states[usize::from(link.located.state)]),
-            Scene::of_shape(&shape, &routine.variables).figure(&words),
+            Scene::of_shape(shape, &routine.variables).figure(&words),
         );
     }
     text + "</ol>\n"
@@ -272,7 +306,11 @@ fn states(routine: &Routine, run: &[usize]) -> String {
 
 /// The forbidden shapes, a row for each line of the routine at a state.
 fn forbidden(routine: &Routine) -> String {
-    let mut text = format!("<h2>What is forbidden</h2>\n<p>{OF_SHAPES}</p>\n");
+    let shapes = routine.job.forbidden.iter().map(|bad| &bad.shape);
+    let mut text = format!(
+        "<h2>What is forbidden</h2>\n<p>{OF_SHAPES}{}</p>\n",
+        of_facts(shapes)
+    );
     let key = |number: usize| {
         (
             &routine.origins[number],

@@ -32,6 +32,13 @@ pub fn width_of(text: &str) -> i32 {
     CHARACTER * text.chars().count() as i32
 }
 
+/// Letters behind a text, in the same line, with a class of their own.
+#[derive(Clone, Copy)]
+pub struct Tail<'a> {
+    pub class: &'a str,
+    pub text: &'a str,
+}
+
 /// A picture that grows with what is put in.
 #[derive(Default)]
 pub struct Picture {
@@ -70,17 +77,18 @@ impl Picture {
     }
 
     /// A box with a text in its middle.
-    pub fn labelled(&mut self, area: Area, class: &str, text: &str) {
+    pub fn labelled(&mut self, area: Area, class: &str, text: &str, tail: Option<Tail>) {
         self.rectangle(area, class);
-        let x = area.x + (area.width - width_of(text)) / 2;
+        let width = width_of(text) + tail.map_or(0, |tail| width_of(tail.text));
+        let x = area.x + (area.width - width) / 2;
         let y = area.y + (area.height - LINE) / 2;
-        self.letters(x, y, class, text);
+        self.letters(x, y, class, text, tail);
         self.areas.push(area);
     }
 
     /// A text by its upper left corner.
     pub fn text(&mut self, x: i32, y: i32, class: &str, text: &str) {
-        self.letters(x, y, class, text);
+        self.letters(x, y, class, text, None);
         self.areas.push(Area {
             x,
             y,
@@ -89,13 +97,18 @@ impl Picture {
         });
     }
 
-    fn letters(&mut self, x: i32, y: i32, class: &str, text: &str) {
-        let (width, base) = (width_of(text), y + 12);
+    fn letters(&mut self, x: i32, y: i32, class: &str, text: &str, tail: Option<Tail>) {
+        let mut width = width_of(text);
+        let mut content = escape(text);
+        if let Some(Tail { class, text }) = tail {
+            width += width_of(text);
+            content += &format!("<tspan class=\"{class}\">{}</tspan>", escape(text));
+        }
+        let base = y + 12;
         self.reach(x + width, y + LINE);
         self.push(format_args!(
             "<text class=\"{class}\" x=\"{x}\" y=\"{base}\" textLength=\"{width}\" \
-             lengthAdjust=\"spacingAndGlyphs\">{}</text>",
-            escape(text)
+             lengthAdjust=\"spacingAndGlyphs\">{content}</text>",
         ));
     }
 

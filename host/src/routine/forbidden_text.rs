@@ -8,7 +8,14 @@ use crate::reference::shape::Shape;
 use crate::text::nearest;
 
 /// The ready sets of [`sets`] that are of variables at a state.
-const SETS: [&str; 5] = ["no list", "lost block", "ring", "no ring", "shared"];
+const SETS: [&str; 6] = [
+    "no list",
+    "lost block",
+    "ring",
+    "no ring",
+    "shared",
+    "not sorted",
+];
 
 /// The shapes that the words forbid.
 pub fn shapes(words: Words, variables: &Names) -> Result<Vec<Shape>, Mistake> {
@@ -41,6 +48,7 @@ fn ready_set(mut set: Words, mut names: Words, variables: &Names) -> Result<Vec<
         ("ring", &[x]) => Ok(sets::ring(variables, x)),
         ("no ring", &[x]) => Ok(sets::no_ring(variables, x)),
         ("shared", &[x, y]) => Ok(sets::shared(variables, x, y)),
+        ("not sorted", &[x]) => Ok(sets::not_sorted(variables, x)),
         ("lost block", [_, ..]) => Ok(sets::lost_block(variables, &from)),
         (known, _) if SETS.contains(&known) => {
             let what = match known {

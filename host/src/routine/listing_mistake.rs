@@ -83,6 +83,7 @@ fn outside(text: &str, words: Words, above: &[&str]) -> Mistake {
 
 /// The line as it is to be written, whatever blanks it has, or what is wrong with its words.
 fn statement(mut words: Words, above: &[&str]) -> Result<String, Mistake> {
+    no_values(words.clone())?;
     let first = words.peek();
     match first.text {
         "end" => {
@@ -104,6 +105,19 @@ fn statement(mut words: Words, above: &[&str]) -> Result<String, Mistake> {
             operation(words).map(written)
         }
     }
+}
+
+/// The grammar has no operation on values.
+fn no_values(mut words: Words) -> Result<(), Mistake> {
+    while !words.is_empty() {
+        let word = words.take();
+        let is_call = word.text == "read" && words.peek().text == "(";
+        if is_call || word.text.ends_with(".num") {
+            let what = "a listing has no values: expected a routine of transitions";
+            return Err(Mistake::at(word, what));
+        }
+    }
+    Ok(())
 }
 
 /// A line that is none of the others begins with an operand, `new` or `delete`.

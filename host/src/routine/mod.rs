@@ -39,9 +39,15 @@
 //! ```
 //!
 //! An operation is `a = b`, `a != b`, `a := b`, `a := b.next`, `a.next := b`, `new(a)`, `delete(a)`
-//! or `skip`, which is `null = null`. A forbidden shape is a list of `x at p`, `c -> p` and `cell
-//! c`, where x is a variable, c a cell and p a cell, `#` or `*`; or one of the ready sets of
-//! [`sets`].
+//! or `skip`, which is `null = null`. Transitions, but no listing, also have those on the values of
+//! cells: the tests `a.num = b.num` and `a.num < b.num`, `a.num := b.num`, `a.num :=> b.num` and
+//! `a.num :=< b.num`, which set a's value to b's, to any larger or to any smaller one, and `read(a)`,
+//! which sets it to any.
+//!
+//! A forbidden shape is a list of `x at p`, `c -> p` and `cell c`, where x is a variable, c a cell and
+//! p a cell, `#` or `*`, and of facts on values: `c < d`, `c = d`, chains of these as `c < d = e`, and
+//! `value c`, c has one. Or it is one of the ready sets of [`sets`]. What says nothing of values is a
+//! job of version 1.
 
 mod forbidden_text;
 mod listing;

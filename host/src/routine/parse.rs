@@ -8,11 +8,12 @@ use super::{forbidden_text, operation_text, sets, Origin, Routine};
 use crate::reference::job::{
     Job, Located, Transition, MOST_FORBIDDEN, MOST_STATES, MOST_TRANSITIONS, MOST_VARIABLES,
 };
+use crate::reference::operation::VALUE_KINDS;
 use crate::reference::version::Version;
 use crate::text::{counted, nearest};
 
 /// Words that name no variable.
-const RESERVED: [&str; 4] = ["null", "skip", "new", "delete"];
+const RESERVED: [&str; 5] = ["null", "skip", "new", "delete", "read"];
 
 /// The words that begin a line which is no transition.
 const HEADS: [&str; 4] = ["variables", "start", "listing", "forbidden"];
@@ -291,7 +292,7 @@ impl<'a> Parser<'a> {
             title: self.title,
             statements,
             job: Job {
-                version: Version::One,
+                version: version(&self.transitions, &forbidden),
                 variables: self.variables.all.len() as u64,
                 states: self.states.all.len() as u64,
                 start: start as u64,
@@ -336,6 +337,16 @@ impl<'a> Parser<'a> {
     }
 }
 
+/// Version 2 exactly if an operation or a forbidden shape is about values.
+fn version(transitions: &[Transition], forbidden: &[Located]) -> Version {
+    let mut kinds = transitions.iter().map(|t| t.operation.kind);
+    let mut shapes = forbidden.iter().map(|bad| &bad.shape);
+    match kinds.any(|kind| VALUE_KINDS.contains(&kind)) || shapes.any(|s| !s.facts.is_empty()) {
+        true => Version::Two,
+        false => Version::One,
+    }
+}
+
 /// What is wrong with a line that has no arrow.
 fn no_transition(first: Word, mut words: Words) -> Mistake {
     if let [near, ..] = nearest(first.text, HEADS)[..] {
@@ -353,6 +364,8 @@ fn no_transition(first: Word, mut words: Words) -> Mistake {
 #[cfg(test)]
 mod tests {
     use super::*;
+    use crate::reference::facts::Fact;
+    use crate::reference::shape::Shape;
 
     const SMALL: &str = include_str!("../../tests/small.txt");
 
@@ -380,6 +393,52 @@ mod tests {
         for (number, text) in texts.into_iter().enumerate() {
             assert_eq!(routine.operation(number), text);
         }
+    }
+
+    /// What is said of values makes a job of version 2.
+    #[test]
+    fn a_routine_with_values() {
+        let text = SMALL
+            .replace("y := x.next   ", "x.num :=> x.num")
+            .replace("d -> *", "value d, c < d = e, d = e");
+        let routine = parse(&text).unwrap();
+        let job = &routine.job;
+        let bytes = [
+            2, 2, 3, 0, 4, // version 2, otherwise as above
+            0, 6, 1, 0, 1, // begin new(x) linked
+            1, 5, 1, 0, 2, // linked x.next := null end
+            2, 11, 1, 1, 2, // end x.num :=> x.num end
+            2, 1, 0, 0, 2, // end null = null end
+            3, // forbidden shapes
+            2, 3, 3, 0, 4, 0, 0, // at end: x at c, c -> d
+            3, 0, 0, 1, 1, 1, 1, 1, 1, 2, // c < d, d = d, d = e
+            1, 0, 1, 0, 0, 1, 0, 2, 0, 0, // at linked: x at #, x at *
+        ];
+        assert_eq!(job.bytes(), bytes);
+        assert_eq!(Job::read(&bytes), Ok(job.clone()));
+        assert_eq!(routine.operation(2), "x.num :=> x.num");
+    }
+
+    #[test]
+    fn facts_alone_make_version_2() {
+        for (fact, version) in [
+            ("cell d", Version::One),
+            ("value d", Version::Two),
+            ("d = c", Version::Two),
+        ] {
+            let routine = parse(&SMALL.replace("d -> *", fact)).unwrap();
+            assert_eq!(routine.job.version, version, "{fact}");
+        }
+        let routine = parse(&SMALL.replace("steps", "end not sorted: y")).unwrap();
+        assert_eq!(routine.job.version, Version::Two);
+        let shapes: Vec<&Shape> = routine.job.forbidden[1..]
+            .iter()
+            .map(|bad| &bad.shape)
+            .collect();
+        let at_y = [0, 3];
+        let pair = Shape::of_codes(&at_y, &[4, 0]).with_facts(vec![Fact::below(1, 0)]);
+        let behind = Shape::of_codes(&at_y, &[4, 5, 0]).with_facts(vec![Fact::below(2, 1)]);
+        assert_eq!(shapes, [&pair, &behind]);
     }
 
     #[test]

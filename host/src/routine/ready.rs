@@ -37,10 +37,11 @@ pub fn bad_steps(variables: usize, transition: Transition) -> Vec<Located> {
     })
 }
 
-/// A job with these transitions, and one forbidden shape, since there has to be one.
+/// A job with these transitions, of the version that has all kinds, and one forbidden shape, since
+/// there has to be one.
 fn job(variables: usize, transitions: &[Transition]) -> Vec<u8> {
     let job = Job {
-        version: Version::One,
+        version: Version::Two,
         variables: variables as u64,
         states: 64,
         start: 0,

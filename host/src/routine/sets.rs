@@ -1,6 +1,7 @@
 //! Ready sets of forbidden shapes. Those that the proved library makes are in [`ready`].
 
 use super::ready;
+use crate::reference::facts::Fact;
 use crate::reference::heap::Place;
 use crate::reference::job::{Located, Transition};
 use crate::reference::shape::Shape;
@@ -85,6 +86,16 @@ pub fn shared(variables: usize, x: usize, y: usize) -> Vec<Shape> {
         shape(variables, &apart, &[cell(1), 0]),
         shape(variables, &apart, &[0, cell(0)]),
         shape(variables, &apart, &[cell(2), cell(2), 0]),
+    ]
+}
+
+/// `not sorted: x` - of the cells met by following links from x, one has a smaller value than one
+/// ahead of it.
+pub fn not_sorted(variables: usize, x: usize) -> Vec<Shape> {
+    let first = [(x, cell(0))];
+    vec![
+        shape(variables, &first, &[cell(1), 0]).with_facts(vec![Fact::below(1, 0)]),
+        shape(variables, &first, &[cell(1), cell(2), 0]).with_facts(vec![Fact::below(2, 1)]),
     ]
 }
 

@@ -1,11 +1,16 @@
-//! One forbidden shape: `x at c, c -> d, d -> #, cell e`.
+//! One forbidden shape: `x at c, c -> d, d -> #, cell e, value e, c < d = e`.
 
 use super::mistake::Mistake;
 use super::names::Names;
 use super::words::{Word, Words};
+use crate::reference::facts::{closed, is_consistent, Fact};
 use crate::reference::heap::Place;
 use crate::reference::shape::{Shape, MOST_CELLS};
 use crate::text::nearest;
+
+const FORMS: &str =
+    "expected `x at p`, `c -> p`, `cell c`, `c < d`, `c = d` or `value c`, where p \
+                     is a cell, # or *";
 
 /// The shape with these facts.
 pub fn shape(mut words: Words, variables: &Names) -> Result<Shape, Mistake> {
@@ -21,6 +26,8 @@ pub fn shape(mut words: Words, variables: &Names) -> Result<Shape, Mistake> {
     loop {
         reading.fact(&mut words)?;
         if words.is_empty() {
+            reading.shape.facts.sort();
+            reading.shape.facts.dedup();
             return Ok(reading.shape);
         }
         words.expect(",")?;
@@ -48,14 +55,58 @@ impl Reading<'_> {
                 let place = self.place(words.take())?;
                 set(&mut self.shape.links[cell], place, first)
             }
+            (_, "<" | "=") => self.chain(first, second, words),
             ("cell", _) => self.cell(second).map(drop),
+            ("value", _) => {
+                let cell = self.valued(second)?;
+                self.put(Fact::has_value(cell), second)
+            }
             (_, other) => {
                 let what = match nearest(other, ["at", "->"])[..] {
                     [near, ..] => format!("did you mean `{near}`?"),
-                    [] => "expected `x at p`, `c -> p` or `cell c`, where p is a cell, # or *"
-                        .to_string(),
+                    [] => FORMS.to_string(),
                 };
                 Err(Mistake::at(second, what))
+            }
+        }
+    }
+
+    /// `c < d = e`: each cell is below the next one, or equal to it.
+    fn chain(&mut self, first: Word, sign: Word, words: &mut Words) -> Result<(), Mistake> {
+        let mut left = self.valued(first)?;
+        let mut sign = sign;
+        loop {
+            let word = words.take();
+            let right = self.valued(word)?;
+            let fact = match sign.text {
+                "<" => Fact::below(left, right),
+                _ => Fact::equal(left, right),
+            };
+            self.put(fact, word)?;
+            if !matches!(words.peek().text, "<" | "=") {
+                return Ok(());
+            }
+            sign = words.take();
+            left = right;
+        }
+    }
+
+    /// The number of a cell that has a value.
+    fn valued(&mut self, word: Word) -> Result<usize, Mistake> {
+        match is_name(word.text) {
+            true => self.cell(word),
+            false => Err(Mistake::at(word, "expected the name of a cell")),
+        }
+    }
+
+    /// Takes in a fact on values, told up to this word.
+    fn put(&mut self, fact: Fact, word: Word) -> Result<(), Mistake> {
+        self.shape.facts.push(fact);
+        match is_consistent(&closed(&self.shape.facts)) {
+            true => Ok(()),
+            false => {
+                let what = "up to here a cell is below itself, so that no heap has the shape";
+                Err(Mistake::at(word, what))
             }
         }
     }
@@ -75,7 +126,7 @@ impl Reading<'_> {
             let what = "is a variable, so no cell can have its name";
             return Err(Mistake::at(word, what));
         }
-        if name.is_empty() || !name.chars().all(char::is_alphanumeric) {
+        if !is_name(name) {
             return Err(Mistake::at(word, "expected the name of a cell, # or *"));
         }
         if let Some(number) = self.cells.iter().position(|cell| cell == name) {
@@ -89,6 +140,10 @@ impl Reading<'_> {
         self.shape.links.push(None);
         Ok(self.cells.len() - 1)
     }
+}
+
+fn is_name(text: &str) -> bool {
+    !text.is_empty() && text.chars().all(char::is_alphanumeric)
 }
 
 fn set(slot: &mut Option<Place>, place: Place, word: Word) -> Result<(), Mistake> {

@@ -1,7 +1,7 @@
 //! What has to be covered.
 
-use crate::baseline::predecessor::each_predecessor;
-use crate::baseline::shape::{Located, Shape};
+use super::shape::{Located, Shape};
+use crate::baseline::values::predecessor::each_predecessor;
 use crate::reference::job::Job;
 
 /// The forbidden shapes of a job, in its order.
@@ -19,12 +19,22 @@ pub fn each_before<E>(
     member: &Located,
     mut visit: impl FnMut(usize, &Located) -> Result<(), E>,
 ) -> Result<(), E> {
+    let Shape { places, facts } = &member.shape;
+    if facts.clash() {
+        return Ok(());
+    }
     for (number, transition) in job.transitions.iter().enumerate() {
         if transition.to == u64::from(member.state) {
             let state = transition.from as u8;
-            each_predecessor(&member.shape, transition.operation, &mut |&shape| {
-                visit(number, &Located { state, shape })
-            })?;
+            each_predecessor(
+                places,
+                facts,
+                transition.operation,
+                &mut |&places, &facts| {
+                    let shape = Shape { places, facts };
+                    visit(number, &Located { state, shape })
+                },
+            )?;
         }
     }
     Ok(())

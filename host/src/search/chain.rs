@@ -3,10 +3,10 @@
 use std::convert::Infallible;
 
 use super::before::each_before;
-use super::closure::{Closure, Obstruction};
+use super::closure::Obstruction;
 use super::explore::{Exploration, Step};
 use super::images::find_images;
-use crate::baseline::shape::Located;
+use super::shape::Located;
 use crate::reference::job::Job;
 
 /// One shape of a chain.
@@ -23,40 +23,8 @@ pub struct Chain {
     pub links: Vec<Link>,
 }
 
-/// The chain through an obstruction; nothing where a step was made more general on the way, so that
-/// another attempt may do better.
-pub fn chain(
-    job: &Job,
-    reached: &Exploration,
-    closure: &Closure,
-    obstruction: &Obstruction,
-) -> Option<Chain> {
-    let mut links = to_forbidden(closure, obstruction)?;
-    links.reverse();
-    links.extend(to_start(job, reached, obstruction));
-    Some(Chain { links })
-}
-
-/// From the shape after the obstructed one to the forbidden one.
-fn to_forbidden(closure: &Closure, obstruction: &Obstruction) -> Option<Vec<Link>> {
-    let mut links = Vec::new();
-    let mut because = obstruction.because;
-    while let Some((number, transition)) = because {
-        let entry = &closure.entries[number];
-        if entry.member.shape != entry.needed {
-            return None;
-        }
-        links.push(Link {
-            located: entry.member,
-            transition: Some(transition),
-        });
-        because = entry.because;
-    }
-    Some(links)
-}
-
-/// From the obstructed shape to the start, along the run to the heap that satisfies it.
-fn to_start(job: &Job, reached: &Exploration, obstruction: &Obstruction) -> Vec<Link> {
+/// The chain from a forbidden shape that is obstructed.
+pub fn chain(job: &Job, reached: &Exploration, obstruction: &Obstruction) -> Chain {
     let mut links = Vec::new();
     let mut located = obstruction.needed;
     let mut heap = &reached.reached[obstruction.heap];
@@ -76,7 +44,7 @@ fn to_start(job: &Job, reached: &Exploration, obstruction: &Obstruction) -> Vec<
                     located,
                     transition: None,
                 });
-                return links;
+                return Chain { links };
             }
         }
     }

@@ -5,7 +5,8 @@ use std::convert::Infallible;
 use super::before::{each_before, forbidden};
 use super::closure::Closure;
 use super::images::find_images;
-use crate::baseline::shape::{Located, CELL};
+use super::shape::Located;
+use crate::baseline::shape::CELL;
 use crate::reference::certificate::{Certificate, Cover};
 use crate::reference::job::{self, Job};
 
@@ -18,7 +19,7 @@ pub fn certificate(job: &Job, closure: &Closure) -> Certificate {
 pub fn certificate_of(job: &Job, members: &[Located]) -> Certificate {
     let located = |member: &Located| job::Located {
         state: member.state.into(),
-        shape: member.shape.to_reference(job.variables as usize),
+        shape: member.shape.to_file(job.variables as usize),
     };
     Certificate {
         version: job.version,
@@ -78,7 +79,7 @@ fn cover(members: &[Located], covered: &Located) -> Cover {
             true => find_images(&member.shape, &covered.shape)?,
             false => return None,
         };
-        let cells = &images[usize::from(CELL)..][..member.shape.cells.into()];
+        let cells = &images[usize::from(CELL)..][..member.shape.places.cells.into()];
         Some(Cover {
             member: number,
             images: cells.iter().map(|&code| (code - CELL).into()).collect(),

@@ -1,14 +1,23 @@
-//! The heaps of few cells that a job's runs reach, as far as the rules can tell them apart.
+//! The heaps of few cells that a job's runs reach, as far as the rules can tell them apart. Of values
+//! only the order counts, so a heap is a shape whose facts tell all of it.
 
 use std::collections::hash_map::Entry;
 use std::collections::HashMap;
 
-use super::images::{features, find_images, Features};
+use super::facts::{classes, renamed, with_any_value};
+use super::images::find_images;
+use super::pool::Pool;
+use super::shape::{Located, Shape};
 use super::smaller::{without_middle, without_unmet};
 use crate::baseline::operations::{self, Applied};
-use crate::baseline::shape::{Located, Shape, CELL, DANGLING, HELPER, NOWHERE, NULL};
+use crate::baseline::shape::{CELL, DANGLING, HELPER, NOWHERE, NULL};
+use crate::baseline::values::facts::Facts;
+use crate::reference::facts::Fact;
 use crate::reference::job::Job;
-use crate::reference::operation::{Operation, DELETE};
+use crate::reference::operation::{
+    Operation, BELOW_VALUE, COPY, EQUAL_VALUE, LARGER, READ, SMALLER,
+};
+use crate::reference::operation::{DELETE, VALUE_KINDS};
 
 /// How a heap was reached; the numbers are of the heap before and of the transition.
 #[derive(Clone, Copy, PartialEq, Eq)]
@@ -20,35 +29,42 @@ pub enum Step {
     Part(usize),
 }
 
+/// A heap that is reached, and how.
 pub struct Reached {
     pub located: Located,
-    features: Features,
     pub step: Step,
+}
+
+/// How far heaps are explored: how many cells and different values one has, and how many there are.
+#[derive(Clone, Copy)]
+pub struct Extent {
+    pub cells: u8,
+    pub values: usize,
+    pub heaps: usize,
+    /// So many lost cells are thought to be beside a heap where a member is made more general.
+    pub lost: usize,
 }
 
 /// All heaps reached, in the order they were found.
 pub struct Exploration<'a> {
     job: &'a Job,
-    pub most_cells: u8,
-    most_heaps: usize,
+    pub extent: Extent,
     pub reached: Vec<Reached>,
-    /// Whether there are no more of at most so many cells.
+    /// Whether there are no more within the extent's cells and values.
     pub is_complete: bool,
-    by_state: Vec<Vec<usize>>,
+    pool: Pool,
     known: HashMap<Located, usize>,
 }
 
 impl<'a> Exploration<'a> {
-    /// Explores the heaps of at most so many cells that runs reach, those of shorter runs first,
-    /// until there are `most_heaps`.
-    pub fn of_runs(job: &'a Job, most_cells: u8, most_heaps: usize) -> Exploration<'a> {
+    /// Explores the heaps that runs reach, those of shorter runs first.
+    pub fn of_runs(job: &'a Job, extent: Extent) -> Exploration<'a> {
         let mut exploration = Exploration {
             job,
-            most_cells,
-            most_heaps,
+            extent,
             reached: Vec::new(),
             is_complete: false,
-            by_state: vec![Vec::new(); job.states as usize],
+            pool: Pool::new(job.states as usize),
             known: HashMap::new(),
         };
         exploration.add(job.start as u8, empty_heap(job), Step::Start);
@@ -68,7 +84,7 @@ impl<'a> Exploration<'a> {
 
     fn explore(&mut self, mut take: impl FnMut(&mut Self, usize)) {
         let mut next = 0;
-        while next < self.reached.len() && self.reached.len() < self.most_heaps {
+        while next < self.reached.len() && self.reached.len() < self.extent.heaps {
             take(self, next);
             next += 1;
         }
@@ -80,7 +96,7 @@ impl<'a> Exploration<'a> {
         let Located { state, shape } = self.reached[number].located;
         for (t, transition) in self.job.transitions.iter().enumerate() {
             if transition.from == u64::from(state) {
-                if let Some(heap) = after(&shape, transition.operation) {
+                for heap in after(&shape, transition.operation) {
                     self.add(transition.to as u8, heap, Step::Transition(number, t));
                 }
             }
@@ -90,8 +106,12 @@ impl<'a> Exploration<'a> {
     /// Adds the heap without a cell in the middle of a path, or without one that nothing stands at.
     fn take_parts(&mut self, number: usize) {
         let Located { state, shape } = self.reached[number].located;
-        for cell in CELL..shape.fresh() {
-            let parts = [without_middle(&shape, cell), without_unmet(&shape, cell)];
+        for cell in CELL..shape.places.fresh() {
+            let without_value = shape.without_value(cell);
+            let parts = [
+                without_middle(&without_value, cell),
+                without_unmet(&without_value, cell),
+            ];
             for part in parts.into_iter().flatten() {
                 self.add(state, part, Step::Part(number));
             }
@@ -106,87 +126,151 @@ impl<'a> Exploration<'a> {
             if transition.from != u64::from(state) || transition.operation.kind != DELETE {
                 continue;
             }
-            let Some(heap) = after(&shape, transition.operation) else {
-                continue;
-            };
-            for cell in CELL..heap.fresh() {
-                let mut forgotten = heap;
-                forgotten.set_link_of(cell, DANGLING);
-                self.add(transition.to as u8, forgotten, Step::Transition(number, t));
+            for heap in after(&shape, transition.operation) {
+                for cell in CELL..heap.places.fresh() {
+                    let mut forgotten = heap;
+                    forgotten.places.set_link_of(cell, DANGLING);
+                    self.add(transition.to as u8, forgotten, Step::Transition(number, t));
+                }
             }
         }
     }
 
     fn add(&mut self, state: u8, heap: Shape, step: Step) {
-        if heap.cells > self.most_cells {
+        let Extent { cells, values, .. } = self.extent;
+        if heap.places.cells > cells || classes(&heap.facts).len() > values {
             return;
         }
+        self.take_in(state, heap, step);
+    }
+
+    /// Takes in a heap, or a shape of which it is known that it can't be excluded; gives its number.
+    pub fn take_in(&mut self, state: u8, heap: Shape, step: Step) -> usize {
         let shape = canonical(&heap);
         let located = Located { state, shape };
-        let number = self.reached.len();
-        if let Entry::Vacant(entry) = self.known.entry(located) {
-            entry.insert(number);
-            self.by_state[usize::from(state)].push(number);
-            self.reached.push(Reached {
-                located,
-                features: features(&shape),
-                step,
-            });
+        match self.known.entry(located) {
+            Entry::Occupied(entry) => *entry.get(),
+            Entry::Vacant(entry) => {
+                let number = self.reached.len();
+                entry.insert(number);
+                self.pool.add(&located, number);
+                self.reached.push(Reached { located, step });
+                number
+            }
         }
     }
 
-    /// The first heap reached at the state that satisfies the shape.
+    /// A heap reached at the state that satisfies the shape.
     pub fn satisfying(&self, state: u8, shape: &Shape) -> Option<usize> {
-        let wanted = features(shape);
-        let here = &self.by_state[usize::from(state)];
-        here.iter().copied().find(|&number| {
-            let reached = &self.reached[number];
-            wanted & !reached.features == 0 && find_images(shape, &reached.located.shape).is_some()
+        self.pool.satisfying(state, shape)
+    }
+
+    /// The first of them.
+    pub fn first_satisfying(&self, state: u8, shape: &Shape) -> Option<usize> {
+        self.satisfying(state, shape)?;
+        self.reached.iter().position(|reached| {
+            let Located {
+                state: at,
+                shape: heap,
+            } = &reached.located;
+            *at == state && find_images(shape, heap).is_some()
         })
     }
 }
 
 fn empty_heap(job: &Job) -> Shape {
     let mut heap = Shape::EMPTY;
-    heap.variables[1..=job.variables as usize].fill(DANGLING);
+    heap.places.variables[1..=job.variables as usize].fill(DANGLING);
     heap
 }
 
-/// The heap after an operation, nothing where it isn't enabled or the heap is full.
-pub fn after(heap: &Shape, operation: Operation) -> Option<Shape> {
+/// The heaps after an operation, none where it isn't enabled or the heap is full; several where it
+/// leaves open which value it writes.
+pub fn after(heap: &Shape, operation: Operation) -> Vec<Shape> {
+    let Operation { kind, a, .. } = operation;
+    if VALUE_KINDS.contains(&kind) {
+        let told = facts_after(heap, operation).into_iter();
+        return told.map(|facts| Shape { facts, ..*heap }).collect();
+    }
     let mut after = *heap;
-    match operations::apply(&mut after, operation) {
-        Applied::Moved => Some(after),
-        Applied::Blocked | Applied::Full => None,
+    match operations::apply(&mut after.places, operation) {
+        Applied::Moved => {
+            if kind == DELETE {
+                let deleted = heap.places.variables[a];
+                after.facts = heap.without_value(deleted).without_cell(deleted).facts;
+            }
+            vec![after]
+        }
+        Applied::Blocked | Applied::Full => Vec::new(),
+    }
+}
+
+/// A cell that no heap has, for the value that the new one is compared with.
+const COMPARED: usize = 15;
+
+/// The facts after an operation on values.
+fn facts_after(heap: &Shape, operation: Operation) -> Vec<Facts> {
+    let Operation { kind, a, b } = operation;
+    let facts = &heap.facts;
+    let Some(at_a) = heap.cell_of(a) else {
+        return Vec::new();
+    };
+    if kind == READ {
+        return with_any_value(&facts.forgetting(at_a), at_a);
+    }
+    let Some(at_b) = heap
+        .cell_of(b)
+        .filter(|&cell| facts.holds(Fact::has_value(cell)))
+    else {
+        return Vec::new();
+    };
+    let only_if = |holds: bool| if holds { vec![*facts] } else { Vec::new() };
+    let written = |fits: &dyn Fn(&Facts) -> bool| -> Vec<Facts> {
+        let compared = facts.with_equal(COMPARED, at_b).forgetting(at_a);
+        let all = with_any_value(&compared, at_a).into_iter();
+        all.filter(fits)
+            .map(|facts| facts.forgetting(COMPARED))
+            .collect()
+    };
+    match kind {
+        EQUAL_VALUE => only_if(facts.holds(Fact::equal(at_a, at_b))),
+        BELOW_VALUE => only_if(facts.holds(Fact::below(at_a, at_b))),
+        COPY => written(&|facts| facts.holds(Fact::equal(at_a, COMPARED))),
+        LARGER => written(&|facts| facts.holds(Fact::below(COMPARED, at_a))),
+        SMALLER => written(&|facts| facts.holds(Fact::below(at_a, COMPARED))),
+        _ => unreachable!("an operation on two values has such a kind"),
     }
 }
 
 /// The heap with its cells numbered in the order that following links from the variables meets
 /// them; cells that aren't met so come last, in their old order.
 fn canonical(heap: &Shape) -> Shape {
-    let mut order = Vec::with_capacity(heap.cells.into());
-    let starts = heap.variables[1..HELPER].iter().copied();
-    for start in starts.chain(CELL..heap.fresh()) {
+    let Shape { places, facts } = heap;
+    let mut order = Vec::with_capacity(places.cells.into());
+    let starts = places.variables[1..HELPER].iter().copied();
+    for start in starts.chain(CELL..places.fresh()) {
         let mut place = start;
         while place >= CELL && !order.contains(&place) {
             order.push(place);
-            place = heap.link_of(place);
+            place = places.link_of(place);
         }
     }
+    let number = |cell: u8| {
+        let number = order.iter().position(|&code| code == cell);
+        number.expect("every cell is in the order")
+    };
     let renumbered = |place: u8| match place {
         NOWHERE | NULL | DANGLING => place,
-        cell => {
-            let number = order.iter().position(|&code| code == cell);
-            CELL + number.expect("every cell is in the order") as u8
-        }
+        cell => CELL + number(cell) as u8,
     };
     let mut result = *heap;
-    for variable in &mut result.variables {
+    for variable in &mut result.places.variables {
         *variable = renumbered(*variable);
     }
-    for (link, &cell) in result.links.iter_mut().zip(&order) {
-        *link = renumbered(heap.link_of(cell));
+    for (link, &cell) in result.places.links.iter_mut().zip(&order) {
+        *link = renumbered(places.link_of(cell));
     }
+    result.facts = renamed(facts, |cell| number(CELL + cell as u8));
     result
 }
 
@@ -197,35 +281,69 @@ mod tests {
     use crate::reference::heap::Heap;
     use crate::reference::operation::operation;
     use crate::reference::shape as reference;
+    use crate::reference::version::Version;
+
+    fn shape_of(heap: &Heap) -> Shape {
+        Shape::of_reference(&reference::Shape::of_heap(heap))
+    }
+
+    /// The heaps that a step leads to, by the reference; the values are odd, and any up to one above
+    /// all may be written.
+    fn steps(heap: &Heap, operation: Operation) -> Vec<Heap> {
+        let fresh = heap.links.last_key_value().map_or(0, |(cell, _)| cell + 1);
+        let highest = heap.values.values().max().map_or(0, |value| value + 1);
+        match operation.kind {
+            LARGER | SMALLER | READ => (0..=highest)
+                .filter_map(|value| heap.after(operation, value))
+                .collect(),
+            _ => heap.after(operation, fresh).into_iter().collect(),
+        }
+    }
+
+    /// The same heap with its values odd, in the same order.
+    fn with_odd_values(mut heap: Heap) -> Heap {
+        let mut all: Vec<usize> = heap.values.values().copied().collect();
+        all.sort();
+        all.dedup();
+        for value in heap.values.values_mut() {
+            *value = 2 * all.iter().filter(|&one| one < value).count() + 1;
+        }
+        heap
+    }
 
     #[test]
     fn steps_agree_with_the_reference() {
         let mut random = Random::new(0x7_5eed);
-        let mut moved = 0;
+        let mut moved = [0; 14];
         let mut heap = Heap::empty(3);
-        for _ in 0..50_000 {
-            let (kind, a, b) = (1 + random.below(7), random.below(4), random.below(4));
-            let Some(operation) = operation(kind as u64, a as u64, b as u64, 3) else {
+        for _ in 0..300_000 {
+            // Often read, so that there are values.
+            let kind = match random.once_in(4) {
+                true => READ,
+                false => 1 + random.below(*Version::Two.kinds().end() as usize) as u64,
+            };
+            let (a, b) = (random.below(4), random.below(4));
+            let Some(operation) = operation(kind, a as u64, b as u64, 3) else {
                 continue;
             };
-            let shape = reference::Shape::of_heap(&heap);
-            let compact = Shape::of_reference(&shape);
-            let ours = after(&compact, operation).map(|heap| canonical(&heap));
-            let fresh = heap.links.last_key_value().map_or(0, |(cell, _)| cell + 1);
-            let next = heap.after(operation, fresh);
-            let theirs = next
-                .as_ref()
-                .map(|heap| canonical(&Shape::of_reference(&reference::Shape::of_heap(heap))));
+            let next = steps(&heap, operation);
+            let sorted = |shapes: Vec<Shape>| {
+                let mut shapes: Vec<Shape> = shapes.iter().map(canonical).collect();
+                shapes.sort();
+                shapes.dedup();
+                shapes
+            };
+            let ours = sorted(after(&shape_of(&heap), operation));
+            let theirs = sorted(next.iter().map(shape_of).collect());
             assert_eq!(ours, theirs, "{operation:?} on {heap:?}");
-            match next {
-                Some(next) if next.links.len() <= 12 => {
-                    heap = next;
-                    moved += 1;
-                }
-                Some(_) => heap = Heap::empty(3),
-                None => {}
+            if !next.is_empty() {
+                heap = with_odd_values(next[random.below(next.len())].clone());
+                moved[kind as usize] += 1;
+            }
+            if heap.links.len() > 12 {
+                heap = Heap::empty(3);
             }
         }
-        assert!(moved > 10_000, "only {moved} steps");
+        assert!(moved[1..].iter().all(|&count| count > 50), "{moved:?}");
     }
 }

@@ -1,7 +1,9 @@
 //! Making a shape more general, step by step.
 
+use super::facts::simpler;
+use super::shape::Shape;
 use super::smaller::{without_link, without_loose, without_middle, without_variable};
-use crate::baseline::shape::{Shape, CELL, HELPER};
+use crate::baseline::shape::{CELL, HELPER};
 
 /// Takes simplifications as long as the shape stays allowed. What is left is as general as single
 /// steps can make it.
@@ -13,15 +15,17 @@ pub fn generalise(shape: Shape, mut allowed: impl FnMut(&Shape) -> bool) -> Shap
     shape
 }
 
-/// The shapes one step simpler: a cell without any mark gone, a variable or a link forgotten, or a
-/// cell in the middle of a path gone.
+/// The shapes one step simpler: a cell without any mark gone, a fact, a variable or a link forgotten, or
+/// a cell in the middle of a path gone.
 pub fn simplifications(shape: &Shape) -> Vec<Shape> {
-    let cells = || CELL..shape.fresh();
+    let cells = || CELL..shape.places.fresh();
     let loose = cells().filter_map(|cell| without_loose(shape, cell));
     let variables = (1..HELPER).filter_map(|variable| without_variable(shape, variable));
     let links = cells().filter_map(|cell| without_link(shape, cell));
     let contracted = cells().filter_map(|cell| without_middle(shape, cell));
+    let told_less = simpler(&shape.facts).into_iter();
     loose
+        .chain(told_less.map(|facts| Shape { facts, ..*shape }))
         .chain(variables)
         .chain(links)
         .chain(contracted)

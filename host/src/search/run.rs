@@ -1,12 +1,16 @@
 //! Runs that meet what is forbidden.
 
+use std::collections::BTreeSet;
 use std::fmt;
 
 use super::before::forbidden;
-use super::explore::{Exploration, Step};
+use super::explore::{Exploration, Extent, Step};
+use super::images::find_images;
+use super::shape::Shape;
 use crate::reference::heap::Heap;
 use crate::reference::job::Job;
-use crate::reference::operation::NEW;
+use crate::reference::operation::{Operation, LARGER, NEW, READ, SMALLER};
+use crate::reference::shape as reference;
 use crate::text::thousands;
 
 /// A run from the start to a heap that satisfies a forbidden shape.
@@ -25,15 +29,19 @@ pub struct Run {
 #[derive(Clone, Copy, Debug, PartialEq, Eq)]
 pub struct Bound {
     pub cells: u8,
+    /// Different values in a heap; 0 where the job has none.
+    pub values: usize,
     pub heaps: usize,
-    /// Whether these are all heaps of at most so many cells that runs reach.
+    /// Whether these are all such heaps that runs reach.
     pub is_complete: bool,
 }
 
 impl Bound {
     pub fn of(runs: &Exploration) -> Bound {
+        let Extent { cells, values, .. } = runs.extent;
         Bound {
-            cells: runs.most_cells,
+            cells,
+            values,
             heaps: runs.reached.len(),
             is_complete: runs.is_complete,
         }
@@ -45,10 +53,11 @@ impl fmt::Display for Bound {
         let which = if self.is_complete { "all" } else { "the first" };
         let heaps = thousands(self.heaps as u64);
         let cells = self.cells;
-        write!(
-            f,
-            "{which} {heaps} heaps of up to {cells} cells that runs reach"
-        )
+        write!(f, "{which} {heaps} heaps of up to {cells} cells")?;
+        if self.values > 0 {
+            write!(f, " and {} different values", self.values)?;
+        }
+        write!(f, " that runs reach")
     }
 }
 
@@ -56,40 +65,81 @@ impl fmt::Display for Bound {
 pub fn first(job: &Job, runs: &Exploration) -> Option<Run> {
     let bads = forbidden(job);
     let met = bads.iter().enumerate().filter_map(|(number, bad)| {
-        let heap = runs.satisfying(bad.state, &bad.shape)?;
+        let heap = runs.first_satisfying(bad.state, &bad.shape)?;
         Some((heap, number))
     });
     let (heap, forbidden) = met.min()?;
-    let transitions = transitions_to(runs, heap);
+    let steps = steps_to(runs, heap);
     Some(Run {
-        heaps: heaps(job, &transitions),
-        transitions,
+        heaps: heaps(job, &steps),
+        transitions: steps
+            .into_iter()
+            .map(|(transition, _)| transition)
+            .collect(),
         forbidden,
     })
 }
 
-/// The transitions by which a heap was reached.
-fn transitions_to(runs: &Exploration, heap: usize) -> Vec<usize> {
-    let mut transitions = Vec::new();
+/// The transitions by which a heap was reached, each with the heap that it led to.
+fn steps_to(runs: &Exploration, heap: usize) -> Vec<(usize, Shape)> {
+    let mut steps = Vec::new();
     let mut heap = heap;
     while let Step::Transition(before, transition) = runs.reached[heap].step {
-        transitions.push(transition);
+        steps.push((transition, runs.reached[heap].located.shape));
         heap = before;
     }
-    transitions.reverse();
-    transitions
+    steps.reverse();
+    steps
 }
 
-/// The heaps on a run, as the reference steps.
-fn heaps(job: &Job, transitions: &[usize]) -> Vec<Heap> {
+/// The heaps on a run, as the reference steps. Values lie far apart at first, so that there is room
+/// between them; in the end they are counted from 1.
+fn heaps(job: &Job, steps: &[(usize, Shape)]) -> Vec<Heap> {
     let mut heaps = vec![Heap::empty(job.variables as usize)];
     let mut fresh = 0;
-    for &transition in transitions {
+    for (transition, expected) in steps {
         let before = &heaps[heaps.len() - 1];
-        let operation = job.transitions[transition].operation;
-        let after = before.after(operation, fresh);
+        let operation = job.transitions[*transition].operation;
+        let after = choices(before, operation, fresh)
+            .into_iter()
+            .filter_map(|choice| before.after(operation, choice))
+            .find(|after| is_explored_as(after, expected));
         heaps.push(after.expect("a step of an explored run is enabled"));
         fresh += usize::from(operation.kind == NEW);
+    }
+    counted_from_1(heaps)
+}
+
+/// What an operation may choose: the fresh cell, or a value that the heap has or that lies between two
+/// of them, or below or above all.
+fn choices(before: &Heap, operation: Operation, fresh: usize) -> Vec<usize> {
+    if !matches!(operation.kind, LARGER | SMALLER | READ) {
+        return vec![fresh];
+    }
+    let mut bounds: Vec<usize> = before.values.values().copied().collect();
+    bounds.extend([0, usize::MAX]);
+    bounds.sort();
+    let between = bounds
+        .windows(2)
+        .map(|pair| pair[0] + (pair[1] - pair[0]) / 2);
+    between.chain(before.values.values().copied()).collect()
+}
+
+/// Whether a heap is the explored one but for the numbers of its cells.
+fn is_explored_as(heap: &Heap, explored: &Shape) -> bool {
+    let shape = Shape::of_reference(&reference::Shape::of_heap(heap));
+    let embeds = |one: &Shape, other: &Shape| find_images(one, other).is_some();
+    embeds(&shape, explored) && embeds(explored, &shape)
+}
+
+/// The same heaps with their values in the same order, counted from 1.
+fn counted_from_1(mut heaps: Vec<Heap>) -> Vec<Heap> {
+    let values: BTreeSet<usize> = heaps
+        .iter()
+        .flat_map(|heap| heap.values.values().copied())
+        .collect();
+    for value in heaps.iter_mut().flat_map(|heap| heap.values.values_mut()) {
+        *value = values.range(..=*value).count();
     }
     heaps
 }

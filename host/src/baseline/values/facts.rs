@@ -1,7 +1,9 @@
 //! Facts as rows of bits.
 
+use crate::reference::facts::{Fact, Relation};
+
 /// A row for each cell and relation: bit j of row i says that cell i is below cell j, or equals it.
-#[derive(Clone, Copy, Debug, PartialEq, Eq)]
+#[derive(Clone, Copy, Debug, PartialEq, Eq, PartialOrd, Ord, Hash)]
 pub struct Facts {
     below: [u16; ROWS],
     equal: [u16; ROWS],
@@ -35,6 +37,24 @@ impl Facts {
         equal: [0; ROWS],
     };
 
+    /// The rows of these facts, and no others.
+    pub fn of(facts: impl IntoIterator<Item = Fact>) -> Facts {
+        let mut rows = Facts::NONE;
+        for fact in facts {
+            rows.put(fact.relation as u8, fact.i as u8, fact.j as u8);
+        }
+        rows
+    }
+
+    /// All facts, in their order.
+    pub fn all(&self) -> impl Iterator<Item = Fact> + '_ {
+        let related = Relation::ALL.into_iter().zip(self.rows());
+        related.flat_map(|(relation, rows)| {
+            let numbered = rows.iter().enumerate();
+            numbered.flat_map(move |(i, &row)| bits(row).map(move |j| Fact { relation, i, j }))
+        })
+    }
+
     /// The rows of below, then those of equal.
     #[inline(always)]
     pub fn rows(&self) -> [&[u16; ROWS]; 2] {
@@ -52,7 +72,7 @@ impl Facts {
     }
 
     /// A bit for each cell that a fact names.
-    fn named(&self) -> u16 {
+    pub fn named(&self) -> u16 {
         let mut named = 0;
         for cell in 0..ROWS {
             let row = self.below[cell] | self.equal[cell];
@@ -100,6 +120,13 @@ impl Facts {
     pub fn clash(&self) -> bool {
         let own = |cell: usize| self.below[cell] >> cell & 1;
         (0..ROWS).fold(0, |any, cell| any | own(cell)) != 0
+    }
+
+    /// Whether a fact is one of them.
+    #[inline(always)]
+    pub fn holds(&self, fact: Fact) -> bool {
+        let rows = self.rows()[fact.relation as usize];
+        rows[fact.i % ROWS] >> fact.j & 1 == 1
     }
 
     /// Whether cell i is cell j, or equals it or is below it.
@@ -180,25 +207,11 @@ impl Facts {
 pub mod tests {
     use super::*;
     use crate::random::Random;
-    use crate::reference::facts::{closed, is_consistent, Fact, Relation};
+    use crate::reference::facts::{closed, is_consistent};
 
-    /// The rows of facts as the reference has them.
-    pub fn rows_of(facts: &[Fact]) -> Facts {
-        let mut rows = Facts::NONE;
-        for fact in facts {
-            rows.put(fact.relation as u8, fact.i as u8, fact.j as u8);
-        }
-        rows
-    }
-
-    /// The same the other way.
+    /// The facts as the reference has them.
     pub fn facts_of(rows: &Facts) -> Vec<Fact> {
-        let related = Relation::ALL.into_iter().zip(rows.rows());
-        let all = related.flat_map(|(relation, rows)| {
-            let numbered = rows.iter().enumerate();
-            numbered.flat_map(move |(i, &row)| bits(row).map(move |j| Fact { relation, i, j }))
-        });
-        all.collect()
+        rows.all().collect()
     }
 
     /// Up to so many facts on the first of so many cells, in their order.
@@ -223,7 +236,7 @@ pub mod tests {
             let most = [4, 12, 40, 392][turn % 4];
             let cells = 1 + random.below(14);
             let listed = random_facts(&mut random, cells, most);
-            let rows = rows_of(&listed).closed();
+            let rows = Facts::of(listed.iter().copied()).closed();
             assert_eq!(facts_of(&rows), closed(&listed), "{listed:?}");
             assert_eq!(rows.clash(), !is_consistent(&facts_of(&rows)), "{listed:?}");
             let has_value = |cell: usize| closed(&listed).contains(&Fact::has_value(cell));
@@ -237,7 +250,7 @@ pub mod tests {
     fn random_rows(random: &mut Random) -> Facts {
         loop {
             let most = random.pick(&[3, 8, 16, 30]);
-            let rows = rows_of(&random_facts(random, 14, most)).closed();
+            let rows = Facts::of(random_facts(random, 14, most)).closed();
             if !rows.clash() {
                 return rows;
             }

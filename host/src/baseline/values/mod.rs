@@ -1,8 +1,8 @@
 //! Version 2: shapes have facts. What follows from a member's facts is found once, and one more fact
 //! closes them in one pass over the rows.
 
-mod facts;
-mod predecessor;
+pub mod facts;
+pub mod predecessor;
 
 use self::facts::{bits, Facts};
 use self::predecessor::each_predecessor;

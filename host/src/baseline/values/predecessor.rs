@@ -136,7 +136,7 @@ fn each_at_cells<E>(
 mod tests {
     use std::convert::Infallible;
 
-    use super::super::facts::tests::{facts_of, random_facts, rows_of};
+    use super::super::facts::tests::{facts_of, random_facts};
     use super::*;
     use crate::random::Random;
     use crate::reference::operation::operation;
@@ -146,7 +146,7 @@ mod tests {
 
     fn assert_same(shape: &reference::Shape, operation: Operation) -> usize {
         let mut ours = Vec::new();
-        let facts = rows_of(&shape.facts).closed();
+        let facts = Facts::of(shape.facts.iter().copied()).closed();
         let compact = Shape::of_reference(shape);
         if !facts.clash() {
             let Ok(()) = each_predecessor(&compact, &facts, operation, &mut |before, facts| {

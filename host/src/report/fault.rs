@@ -1,0 +1,428 @@
+//! What is wrong at the end of a run, in plain words, and what to mark in its last heap.
+
+use std::collections::BTreeSet;
+
+use super::cells::Marks;
+use super::images::images;
+use crate::facts_text::facts_text;
+use crate::reference::facts::{Fact, Relation};
+use crate::reference::heap::{Heap, Place};
+use crate::reference::operation::{Operation, LOAD, STORE};
+use crate::reference::shape::Shape;
+use crate::routine::Routine;
+use crate::search::run::Run;
+
+/// What is wrong with the last heap of a run.
+#[derive(Clone, Debug, PartialEq, Eq)]
+pub struct Fault {
+    pub heading: String,
+    /// What the hooks would do.
+    pub meaning: String,
+    pub marks: Marks,
+}
+
+pub fn fault(routine: &Routine, run: &Run) -> Fault {
+    let bad = &routine.job.forbidden[run.forbidden];
+    let heap = run.heaps.last().expect("a run has a heap");
+    let met = Met {
+        routine,
+        shape: &bad.shape,
+        heap,
+    };
+    let text = &routine.origins[run.forbidden].text;
+    if text == "steps" {
+        met.blocked_step(bad.state)
+    } else if text.starts_with("lost block") {
+        met.lost()
+    } else if text.starts_with("shared") {
+        met.shared()
+    } else if text.starts_with("not sorted") && bad.shape.facts.iter().any(is_below) {
+        met.not_sorted()
+    } else if !bad.shape.facts.is_empty() {
+        met.values()
+    } else if has_ring(&bad.shape) {
+        met.ring()
+    } else if bad.shape.links.contains(&Some(Place::Dangling)) {
+        met.dangling_link()
+    } else if bad.shape.variables.contains(&Some(Place::Dangling)) {
+        met.dangling_variable()
+    } else if bad.shape.cells() > 0 && bad.shape.links.contains(&None) {
+        met.lost()
+    } else {
+        met.otherwise()
+    }
+}
+
+fn is_below(fact: &Fact) -> bool {
+    fact.relation == Relation::Below
+}
+
+/// The cells that facts are of, and their values.
+fn marks_of(facts: &[Fact]) -> Marks {
+    let cells: BTreeSet<usize> = facts.iter().flat_map(|fact| [fact.i, fact.j]).collect();
+    Marks {
+        values: cells.clone(),
+        cells,
+        ..Marks::default()
+    }
+}
+
+/// Whether following links from some cell of a shape comes back to it.
+fn has_ring(shape: &Shape) -> bool {
+    (0..shape.cells()).any(|start| {
+        let mut cell = start;
+        (0..shape.cells()).any(|_| match shape.links[cell] {
+            Some(Place::Cell(next)) => {
+                cell = next;
+                next == start
+            }
+            _ => false,
+        })
+    })
+}
+
+/// A forbidden shape and the heap that satisfies it.
+struct Met<'a> {
+    routine: &'a Routine,
+    shape: &'a Shape,
+    heap: &'a Heap,
+}
+
+impl Met<'_> {
+    /// The variables that the shape places, by number from 0.
+    fn placed(&self) -> Vec<usize> {
+        let places = self.shape.variables.iter().enumerate();
+        let placed = places.filter(|(_, place)| place.is_some());
+        placed.map(|(variable, _)| variable).collect()
+    }
+
+    fn name(&self, variable: usize) -> &str {
+        &self.routine.variables[variable]
+    }
+
+    /// The cells met by following links from a variable.
+    fn list(&self, variable: usize) -> BTreeSet<usize> {
+        let mut cells = BTreeSet::new();
+        let mut place = self.heap.variables[variable];
+        while let Place::Cell(cell) = place {
+            if !cells.insert(cell) {
+                break;
+            }
+            place = self.heap.links[&cell];
+        }
+        cells
+    }
+
+    /// The cells met from the variables that the shape places, from all where it places none.
+    fn lists(&self) -> BTreeSet<usize> {
+        let mut from = self.placed();
+        if from.is_empty() {
+            from = (0..self.routine.variables.len()).collect();
+        }
+        from.iter()
+            .flat_map(|&variable| self.list(variable))
+            .collect()
+    }
+
+    fn ring(&self) -> Fault {
+        let on_ring = |&cell: &usize| {
+            let mut place = self.heap.links[&cell];
+            for _ in 0..self.heap.links.len() {
+                match place {
+                    Place::Cell(next) if next == cell => return true,
+                    Place::Cell(next) => place = self.heap.links[&next],
+                    _ => return false,
+                }
+            }
+            false
+        };
+        let cells: BTreeSet<usize> = self.heap.links.keys().copied().filter(on_ring).collect();
+        Fault {
+            heading: "The list is closed into a ring".to_string(),
+            meaning: "The marked links lead back to a block that was lifted already. The hooks \
+                      lift the same blocks again and again while the pick count climbs."
+                .to_string(),
+            marks: Marks {
+                links: cells.clone(),
+                cells,
+                ..Marks::default()
+            },
+        }
+    }
+
+    fn lost(&self) -> Fault {
+        let lists = self.lists();
+        let lost = self
+            .heap
+            .links
+            .keys()
+            .copied()
+            .filter(|cell| !lists.contains(cell));
+        Fault {
+            heading: "A block is lost".to_string(),
+            meaning: "No list leads to what is marked any more. Its part of the pattern is never \
+                      lifted again, and its memory is never given back."
+                .to_string(),
+            marks: Marks {
+                cells: lost.collect(),
+                ..Marks::default()
+            },
+        }
+    }
+
+    fn dangling_link(&self) -> Fault {
+        let lists = self.lists().into_iter();
+        let links: BTreeSet<usize> = lists
+            .filter(|cell| self.heap.links[cell] == Place::Dangling)
+            .collect();
+        Fault {
+            heading: "A link dangles".to_string(),
+            meaning: "The marked link leads to a block that is gone, or was never set. The \
+                      controller reads whatever its memory holds by now, and the hooks lift as \
+                      that happens to say."
+                .to_string(),
+            marks: Marks {
+                cells: links.clone(),
+                links,
+                ..Marks::default()
+            },
+        }
+    }
+
+    fn dangling_variable(&self) -> Fault {
+        let dangling = |&variable: &usize| self.shape.variables[variable] == Some(Place::Dangling);
+        let variables: BTreeSet<usize> = self.placed().into_iter().filter(dangling).collect();
+        let names: Vec<&str> = variables
+            .iter()
+            .map(|&variable| self.name(variable))
+            .collect();
+        Fault {
+            heading: format!("{} dangles", names.join(", ")),
+            meaning: "It stands at a block that is gone, or was never set. The controller takes \
+                      whatever its memory holds by now for a pattern block."
+                .to_string(),
+            marks: Marks {
+                variables,
+                ..Marks::default()
+            },
+        }
+    }
+
+    /// A link is followed or set that isn't there.
+    fn blocked_step(&self, state: u64) -> Fault {
+        let placed = self.placed();
+        let steps = |operation: &Operation| match operation.kind {
+            LOAD => placed.contains(&(operation.b - 1)),
+            STORE => placed.contains(&(operation.a - 1)),
+            _ => false,
+        };
+        let transitions = self.routine.job.transitions.iter();
+        let next = transitions
+            .enumerate()
+            .filter(|(_, transition)| transition.from == state)
+            .find(|(_, transition)| steps(&transition.operation))
+            .map(|(number, _)| self.routine.operation(number))
+            .unwrap_or_default();
+        let names: Vec<&str> = placed.iter().map(|&variable| self.name(variable)).collect();
+        let names = names.join(", ");
+        let is_null = self.shape.variables.contains(&Some(Place::Null));
+        let why = match is_null {
+            true => "is null",
+            false => "stands at a block that is gone or was never set",
+        };
+        Fault {
+            heading: format!("{next} is next, but {names} has no block"),
+            meaning: format!(
+                "The operation needs the block at {names}, which {why}. The controller takes \
+                 whatever stands there in its memory for a block, or stops."
+            ),
+            marks: Marks {
+                variables: placed.into_iter().collect(),
+                ..Marks::default()
+            },
+        }
+    }
+
+    fn shared(&self) -> Fault {
+        let mut lists = self
+            .placed()
+            .into_iter()
+            .map(|variable| self.list(variable));
+        let first = lists.next().unwrap_or_default();
+        let cells = lists.fold(first, |shared, list| &shared & &list);
+        Fault {
+            heading: "Two lists share a block".to_string(),
+            meaning:
+                "The marked blocks are in both lists. An edit of one list changes the pattern \
+                      of the other."
+                    .to_string(),
+            marks: Marks {
+                cells,
+                ..Marks::default()
+            },
+        }
+    }
+
+    /// The facts of the shape, of the cells in the heap that satisfy it.
+    fn facts(&self) -> Vec<Fact> {
+        let images = images(self.shape, self.heap).expect("a run's last heap satisfies the shape");
+        let facts = self.shape.facts.iter();
+        facts
+            .map(|fact| fact.renamed(|cell| images[cell]))
+            .collect()
+    }
+
+    fn not_sorted(&self) -> Fault {
+        let mut below = self.facts();
+        below.retain(is_below);
+        below.truncate(1);
+        Fault {
+            heading: "The list is out of order".to_string(),
+            meaning:
+                "Of the two marked blocks, the one with the larger pick stands before the one \
+                      with the smaller. The repeats are woven out of order."
+                    .to_string(),
+            marks: marks_of(&below),
+        }
+    }
+
+    /// Values that the shape forbids together.
+    fn values(&self) -> Fault {
+        let facts = self.facts();
+        let cells = self.heap.links.last_key_value();
+        let numbers: Vec<usize> = (1..=1 + cells.map_or(0, |(&last, _)| last)).collect();
+        let told = facts_text(&facts, &numbers).expect("the shape has facts");
+        Fault {
+            heading: "Values are as they must not be".to_string(),
+            meaning: format!(
+                "The values of the marked blocks are as the routine forbids here. By the numbers of \
+                 the blocks: {told}."
+            ),
+            marks: Marks {
+                variables: self.placed().into_iter().collect(),
+                ..marks_of(&facts)
+            },
+        }
+    }
+
+    fn otherwise(&self) -> Fault {
+        let variables: BTreeSet<usize> = self.placed().into_iter().collect();
+        Fault {
+            heading: "A forbidden shape is met".to_string(),
+            meaning: "What the routine forbids here has come about.".to_string(),
+            marks: Marks {
+                cells: self.lists(),
+                variables,
+                ..Marks::default()
+            },
+        }
+    }
+}
+
+#[cfg(test)]
+mod tests {
+    use super::*;
+    use crate::corpus;
+    use crate::judge::{judge, Ending};
+    use crate::reference::job::Located;
+    use crate::routine::Origin;
+
+    fn of(name: &str) -> (Fault, Heap) {
+        let routine = corpus::find(name).unwrap().routine;
+        let Ending::Wrong(run) = judge(&routine.job).ending else {
+            panic!("{name} is not wrong");
+        };
+        (fault(&routine, &run), run.heaps.last().unwrap().clone())
+    }
+
+    #[test]
+    fn what_is_marked() {
+        let (ring, heap) = of("wrong_join_ring");
+        assert_eq!(ring.heading, "The list is closed into a ring");
+        assert!(!ring.marks.links.is_empty());
+        let is_marked = |cell: &usize| match heap.links[cell] {
+            Place::Cell(next) => ring.marks.cells.contains(&next),
+            _ => false,
+        };
+        assert!(ring.marks.cells.iter().all(is_marked));
+
+        let (lost, heap) = of("wrong_delete_loses");
+        assert_eq!(lost.heading, "A block is lost");
+        assert_eq!(lost.marks.cells.len(), heap.links.len());
+
+        let (link, heap) = of("wrong_delete_linked");
+        assert_eq!(link.heading, "A link dangles");
+        assert_eq!(link.marks.links.len(), 1);
+        let dangles = |cell: &usize| heap.links[cell] == Place::Dangling;
+        assert!(link.marks.links.iter().all(dangles));
+
+        let (step, _) = of("wrong_append_null");
+        assert_eq!(step.heading, "t := l.next is next, but l has no block");
+        assert_eq!(step.marks.variables, BTreeSet::from([3]));
+
+        let (shared, _) = of("wrong_copy_shares");
+        assert_eq!(shared.heading, "Two lists share a block");
+        assert!(!shared.marks.cells.is_empty());
+    }
+
+    /// The fault of a run of `reverse` that ends with the list of cells 3, 1, 4, at its first
+    /// variable, where a line forbids a shape with these facts.
+    fn of_values(text: &str, links: &[u64], facts: &[Fact]) -> Fault {
+        let mut routine = corpus::find("reverse").unwrap().routine;
+        let count = routine.variables.len();
+        let mut places = vec![0; count];
+        places[0] = 3;
+        let shape = Shape::of_codes(&places, links).with_facts(facts.to_vec());
+        routine.job.forbidden = vec![Located { state: 0, shape }];
+        routine.origins = vec![Origin {
+            line: Some(1),
+            text: text.to_string(),
+        }];
+        let mut last = Heap::empty(count);
+        last.variables[0] = Place::Cell(2);
+        last.links = [(2, Place::Cell(0)), (0, Place::Cell(3)), (3, Place::Null)].into();
+        last.values = [(2, 5), (0, 9), (3, 7)].into();
+        let run = Run {
+            transitions: Vec::new(),
+            heaps: vec![last],
+            forbidden: 0,
+        };
+        fault(&routine, &run)
+    }
+
+    #[test]
+    fn values_that_are_marked() {
+        let not_sorted = of_values("not sorted: x", &[4, 5, 0], &[Fact::below(2, 1)]);
+        assert_eq!(not_sorted.heading, "The list is out of order");
+        let two = Marks {
+            cells: [0, 3].into(),
+            values: [0, 3].into(),
+            ..Marks::default()
+        };
+        assert_eq!(not_sorted.marks, two);
+
+        let facts = [Fact::below(0, 1), Fact::below(2, 1)];
+        let forbidden = of_values("x at c, c -> d", &[4, 5, 0], &facts);
+        assert_eq!(forbidden.heading, "Values are as they must not be");
+        let told = "By the numbers of the blocks: 3 < 1, 4 < 1.";
+        assert!(forbidden.meaning.ends_with(told), "{}", forbidden.meaning);
+        let all = Marks {
+            cells: [0, 2, 3].into(),
+            values: [0, 2, 3].into(),
+            variables: [0].into(),
+            ..Marks::default()
+        };
+        assert_eq!(forbidden.marks, all);
+    }
+
+    /// Whatever is wrong, something is marked.
+    #[test]
+    fn every_wrong_routine_has_marks() {
+        for entry in corpus::read().unwrap() {
+            if let Ending::Wrong(run) = judge(&entry.routine.job).ending {
+                let marks = fault(&entry.routine, &run).marks;
+                assert_ne!(marks, Marks::default(), "{}", entry.name);
+            }
+        }
+    }
+}
