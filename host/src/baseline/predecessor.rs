@@ -326,7 +326,7 @@ fn count_up(before: &mut Shape, dangling: u32, deleted: u8) -> bool {
 }
 
 #[cfg(test)]
-mod tests {
+pub mod tests {
     use std::collections::BTreeSet;
     use std::convert::Infallible;
 
@@ -352,7 +352,12 @@ mod tests {
         ours.len()
     }
 
-    fn random_shape(random: &mut Random, variables: usize, most_cells: usize) -> reference::Shape {
+    /// A shape of up to so many cells, with no facts.
+    pub fn random_shape(
+        random: &mut Random,
+        variables: usize,
+        most_cells: usize,
+    ) -> reference::Shape {
         let cells = random.below(most_cells + 1);
         let mut codes =
             |count| -> Vec<u64> { (0..count).map(|_| random.below(3 + cells) as u64).collect() };

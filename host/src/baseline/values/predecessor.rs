@@ -138,6 +138,7 @@ mod tests {
 
     use super::super::facts::tests::{facts_of, random_facts};
     use super::*;
+    use crate::baseline::predecessor::tests::random_shape;
     use crate::random::Random;
     use crate::reference::operation::operation;
     use crate::reference::predecessor::predecessors;
@@ -163,15 +164,13 @@ mod tests {
         ours.len()
     }
 
-    fn random_shape(random: &mut Random, variables: usize, most_cells: usize) -> reference::Shape {
-        let cells = random.below(most_cells + 1);
-        let mut codes =
-            |count| -> Vec<u64> { (0..count).map(|_| random.below(3 + cells) as u64).collect() };
-        let shape = reference::Shape::of_codes(&codes(variables), &codes(cells));
+    /// A shape of three variables and up to so many cells, with a few facts.
+    fn random_valued(random: &mut Random, most_cells: usize) -> reference::Shape {
+        let shape = random_shape(random, 3, most_cells);
         let most = random.pick(&[0, 1, 3, 8]);
-        match cells {
+        match shape.cells() {
             0 => shape,
-            _ => shape.with_facts(random_facts(random, cells, most)),
+            cells => shape.with_facts(random_facts(random, cells, most)),
         }
     }
 
@@ -181,7 +180,7 @@ mod tests {
         let mut made = [0; 14];
         for turn in 0..40_000 {
             let most_cells = if turn % 8 == 0 { 12 } else { 4 };
-            let shape = random_shape(&mut random, 3, most_cells);
+            let shape = random_valued(&mut random, most_cells);
             let kind = 1 + random.below(*Version::Two.kinds().end() as usize) as u64;
             let (a, b) = (random.below(4) as u64, random.below(4) as u64);
             if let Some(operation) = operation(kind, a, b, 3) {
