@@ -1,12 +1,12 @@
 -- What the ready shapes have in common, and what it says of a heap that satisfies one.
-use mathlib.Core.List.{List, [], _∷_, _++_, List·Memᴰ·head, List·Memᴰ·tail, List·Memᴰ·append-cases}
-use mathlib.Core.Logic.{_≢_, _⊎_, inl, inr}
+use mathlib.Core.List.{List, [], _∷_, _++_}
+use mathlib.Core.Logic.{_≢_}
 use mathlib.Core.Path.{_≡_, refl, sym, ap, _∙_, subst}
 use Prim.Native.Nat.{ℕ, _≤_, _<_}
 use native.Mathlib.Omega.{arith}
 use lib.ListN.{length}
-use Rattle.lists.specs.List.{_∈_}
-use Rattle.lists.proofs.List.{All, all-every, getD-mem}
+use Rattle.lists.specs.List.{Every}
+use Rattle.lists.proofs.List.{every-none, every-cons, every-one, every-append, every-head, every-tail, getD-mem}
 use Rattle.heap.specs.Codes.{varIn, linkIn}
 use Rattle.heap.specs.Heap.{Heap}
 use Rattle.heap.specs.Place.{nowhere, null, dangling, cell}
@@ -32,42 +32,40 @@ Inside m bad r = (nowhere < r) × (r < cell m) × (r ≢ bad)
 pub record Base (n x bad : ℕ) (s : Shape) : Type 0 where
   pub place : ℕ
   pub only-x : s .vars ≡ only n x place
-  pub inside : (r : ℕ) → r ∈ (place ∷ s .links) → Inside (size s) bad r
+  pub inside : Every (Inside (size s) bad) (place ∷ s .links)
   pub small : size s ≤ 2
   pub no-facts : s .facts ≡ []
 
 -- ---- the six shapes without a loose cell
 
 module _ (n x bad : ℕ) (low : bad < cell 0) where
-  base : (p : ℕ) (links : List ℕ) → All (Inside (length links) bad) (p ∷ links) × (length links ≤ 2)
+  base : (p : ℕ) (links : List ℕ) → Inside (length links) bad p × (length links ≤ 2) → Every (Inside (length links) bad) links
       → Base n x bad (record { vars = only n x p; links = links; facts = [] })
-  base p links (i, j) = record { place = p; only-x = refl; inside = all-every (Inside (length links) bad) (p ∷ links) i; small = j; no-facts = refl }
+  base p links (i, j) is = record { place = p; only-x = refl; inside = every-cons (Inside (length links) bad) i is; small = j; no-facts = refl }
 
   -- p is # or *
-  ending-base : (p : ℕ) → nowhere < p → p < cell 0 → p ≢ bad → (s : Shape) → s ∈ ending n x p → Base n x bad s
-  ending-base p a b o = all-every (Base n x bad) (ending n x p) (base p [] (omega arith), (base (cell 0) (p ∷ []) (omega arith), tt))
+  ending-base : (p : ℕ) → nowhere < p → p < cell 0 → p ≢ bad → Every (Base n x bad) (ending n x p)
+  ending-base p a b o =
+      every-cons (Base n x bad) (base p [] (omega arith) (every-none (Inside 0 bad)))
+      (every-one (Base n x bad) (base (cell 0) (p ∷ []) (omega arith) (every-one (Inside 1 bad) (omega arith))))
 
-  looping-base : (s : Shape) → s ∈ looping n x → Base n x bad s
+  looping-base : Every (Base n x bad) (looping n x)
   looping-base =
-      all-every (Base n x bad) (looping n x) (base (cell 0) (cell 0 ∷ []) (omega arith), (base (cell 0) (cell 1 ∷ cell 1 ∷ []) (omega arith), tt))
+      every-cons (Base n x bad) (base (cell 0) (cell 0 ∷ []) (omega arith) (every-one (Inside 1 bad) (omega arith)))
+      (every-one (Base n x bad)
+      (base (cell 0) (cell 1 ∷ cell 1 ∷ []) (omega arith) (every-cons (Inside 2 bad) (omega arith) (every-one (Inside 2 bad) (omega arith)))))
 
   -- nothing of the four is at #
-  pub four-base : bad ≢ dangling → (s : Shape) → s ∈ notList n x → Base n x bad s
-  four-base o s m = go (List·Memᴰ·append-cases (ending n x dangling) m)
-    where
-      go : (s ∈ ending n x dangling) ⊎ (s ∈ looping n x) → Base n x bad s
-      go (inl i) = ending-base dangling (omega arith) (omega arith) (λ e. o (sym e)) s i
-      go (inr i) = looping-base s i
+  pub four-base : bad ≢ dangling → Every (Base n x bad) (notList n x)
+  four-base o = every-append (Base n x bad) (ending n x dangling) (ending-base dangling (omega arith) (omega arith) (λ e. o (sym e))) looping-base
 
 pub standing-base : (n x p : ℕ) → nowhere < p → p < cell 0 → Base n x nowhere (standingAt n x p)
-standing-base n x p a b = base n x nowhere (omega arith) p [] (omega arith)
+standing-base n x p a b = base n x nowhere (omega arith) p [] (omega arith) (every-none (Inside 0 nowhere))
 
-pub six-base : (n x : ℕ) (s : Shape) → s ∈ (notList n x ++ ending n x null) → Base n x nowhere s
-six-base n x s m = go (List·Memᴰ·append-cases (notList n x) m)
-  where
-    go : (s ∈ notList n x) ⊎ (s ∈ ending n x null) → Base n x nowhere s
-    go (inl i) = four-base n x nowhere (omega arith) (omega arith) s i
-    go (inr i) = ending-base n x nowhere (omega arith) null (omega arith) (omega arith) (omega arith) s i
+pub six-base : (n x : ℕ) → Every (Base n x nowhere) (notList n x ++ ending n x null)
+six-base n x =
+    every-append (Base n x nowhere) (notList n x) (four-base n x nowhere (omega arith) (omega arith))
+    (ending-base n x nowhere (omega arith) null (omega arith) (omega arith) (omega arith))
 
 -- ---- a heap that satisfies a base, with the links of its cells or with loose cells too
 
@@ -81,7 +79,7 @@ module _ (h : Heap) (w : WellFormed h) (n x : ℕ) (x≢0 : x ≢ 0) (x≤n : x 
 
   linked-inside : (c : ℕ) → CellOf (size s) c → R (linkAt s c)
   unfolding R
-  linked-inside = by-number (size s) (λ c. R (linkAt s c)) (λ i k. b .inside (linkAt s (cell i)) (List·Memᴰ·tail (getD-mem (s .links) i k)))
+  linked-inside = by-number (size s) (λ c. R (linkAt s c)) (λ i k. every-tail (b .inside) (linkAt s (cell i)) (getD-mem (s .links) i k))
 
   places : (r : ℕ) → R r → IsPlace g r
   unfolding R g
@@ -92,7 +90,7 @@ module _ (h : Heap) (w : WellFormed h) (n x : ℕ) (x≢0 : x ≢ 0) (x≤n : x 
   closed =
       record {
         var-place = λ v. subst (λ (l : List ℕ). varIn l v ≢ nowhere → IsPlace g (varIn l v)) (sym (b .only-x))
-            (only-place n x (b .place) x≢0 x≤n g (places (b .place) (b .inside (b .place) (List·Memᴰ·head refl))) v);
+            (only-place n x (b .place) x≢0 x≤n g (places (b .place) (every-head (b .inside))) v);
         link-place = λ c l.
             rw (same c) (places (linkAt s c) (linked-inside c (shape-proper s .linked c (λ z. l (same c ∙ z)))));
         fact-cells = λ k p q i. absurd (none-follows (subst (λ l. Follows l k p q) (b .no-facts) i));
@@ -110,7 +108,7 @@ module _ (h : Heap) (w : WellFormed h) (n x : ℕ) (x≢0 : x ≢ 0) (x≤n : x 
       (subst (λ (y : ℕ). follow (h .link) k y ≡ f bad) at z)
     where
       start : R (b .place)
-      start = b .inside (b .place) (List·Memᴰ·head refl)
+      start = every-head (b .inside)
 
       there : varIn (s .vars) x ≡ b .place
       there = ap (λ (l : List ℕ). varIn l x) (b .only-x) ∙ only-at n x (b .place) x≢0 x≤n

@@ -8,7 +8,7 @@ use lib.Dec.{eqb}
 use lib.ListN.{length, getD, set as set′, length-append}
 use lib.Seq.{set-at}
 use Rattle.lists.specs.List.{concatMap}
-use Rattle.lists.proofs.List.{all-every, concatMap-append}
+use Rattle.lists.proofs.List.{concatMap-append}
 use Rattle.number.specs.Number.{bytesOf}
 use Rattle.number.specs.NumberList.{encode}
 use Rattle.number.specs.Range.{AtMost}
@@ -21,7 +21,7 @@ use Rattle.format.specs.JobBytes.{LocatedInRange, JobInRange}
 use Rattle.format.specs.JobNumbers.{JobFile, opNumbers, transitionNumbers, factsNumbers, locatedNumbers, jobNumbers}
 use Rattle.forbidden.specs.Written.{ReadySet, shapesOf, withSet}
 use Rattle.forbidden.proofs.Written.{Inside, set-in-range}
-use Rattle.forbidding.proofs.Shapes.{Plain, set-plain}
+use Rattle.forbidding.proofs.Shapes.{set-plain}
 use Rattle.format.proofs.Written.{at-most-append, at-most-all, located-at-most, transition-at-most}
 
 -- what an array of bytes holds
@@ -136,7 +136,7 @@ module _ (f : JobFile) (ok : JobInRange f) where
           let small : AtMost 127 xs =
           at-most-all 127 (locatedNumbers (f .version)) added
           (λ m i. plain-small (f .version) (f .job .variables) (f .states) m (ok .states .1) (set-in-range f ok set inside m i)
-          (all-every (Plain (f .job .variables)) added (set-plain set (f .job .variables) (f .job .transitions)) m i .1)) in
+          (set-plain set (f .job .variables) (f .job .transitions) m i .1)) in
           let both : encode (concatMap (locatedNumbers (f .version)) (f .job .forbidden ++ added)) ≡ ys ++ xs =
           ap encode (concatMap-append (locatedNumbers (f .version)) (f .job .forbidden) added)
           ∙ encode-append (concatMap (locatedNumbers (f .version)) (f .job .forbidden)) xs

@@ -7,8 +7,8 @@ use native.Mathlib.Omega.{arith}
 use lib.Dec.{eqb}
 use lib.ListN.{length, set, take, replicate, length-append, length-set}
 use lib.Seq.{length-take-le, take-set-lt}
-use Rattle.lists.specs.List.{concatMap}
-use Rattle.lists.proofs.List.{All, all-concat, concatMap-append}
+use Rattle.lists.specs.List.{Every, concatMap}
+use Rattle.lists.proofs.List.{every-none, every-cons, every-one, every-head, every-tail, every-concat, concatMap-append}
 use Rattle.heap.specs.Place.{nowhere, null, dangling, cell}
 use Rattle.shape.specs.Placing.{grow}
 use Rattle.shape.specs.Shape.{size}
@@ -84,49 +84,52 @@ module _ (version n : ℕ) where
         none-length version,
       )
 
-  bytes-number : (ms : List Located) → All (Plain n) ms
+  bytes-number : (ms : List Located) → Every (Plain n) ms
       → length (concatMap (locatedNumbers version) ms) ≡ length ms * (2 + n + countBytes version) + cellsIn ms
   bytes-number [] a = omega arith
-  bytes-number (m ∷ ms) (e, a) =
+  bytes-number (m ∷ ms) a =
       let k = 2 + n + countBytes version in
       let more : length (m ∷ ms) * k ≡ k + length ms * k = omega arith in
-      omega (arith, length-append (locatedNumbers version m) (concatMap (locatedNumbers version) ms), one-number m e, bytes-number ms a)
+      omega (arith, length-append (locatedNumbers version m) (concatMap (locatedNumbers version) ms), one-number m (every-head a), bytes-number ms (every-tail a))
 
--- the two of a step, and those of all steps, which have no cells
-step-plain : (n v q : ℕ) → All (λ m. Plain n m × (size (m .shape) ≡ 0)) (atState q (badStep n v))
-step-plain n v q = (((only-length n v null, refl), refl), (((only-length n v dangling, refl), refl), tt))
+-- n variables, no facts and no cells
+abbrev Flat : ℕ → Located → Type 0
+Flat n m = Plain n m × (size (m .shape) ≡ 0)
 
-steps-plain : (n : ℕ) (ts : List Transition) → All (λ m. Plain n m × (size (m .shape) ≡ 0)) (badSteps n ts)
-steps-plain n ts =
-    all-concat (λ m. Plain n m × (size (m .shape) ≡ 0)) (badStepsOf n) ts
-    (λ t. all-concat (λ m. Plain n m × (size (m .shape) ≡ 0)) (λ v. atState (t .from) (badStep n v)) (stepsThrough (t .op)) (λ v. step-plain n v (t .from)))
+flat-cells : (n : ℕ) (ms : List Located) → Every (Flat n) ms → cellsIn ms ≡ 0
+flat-cells n [] a = refl
+flat-cells n (m ∷ ms) a = omega (arith, every-head a .1, flat-cells n ms (every-tail a))
 
-flat-plain : (n : ℕ) (ms : List Located) → All (λ m. Plain n m × (size (m .shape) ≡ 0)) ms → All (Plain n) ms × (cellsIn ms ≡ 0)
-flat-plain n [] a = (tt, refl)
-flat-plain n (m ∷ ms) ((p, z), a) = let (ps, zs) = flat-plain n ms a in ((p, ps), omega arith)
+-- the two of a step, and those of all steps
+step-flat : (n v q : ℕ) → Every (Flat n) (atState q (badStep n v))
+step-flat n v q = every-cons (Flat n) ((only-length n v null, refl), refl) (every-one (Flat n) ((only-length n v dangling, refl), refl))
+
+steps-flat : (n : ℕ) (ts : List Transition) → Every (Flat n) (badSteps n ts)
+steps-flat n ts =
+    every-concat (Flat n) (badStepsOf n) ts
+    (λ t. every-concat (Flat n) (λ v. atState (t .from) (badStep n v)) (stepsThrough (t .op)) (λ v. step-flat n v (t .from)))
 
 pub step-length : (version n v q : ℕ) → length (concatMap (locatedNumbers version) (atState q (badStep n v))) ≡ 2 * (2 + n + countBytes version)
-step-length version n v q =
-    let (plain, none) = flat-plain n (atState q (badStep n v)) (step-plain n v q) in
-    omega (arith, bytes-number version n (atState q (badStep n v)) plain)
+step-length version n v q = omega (arith, bytes-number version n (atState q (badStep n v)) (λ m i. step-flat n v q m i .0))
+
+-- one shape more, with x alone at a place
+only-more : {q : ℕ} {links : List ℕ} {ms : List Located} (n x p : ℕ) → Every (Plain n) ms
+    → Every (Plain n) (record { state = q; shape = record { vars = only n x p; links = links; facts = [] } } ∷ ms)
+only-more n x p = every-cons (Plain n) (only-length n x p, refl)
 
 -- every shape of a set
-pub set-plain : (set : ReadySet) (n : ℕ) (ts : List Transition) → All (Plain n) (shapesOf set n ts)
+pub set-plain : (set : ReadySet) (n : ℕ) (ts : List Transition) → Every (Plain n) (shapesOf set n ts)
 set-plain (not-list x q) n ts =
-    ((only-length n x dangling, refl), ((only-length n x (cell 0), refl), ((only-length n x (cell 0), refl), ((only-length n x (cell 0), refl), tt))))
-set-plain (lost-block x q) n ts = (
-  (only-length n x dangling, refl),
-  (
-    (only-length n x (cell 0), refl),
-    ((only-length n x (cell 0), refl), ((only-length n x (cell 0), refl), ((only-length n x null, refl), ((only-length n x (cell 0), refl), tt)))),
-  ),
-)
-set-plain bad-steps n ts = flat-plain n (badSteps n ts) (steps-plain n ts) .0
+    only-more n x dangling (only-more n x (cell 0) (only-more n x (cell 0) (only-more n x (cell 0) (every-none (Plain n)))))
+set-plain (lost-block x q) n ts =
+    only-more n x dangling
+    (only-more n x (cell 0) (only-more n x (cell 0) (only-more n x (cell 0) (only-more n x null (only-more n x (cell 0) (every-none (Plain n)))))))
+set-plain bad-steps n ts = λ m i. steps-flat n ts m i .0
 
 cells-are : (set : ReadySet) (n : ℕ) (ts : List Transition) → cellsIn (shapesOf set n ts) ≡ cellsOf set
 cells-are (not-list x q) n ts = refl
 cells-are (lost-block x q) n ts = refl
-cells-are bad-steps n ts = flat-plain n (badSteps n ts) (steps-plain n ts) .1
+cells-are bad-steps n ts = flat-cells n (badSteps n ts) (steps-flat n ts)
 
 pub set-length : (version : ℕ) (set : ReadySet) (n : ℕ) (ts : List Transition)
     → length (concatMap (locatedNumbers version) (shapesOf set n ts)) ≡ length (shapesOf set n ts) * (2 + n + countBytes version) + cellsOf set

@@ -6,8 +6,8 @@ use Prim.Native.Nat.{ℕ, zero, suc, _+_, _≤_, max}
 use native.Mathlib.Omega.{arith}
 use lib.Dec.{eqb}
 use lib.ListN.{length, length-append}
-use Rattle.lists.specs.List.{_∈_}
-use Rattle.lists.proofs.List.{All}
+use Rattle.lists.specs.List.{_∈_, Every}
+use Rattle.lists.proofs.List.{every-head, every-tail}
 use Rattle.lists.proofs.Reflect.{r-eq, r-absent, r-not, is-false, fails}
 use Rattle.lines.specs.declared.Line.{Line}
 use Rattle.lines.specs.declared.Line.the-variants.{Perform, While, If, End, Mark, Other}
@@ -108,7 +108,7 @@ module _ (f : ℕ → ℕ) where
 -- ---- from the limits
 
 pub record Limits (ls : List Line) (s : Seen) : Type 0 where
-  pub inside : All Inside ls
+  pub inside : Every Inside ls
   pub shallow : Shallow ls (s .depth)
   pub few : s .passed + length ls ≤ 63
   pub names : length (meetLines (s .names) ls) ≤ 8
@@ -143,7 +143,7 @@ from-limits (l ∷ ls) s h =
     let n = h .names in
     let c : Clear l s =
     record {
-      placed = placed l s ls (h .inside .0) (h .shallow .0) (h .once);
+      placed = placed l s ls (every-head (h .inside)) (h .shallow .0) (h .once);
       shallow = h .shallow .1;
       names = omega arith;
       states = let w = h .few in omega arith;
@@ -151,7 +151,7 @@ from-limits (l ∷ ls) s h =
       c,
       from-limits ls (see l s)
           (record {
-            inside = h .inside .1;
+            inside = every-tail (h .inside);
             shallow = h .shallow .2;
             few = let w = h .few in omega arith;
             names = h .names;

@@ -7,8 +7,8 @@ use Prim.Native.Nat.{ℕ, zero, suc, _+_, _≤_, _<_}
 use native.Mathlib.Omega.{arith}
 use lib.Dec.{eqb, ltb, T}
 use lib.ListN.{length}
-use Rattle.lists.specs.List.{_∈_}
-use Rattle.lists.proofs.List.{All, Distinct}
+use Rattle.lists.specs.List.{_∈_, Every}
+use Rattle.lists.proofs.List.{every-none, every-cons, every-head, every-tail, Distinct}
 use Rattle.lists.proofs.Reflect.{r-eq, r-lt, r-absent, r-not, is-false, fails}
 use Rattle.lines.specs.declared.Line.{Line}
 use Rattle.lines.specs.declared.Line.the-variants.{Perform, While, If, End, Mark, Other}
@@ -75,9 +75,9 @@ no-fault (l ∷ ls) s (c, more) =
 
 -- ---- limits
 
-pub all-inside : (ls : List Line) (s : Seen) → Faultless ls s → All Inside ls
-all-inside [] s f = tt
-all-inside (l ∷ ls) s (c, f) = (λ e. fails _ (subst (λ x. isMisplaced x s ≡ false) e (c .placed)) tt, all-inside ls (see l s) f)
+pub all-inside : (ls : List Line) (s : Seen) → Faultless ls s → Every Inside ls
+all-inside [] s f = every-none Inside
+all-inside (l ∷ ls) s (c, f) = every-cons Inside (λ e. fails _ (subst (λ x. isMisplaced x s ≡ false) e (c .placed)) tt) (all-inside ls (see l s) f)
 
 pub few-names : (ls : List Line) (s : Seen) → Faultless ls s → length (s .names) ≤ 8 → length (meetLines (s .names) ls) ≤ 8
 few-names [] s f h = h
@@ -164,20 +164,20 @@ are-end : (ls : List Line) (depth : ℕ) (bs : List Block) → Are ls depth bs �
 are-end ls depth [] a = absurd (let z = a .number in omega arith)
 are-end ls depth (b ∷ bs) a = record { number = ap suc (a .number); written = ap (λ x. End ∷ x) (a .written) }
 
-are-blocks : (ls : List Line) → All Proper ls → (s : Seen) → Faultless ls s → Are ls (s .depth) (blocks ls)
+are-blocks : (ls : List Line) → Every Proper ls → (s : Seen) → Faultless ls s → Are ls (s .depth) (blocks ls)
 unfolding blocks
 are-blocks [] p s f = record { number = omega arith; written = refl }
 are-blocks (Perform o ∷ ls) p s (c, f) =
-    are-ahead (Perform o) (perform (opOf o)) ls (s .depth) (blocks ls) (ap (λ x. Perform x ∷ []) (good-op o (p .0) .back))
-    (are-blocks ls (p .1) (see (Perform o) s) f)
+    are-ahead (Perform o) (perform (opOf o)) ls (s .depth) (blocks ls) (ap (λ x. Perform x ∷ []) (good-op o (every-head p) .back))
+    (are-blocks ls (every-tail p) (see (Perform o) s) f)
 are-blocks (While t ∷ ls) p s (c, f) =
-    are-enclosed (While t) (while (testOf t)) ls (s .depth) (blocks ls) (λ b. ap (λ x. While x ∷ (linesIn b ++ (End ∷ []))) (good-test t (p .0) .back))
-    (are-blocks ls (p .1) (see (While t) s) f)
+    are-enclosed (While t) (while (testOf t)) ls (s .depth) (blocks ls) (λ b. ap (λ x. While x ∷ (linesIn b ++ (End ∷ []))) (good-test t (every-head p) .back))
+    (are-blocks ls (every-tail p) (see (While t) s) f)
 are-blocks (If t ∷ ls) p s (c, f) =
-    are-enclosed (If t) (if (testOf t)) ls (s .depth) (blocks ls) (λ b. ap (λ x. If x ∷ (linesIn b ++ (End ∷ []))) (good-test t (p .0) .back))
-    (are-blocks ls (p .1) (see (If t) s) f)
-are-blocks (Mark k ∷ ls) p s (c, f) = are-ahead (Mark k) (mark k) ls (s .depth) (blocks ls) refl (are-blocks ls (p .1) (see (Mark k) s) f)
-are-blocks (End ∷ ls) p s (c, f) = go (s .depth) (are-blocks ls (p .1) (see End s) f) (c .placed)
+    are-enclosed (If t) (if (testOf t)) ls (s .depth) (blocks ls) (λ b. ap (λ x. If x ∷ (linesIn b ++ (End ∷ []))) (good-test t (every-head p) .back))
+    (are-blocks ls (every-tail p) (see (If t) s) f)
+are-blocks (Mark k ∷ ls) p s (c, f) = are-ahead (Mark k) (mark k) ls (s .depth) (blocks ls) refl (are-blocks ls (every-tail p) (see (Mark k) s) f)
+are-blocks (End ∷ ls) p s (c, f) = go (s .depth) (are-blocks ls (every-tail p) (see End s) f) (c .placed)
   where
     go : (n : ℕ) → Are ls (depthAfter End n) (blocks ls) → eqb n 0 ≡ false → Are (End ∷ ls) n (done ∷ blocks ls)
     go zero a w = absurd (fails true w tt)
@@ -185,7 +185,7 @@ are-blocks (End ∷ ls) p s (c, f) = go (s .depth) (are-blocks ls (p .1) (see En
 are-blocks (Other ∷ ls) p s (c, f) = absurd (fails true (c .placed) tt)
 
 -- so lines without a fault are those of one block
-pub are-statements : (ls : List Line) → All Proper ls → (s : Seen) → s .depth ≡ 0 → Faultless ls s → ls ≡ linesIn (firstBlock (blocks ls))
+pub are-statements : (ls : List Line) → Every Proper ls → (s : Seen) → s .depth ≡ 0 → Faultless ls s → ls ≡ linesIn (firstBlock (blocks ls))
 are-statements ls p s z f = one (blocks ls) (are-blocks ls p s f)
   where
     one : (bs : List Block) → Are ls (s .depth) bs → ls ≡ linesIn (firstBlock bs)

@@ -1,16 +1,17 @@
 -- Letters: those of a listing are 1 to 26, each once, so that letters for numbers and numbers for letters undo each other.
 use mathlib.Core.Bool.{Bool, true, false, cond}
-use mathlib.Core.List.{List, [], _∷_, _++_, List·Memᴰ·head, List·Memᴰ·tail, List·Memᴰ·not-nil, List·Memᴰ·append-cases, List·Memᴰ·eq-of-singleton}
-use mathlib.Core.Logic.{_≢_, _⊎_, inl, inr}
+use mathlib.Core.List.{List, [], _∷_, _++_, List·Memᴰ·head, List·Memᴰ·tail, List·Memᴰ·not-nil}
+use mathlib.Core.Logic.{_≢_}
 use mathlib.Core.Path.{_≡_, refl, sym, ap, ap₂, subst, _∙_}
 use Prim.Native.Nat.{ℕ, zero, suc, _≤_, _<_}
 use native.Mathlib.Omega.{arith}
 use lib.Dec.{eqb, T}
 use lib.ListN.{length, getD}
-use Rattle.lists.specs.List.{_∈_, absent}
-use Rattle.lists.proofs.List.{All, Distinct, distinct-snoc, getD-mem, all-append}
+use Rattle.lists.specs.List.{_∈_, Every, absent}
+use Rattle.lists.proofs.List.{every-none, every-cons, every-one, every-append, every-snoc, every-head, every-tail, every-left, every-right, Distinct, distinct-snoc, getD-mem}
 use Rattle.lists.proofs.Reflect.{r-eq, r-absent, is-true, is-false}
 use Rattle.heap.specs.Operation.{Op, equal, different, assign, load, store, new, delete, equalValue, belowValue, copy, larger, smaller, read, Allowed}
+use Rattle.format.specs.JobBytes.{Between}
 use Rattle.lines.specs.declared.Line.{Line}
 use Rattle.lines.specs.declared.Line.the-variants.{Perform, While, If, End, Mark, Other}
 use Rattle.lines.specs.declared.Operation.{Operation}
@@ -22,7 +23,6 @@ use Rattle.listing.specs.Text.{operationFor, operationForTest, linesFor,
 use Rattle.listing.specs.Translation.{test}
 use Rattle.listing.proofs.Lines.{Proper, Inside}
 use Rattle.listing.proofs.Operations.{kind-by, small-op, small-test, is-operation, is-test}
-use Rattle.listing.proofs.Lists.{all-left, all-right}
 use Rattle.listing.proofs.Names.{Met, MetIn, MetLine}
 
 at-index : (x : ℕ) (names : List ℕ) → x ∈ names → getD names (indexOf x names) 0 ≡ x
@@ -64,18 +64,17 @@ module _ (names : List ℕ) where
   test-back any m = refl
 
   mutual
-    statement-back : (s : Statement) → All (MetLine names) (linesFor s) → statementBy (letterIn names) (statementBy (numberIn names) s) ≡ s
-    statement-back (perform o) m = ap perform (op-back o (m .0))
+    statement-back : (s : Statement) → Every (MetLine names) (linesFor s) → statementBy (letterIn names) (statementBy (numberIn names) s) ≡ s
+    statement-back (perform o) m = ap perform (op-back o (every-head m))
     statement-back (mark k) m = refl
-    statement-back (while t b) m = ap₂ while (test-back t (m .0)) (block-back b (all-left (MetLine names) (linesIn b) (End ∷ []) (m .1)))
-    statement-back (if t b) m = ap₂ if (test-back t (m .0)) (block-back b (all-left (MetLine names) (linesIn b) (End ∷ []) (m .1)))
+    statement-back (while t b) m = ap₂ while (test-back t (every-head m)) (block-back b (every-left (linesIn b) (End ∷ []) (every-tail m)))
+    statement-back (if t b) m = ap₂ if (test-back t (every-head m)) (block-back b (every-left (linesIn b) (End ∷ []) (every-tail m)))
 
     -- numbers for letters, and letters for numbers again
-    pub block-back : (b : Block) → All (MetLine names) (linesIn b) → blockBy (letterIn names) (blockBy (numberIn names) b) ≡ b
+    pub block-back : (b : Block) → Every (MetLine names) (linesIn b) → blockBy (letterIn names) (blockBy (numberIn names) b) ≡ b
     block-back done m = refl
     block-back (s ⨾ b) m =
-        ap₂ _⨾_ (statement-back s (all-left (MetLine names) (linesFor s) (linesIn b) m))
-        (block-back b (all-right (MetLine names) (linesFor s) (linesIn b) m))
+        ap₂ _⨾_ (statement-back s (every-left (linesFor s) (linesIn b) m)) (block-back b (every-right (linesFor s) (linesIn b) m))
 
 -- ---- the letters of a listing: each once, 1 to 26
 
@@ -100,19 +99,15 @@ lines-distinct names [] d = d
 lines-distinct names (l ∷ ls) d = lines-distinct (meetLine names l) ls (line-distinct names l d)
 
 abbrev pub Letters : List ℕ → Type 0
-Letters names = (x : ℕ) → x ∈ names → (1 ≤ x) × (x ≤ 26)
+Letters = Every (Between 1 26)
 
 meet-letters : (names : List ℕ) (x : ℕ) → x ≤ 26 → Letters names → Letters (meet names x)
 meet-letters names zero h a = a
 meet-letters names (suc c) h a = go (absent (suc c) names)
   where
     go : (b : Bool) → Letters (cond b (names ++ (suc c ∷ [])) names)
-    go true y m = by y (List·Memᴰ·append-cases names m)
-      where
-        by : (y : ℕ) → (y ∈ names) ⊎ (y ∈ (suc c ∷ [])) → (1 ≤ y) × (y ≤ 26)
-        by y (inl i) = a y i
-        by y (inr i) = let e = List·Memᴰ·eq-of-singleton i in (omega arith, omega arith)
-    go false y m = a y m
+    go true = every-snoc (Between 1 26) names a (omega arith, h)
+    go false = a
 
 both-letters : (names : List ℕ) (o : Operation) → (o .a ≤ 26) × (o .b ≤ 26) → Letters names → Letters (meet (meet names (o .a)) (o .b))
 both-letters names o (f, g) a = meet-letters (meet names (o .a)) (o .b) g (meet-letters names (o .a) f a)
@@ -125,9 +120,9 @@ line-letters names End p a = a
 line-letters names (Mark k) p a = a
 line-letters names Other p a = a
 
-pub lines-letters : (names : List ℕ) (ls : List Line) → All Proper ls → Letters names → Letters (meetLines names ls)
+pub lines-letters : (names : List ℕ) (ls : List Line) → Every Proper ls → Letters names → Letters (meetLines names ls)
 lines-letters names [] p a = a
-lines-letters names (l ∷ ls) p a = lines-letters (meetLine names l) ls (p .1) (line-letters names l (p .0) a)
+lines-letters names (l ∷ ls) p a = lines-letters (meetLine names l) ls (every-tail p) (line-letters names l (every-head p) a)
 
 -- ---- numbers for letters, where each letter is there once
 
@@ -209,31 +204,34 @@ module _ (names : List ℕ) (d : Distinct names) (a : Letters names) where
   spelled-test (other x y) l = (small x (l .0), small y (l .1))
   spelled-test any l = (omega arith, omega arith)
 
-  mutual
-    spelled-statement : (s : Statement) → FitsOne s (length names) → All (λ k. k ≤ 63) (markOf s)
-        → All Inside (linesFor (statementBy (letterIn names) s)) × All Proper (linesFor (statementBy (letterIn names) s))
-    spelled-statement (perform o) f m =
-        ((λ e. let q : _≡_ {A = ℕ} 0 1 = cc in omega arith, tt), (is-operation (opBy (letterIn names) o) (spelled-op o (f .0), omega (arith, f .1, kind-by (letterIn names) o)), tt))
-    spelled-statement (mark k) f m = ((λ e. let q : _≡_ {A = ℕ} 0 1 = cc in omega arith, tt), (m .0, tt))
-    spelled-statement (while t b) f m =
-        let (x, y) = spelled-block b (f .1) m in
-        let ls = linesIn (blockBy (letterIn names) b) in (
-          (λ e. let q : _≡_ {A = ℕ} 0 1 = cc in omega arith, all-append Inside ls (End ∷ []) x (λ e. let q : _≡_ {A = ℕ} 0 1 = cc in omega arith, tt)),
-          (is-test (testBy (letterIn names) t) (spelled-test t (f .0)), all-append Proper ls (End ∷ []) y (tt, tt)),
-        )
-    spelled-statement (if t b) f m =
-        let (x, y) = spelled-block b (f .1) m in
-        let ls = linesIn (blockBy (letterIn names) b) in (
-          (λ e. let q : _≡_ {A = ℕ} 0 1 = cc in omega arith, all-append Inside ls (End ∷ []) x (λ e. let q : _≡_ {A = ℕ} 0 1 = cc in omega arith, tt)),
-          (is-test (testBy (letterIn names) t) (spelled-test t (f .0)), all-append Proper ls (End ∷ []) y (tt, tt)),
-        )
+  -- so are such lines with one ahead and an `end` behind
+  enclosed-lines : (l : Line) (ls : List Line) → Inside l → Proper l → Every Inside ls × Every Proper ls
+      → Every Inside (l ∷ (ls ++ (End ∷ []))) × Every Proper (l ∷ (ls ++ (End ∷ [])))
+  enclosed-lines l ls i p (x, y) = (
+    every-cons Inside i (every-snoc Inside ls x (λ e. let q : _≡_ {A = ℕ} 0 1 = cc in omega arith)),
+    every-cons Proper p (every-snoc Proper ls y tt),
+  )
 
-    pub spelled-block : (b : Block) → Fits b (length names) → All (λ k. k ≤ 63) (marksIn b)
-        → All Inside (linesIn (blockBy (letterIn names) b)) × All Proper (linesIn (blockBy (letterIn names) b))
-    spelled-block done f m = (tt, tt)
+  mutual
+    spelled-statement : (s : Statement) → FitsOne s (length names) → Every (λ k. k ≤ 63) (markOf s)
+        → Every Inside (linesFor (statementBy (letterIn names) s)) × Every Proper (linesFor (statementBy (letterIn names) s))
+    spelled-statement (perform o) f m = (
+      every-one Inside (λ e. let q : _≡_ {A = ℕ} 0 1 = cc in omega arith),
+      every-one Proper (is-operation (opBy (letterIn names) o) (spelled-op o (f .0), omega (arith, f .1, kind-by (letterIn names) o))),
+    )
+    spelled-statement (mark k) f m = (every-one Inside (λ e. let q : _≡_ {A = ℕ} 0 1 = cc in omega arith), every-one Proper (every-head m))
+    spelled-statement (while t b) f m =
+        enclosed-lines (While (operationForTest (testBy (letterIn names) t))) (linesIn (blockBy (letterIn names) b))
+        (λ e. let q : _≡_ {A = ℕ} 0 1 = cc in omega arith) (is-test (testBy (letterIn names) t) (spelled-test t (f .0))) (spelled-block b (f .1) m)
+    spelled-statement (if t b) f m =
+        enclosed-lines (If (operationForTest (testBy (letterIn names) t))) (linesIn (blockBy (letterIn names) b))
+        (λ e. let q : _≡_ {A = ℕ} 0 1 = cc in omega arith) (is-test (testBy (letterIn names) t) (spelled-test t (f .0))) (spelled-block b (f .1) m)
+
+    pub spelled-block : (b : Block) → Fits b (length names) → Every (λ k. k ≤ 63) (marksIn b)
+        → Every Inside (linesIn (blockBy (letterIn names) b)) × Every Proper (linesIn (blockBy (letterIn names) b))
+    spelled-block done f m = (every-none Inside, every-none Proper)
     spelled-block (s ⨾ b) f m =
-        let (x, y) = spelled-statement s (f .0) (all-left (λ k. k ≤ 63) (markOf s) (marksIn b) m) in
-        let (z, w) = spelled-block b (f .1) (all-right (λ k. k ≤ 63) (markOf s) (marksIn b) m) in
+        let (x, y) = spelled-statement s (f .0) (every-left (markOf s) (marksIn b) m) in
+        let (z, w) = spelled-block b (f .1) (every-right (markOf s) (marksIn b) m) in
         let first = linesFor (statementBy (letterIn names) s) in
-        let rest = linesIn (blockBy (letterIn names) b) in
-        (all-append Inside first rest x z, all-append Proper first rest y w)
+        (every-append Inside first x z, every-append Proper first y w)

@@ -5,8 +5,8 @@ use mathlib.Core.Path.{_≡_, refl, sym, ap, ap₂, _∙_}
 use Prim.Native.Nat.{ℕ, _≤_}
 use native.Mathlib.Omega.{arith}
 use lib.Dec.{eqb, T}
-use Rattle.lists.specs.List.{_∈_}
-use Rattle.lists.proofs.List.{All}
+use Rattle.lists.specs.List.{_∈_, Every}
+use Rattle.lists.proofs.List.{every-none, every-cons, every-one, every-head, every-tail}
 use Rattle.lists.proofs.Reflect.{r-eq, r-le, r-absent, is-true, is-false, passes}
 use Rattle.lines.specs.Line.{isOperation, isTest, isLine, lineText, lineOf}
 use Rattle.lines.proofs.ReadsText.{reads-text, text-clear}
@@ -72,18 +72,18 @@ proper-line s = go (lineOf s) refl
     go (Mark k) e = r-le k 63 .holds (passes _ (reads-text s (Mark k) e (λ z. let q : _≡_ {A = ℕ} 0 1 = cc in omega arith) .1))
     go Other e = tt
 
-proper-from : (begun s : List ℕ) → All Proper (linesFrom begun s)
+proper-from : (begun s : List ℕ) → Every Proper (linesFrom begun s)
 unfolding linesFrom
-proper-from [] [] = tt
-proper-from (b ∷ begun) [] = (tt, tt)
+proper-from [] [] = every-none Proper
+proper-from (b ∷ begun) [] = every-one Proper tt
 proper-from begun (c ∷ s) = go (eqb c 10) (proper-from [] s) (proper-from (begun ++ (c ∷ [])) s)
   where
-    go : (b : Bool) → All Proper (linesFrom [] s) → All Proper (linesFrom (begun ++ (c ∷ [])) s)
-        → All Proper (cond b (lineOf begun ∷ linesFrom [] s) (linesFrom (begun ++ (c ∷ [])) s))
-    go true x y = (proper-line begun, x)
+    go : (b : Bool) → Every Proper (linesFrom [] s) → Every Proper (linesFrom (begun ++ (c ∷ [])) s)
+        → Every Proper (cond b (lineOf begun ∷ linesFrom [] s) (linesFrom (begun ++ (c ∷ [])) s))
+    go true x y = every-cons Proper (proper-line begun) x
     go false x y = y
 
-pub proper-lines : (text : List ℕ) → All Proper (linesOf text)
+pub proper-lines : (text : List ℕ) → Every Proper (linesOf text)
 proper-lines text = proper-from [] text
 
 -- ---- lines and text
@@ -99,29 +99,29 @@ is-line Other i p = absurd (i refl)
 clear : (l : Line) → isLine l ≡ true → NoFeed (lineText l)
 clear l e = r-absent 10 (lineText l) .holds (passes _ (text-clear l e))
 
-pub lines-of-text : (ls : List Line) → All Inside ls → All Proper ls → linesOf (textOf ls) ≡ ls
+pub lines-of-text : (ls : List Line) → Every Inside ls → Every Proper ls → linesOf (textOf ls) ≡ ls
 lines-of-text [] i p = lines-none
 lines-of-text (l ∷ ls) i p =
-    let e = is-line l (i .0) (p .0) in
+    let e = is-line l (every-head i) (every-head p) in
     ap linesOf (append-assoc (lineText l) (10 ∷ []) (textOf ls))
     ∙ lines-one (lineText l) (textOf ls) (clear l e)
-    ∙ ap₂ (λ x y. x ∷ y) (text-reads l e) (lines-of-text ls (i .1) (p .1))
+    ∙ ap₂ (λ x y. x ∷ y) (text-reads l e) (lines-of-text ls (every-tail i) (every-tail p))
 
-text-from : (begun s : List ℕ) → All Inside (linesFrom begun s) → textOf (linesFrom begun s) ≡ begun ++ s
+text-from : (begun s : List ℕ) → Every Inside (linesFrom begun s) → textOf (linesFrom begun s) ≡ begun ++ s
 unfolding linesFrom
 text-from [] [] i = refl
-text-from (b ∷ begun) [] i = absurd (i .0 refl)
+text-from (b ∷ begun) [] i = absurd (every-head i refl)
 text-from begun (c ∷ s) i = go (eqb c 10) (r-eq c 10 .holds) i (text-from [] s) (text-from (begun ++ (c ∷ [])) s)
   where
-    go : (b : Bool) → (T b → c ≡ 10) → All Inside (cond b (lineOf begun ∷ linesFrom [] s) (linesFrom (begun ++ (c ∷ [])) s))
-        → (All Inside (linesFrom [] s) → textOf (linesFrom [] s) ≡ s)
-        → (All Inside (linesFrom (begun ++ (c ∷ [])) s) → textOf (linesFrom (begun ++ (c ∷ [])) s) ≡ (begun ++ (c ∷ [])) ++ s)
+    go : (b : Bool) → (T b → c ≡ 10) → Every Inside (cond b (lineOf begun ∷ linesFrom [] s) (linesFrom (begun ++ (c ∷ [])) s))
+        → (Every Inside (linesFrom [] s) → textOf (linesFrom [] s) ≡ s)
+        → (Every Inside (linesFrom (begun ++ (c ∷ [])) s) → textOf (linesFrom (begun ++ (c ∷ [])) s) ≡ (begun ++ (c ∷ [])) ++ s)
         → textOf (cond b (lineOf begun ∷ linesFrom [] s) (linesFrom (begun ++ (c ∷ [])) s)) ≡ begun ++ (c ∷ s)
     go true h i x y =
-        ap₂ (λ u v. (u ++ (10 ∷ [])) ++ v) (reads-text begun (lineOf begun) refl (i .0) .0) (x (i .1))
+        ap₂ (λ u v. (u ++ (10 ∷ [])) ++ v) (reads-text begun (lineOf begun) refl (every-head i) .0) (x (every-tail i))
         ∙ append-assoc begun (10 ∷ []) s
         ∙ ap (λ d. begun ++ (d ∷ s)) (sym (h tt))
     go false h i x y = y i ∙ append-assoc begun (c ∷ []) s
 
-pub text-of-lines : (text : List ℕ) → All Inside (linesOf text) → textOf (linesOf text) ≡ text
+pub text-of-lines : (text : List ℕ) → Every Inside (linesOf text) → textOf (linesOf text) ≡ text
 text-of-lines text i = text-from [] text i

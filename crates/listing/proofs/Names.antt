@@ -7,8 +7,8 @@ use Prim.Native.Nat.{ℕ, zero, suc, _≤_, _<_}
 use native.Mathlib.Omega.{arith}
 use lib.Dec.{eqb, T}
 use lib.ListN.{length}
-use Rattle.lists.specs.List.{_∈_, absent}
-use Rattle.lists.proofs.List.{All, mem?}
+use Rattle.lists.specs.List.{_∈_, Every, absent}
+use Rattle.lists.proofs.List.{mem?, every-none, every-cons, every-head, every-tail, every-left, every-right}
 use Rattle.lists.proofs.Reflect.{r-eq, r-absent, is-true}
 use Rattle.heap.specs.Operation.{Op, equal, different, assign, load, store, new, delete, equalValue, belowValue, copy, larger, smaller, read, Allowed}
 use Rattle.lines.specs.declared.Line.{Line}
@@ -21,7 +21,6 @@ use Rattle.listing.specs.Names.{meet, meetLine, indexOf, numberIn, varia
 use Rattle.listing.specs.Reading.{meetLines}
 use Rattle.listing.specs.Text.{operationFor, operationForTest, linesFor, linesIn}
 use Rattle.listing.specs.Translation.{test}
-use Rattle.listing.proofs.Lists.{all-left, all-right}
 use Rattle.listing.proofs.Lines.{Proper}
 use Rattle.listing.proofs.OnePass.{numberedLine, numberedAll}
 use Rattle.listing.proofs.Operations.{op-of-for, good-op, kind-by}
@@ -113,11 +112,11 @@ lines-extend names [] = extends-none names
 lines-extend names (l ∷ ls) =
     extends-twice names (meetLine names l) (meetLines (meetLine names l) ls) (line-extends names l) (lines-extend (meetLine names l) ls)
 
-pub lines-met : (names : List ℕ) (ls : List Line) → All (MetLine (meetLines names ls)) ls
-lines-met names [] = tt
+pub lines-met : (names : List ℕ) (ls : List Line) → Every (MetLine (meetLines names ls)) ls
+lines-met names [] = every-none (MetLine names)
 lines-met names (l ∷ ls) =
     let more = meetLine names l in
-    (met-line-more more (meetLines more ls) l (lines-extend more ls) (line-met names l), lines-met more ls)
+    every-cons (MetLine (meetLines more ls)) (met-line-more more (meetLines more ls) l (lines-extend more ls) (line-met names l)) (lines-met more ls)
 
 -- ---- numbers
 
@@ -229,22 +228,22 @@ module _ (names : List ℕ) where
   test-fits any m = (omega arith, omega arith)
 
   mutual
-    statement-fits : (s : Statement) → All Proper (linesFor s) → All (MetLine names) (linesFor s)
+    statement-fits : (s : Statement) → Every Proper (linesFor s) → Every (MetLine names) (linesFor s)
         → FitsOne (statementBy (numberIn names) s) (length names)
     statement-fits (perform o) p m =
-        let good = good-op (operationFor o) (p .0) in
-        (op-fits o (subst (Allowed 26) (op-of-for o) (good .letters)) (m .0), omega (arith, good .early, kind-by (numberIn names) o))
+        let good = good-op (operationFor o) (every-head p) in
+        (op-fits o (subst (Allowed 26) (op-of-for o) (good .letters)) (every-head m), omega (arith, good .early, kind-by (numberIn names) o))
     statement-fits (mark k) p m = tt
     statement-fits (while t b) p m =
-        (test-fits t (m .0), block-fits b (all-left Proper (linesIn b) (End ∷ []) (p .1)) (all-left (MetLine names) (linesIn b) (End ∷ []) (m .1)))
+        (test-fits t (every-head m), block-fits b (every-left (linesIn b) (End ∷ []) (every-tail p)) (every-left (linesIn b) (End ∷ []) (every-tail m)))
     statement-fits (if t b) p m =
-        (test-fits t (m .0), block-fits b (all-left Proper (linesIn b) (End ∷ []) (p .1)) (all-left (MetLine names) (linesIn b) (End ∷ []) (m .1)))
+        (test-fits t (every-head m), block-fits b (every-left (linesIn b) (End ∷ []) (every-tail p)) (every-left (linesIn b) (End ∷ []) (every-tail m)))
 
-    pub block-fits : (b : Block) → All Proper (linesIn b) → All (MetLine names) (linesIn b) → Fits (blockBy (numberIn names) b) (length names)
+    pub block-fits : (b : Block) → Every Proper (linesIn b) → Every (MetLine names) (linesIn b) → Fits (blockBy (numberIn names) b) (length names)
     block-fits done p m = tt
     block-fits (s ⨾ b) p m = (
-      statement-fits s (all-left Proper (linesFor s) (linesIn b) p) (all-left (MetLine names) (linesFor s) (linesIn b) m),
-      block-fits b (all-right Proper (linesFor s) (linesIn b) p) (all-right (MetLine names) (linesFor s) (linesIn b) m),
+      statement-fits s (every-left (linesFor s) (linesIn b) p) (every-left (linesFor s) (linesIn b) m),
+      block-fits b (every-right (linesFor s) (linesIn b) p) (every-right (linesFor s) (linesIn b) m),
     )
 
 pub variables-enough : (names : List ℕ) → length names ≤ variablesFor names

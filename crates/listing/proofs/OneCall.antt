@@ -11,7 +11,7 @@ use lib.ListN.{length, length-set, length-replicate, getD, getD-replicate, set, 
 use lib.Seq.{getD-set-same, getD-set-other}
 use Rattle.lists.specs.List.{_∈_, Every, concatMap}
 use Rattle.lists.specs.Range.{range}
-use Rattle.lists.proofs.List.{All, Distinct}
+use Rattle.lists.proofs.List.{Distinct}
 use Rattle.lists.proofs.Range.{tabled}
 use Rattle.number.specs.NumberList.{encode}
 use Rattle.number.specs.Range.{AtMost}
@@ -151,7 +151,7 @@ marks-set l ok =
 abbrev begun : Emitted
 begun = record { passed = 0; opens = []; count = 0; transitions = []; marks = replicate 64 64 }
 
-module _ (ls : List Line) (p : All Proper ls) (f : Faultless ls nothingSeen) where
+module _ (ls : List Line) (p : Every Proper ls) (f : Faultless ls nothingSeen) where
   abbrev l : Listing
   l = listingOf ls
 

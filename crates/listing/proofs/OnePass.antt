@@ -9,8 +9,8 @@ use native.Mathlib.Omega.{arith}
 use lib.Dec.{eqb, leb, ltb, T}
 use lib.ListN.{length, length-set, getD, set}
 use lib.Seq.{getD-set-same, getD-set-other}
-use Rattle.lists.specs.List.{absent}
-use Rattle.lists.proofs.List.{All}
+use Rattle.lists.specs.List.{Every, absent}
+use Rattle.lists.proofs.List.{every-head, every-tail}
 use Rattle.lists.proofs.Reflect.{r-eq, r-lt, r-le, is-true, is-false}
 use Rattle.lines.specs.declared.Line.{Line}
 use Rattle.lines.specs.declared.Line.the-variants.{Perform, While, If, End, Mark, Other}
@@ -137,7 +137,7 @@ module _ (ls : List Line) (e : Emitted) (names ks : List ℕ) (l : Line) (d : Em
 abbrev with-opens : List Open → Emitted → Emitted
 with-opens os e = record { passed = e .passed; opens = os; count = e .count; transitions = e .transitions; marks = e .marks }
 
-pub agrees : (ls : List Line) → All Proper ls → (e : Emitted) (names ks : List ℕ) → Known e ks → Agrees ls e names ks
+pub agrees : (ls : List Line) → Every Proper ls → (e : Emitted) (names ks : List ℕ) → Known e ks → Agrees ls e names ks
 unfolding goOn firstFault
 agrees [] proper e names ks known = go (e .opens)
   where
@@ -150,18 +150,18 @@ agrees (Perform o ∷ ls) proper e names ks known =
     let l = Perform o in
     let d = emit (numberedLine (meetLine names l) l) e in
     within ls e names ks l d refl (known .shallow)
-    (λ few. agrees ls (proper .1) d (meetLine names l) ks (record { sized = known .sized; few = few; shallow = known .shallow; seen = known .seen }))
+    (λ few. agrees ls (every-tail proper) d (meetLine names l) ks (record { sized = known .sized; few = few; shallow = known .shallow; seen = known .seen }))
 agrees (While t ∷ ls) proper e names ks known =
     let l = While t in
     let d = emit (numberedLine (meetLine names l) l) e in
     opening ls e names ks l d refl refl
-    (λ shallow few. agrees ls (proper .1) d (meetLine names l) ks (record { sized = known .sized; few = few; shallow = shallow; seen = known .seen }))
+    (λ shallow few. agrees ls (every-tail proper) d (meetLine names l) ks (record { sized = known .sized; few = few; shallow = shallow; seen = known .seen }))
 agrees (If t ∷ ls) proper e names ks known =
     let l = If t in
     let d = emit (numberedLine (meetLine names l) l) e in
     opening ls e names ks l d refl refl
-    (λ shallow few. agrees ls (proper .1) d (meetLine names l) ks (record { sized = known .sized; few = few; shallow = shallow; seen = known .seen }))
-agrees (End ∷ ls) proper e names ks known = go (agrees ls (proper .1)) (e .opens) (known .shallow)
+    (λ shallow few. agrees ls (every-tail proper) d (meetLine names l) ks (record { sized = known .sized; few = few; shallow = shallow; seen = known .seen }))
+agrees (End ∷ ls) proper e names ks known = go (agrees ls (every-tail proper)) (e .opens) (known .shallow)
   where
     go : Left ls → (os : List Open) → length os ≤ 16 → Agrees (End ∷ ls) (with-opens os e) names ks
     go left [] h = refl
@@ -175,8 +175,8 @@ agrees (End ∷ ls) proper e names ks known = go (agrees ls (proper .1)) (e .ope
         (sym (is-false (eqb (suc (length os)) 0) (λ t. let w = r-eq (suc (length os)) 0 .holds t in omega arith)))
 agrees (Mark k ∷ ls) proper e names ks known =
     ap (λ b. onward (cond b (limited (then ls e names ks (Mark k) (emit (Mark k) e) refl)) (refused 17 (suc (e .passed)))) (goOn ls))
-    (sym (known .seen k (proper .0)))
-    ∙ go (agrees ls (proper .1)) (absent k ks)
+    (sym (known .seen k (every-head proper)))
+    ∙ go (agrees ls (every-tail proper)) (absent k ks)
   where
     go : Left ls → (b : Bool)
         → onward (cond b (limited (then ls e names ks (Mark k) (emit (Mark k) e) refl)) (refused 17 (suc (e .passed)))) (goOn ls)
@@ -190,7 +190,7 @@ agrees (Mark k ∷ ls) proper e names ks known =
           sized = length-set (e .marks) k (e .passed) ∙ known .sized;
           few = few;
           shallow = known .shallow;
-          seen = seen-more k (e .passed) ks (e .marks) (known .sized) (proper .0) (known .few) (known .seen);
+          seen = seen-more k (e .passed) ks (e .marks) (known .sized) (every-head proper) (known .few) (known .seen);
         }))
     go left false = refl
 agrees (Other ∷ ls) proper e names ks known = refl

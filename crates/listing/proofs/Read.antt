@@ -1,12 +1,13 @@
 -- A text that is a listing is one within the limits.
-use mathlib.Core.List.{List, [], _∷_, _++_, append-nil, List·Memᴰ·not-nil}
+use mathlib.Core.List.{List, [], _∷_, _++_, append-nil}
 use mathlib.Core.Option.{Option, none, some}
 use mathlib.Core.Path.{_≡_, refl, sym, ap, ap₂, subst, _∙_}
 use Prim.Native.Nat.{ℕ, suc, _+_, _≤_}
 use native.Mathlib.Omega.{arith}
 use lib.ListN.{length, length-append}
-use Rattle.lists.specs.List.{_∈_}
-use Rattle.lists.proofs.List.{All, Distinct, all-every}
+use Rattle.lists.specs.List.{Every}
+use Rattle.lists.proofs.List.{every-none, every-cons, every-head, every-tail, Distinct}
+use Rattle.format.specs.JobBytes.{Between}
 use Rattle.lines.specs.declared.Line.{Line}
 use Rattle.lines.specs.declared.Line.the-variants.{Perform, While, If, End, Mark, Other}
 use Rattle.listing.specs.Limits.{Fits, WithinLimits}
@@ -68,7 +69,7 @@ module _ (f : ℕ → ℕ) where
     next-by done n = refl
     next-by (s ⨾ b) n = ap (λ (m : ℕ). next (blockBy f b) (suc m)) (exit-by s n) ∙ next-by b (suc (exit s n))
 
--- all-every line makes one state
+-- every line makes one state
 mutual
   exit-lines : (s : Statement) (n : ℕ) → suc (exit s n) ≡ n + length (linesFor s)
   exit-lines (perform o) n = omega arith
@@ -82,20 +83,17 @@ mutual
 
 -- ---- what is read
 
-small-marks : (ls : List Line) → All Proper ls → (k : ℕ) → k ∈ marksOn ls → k ≤ 63
-small-marks ls p = all-every (λ k. k ≤ 63) (marksOn ls) (go ls p)
-  where
-    go : (ls : List Line) → All Proper ls → All (λ k. k ≤ 63) (marksOn ls)
-    go [] p = tt
-    go (Perform o ∷ ls) p = go ls (p .1)
-    go (While t ∷ ls) p = go ls (p .1)
-    go (If t ∷ ls) p = go ls (p .1)
-    go (End ∷ ls) p = go ls (p .1)
-    go (Mark k ∷ ls) p = (p .0, go ls (p .1))
-    go (Other ∷ ls) p = go ls (p .1)
+small-marks : (ls : List Line) → Every Proper ls → Every (λ k. k ≤ 63) (marksOn ls)
+small-marks [] p = every-none (λ k. k ≤ 63)
+small-marks (Perform o ∷ ls) p = small-marks ls (every-tail p)
+small-marks (While t ∷ ls) p = small-marks ls (every-tail p)
+small-marks (If t ∷ ls) p = small-marks ls (every-tail p)
+small-marks (End ∷ ls) p = small-marks ls (every-tail p)
+small-marks (Mark k ∷ ls) p = every-cons (λ k. k ≤ 63) (every-head p) (small-marks ls (every-tail p))
+small-marks (Other ∷ ls) p = small-marks ls (every-tail p)
 
 -- the lines of a listing
-module _ (ls : List Line) (p : All Proper ls) (f : Faultless ls nothingSeen) where
+module _ (ls : List Line) (p : Every Proper ls) (f : Faultless ls nothingSeen) where
   abbrev pub lettered : Block
   lettered = firstBlock (blocks ls)
 
@@ -105,8 +103,8 @@ module _ (ls : List Line) (p : All Proper ls) (f : Faultless ls nothingSeen) whe
   abbrev pub names : List ℕ
   names = meetLines [] ls
 
-  met : All (MetLine names) (linesIn lettered)
-  met = subst (All (MetLine names)) lines-are (lines-met [] ls)
+  met : Every (MetLine names) (linesIn lettered)
+  met = subst (Every (MetLine names)) lines-are (lines-met [] ls)
 
   -- the letters again
   pub spelled : blockBy (letterIn names) (listingOf ls .statements) ≡ lettered
@@ -120,14 +118,14 @@ module _ (ls : List Line) (p : All Proper ls) (f : Faultless ls nothingSeen) whe
       let same-lines : length (linesIn lettered) ≡ length ls = ap length (sym lines-are) in
       let shallow = depth-lines lettered (subst (λ l. Shallow l 0) lines-are (faultless-shallow ls nothingSeen f)) in
       record {
-        letters = lines-letters [] ls p (λ x m. absurd (List·Memᴰ·not-nil m));
+        letters = lines-letters [] ls p (every-none (Between 1 26));
         first-met = ap (meetLines []) (lines-are ∙ ap linesIn (sym spelled));
         names = few-names ls nothingSeen f (omega arith);
-        operands = block-fits names lettered (subst (All Proper) lines-are p) met;
+        operands = block-fits names lettered (subst (Every Proper) lines-are p) met;
         states = omega (arith, next-by number lettered 1, next-lines lettered 1, same-lines, few-lines ls nothingSeen f (omega arith));
         depth = subst (λ (d : ℕ). d ≤ 16) (sym (depth-by number lettered)) shallow;
         once = subst Distinct (sym marks) (marks-once ls nothingSeen f .distinct);
-        marks = λ k i. small-marks ls p k (subst (λ l. k ∈ l) marks i);
+        marks = subst (Every (λ k. k ≤ 63)) (sym marks) (small-marks ls p);
       }
 
 pub fits-variables : (l : Listing) → WithinLimits l → Fits (l .statements) (variablesFor (l .names))

@@ -6,10 +6,11 @@ use mathlib.Core.Path.{_≡_, refl, sym, ap, ap₂, subst, _∙_}
 use Prim.Native.Nat.{ℕ, _≤_}
 use native.Mathlib.Omega.{arith}
 use lib.ListN.{length}
-use Rattle.lists.proofs.List.{All, Distinct, every-all}
+use Rattle.lists.specs.List.{Every}
+use Rattle.lists.proofs.List.{Distinct}
 use Rattle.lines.specs.declared.Line.{Line}
 use Rattle.listing.specs.Limits.{depthIn, WithinLimits}
-use Rattle.listing.specs.Listing.{Block, marksIn}
+use Rattle.listing.specs.Listing.{Block}
 use Rattle.listing.specs.Names.{numberIn, letterIn, blockBy}
 use Rattle.listing.specs.Reading.{nothingSeen, firstFault, blocks, firstBlock, meetLines, Listing, listingOf, listed, unless, read, write}
 use Rattle.listing.specs.Text.{linesIn, linesOf, textOf}
@@ -40,8 +41,8 @@ module _ (l : Listing) (ok : WithinLimits l) where
   distinct : Distinct (l .names)
   distinct = subst Distinct (sym (ok .first-met)) (lines-distinct [] ls tt)
 
-  fine : All Inside ls × All Proper ls
-  fine = spelled-block (l .names) distinct (ok .letters) (l .statements) (ok .operands) (every-all (marksIn (l .statements)) (ok .marks))
+  fine : Every Inside ls × Every Proper ls
+  fine = spelled-block (l .names) distinct (ok .letters) (l .statements) (ok .operands) (ok .marks)
 
   faultless : Faultless ls nothingSeen
   faultless =

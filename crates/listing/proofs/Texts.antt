@@ -1,11 +1,10 @@
 -- Texts and what the call gives of them, by computation.
-use mathlib.Core.List.{List, [], _∷_, _++_}
+use mathlib.Core.List.{List, [], _∷_, _++_, map}
 use mathlib.Core.Path.{_≡_, refl}
 use Prim.Native.Nat.{ℕ}
 use native.Mathlib.Decide.{ℕ-discrete}
 use lib.ListN.{take, replicate}
 use Rattle.lists.specs.List.{concatMap}
-use Rattle.lists.proofs.List.{All}
 use Rattle.number.specs.Number.{bytesOf}
 use Rattle.number.specs.NumberList.{encode}
 use Rattle.kinds.specs.Kinds.{allowed}
@@ -89,9 +88,6 @@ record Row : Type 0 where
   room : ℕ
   given : Translated
 
-abbrev Holds : Row → Type 0
-Holds r = translate (r .text) (r .room) ≡ r .given
-
 abbrev rows : List Row
 rows =
     -- an empty text: V is 1, and there is one state
@@ -122,7 +118,8 @@ rows =
     ∷ record { text = mark-7 ++ times 62 same-x ++ mark-7; room = 1000; given = untranslated 17 64 }
     ∷ []
 
-all-rows : All Holds rows
+-- what the call gives of each is what is given there
+all-rows : map (λ r. translate (r .text) (r .room)) rows ≡ map (λ r. r .given) rows
 unfolding translate firstFault blocks linesFrom lineOf operationOf betweenOf secondOf checked enclosedOf testOf markOf operandOf letterOf markFor digitOf starts isWord allowed encode bytesOf
     ℕ-discrete
-all-rows = (refl, (refl, (refl, (refl, (refl, (refl, (refl, (refl, (refl, (refl, (refl, (refl, (refl, tt)))))))))))))
+all-rows = refl
