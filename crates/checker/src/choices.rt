@@ -1,4 +1,5 @@
-// Kinds 1 to 5 and 8 to 13: covers of the predecessors, by the choices of the operand that is placed first and of the one that is placed last.
+// Kinds 8 to 13: covers of the predecessors, by the choices of the operand that is placed first and of the one that is placed last. Kinds 1 to 5 go the same
+// way, by loops of their own (`quickly`).
 use crate::change::place_operand;
 use crate::change::undo;
 use crate::checked::Checked;
@@ -11,7 +12,6 @@ use crate::wanted::wanted_of_first;
 use crate::wanted::wanted_of_last;
 use kinds::LOAD;
 use kinds::READ;
-use kinds::STORE;
 use place::FIRST_CELL;
 use place::both_nowhere;
 use placing::choices_of;
@@ -82,7 +82,7 @@ pub(crate) fn check_last_choices(
     facts: &[u16; 28],
     from: Position,
 ) -> Checked
-    requires { ⌜ (OneToPlace variables (by .kind) (by .a) (by .b) (now s)) × (Within (now cert) from) ⌝ }
+    requires { ⌜ (OneToPlace variables (by .kind) (by .a) (by .b) (now s)) × (5 < by .kind) × (Within (now cert) from) ⌝ }
     ensures { λ r. ⌜ Checks (now (cert .entry)) (membersFrom (now (cert .entry)) variables (now (starts .entry))) (by .from) (choicesRowed variables (by .kind) (by .a) (by .b) (now (s .entry)) (now (facts .entry))) from r ⌝ }
 {
     let operand = last_operand(by.a, by.b, s);
@@ -96,19 +96,11 @@ pub(crate) fn check_last_choices(
         if is_wanted_in(s, wanted, j) {
             let mut v = *s;
             undo_choice(variables, by, operand, &mut v, j);
-            if STORE < by.kind {
-                let g = check_valued(cert, starts, variables, by, &v, facts, t);
-                let Checked::Upto(u) = g else {
-                    return g;
-                };
-                t = u;
-            } else {
-                let g = check_cover(cert, starts, variables, by.from, &v, facts, t);
-                let Checked::Upto(u) = g else {
-                    return g;
-                };
-                t = u;
-            }
+            let g = check_valued(cert, starts, variables, by, &v, facts, t);
+            let Checked::Upto(u) = g else {
+                return g;
+            };
+            t = u;
         }
     }
     Checked::Upto(t)
@@ -136,7 +128,7 @@ pub(crate) fn check_first_choices(
     facts: &[u16; 28],
     from: Position,
 ) -> Checked
-    requires { ⌜ (Working 12 variables (by .kind) (by .a) (by .b) (now s)) × (Within (now cert) from) ⌝ }
+    requires { ⌜ (Working 12 variables (by .kind) (by .a) (by .b) (now s)) × (5 < by .kind) × (Within (now cert) from) ⌝ }
     ensures { λ r. ⌜ Checks (now (cert .entry)) (membersFrom (now (cert .entry)) variables (now (starts .entry))) (by .from) (choicesRowed variables (by .kind) (by .a) (by .b) (now (s .entry)) (now (facts .entry))) from r ⌝ }
 {
     let wanted = wanted_of_first(by.a, by.b, s);

@@ -103,10 +103,8 @@ fn check_transition(
     ensures { λ r. ⌜ ((whole : Shape) → Settled (rowed (now (facts .entry)) (shapeIn variables (now (s .entry)))) whole → ChecksAll (now (cert .entry)) (membersFrom (now (cert .entry)) variables (now (starts .entry))) (map (located (by .from)) (before (opOf (kindOf (by .kind)) (by .a) (by .b)) whole)) t r) ⌝ }
 {
     if by.kind <= STORE {
-        if version_of(cert) != 2 {
-            let placed = with_helper(variables, by);
-            return check_first_quickly(cert, starts, variables, placed, s, facts, t);
-        }
+        let placed = with_helper(variables, by);
+        return check_first_quickly(cert, starts, variables, placed, s, facts, t);
     }
     if is_removal(by.kind) {
         return check_cases(cert, starts, variables, by, s, facts, t);
@@ -198,8 +196,11 @@ pub(crate) fn check_owed(job: &[u8], h: Header, cert: &[u8], starts: &[u16], at:
     requires { ⌜ (JobRead (now job) h) × (Table (now cert) (h .variables) (now starts)) × (at ≤ length (now cert)) × (length (now cert) ≤ 65536) ⌝ }
     ensures { λ r. ⌜ checkedOf r ≡ takeAll (coversOf (now (cert .entry)) (membersAt (now (cert .entry)) (h .variables) (now (starts .entry))) (owed (fileIn (now (job .entry)) h .job) (membersAt (now (cert .entry)) (h .variables) (now (starts .entry))))) noCovers at ⌝ }
 {
-    // never so: said for the compiler, so that tests of it in the loops go
+    // neither is ever so: said for the compiler, so that tests of it in the loops go
     if 8 < h.variables {
+        return Checked::Upto(Position { at, counted: 0 });
+    }
+    if h.variables == 0 {
         return Checked::Upto(Position { at, counted: 0 });
     }
     let mut index = [0u16; 320];

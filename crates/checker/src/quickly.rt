@@ -1,5 +1,5 @@
-// Kinds 1 to 5 in version 1: the loops of `choices`, with the quick test of a cover ahead of the exact one. They are apart from those, so that version 1
-// does not pay for facts; the quick test is called from one place, so that it is compiled into the loop there.
+// Kinds 1 to 5, which leave the facts: the loops of `choices`, with the quick test of a cover ahead of the exact one. The quick test is called from one place, so that
+// it is compiled into the loop there.
 use crate::checked::COVER;
 use crate::checked::Checked;
 use crate::checked::Position;

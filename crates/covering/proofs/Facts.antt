@@ -3,10 +3,9 @@ use mathlib.Core.Bool.{Bool, true, false, cond}
 use mathlib.Core.List.{List, []}
 use mathlib.Core.Option.{none}
 use mathlib.Core.Path.{_≡_, refl, sym, ap, _∙_}
-use Prim.Native.Nat.{ℕ, _+_, _≤_}
+use Prim.Native.Nat.{ℕ, _+_, _*_, _≤_}
 use native.Mathlib.Omega.{arith}
-use borrow.Author.Tests.{ne-eqb}
-use lib.Dec.{eqb}
+use lib.Dec.{eqb, eqb→eq}
 use lib.ListN.{length, getD}
 use Rattle.lists.specs.Test.{lowest, numberOr}
 use Rattle.lists.proofs.Lowest.{lowest-none}
@@ -15,7 +14,7 @@ use Rattle.cover.specs.Test.{factsIn}
 use Rattle.factrows.specs.Listed.{listed, holdsAll, firstMissing}
 use Rattle.factrows.specs.Rows.{rowsTest}
 use Rattle.factrows.proofs.Covers.{missing-rows, none-missing}
-use Rattle.layout.specs.Entries.{versionOf, factBytes, factsFrom, factsEnd, linksEnd, locatedAt, Whole}
+use Rattle.layout.specs.Entries.{versionOf, factCount, factsFirst, factBytes, factsFrom, factsEnd, linksEnd, locatedAt, Whole}
 use Rattle.layout.specs.Loading.{entryFacts}
 use Rattle.layout.proofs.Whole.{is-whole}
 use Rattle.coverreader.specs.Images.{imagesIn, ImageCodes}
@@ -64,14 +63,24 @@ pub bare-holds : (member covered : Shape) (images : List ℕ) (among : ℕ → �
     → (count : ℕ) → lowest count 0 (factsIn member covered images among) ≡ none
 bare-holds member covered images among bare count = lowest-none (factsIn member covered images among) count 0 (λ _ _ _. rw bare refl)
 
--- an entry of a file without facts
-module _ (cert : List ℕ) (variables start : ℕ) (first : versionOf cert ≡ 2 → ⊥) where
-  pub bare-facts : locatedAt cert variables start .shape .facts ≡ []
-  unfolding factsFrom
-  bare-facts = rw (ne-eqb (versionOf cert) 2 first) refl
+-- an entry that lists no fact: of a file of version 1, or with 0 for their number
+module _ (cert : List ℕ) (variables start : ℕ) (bare : versionOf cert ≡ 2 → getD cert (linksEnd cert variables start) 0 ≡ 0) where
+  abbrev end : ℕ
+  end = linksEnd cert variables start
 
-  -- it ends with its links; its 9 variables and 12 cells at most have room
-  pub bare-whole : variables ≤ 9 → getD cert (start + 1) 0 ≤ 12 → start + 23 ≤ length cert → Whole cert variables start
-  unfolding factsEnd
-  bare-whole v n room =
-      record { variables-most = v; cells = n; inside = omega arith; facts-inside = rw (ne-eqb (versionOf cert) 2 first) (omega arith) }
+  pub bare-facts : locatedAt cert variables start .shape .facts ≡ []
+  unfolding factsFrom factCount
+  bare-facts = go (eqb (versionOf cert) 2) refl
+    where
+      go : (b : Bool) → eqb (versionOf cert) 2 ≡ b → cond b (listed (factBytes cert end)) [] ≡ []
+      go true e = rw (bare (eqb→eq (versionOf cert) 2 (rw e tt))) refl
+      go false e = refl
+
+  -- its 9 variables and 12 cells at most, and the number of its facts, have room
+  pub bare-whole : variables ≤ 9 → getD cert (start + 1) 0 ≤ 12 → start + 24 ≤ length cert → Whole cert variables start
+  unfolding factsEnd factsFirst factCount
+  bare-whole v n room = record { variables-most = v; cells = n; inside = omega arith; facts-inside = go (eqb (versionOf cert) 2) refl }
+    where
+      go : (b : Bool) → eqb (versionOf cert) 2 ≡ b → cond b (factsFirst cert end + 3 * factCount cert end) end ≤ length cert
+      go true e = rw (bare (eqb→eq (versionOf cert) 2 (rw e tt))) (omega arith)
+      go false e = omega arith

@@ -7,13 +7,15 @@ use coverreader::read_cover;
 use layout::version_of;
 use number::wide;
 use verdict::Refusal;
-ghost use mathlib.Core.Bool.{Bool};
+ghost use mathlib.Core.Bool.{Bool, true};
 ghost use mathlib.Core.Logic.{_≢_};
 ghost use mathlib.Core.Path.{_≡_};
-ghost use Prim.Native.Nat.{ℕ};
+ghost use Prim.Native.Nat.{ℕ, _+_, _≤_};
+ghost use lib.ListN.{length, getD};
 ghost use Rattle.factrows.specs.Rows.{rowsTest};
 ghost use Rattle.format.specs.Certificate.{readCoverBy};
 ghost use Rattle.format.specs.Parser.{parsed, certificateBuffer};
+ghost use Rattle.layout.specs.Entries.{versionOf, linksEnd};
 ghost use Rattle.layout.specs.ShapeArray.{shapeIn};
 ghost use Rattle.layout.specs.Members.{membersFrom};
 ghost use Rattle.covering.specs.Answer.{withoutMember, coverAnswerOf};
@@ -73,8 +75,19 @@ pub struct QuickCover {
 // The cover is left to `exact_cover`.
 const LEFT: QuickCover = QuickCover { next: 0, links: 0 };
 
-// A quick test of the cover at a place, in version 1. An entry of 9 variables and 12 cells has 23 bytes. The member's number is read here if it is of one
-// byte or two: a call would cost each cover.
+// Whether the member at a place, of so many cells, lists no fact: version 1 has none, in version 2 their number is behind the links.
+fn is_bare(cert: &[u8], start: usize, variables: usize, count: usize) -> bool
+    requires { ⌜ (variables ≤ 9) × (count ≡ getD (now cert) (start + 1) 0) × (count ≤ 12) × (start + 24 ≤ length (now cert)) ⌝ }
+    ensures { λ r. ⌜ (r ≡ true → versionOf (now (cert .entry)) ≡ 2 → getD (now (cert .entry)) (linksEnd (now (cert .entry)) variables start) 0 ≡ 0) ⌝ }
+{
+    if version_of(cert) != 2 {
+        return true;
+    }
+    cert[start + 2 + variables + count] == 0
+}
+
+// A quick test of the cover at a place by a member that lists no fact. An entry of 9 variables and 12 cells has 23 bytes, and one for the number of facts.
+// The member's number is read here if it is of one byte or two: a call would cost each cover.
 pub fn quick_cover(
     cert: &[u8],
     starts: &[u16],
@@ -85,9 +98,6 @@ pub fn quick_cover(
 ) -> QuickCover
     ensures { λ r. ⌜ ((among : ℕ → ℕ → ℕ → Bool) → r .next ≢ 0 → readCoverBy (certificateBuffer (now (cert .entry))) among (membersFrom (now (cert .entry)) variables (now (starts .entry))) (record { state = state; shape = shapeIn variables (now (s .entry)) }) at ≡ parsed (r .links) (r .next)) ⌝ }
 {
-    if version_of(cert) == 2 {
-        return LEFT;
-    }
     if cert.len() < 2 {
         return LEFT;
     }
@@ -114,7 +124,7 @@ pub fn quick_cover(
     if 9 < variables {
         return LEFT;
     }
-    if cert.len() < start + 23 {
+    if cert.len() < start + 24 {
         return LEFT;
     }
     if state != cert[start] {
@@ -122,6 +132,9 @@ pub fn quick_cover(
     }
     let count = wide(cert[start + 1]);
     if 12 < count {
+        return LEFT;
+    }
+    if !is_bare(cert, start, variables, count) {
         return LEFT;
     }
     if cert.len() - first < count {

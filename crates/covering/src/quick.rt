@@ -1,6 +1,5 @@
 // A quick test that images embed a member in a shape. It takes images of one byte only, and marks each of them as it is read.
 use coverreader::NO_IMAGES;
-use layout::cells_held;
 use marks::clear;
 use marks::mark_image;
 use marks::walk;
@@ -135,7 +134,11 @@ pub(crate) fn images_embed(
     requires { ⌜ (Whole (now cert) variables start) × (locatedAt (now cert) variables start .shape .facts ≡ []) × (count ≡ getD (now cert) (start + 1) 0) × (first + count ≤ length (now cert)) ⌝ }
     ensures { λ r. ⌜ (r .accepts ≡ true → ImagesEmbed (now (cert .entry)) start variables first count (now (s .entry)) (r .links)) ⌝ }
 {
-    let n = cells_held(s);
+    let all = &s[..];
+    let n = wide(all[0]);
+    if all.len() - 3 < n {
+        return OPEN;
+    }
     let mut images = NO_IMAGES;
     let mut marks = [0u8; 28];
     if !read_and_mark(cert, first, count, n, &mut images, &mut marks) {

@@ -9,26 +9,20 @@ use borrow.Author.Tests.{not-false}
 use Rattle.number.specs.Number.{numberAt}
 use Rattle.number.specs.declared.Read.the-variants.{Number}
 use Rattle.number.proofs.Reading.{number-inside, one-byte, two-bytes}
-use Rattle.layout.specs.Entries.{versionOf, Whole}
+use Rattle.layout.specs.Entries.{versionOf, linksEnd, Whole}
 use Rattle.covering.proofs.CoverCases.{quick-embedding}
 use Rattle.covering.proofs.Facts.{bare-facts, bare-whole}
 use Rattle.covering.proofs.quick_cover.Statement.{statement}
 use Rattle.covering.proofs.quick_cover.Tie as tie
 
-version-of-requires : tie.Need-version-of-requires
-version-of-requires c κs = search needs
-
 returns : tie.Need-returns
 returns c = λ _ o. absurd (o refl)
 
+sub-if2 : tie.Need-sub-if2
+sub-if2 c = search needs
+
 returns-2 : tie.Need-returns-2
 returns-2 c = λ _ o. absurd (o refl)
-
-sub-if3 : tie.Need-sub-if3
-sub-if3 c = search needs
-
-returns-3 : tie.Need-returns-3
-returns-3 c = λ _ o. absurd (o refl)
 
 shared-slice-read-wide : tie.Need-shared-slice-read-wide
 shared-slice-read-wide c = search needs
@@ -48,11 +42,11 @@ shared-slice-read-wide-2 c = search needs
 wide-requires-2 : tie.Need-wide-requires-2
 wide-requires-2 c κs = search needs
 
+returns-3 : tie.Need-returns-3
+returns-3 c = λ _ o. absurd (o refl)
+
 returns-4 : tie.Need-returns-4
 returns-4 c = λ _ o. absurd (o refl)
-
-returns-5 : tie.Need-returns-5
-returns-5 c = λ _ o. absurd (o refl)
 
 mul-m : tie.Need-mul-m
 mul-m c = search needs
@@ -63,8 +57,8 @@ add-m c = search needs
 add-first-2 : tie.Need-add-first-2
 add-first-2 c = search needs
 
-returns-6 : tie.Need-returns-6
-returns-6 c = λ _ o. absurd (o refl)
+returns-5 : tie.Need-returns-5
+returns-5 c = λ _ o. absurd (o refl)
 
 mul-start : tie.Need-mul-start
 mul-start c = search needs
@@ -73,35 +67,35 @@ shared-slice-read-start : tie.Need-shared-slice-read-start
 shared-slice-read-start c = search needs
 
 -- the member's number, of one byte or two, and the place after it
-number-read : (c : tie.Joined4) → let a = c .before .before .before .before .before .before .before .before .before .args in numberAt (a .cert .now) (a .at) ≡ Number (c .if4 .m) (c .if4 .first)
+number-read : (c : tie.Joined3) → let a = c .before .before .before .before .before .before .before .args in numberAt (a .cert .now) (a .at) ≡ Number (c .if3 .m) (c .if3 .first)
 number-read c =
-    let a = c .before .before .before .before .before .before .before .before .before .args in
+    let a = c .before .before .before .before .before .before .before .args in
     let w = c .before .wide in
     ⊎-elim
     (λ (i, _, v, n, h, m-is, first-is). rw (m-is, first-is) (sym (two-bytes (a .cert .now) (a .at) (w .result) (w .ensures .0) (i .taken) (v .result) (v .ensures .0) (omega arith) (n .left) (h .left))))
     (λ (i, m-is, first-is). rw (m-is, first-is) (sym (one-byte (a .cert .now) (a .at) (w .result) (w .ensures .0) (omega arith) (i .left))))
-    (c .if4 .came)
+    (c .if3 .came)
 
-number-ends : (c : tie.Joined4) → c .if4 .first ≤ length (c .before .before .before .before .before .before .before .before .before .args .cert .now)
-number-ends c = number-inside (c .before .before .before .before .before .before .before .before .before .args .cert .now) _ _ _ (number-read c)
+number-ends : (c : tie.Joined3) → c .if3 .first ≤ length (c .before .before .before .before .before .before .before .args .cert .now)
+number-ends c = number-inside (c .before .before .before .before .before .before .before .args .cert .now) _ _ _ (number-read c)
 
 cast-start : tie.Need-cast-start
-cast-start c = omega (arith, c .shared-slice-known5 .given (c .before .before .before .if4 .m))
+cast-start c = omega (arith, c .shared-slice-known5 .given (c .before .before .before .if3 .m))
+
+returns-6 : tie.Need-returns-6
+returns-6 c = λ _ o. absurd (o refl)
+
+add-if8 : tie.Need-add-if8
+add-if8 c = omega (arith, c .before .shared-slice-known5 .given (c .before .before .before .before .if3 .m))
 
 returns-7 : tie.Need-returns-7
 returns-7 c = λ _ o. absurd (o refl)
 
-add-if9 : tie.Need-add-if9
-add-if9 c = omega (arith, c .before .shared-slice-known5 .given (c .before .before .before .before .if4 .m))
+shared-slice-read-if9 : tie.Need-shared-slice-read-if9
+shared-slice-read-if9 c = search needs
 
 returns-8 : tie.Need-returns-8
 returns-8 c = λ _ o. absurd (o refl)
-
-shared-slice-read-if10 : tie.Need-shared-slice-read-if10
-shared-slice-read-if10 c = search needs
-
-returns-9 : tie.Need-returns-9
-returns-9 c = λ _ o. absurd (o refl)
 
 add-wide-2 : tie.Need-add-wide-2
 add-wide-2 c = search needs
@@ -112,83 +106,88 @@ shared-slice-read-wide-3 c = search needs
 wide-requires-3 : tie.Need-wide-requires-3
 wide-requires-3 c κs = search needs
 
+returns-9 : tie.Need-returns-9
+returns-9 c = λ _ o. absurd (o refl)
+
+is-bare-requires : tie.Need-is-bare-requires
+is-bare-requires c κs = (omega arith, c .before .wide3 .ensures .0, omega arith, omega arith)
+
 returns-10 : tie.Need-returns-10
 returns-10 c = λ _ o. absurd (o refl)
 
 sub-if12 : tie.Need-sub-if12
-sub-if12 c = number-ends (c .before .before .before .before .before .before .before .before .before .before .before)
+sub-if12 c = number-ends (c .before .before .before .before .before .before .before .before .before .before .before .before .before)
 
 returns-11 : tie.Need-returns-11
 returns-11 c = λ _ o. absurd (o refl)
 
--- the member stands whole, and has no facts
-first-version : (c : tie.Joined4) → let a = c .before .before .before .before .before .before .before .before .before .args in versionOf (a .cert .now) ≡ 2 → ⊥
-first-version c e = c .before .before .before .before .before .if1 .left (c .before .before .before .before .before .before .version-of .ensures ∙ e)
+-- the member lists no fact, and stands whole
+bare : (c : tie.Else12) → let j = c .before .before .before .before .before .before .before .before .before .before .before .before .before .before in let a = j .before .before .before .before .before .before .before .args in versionOf (a .cert .now) ≡ 2 → getD (a .cert .now) (linksEnd (a .cert .now) (a .variables) (getD (a .starts .now) (j .if3 .m) 0)) 0 ≡ 0
+bare c = c .before .before .before .is-bare .ensures (not-false _ (c .before .before .if11 .left))
 
-stands : (c : tie.Else12) → let j = c .before .before .before .before .before .before .before .before .before .before .before .before in let a = j .before .before .before .before .before .before .before .before .before .args in Whole (a .cert .now) (a .variables) (getD (a .starts .now) (j .if4 .m) 0)
+stands : (c : tie.Else12) → let j = c .before .before .before .before .before .before .before .before .before .before .before .before .before .before in let a = j .before .before .before .before .before .before .before .args in Whole (a .cert .now) (a .variables) (getD (a .starts .now) (j .if3 .m) 0)
 stands c =
-    let cells = c .before .before .before .wide3 .ensures .0 in
-    bare-whole _ _ _ (first-version (c .before .before .before .before .before .before .before .before .before .before .before .before)) (omega arith) (omega arith) (omega arith)
+    let cells = c .before .before .before .before .before .wide3 .ensures .0 in
+    bare-whole _ _ _ (bare c) (omega arith) (omega arith) (omega arith)
 
 images-embed-requires : tie.Need-images-embed-requires
 images-embed-requires c κs =
-    let j = c .before .before .before .before .before .before .before .before .before .before .before .before in
-    let k = number-ends j in
-    (stands c, bare-facts _ _ _ (first-version j), c .before .before .before .wide3 .ensures .0, omega arith)
+    let k = number-ends (c .before .before .before .before .before .before .before .before .before .before .before .before .before .before) in
+    (stands c, bare-facts _ _ _ (bare c), c .before .before .before .before .before .wide3 .ensures .0, omega arith)
 
 returns-12 : tie.Need-returns-12
 returns-12 c = λ _ o. absurd (o refl)
 
-add-t15 : tie.Need-add-t15
-add-t15 c = search needs
+add-t13 : tie.Need-add-t13
+add-t13 c = search needs
 
 returns-13 : tie.Need-returns-13
 returns-13 c = λ among _.
     let i = c .before .before in
-    let w = i .before .before .before .before in
-    let e = i .before .before .before .before .before .before .before .before .before .before .before .before in
+    let w = i .before .before .before .before .before .before in
+    let e = i .before .before .before .before .before .before .before .before .before .before .before .before .before .before in
     let j = e .before in
-    let o = j .before .before .before .before .before .before .before .before .before in
+    let o = j .before .before .before .before .before .before .before in
     let byte : o .args .state < 256 = omega (arith, o .fits .state) in
-    quick-embedding _ _ (o .args .starts .now) _ _ byte _ _ _ (number-read j) (omega (arith, e .if7 .left)) (stands (i .before)) (sym (w .before .before .if10 .left)) _ (w .wide3 .ensures .0)
+    quick-embedding _ _ (o .args .starts .now) _ _ byte _ _ _ (number-read j) (omega (arith, e .if6 .left)) (stands (i .before)) (sym (w .before .before .if9 .left)) _ (w .wide3 .ensures .0)
     _ (i .images-embed .ensures (not-false _ (c .if13 .left))) among
 
 pub quick-cover-spec : {M : Type 1} → statement M
 quick-cover-spec =
     tie.close
     (tie.spec
-    version-of-requires
     returns
+    sub-if2
     returns-2
-    sub-if3
-    returns-3
     shared-slice-read-wide
     wide-requires
     add-first
     add-wide
     shared-slice-read-wide-2
     wide-requires-2
+    returns-3
     returns-4
-    returns-5
     mul-m
     add-m
     add-first-2
-    returns-6
+    returns-5
     mul-start
     shared-slice-read-start
     cast-start
+    returns-6
+    add-if8
     returns-7
-    add-if9
+    shared-slice-read-if9
     returns-8
-    shared-slice-read-if10
-    returns-9
     add-wide-2
     shared-slice-read-wide-3
     wide-requires-3
+    returns-9
+    is-bare-requires
     returns-10
     sub-if12
     returns-11
     images-embed-requires
     returns-12
-    add-t15
+    add-t13
     returns-13)

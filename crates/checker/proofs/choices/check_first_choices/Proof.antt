@@ -70,7 +70,7 @@ choices-of-requires : tie.Need-choices-of-requires Inv-loop μ-loop
 choices-of-requires c κs = search needs
 
 loop-holds : tie.Need-loop-holds Inv-loop μ-loop
-loop-holds c = loop-none (covers c) (c .before .before .before .before .before .pre .1)
+loop-holds c = loop-none (covers c) (c .before .before .before .before .before .pre .2)
 
 cast-j : tie.Need-cast-j Inv-loop μ-loop
 cast-j c =
@@ -97,7 +97,7 @@ check-last-choices-requires : tie.Need-check-last-choices-requires Inv-loop μ-l
 check-last-choices-requires c κs =
     let l = c .before .before .before .before .before .before .before .before .before in
     let i = c .before .before .before .before in
-    (rw (c .before .place-first .ensures) (first-placed (l .before .before .before .before .before .before .pre .0) (l .loop .k) (fits i) (past i)), l .loop .inv .progress .within)
+    (rw (c .before .place-first .ensures) (first-placed (l .before .before .before .before .before .before .pre .0) (l .loop .k) (fits i) (past i)), l .before .before .before .before .before .before .pre .1, l .loop .inv .progress .within)
 
 enum-known-g : tie.Need-enum-known-g Inv-loop μ-loop
 enum-known-g c = search needs

@@ -12,7 +12,7 @@ use Rattle.shapes.specs.Operands.{wantedLastIn}
 use Rattle.shapes.proofs.Steps.{last-one}
 use Rattle.checker.specs.Checking.{Checks}
 use Rattle.undoing.specs.Before.{valuedBefore, choicesRowed}
-use Rattle.checker.proofs.Given.{lastGiven, last-tried, last-all, last-nothing, last-left}
+use Rattle.checker.proofs.Given.{lastGiven, last-tried, last-all, last-nothing}
 use Rattle.checker.proofs.Rowed.{facts-valued}
 use Rattle.checker.proofs.ChoiceLoop.{ChoiceLoop, loop-none, loop-past, loop-more, loop-stop, loop-all}
 use borrow.Author.Needs.{needs}
@@ -42,31 +42,18 @@ fits c = let l = c .before .before .before .before .before in rw (← l .before 
 past : (c : tie.Then2 Inv-loop μ-loop) → let l = c .before .before .before .before .before in let a = l .before .before .before .before .before .before .before .args in l .loop .k < (cellCount (a .s .now) + (2 + cellCount (a .s .now)))
 past c = let l = c .before .before .before .before .before in omega (arith, covers (l .before) .most, c .before .before .before .if1 .taken)
 
--- what it gives is checked: of kinds 8 to 13, and of 1 to 5
+-- what it gives is checked
 valued : (c : tie.After-check-valued Inv-loop μ-loop)
-    → let l = c .before .before .before .before .before .before .before .before .before .before .before .before in
+    → let l = c .before .before .before .before .before .before .before .before .before .before in
     let a = l .before .before .before .before .before .before .before .args in
     Checks (a .cert .now) (membersFrom (a .cert .now) (a .variables) (a .starts .now)) (a .by .from) (lastGiven (a .variables) (a .by) (a .s .now) (a .facts .now) (l .loop .k)) (l .loop .t) (c .check-valued .result)
 valued c =
-    let l = c .before .before .before .before .before .before .before .before .before .before .before .before in
-    let i = c .before .before .before .before .before .before .before in
+    let l = c .before .before .before .before .before .before .before .before .before .before in
+    let i = c .before .before .before .before .before in
     let a = l .before .before .before .before .before .before .before .args in
-    let u = c .before .before .before .before .undo-choice in
-    rw (last-one (l .before .before .before .before .before .before .before .pre .0) (l .loop .k) (fits i), ← l .before .before .before .before .last-operand .ensures, ← u .ensures .same, facts-valued (a .variables) (a .by .kind) (a .by .a) (a .by .b) _ (a .facts .now) (c .before .before .if3 .taken) (u .ensures .array), append-nil (valuedBefore (a .variables) (a .by .kind) (a .by .a) (a .by .b) (u .last .1 .1 .1 .0) (a .facts .now)))
+    let u = c .before .before .undo-choice in
+    rw (last-one (l .before .before .before .before .before .before .before .pre .0) (l .loop .k) (fits i), ← l .before .before .before .before .last-operand .ensures, ← u .ensures .same, facts-valued (a .variables) (a .by .kind) (a .by .a) (a .by .b) _ (a .facts .now) (l .before .before .before .before .before .before .before .pre .1) (u .ensures .array), append-nil (valuedBefore (a .variables) (a .by .kind) (a .by .a) (a .by .b) (u .last .1 .1 .1 .0) (a .facts .now)))
     (c .check-valued .ensures)
-
-left : (c : tie.After-check-cover Inv-loop μ-loop)
-    → let l = c .before .before .before .before .before .before .before .before .before .before .before .before in
-    let a = l .before .before .before .before .before .before .before .args in
-    Checks (a .cert .now) (membersFrom (a .cert .now) (a .variables) (a .starts .now)) (a .by .from) (lastGiven (a .variables) (a .by) (a .s .now) (a .facts .now) (l .loop .k)) (l .loop .t) (c .check-cover .result)
-left c =
-    let l = c .before .before .before .before .before .before .before .before .before .before .before .before in
-    let i = c .before .before .before .before .before .before .before in
-    let o = l .before .before .before .before .before .before .before in
-    let a = o .args in
-    let u = c .before .before .before .before .undo-choice in
-    rw (last-left (a .variables) (a .by) (a .s .now) (a .facts .now) (o .pre .0) (l .loop .k) (fits i) (c .before .before .if3 .left) _ (rw (l .before .before .before .before .last-operand .ensures) at (u .ensures)))
-    (c .check-cover .ensures)
 
 -- all choices give all
 whole : (c : tie.After-choices-of Inv-loop μ-loop)
@@ -92,7 +79,7 @@ choices-of-requires : tie.Need-choices-of-requires Inv-loop μ-loop
 choices-of-requires c κs = search needs
 
 loop-holds : tie.Need-loop-holds Inv-loop μ-loop
-loop-holds c = loop-none (covers c) (c .before .before .before .before .before .before .pre .1)
+loop-holds c = loop-none (covers c) (c .before .before .before .before .before .before .pre .2)
 
 cast-j : tie.Need-cast-j Inv-loop μ-loop
 cast-j c =
@@ -117,7 +104,7 @@ undo-choice-requires c κs =
 
 check-valued-requires : tie.Need-check-valued-requires Inv-loop μ-loop
 check-valued-requires c κs =
-    let l = c .before .before .before .before .before .before .before .before .before .before .before in
+    let l = c .before .before .before .before .before .before .before .before .before in
     let o = l .before .before .before .before .before .before .before .pre .0 .work .operands in
     (omega (arith, o .a-most, o .variables-most), omega (arith, o .b-most, o .variables-most), l .loop .inv .progress .within)
 
@@ -130,61 +117,33 @@ enum-told c = search needs
 returns : tie.Need-returns Inv-loop μ-loop
 returns c =
     let o = c .before .before in
-    let l = o .before .before .before .before .before .before .before .before .before .before .before .before in
-    loop-stop (covers (l .before)) (l .loop .inv) (o .before .before .before .before .before .before .before .before .before .before .if1 .taken) (valued o) (c .enum-told .given .1) (whole (l .before))
+    let l = o .before .before .before .before .before .before .before .before .before .before in
+    loop-stop (covers (l .before)) (l .loop .inv) (o .before .before .before .before .before .before .before .before .if1 .taken) (valued o) (c .enum-told .given .1) (whole (l .before))
 
 loop-less : tie.Need-loop-less Inv-loop μ-loop
 loop-less c =
-    let l = c .before .before .before .before .before .before .before .before .before .before .before .before .before .before .before in
-    omega (arith, covers (l .before) .forward, c .before .before .before .before .before .before .before .before .before .before .before .before .before .if1 .taken)
+    let l = c .before .before .before .before .before .before .before .before .before .before .before .before .before in
+    omega (arith, covers (l .before) .forward, c .before .before .before .before .before .before .before .before .before .before .before .if1 .taken)
 
 loop-again : tie.Need-loop-again Inv-loop μ-loop
 loop-again c =
     let o = c .before .before .before in
-    let l = o .before .before .before .before .before .before .before .before .before .before .before .before in
-    loop-more (covers (l .before)) (l .loop .inv) (o .before .before .before .before .before .before .before .before .before .before .if1 .taken) (valued o) (c .before .g .given .1)
-
-check-cover-requires : tie.Need-check-cover-requires Inv-loop μ-loop
-check-cover-requires c κs =
-    let l = c .before .before .before .before .before .before .before .before .before .before .before in
-    l .loop .inv .progress .within
-
-enum-known-g-2 : tie.Need-enum-known-g-2 Inv-loop μ-loop
-enum-known-g-2 c = search needs
-
-enum-told-2 : tie.Need-enum-told-2 Inv-loop μ-loop
-enum-told-2 c = search needs
-
-returns-2 : tie.Need-returns-2 Inv-loop μ-loop
-returns-2 c =
-    let o = c .before .before in
-    let l = o .before .before .before .before .before .before .before .before .before .before .before .before in
-    loop-stop (covers (l .before)) (l .loop .inv) (o .before .before .before .before .before .before .before .before .before .before .if1 .taken) (left o) (c .enum-told2 .given .1) (whole (l .before))
+    let l = o .before .before .before .before .before .before .before .before .before .before in
+    loop-more (covers (l .before)) (l .loop .inv) (o .before .before .before .before .before .before .before .before .if1 .taken) (valued o) (c .before .g .given .1)
 
 loop-less-2 : tie.Need-loop-less-2 Inv-loop μ-loop
 loop-less-2 c =
-    let l = c .before .before .before .before .before .before .before .before .before .before .before .before .before .before .before in
-    omega (arith, covers (l .before) .forward, c .before .before .before .before .before .before .before .before .before .before .before .before .before .if1 .taken)
-
-loop-again-2 : tie.Need-loop-again-2 Inv-loop μ-loop
-loop-again-2 c =
-    let o = c .before .before .before in
-    let l = o .before .before .before .before .before .before .before .before .before .before .before .before in
-    loop-more (covers (l .before)) (l .loop .inv) (o .before .before .before .before .before .before .before .before .before .before .if1 .taken) (left o) (c .before .g2 .given .1)
-
-loop-less-3 : tie.Need-loop-less-3 Inv-loop μ-loop
-loop-less-3 c =
     let l = c .before .before .before .before .before in
     omega (arith, covers (l .before) .forward, c .before .before .before .if1 .taken)
 
-loop-again-3 : tie.Need-loop-again-3 Inv-loop μ-loop
-loop-again-3 c =
+loop-again-2 : tie.Need-loop-again-2 Inv-loop μ-loop
+loop-again-2 c =
     let l = c .before .before .before .before .before in
     loop-past (covers (l .before)) (l .loop .inv) (c .before .before .before .if1 .taken)
     (let o = l .before .before .before .before .before .before .before in last-nothing (o .args .variables) (o .args .by) (o .args .s .now) (o .args .facts .now) (o .pre .0) (l .loop .k) (rw (← l .before .before .before .wanted-of-last .ensures) (sym (c .before .is-wanted-in .ensures) ∙ c .if2 .left)))
 
-returns-3 : tie.Need-returns-3 Inv-loop μ-loop
-returns-3 c =
+returns-2 : tie.Need-returns-2 Inv-loop μ-loop
+returns-2 c =
     let l = c .before .before in
     loop-all (covers (l .before)) (l .loop .inv) (c .if1 .left) (whole (l .before))
 
@@ -209,12 +168,6 @@ check-last-choices-spec =
     returns
     loop-less
     loop-again
-    check-cover-requires
-    enum-known-g-2
-    enum-told-2
-    returns-2
     loop-less-2
     loop-again-2
-    loop-less-3
-    loop-again-3
-    returns-3)
+    returns-2)

@@ -19,12 +19,16 @@ use Rattle.checker.proofs.owed.check_owed.Tie as tie
 returns : tie.Need-returns
 returns c = absurd (omega (arith, c .if1 .taken, c .before .before .before .before .before .pre .1 .variables-most))
 
+-- and at least one
+returns-2 : tie.Need-returns-2
+returns-2 c = absurd (omega (arith, c .if2 .taken, c .before .before .before .before .before .before .before .pre .1 .variables-some))
+
 index-transitions-requires : tie.Need-index-transitions-requires
 index-transitions-requires c κs = search needs
 
 check-forbidden-requires : tie.Need-check-forbidden-requires
 check-forbidden-requires c κs =
-    let p = c .before .before .before .before .before .before .before .pre in
+    let p = c .before .before .before .before .before .before .before .before .before .pre in
     (p .0 .bads, p .1 .variables-most, at-start _ (p .2) (p .3))
 
 enum-known-g : tie.Need-enum-known-g
@@ -33,24 +37,24 @@ enum-known-g c = search needs
 enum-told : tie.Need-enum-told
 enum-told c = search needs
 
-returns-2 : tie.Need-returns-2
-returns-2 c =
-    let a = c .before .before .before .before .before .before .before .before .before .before .args in
-    let p = c .before .before .before .before .before .before .before .before .before .before .pre in
+returns-3 : tie.Need-returns-3
+returns-3 c =
+    let a = c .before .before .before .before .before .before .before .before .before .before .before .before .args in
+    let p = c .before .before .before .before .before .before .before .before .before .before .before .before .pre in
     rw (from-table (a .cert .now) (a .h .variables) (a .starts .now) (p .1)) at
     (halt (coversOf (a .cert .now) (membersFrom (a .cert .now) (a .h .variables) (a .starts .now)) (entriesAt (a .job .now) (a .h .variables) (a .h .«bads_at») (a .h .bads))) _ (begin-two (readCover (certificateBuffer (a .cert .now)) (membersFrom (a .cert .now) (a .h .variables) (a .starts .now))) (entriesAt (a .job .now) (a .h .variables) (a .h .«bads_at») (a .h .bads)) (concatMap (owedBy (a .job .now) (a .h)) (membersAt (a .cert .now) (a .h .variables) (a .starts .now))) (at-start (a .at) (p .2) (p .3))) (c .before .before .check-forbidden .ensures) (c .enum-told .given .1) .0)
 
 check-members-requires : tie.Need-check-members-requires
 check-members-requires c κs =
-    let p = c .before .before .before .before .before .before .before .before .before .before .before .before .pre in
+    let p = c .before .before .before .before .before .before .before .before .before .before .before .before .before .before .pre in
     let v = c .before .before .g .given in
     let e = c .before .before .before .before .before .index-transitions .ensures in
     (p .0, rw e (linked-job (p .0) _ refl), p .1, rw (v .1) at (c .before .before .before .before .check-forbidden .ensures .1))
 
-returns-3 : tie.Need-returns-3
-returns-3 c =
-    let a = c .before .before .before .before .before .before .before .before .before .before .before .before .before .args in
-    let p = c .before .before .before .before .before .before .before .before .before .before .before .before .before .pre in
+returns-4 : tie.Need-returns-4
+returns-4 c =
+    let a = c .before .before .before .before .before .before .before .before .before .before .before .before .before .before .before .args in
+    let p = c .before .before .before .before .before .before .before .before .before .before .before .before .before .before .before .pre in
     rw (from-table (a .cert .now) (a .h .variables) (a .starts .now) (p .1)) at
     (c .check-members .ensures .0 ∙ advance (coversOf (a .cert .now) (membersFrom (a .cert .now) (a .h .variables) (a .starts .now)) (entriesAt (a .job .now) (a .h .variables) (a .h .«bads_at») (a .h .bads))) _ (begin-two (readCover (certificateBuffer (a .cert .now)) (membersFrom (a .cert .now) (a .h .variables) (a .starts .now))) (entriesAt (a .job .now) (a .h .variables) (a .h .«bads_at») (a .h .bads)) (concatMap (owedBy (a .job .now) (a .h)) (membersAt (a .cert .now) (a .h .variables) (a .starts .now))) (at-start (a .at) (p .2) (p .3))) (c .before .before .before .before .before .check-forbidden .ensures) (c .before .before .before .g .given .1) .left)
 
@@ -59,10 +63,11 @@ check-owed-spec =
     tie.close
     (tie.spec
     returns
+    returns-2
     index-transitions-requires
     check-forbidden-requires
     enum-known-g
     enum-told
-    returns-2
+    returns-3
     check-members-requires
-    returns-3)
+    returns-4)

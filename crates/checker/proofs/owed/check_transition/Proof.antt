@@ -28,52 +28,49 @@ use borrow.Author.Needs.{needs}
 use Rattle.checker.proofs.owed.check_transition.Statement.{statement}
 use Rattle.checker.proofs.owed.check_transition.Tie as tie
 
-version-of-requires : tie.Need-version-of-requires
-version-of-requires c κs = search needs
-
 with-helper-requires : tie.Need-with-helper-requires
-with-helper-requires c κs = c .before .before .before .before .before .before .pre .1
+with-helper-requires c κs = c .before .before .before .before .pre .1
 
--- kinds 1 to 5 in version 1: the shape to work on, and that what its choices give stands for the predecessors
-few : (c : tie.After-with-helper) → c .before .before .before .before .before .before .before .args .by .kind ≤ 5
-few c = c .before .before .before .if1 .taken
+-- kinds 1 to 5: the shape to work on, and that what its choices give stands for the predecessors
+few : (c : tie.After-with-helper) → c .before .before .before .before .before .args .by .kind ≤ 5
+few c = c .before .if1 .taken
 
-placed-few : (c : tie.After-with-helper) (whole : Shape) → let a = c .before .before .before .before .before .before .before .args in (settled : Settled (rowed (a .facts .now) (shapeIn (a .variables) (a .s .now))) whole)
-    → let p = c .before .before .before .before .before .before .before .pre in
+placed-few : (c : tie.After-with-helper) (whole : Shape) → let a = c .before .before .before .before .before .args in (settled : Settled (rowed (a .facts .now) (shapeIn (a .variables) (a .s .now))) whole)
+    → let p = c .before .before .before .before .before .pre in
     Plays (a .variables) (a .by .kind) (a .by .a) (a .by .b) (p .0) ((λ e. omega (arith, few c)), (λ e. omega (arith, few c))) (a .s .now) (a .facts .now) (p .1) (p .3) (p .2) whole settled (secondOperand (a .variables) (a .by .kind) (a .by .a) (a .by .b))
 placed-few c whole settled =
-    let a = c .before .before .before .before .before .before .before .args in
-    let p = c .before .before .before .before .before .before .before .pre in
+    let a = c .before .before .before .before .before .args in
+    let p = c .before .before .before .before .before .pre in
     plays (a .variables) (a .by .kind) (a .by .a) (a .by .b) (p .0) _ (a .s .now) (a .facts .now) (p .1) (p .3) (p .2) whole settled _ refl
 
 check-first-quickly-requires : tie.Need-check-first-quickly-requires
 check-first-quickly-requires c κs =
-    let p = c .before .before .before .before .before .before .before .pre in
+    let p = c .before .before .before .before .before .pre in
     let (whole, settled) = p .6 in
     rw (c .with-helper .ensures) (placed-few c whole settled .work, few c, p .5)
 
 returns : tie.Need-returns
 returns c whole settled =
     let h = c .before in
-    let a = h .before .before .before .before .before .before .before .args in
+    let a = h .before .before .before .before .before .args in
     checks-stand (a .cert .now) (membersFrom (a .cert .now) (a .variables) (a .starts .now)) (a .by .from) (choicesRowed (a .variables) (a .by .kind) (a .by .a) (secondOperand (a .variables) (a .by .kind) (a .by .a) (a .by .b)) (a .s .now) (a .facts .now)) (before (opOf (kindOf (a .by .kind)) (a .by .a) (a .by .b)) whole)
     (placed-few h whole settled .stand) (a .t) (c .check-first-quickly .result) (rw (h .with-helper .ensures) at (c .check-first-quickly .ensures))
 
 -- the kind is 6 or 7
-removes : (c : tie.Then3) → let k = c .before .before .before .before .before .before .args .by .kind in (k ≡ 6) ⊎ (k ≡ 7)
+removes : (c : tie.Then2) → let k = c .before .before .before .before .before .before .args .by .kind in (k ≡ 6) ⊎ (k ≡ 7)
 removes c =
     let k = c .before .before .before .before .before .before .args .by .kind in
-    go k (ℕ-discrete k 6) (r-or (r-eq k 6) (r-eq k 7) .holds (passes (eqb k 6 || eqb k 7) (sym (c .before .is-removal .ensures) ∙ c .if3 .taken)))
+    go k (ℕ-discrete k 6) (r-or (r-eq k 6) (r-eq k 7) .holds (passes (eqb k 6 || eqb k 7) (sym (c .before .is-removal .ensures) ∙ c .if2 .taken)))
   where
     go : (k : ℕ) → Dec (k ≡ 6) → ((k ≡ 6 → ⊥) → k ≡ 7) → (k ≡ 6) ⊎ (k ≡ 7)
     go k (yes e) f = inl e
     go k (no n) f = inr (f n)
 
 -- or it is neither
-places : (c : tie.Else3) → let k = c .before .before .before .before .before .before .args .by .kind in (k ≡ 6 → ⊥) × (k ≡ 7 → ⊥)
+places : (c : tie.Else2) → let k = c .before .before .before .before .before .before .args .by .kind in (k ≡ 6 → ⊥) × (k ≡ 7 → ⊥)
 places c =
     let k = c .before .before .before .before .before .before .args .by .kind in
-    let no = fails (eqb k 6 || eqb k 7) (sym (c .before .is-removal .ensures) ∙ c .if3 .left) in
+    let no = fails (eqb k 6 || eqb k 7) (sym (c .before .is-removal .ensures) ∙ c .if2 .left) in
     ((λ e. no (r-or (r-eq k 6) (r-eq k 7) .tests (λ n. absurd (n e)))), (λ e. no (r-or (r-eq k 6) (r-eq k 7) .tests (λ _. e))))
 
 is-removal-requires : tie.Need-is-removal-requires
@@ -121,7 +118,7 @@ returns-3 c whole settled =
     let s = c .before .before .before .before .before .before .before .before in
     let a = s .args in
     let p = s .pre in
-    let (k, e) = r-and (r-eq (a .by .kind) 9) (r-eq (a .by .a) (a .by .b)) .holds (passes (eqb (a .by .kind) 9 && eqb (a .by .a) (a .by .b)) (sym (c .before .is-below-itself .ensures) ∙ c .if4 .taken)) in
+    let (k, e) = r-and (r-eq (a .by .kind) 9) (r-eq (a .by .a) (a .by .b)) .holds (passes (eqb (a .by .kind) 9 && eqb (a .by .a) (a .by .b)) (sym (c .before .is-below-itself .ensures) ∙ c .if3 .taken)) in
     rw (k, ← e, below-none (a .variables) (a .s .now) (a .facts .now) (p .2) (p .3) whole settled (a .by .a))
     (checks-none (a .cert .now) (membersFrom (a .cert .now) (a .variables) (a .starts .now)) (a .by .from) (a .t) (p .5))
 
@@ -141,7 +138,7 @@ check-first-choices-requires : tie.Need-check-first-choices-requires
 check-first-choices-requires c κs =
     let p = c .before .before .before .before .before .before .before .before .before .pre in
     let (whole, settled) = p .6 in
-    rw (c .with-helper2 .ensures) (placed c whole settled .work, p .5)
+    rw (c .with-helper2 .ensures) (placed c whole settled .work, omega (arith, c .before .before .before .before .before .if1 .left), p .5)
 
 returns-4 : tie.Need-returns-4
 returns-4 c whole settled =
@@ -154,7 +151,6 @@ pub check-transition-spec : {M : Type 1} → statement M
 check-transition-spec =
     tie.close
     (tie.spec
-    version-of-requires
     with-helper-requires
     check-first-quickly-requires
     returns

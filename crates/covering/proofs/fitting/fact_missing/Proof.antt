@@ -15,7 +15,7 @@ version-of-requires c κs = search needs
 returns : tie.Need-returns
 returns c = λ covered.
     let a = c .before .before .before .args in
-    let none = bare-facts (a .cert .now) (a .variables) (a .start) (λ e. c .if1 .taken (c .before .version-of .ensures ∙ e)) in
+    let none = bare-facts (a .cert .now) (a .variables) (a .start) (λ e. absurd (c .if1 .taken (c .before .version-of .ensures ∙ e))) in
     sym (ap (numberOr (a .cells)) (bare-holds (locatedAt (a .cert .now) (a .variables) (a .start) .shape) covered (imagesIn (a .cells) (a .images .now)) (rowsTest (a .facts .now)) none (a .cells)))
 
 fact-span-requires : tie.Need-fact-span-requires
