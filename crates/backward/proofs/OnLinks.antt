@@ -1,6 +1,8 @@
 -- Operations that look at no value, kinds 1 to 7: before them a shape without facts had none.
+use mathlib.Core.Bool.{Bool, true, false}
 use mathlib.Core.List.{List, [], _∷_, List·Memᴰ·eq-of-singleton}
 use mathlib.Core.Path.{_≡_, refl, sym, ap, subst, _∙_}
+use lib.Dec.{T}
 use Rattle.lists.specs.List.{_∈_, Every}
 use Rattle.lists.proofs.List.{concatMap-mem, keep-mem}
 use Rattle.heap.specs.Operation.{Op, equal, different, assign, load, store, new, delete, equalValue, belowValue, copy, larger, smaller, read}
@@ -11,20 +13,24 @@ use Rattle.backward.specs.Predecessors.{isNew, removeCell, before, prede
 use Rattle.backward.proofs.Bare.{placed, behind, before-behind, placed-bare}
 use Rattle.backward.proofs.Settle.{settle-none}
 
+-- the operation looks at no value
+abbrev pub onLinks : Op → Bool
+onLinks (equal a b) = true
+onLinks (different a b) = true
+onLinks (assign a b) = true
+onLinks (load a b) = true
+onLinks (store a b) = true
+onLinks (new a) = true
+onLinks (delete a) = true
+onLinks (equalValue a b) = false
+onLinks (belowValue a b) = false
+onLinks (copy a b) = false
+onLinks (larger a b) = false
+onLinks (smaller a b) = false
+onLinks (read a) = false
+
 abbrev pub OnLinks : Op → Type 0
-OnLinks (equal a b) = Unit {0}
-OnLinks (different a b) = Unit {0}
-OnLinks (assign a b) = Unit {0}
-OnLinks (load a b) = Unit {0}
-OnLinks (store a b) = Unit {0}
-OnLinks (new a) = Unit {0}
-OnLinks (delete a) = Unit {0}
-OnLinks (equalValue a b) = ⊥
-OnLinks (belowValue a b) = ⊥
-OnLinks (copy a b) = ⊥
-OnLinks (larger a b) = ⊥
-OnLinks (smaller a b) = ⊥
-OnLinks (read a) = ⊥
+OnLinks o = T (onLinks o)
 
 abbrev pub NoFacts : Shape → Type 0
 NoFacts s = s .facts ≡ []

@@ -17,4 +17,4 @@ pub mod Refusals
 pub mod Means
 pub mod Decided
 pub mod Meaning
-pub mod FirstVersion
+pub mod Versions
