@@ -15,8 +15,12 @@ use Rattle.place.specs.Place.{placeOf}
 use Rattle.place.specs.declared.Place.{Place}
 use Rattle.stepper.specs.Table.{Sized}
 use Rattle.stepper.specs.declared.Heap64.{Heap64}
-use Rattle.heapbytes.specs.HeapBytes.{readable, slotsFrom, marksFrom, linksFrom, codesFrom, heapFrom, byteOf, heapBytes}
+use Rattle.heapbytes.specs.HeapBytes.{bytesReadable, readable, slotsFrom, marksFrom, linksFrom, codesFrom, heapFrom, byteOf, heapBytes}
 use Rattle.heapbytes.proofs.Bytes.{count-byte, slot-byte, mark-byte, link-byte}
+
+-- 64 codes are read as they are
+pub codes-same : (values : List ℕ) → length values ≡ 64 → codesFrom values ≡ values
+codes-same values c = sym (tabled (λ i. getD values i 0) 0 64 values c (λ i h. refl))
 
 module _ (t : Heap64) where
   byte : (i : ℕ) → i < 137 → getD (heapBytes t) i 0 ≡ byteOf t i
@@ -39,7 +43,7 @@ module _ (t : Heap64) where
 
   module _ (s : Sized t) where
     pub bytes-readable : readable (heapBytes t) (t .values) ≡ true
-    unfolding readable heapBytes
+    unfolding readable bytesReadable heapBytes
     bytes-readable =
         and-both _ _ (eq-eqb (length (t .values)) 64 (s .values))
         (and-both _ _ (eq-eqb (length (heapBytes t)) 137 (length-from (byteOf t) 0 137))
@@ -80,4 +84,4 @@ module _ (t : Heap64) where
             (λ i h. rw (mark-at i h) (is-used (getD (t .used) i false))))
 
         values : codesFrom (t .values) ≡ t .values
-        values = sym (tabled (λ i. getD (t .values) i 0) 0 64 (t .values) (s .values) (λ i h. refl))
+        values = codes-same (t .values) (s .values)

@@ -16,9 +16,13 @@ use Rattle.stepper.specs.declared.Outcome.{Outcome}
 use Rattle.stepper.specs.declared.Outcome.the-variants.{Moved, Blocked, Refused}
 use Rattle.stepper.specs.declared.Stepped.{Stepped}
 
--- 64 numbers, and 137 bytes, each used mark 0 or 1
+-- 137 bytes, each used mark 0 or 1
+unfoldable pub bytesReadable : List ℕ → Bool
+bytesReadable bytes = eqb (length bytes) 137 && allFrom 64 0 (λ i. ltb (getD bytes (9 + i) 0) 2)
+
+-- and 64 numbers
 unfoldable pub readable : List ℕ → List ℕ → Bool
-readable bytes values = eqb (length values) 64 && (eqb (length bytes) 137 && allFrom 64 0 (λ i. ltb (getD bytes (9 + i) 0) 2))
+readable bytes values = eqb (length values) 64 && bytesReadable bytes
 
 -- what they say, array by array
 abbrev pub slotsFrom : List ℕ → List Place

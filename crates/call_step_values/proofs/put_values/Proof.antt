@@ -5,8 +5,8 @@ use native.Mathlib.Omega.{arith}
 use lib.ListN.{length, getD}
 use Rattle.lists.proofs.Range.{Filled, fill-none, fill-more, fill-all, tabled}
 use borrow.Author.Needs.{needs}
-use Rattle.call_step.proofs.put_values.Statement.{statement}
-use Rattle.call_step.proofs.put_values.Tie as tie
+use Rattle.call_step_values.proofs.put_values.Statement.{statement}
+use Rattle.call_step_values.proofs.put_values.Tie as tie
 
 abbrev Inv-loop : tie.InvT-loop
 Inv-loop values₀ codes i₀ values i = Filled (λ i. getD codes i 0) 0 64 values i

@@ -14,13 +14,13 @@ use denote.Enum.Declared.{tagOf}
 use types.Run.{OneOf}
 use Rattle.stepper.proofs.Outcome.{the-type}
 use Rattle.lists.specs.Test.{allFrom}
-use Rattle.lists.proofs.Test.{and-left, and-right, all-done}
+use Rattle.lists.proofs.Test.{and-left, all-done}
 use Rattle.stepper.specs.Step.{outcomeCode, Steps}
 use Rattle.stepper.specs.declared.Heap64.{Heap64}
 use Rattle.stepper.specs.declared.Outcome.{Outcome}
 use Rattle.stepper.specs.declared.Outcome.the-variants.{Moved, Blocked, Refused}
 use Rattle.stepper.specs.declared.Stepped.{Stepped}
-use Rattle.heapbytes.specs.HeapBytes.{readable, heapFrom, bytesAfter, valuesAfter, StepsBytes}
+use Rattle.heapbytes.specs.HeapBytes.{bytesReadable, readable, heapFrom, heapBytes, bytesAfter, valuesAfter, StepsBytes}
 
 -- ---- the marks, tested so far
 
@@ -50,29 +50,26 @@ module _ (bytes : List ℕ) (i largest : ℕ) where
   pub marks-done : 64 ≤ i → ltb largest 2 ≡ ltb largest 2 && allFrom (64 - i) i (markFits bytes)
   marks-done h = rw (all-done (markFits bytes) 64 i h) (sym (and-true (ltb largest 2)))
 
-module _ (bytes values : List ℕ) where
-  pub other-count : (length values ≡ 64 → ⊥) → false ≡ readable bytes values
-  unfolding readable
-  other-count n = simp (ne-eqb (length values) 64 n)
+module _ (bytes : List ℕ) where
+  pub other-length : (length bytes ≡ 137 → ⊥) → false ≡ bytesReadable bytes
+  unfolding bytesReadable
+  other-length n = simp (ne-eqb (length bytes) 137 n)
 
-  pub other-length : length values ≡ 64 → (length bytes ≡ 137 → ⊥) → false ≡ readable bytes values
-  unfolding readable
-  other-length c n = simp (eq-eqb (length values) 64 c, ne-eqb (length bytes) 137 n)
+  pub readable-marks : length bytes ≡ 137 → allFrom 64 0 (markFits bytes) ≡ bytesReadable bytes
+  unfolding bytesReadable
+  readable-marks e = simp (eq-eqb (length bytes) 137 e)
 
-  pub readable-marks : length values ≡ 64 → length bytes ≡ 137 → allFrom 64 0 (markFits bytes) ≡ readable bytes values
-  unfolding readable
-  readable-marks c e = simp (eq-eqb (length values) 64 c, eq-eqb (length bytes) 137 e)
+  pub readable-length : bytesReadable bytes ≡ true → length bytes ≡ 137
+  unfolding bytesReadable
+  readable-length e = eqb-true (length bytes) 137 (and-left (eqb (length bytes) 137) (allFrom 64 0 (markFits bytes)) e)
 
-  pub readable-count : readable bytes values ≡ true → length values ≡ 64
+  pub other-count : (values : List ℕ) → (length values ≡ 64 → ⊥) → readable bytes values ≡ false
   unfolding readable
-  readable-count e = eqb-true (length values) 64 (and-left (eqb (length values) 64) (eqb (length bytes) 137 && allFrom 64 0 (markFits bytes)) e)
+  other-count values n = simp (ne-eqb (length values) 64 n)
 
-  pub readable-length : readable bytes values ≡ true → length bytes ≡ 137
+  pub with-values : (values : List ℕ) → length values ≡ 64 → bytesReadable bytes ≡ readable bytes values
   unfolding readable
-  readable-length e =
-      eqb-true (length bytes) 137
-      (and-left (eqb (length bytes) 137) (allFrom 64 0 (markFits bytes))
-      (and-right (eqb (length values) 64) (eqb (length bytes) 137 && allFrom 64 0 (markFits bytes)) e))
+  with-values values c = simp (eq-eqb (length values) 64 c)
 
 -- ---- the call's promise, by its outcome
 
@@ -95,3 +92,22 @@ pub left : (o : Outcome) → OneOf (1 ∷ 2 ∷ []) (tagOf the-type o) → (t : 
 left Moved k t bytes values = ⊎-elim (λ w. absurd (omega arith)) (λ w. absurd (omega arith)) k
 left Blocked k t bytes values = (refl, refl)
 left (Refused r) k t bytes values = (refl, refl)
+
+-- moved: those of the heap after the step
+pub went : (o : Outcome) → o ≡ Moved → (t : Heap64) (bytes values : List ℕ)
+    → (0 ≡ outcomeCode o) × (heapBytes t ≡ bytesAfter o t bytes) × (t .values ≡ valuesAfter o t values)
+went o e t bytes values = rw e (refl, refl, refl)
+
+-- where 0 is not told, the values stay
+pub kept : (bytes values : List ℕ) (kind a b value code : ℕ) (bytes′ values′ : List ℕ) → StepsBytes bytes values kind a b value code bytes′ values′
+    → (code ≡ 0 → ⊥) → values′ ≡ values
+kept bytes values kind a b value code bytes′ values′ m n = go (readable bytes values) refl
+  where
+    by-outcome : (o : Outcome) (t : Heap64) → code ≡ outcomeCode o → values′ ≡ valuesAfter o t values → values′ ≡ values
+    by-outcome Moved t c v = absurd (n c)
+    by-outcome Blocked t c v = v
+    by-outcome (Refused r) t c v = v
+
+    go : (r : Bool) → readable bytes values ≡ r → values′ ≡ values
+    go false e = m .unreadable e .2
+    go true e = let (s, _, c, _, v) = m .stepped e in by-outcome (s .outcome) (s .heap) c v

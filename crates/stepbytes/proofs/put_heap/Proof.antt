@@ -6,8 +6,8 @@ use Rattle.lists.proofs.Range.{Filled, fill-none, fill-more, fill-all}
 use Rattle.heapbytes.specs.HeapBytes.{byteOf, heapBytes}
 use Rattle.heapbytes.proofs.Bytes.{count-byte, slot-byte, mark-byte, link-byte}
 use borrow.Author.Needs.{needs}
-use Rattle.call_step.proofs.put_heap.Statement.{statement}
-use Rattle.call_step.proofs.put_heap.Tie as tie
+use Rattle.stepbytes.proofs.put_heap.Statement.{statement}
+use Rattle.stepbytes.proofs.put_heap.Tie as tie
 
 abbrev Inv-loop : tie.InvT-loop
 Inv-loop bytes₀ heap i₀ bytes i = (1 ≤ i) × (i ≤ 9) × Filled (byteOf heap) 0 137 bytes i
@@ -26,6 +26,18 @@ Inv-loop3 bytes₀ heap i₀ bytes i = (73 ≤ i) × (i ≤ 137) × Filled (byte
 
 abbrev μ-loop3 : tie.MeasureT-loop3
 μ-loop3 bytes₀ heap i₀ bytes i = 137 - i
+
+-- ---- moments on the way
+
+-- the beginning, at a turn of the second loop
+abbrev begun2 : tie.At-loop2 Inv-loop μ-loop Inv-loop2 μ-loop2 Inv-loop3 μ-loop3 → tie.Start Inv-loop μ-loop Inv-loop2 μ-loop2 Inv-loop3 μ-loop3
+begun2 c = c .before .before .before
+
+-- the same at a turn of the third
+abbrev begun3 : tie.At-loop3 Inv-loop μ-loop Inv-loop2 μ-loop2 Inv-loop3 μ-loop3 → tie.Start Inv-loop μ-loop Inv-loop2 μ-loop2 Inv-loop3 μ-loop3
+begun3 c = begun2 (c .before .before)
+
+-- ---- what is to be shown
 
 slice-write-bytes : tie.Need-slice-write-bytes Inv-loop μ-loop Inv-loop2 μ-loop2 Inv-loop3 μ-loop3
 slice-write-bytes c = omega (arith, c .pre)
@@ -80,7 +92,9 @@ loop2-less : tie.Need-loop2-less Inv-loop μ-loop Inv-loop2 μ-loop2 Inv-loop3 �
 loop2-less c = search needs
 
 loop2-again : tie.Need-loop2-again Inv-loop μ-loop Inv-loop2 μ-loop2 Inv-loop3 μ-loop3
-loop2-again c = (omega arith, omega arith, fill-more _ _ _ _ _ _ (c .before .before .loop2 .inv .2) (omega arith) (mark-byte (c .before .before .before .before .before .args .t1) (c .before .before .loop2 .i) (omega arith) (omega arith) _ refl _ (λ e. rw e refl) (λ e. rw e refl)))
+loop2-again c =
+    let turn = c .before .before in
+    (omega arith, omega arith, fill-more _ _ _ _ _ _ (turn .loop2 .inv .2) (omega arith) (mark-byte (begun2 turn .args .t1) (turn .loop2 .i) (omega arith) (omega arith) _ refl _ (λ e. rw e refl) (λ e. rw e refl)))
 
 loop3-holds : tie.Need-loop3-holds Inv-loop μ-loop Inv-loop2 μ-loop2 Inv-loop3 μ-loop3
 loop3-holds c = (omega arith, omega arith, c .before .loop2 .inv .2)
@@ -103,10 +117,12 @@ loop3-less : tie.Need-loop3-less Inv-loop μ-loop Inv-loop2 μ-loop2 Inv-loop3 �
 loop3-less c = search needs
 
 loop3-again : tie.Need-loop3-again Inv-loop μ-loop Inv-loop2 μ-loop2 Inv-loop3 μ-loop3
-loop3-again c = (omega arith, omega arith, fill-more _ _ _ _ _ _ (c .before .loop3 .inv .2) (omega arith) (link-byte (c .before .before .before .before .before .before .args .t1) (c .before .loop3 .i) (omega arith)))
+loop3-again c =
+    let turn = c .before in
+    (omega arith, omega arith, fill-more _ _ _ _ _ _ (turn .loop3 .inv .2) (omega arith) (link-byte (begun3 turn .args .t1) (turn .loop3 .i) (omega arith)))
 
 same-length : tie.Need-same-length Inv-loop μ-loop Inv-loop2 μ-loop2 Inv-loop3 μ-loop3
-same-length c = c .before .loop3 .inv .2 .size ∙ sym (c .before .before .before .before .before .before .pre)
+same-length c = c .before .loop3 .inv .2 .size ∙ sym (begun3 (c .before) .pre)
 
 returns : tie.Need-returns Inv-loop μ-loop Inv-loop2 μ-loop2 Inv-loop3 μ-loop3
 unfolding heapBytes

@@ -7,8 +7,8 @@ use lib.Dec.{eqb}
 use mathlib.Core.Bool.{false}
 use Rattle.lists.proofs.Range.{Filled, fill-none, fill-more, fill-all}
 use borrow.Author.Needs.{needs}
-use Rattle.call_step.proofs.marks_from.Statement.{statement}
-use Rattle.call_step.proofs.marks_from.Tie as tie
+use Rattle.stepbytes.proofs.marks_from.Statement.{statement}
+use Rattle.stepbytes.proofs.marks_from.Tie as tie
 
 abbrev Inv-loop : tie.InvT-loop
 Inv-loop bytes used₀ i₀ used i = Filled (λ i. eqb (getD bytes (9 + i) 0) 1) (false) 64 used i
