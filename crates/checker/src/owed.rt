@@ -43,6 +43,16 @@ ghost use Rattle.layout.specs.Transitions.{opOf};
 ghost use Rattle.transitions.specs.Index.{IndexedFrom};
 ghost use Rattle.reader.specs.Job.{JobRead};
 
+// Loads the facts of the forbidden shape at a place, and all that follows from them, into empty rows. A job of version 1 has none, and makes no call.
+fn load_rows(job: &[u8], at: usize, variables: usize, facts: &mut [u16; 28])
+    requires { ⌜ now facts ≡ noFacts ⌝ }
+    ensures { λ r. ⌜ now (facts .exit) ≡ loadedFacts (now (job .entry)) variables at ⌝ }
+{
+    if version_of(job) == 2 {
+        load_facts(job, at, variables, facts);
+    }
+}
+
 // Covers of so many forbidden shapes, from a place of the job on.
 pub(crate) fn check_forbidden(
     job: &[u8],
@@ -63,7 +73,7 @@ pub(crate) fn check_forbidden(
         let mut s = [0u8; 28];
         load_shape(job, at, variables, &mut s);
         let mut facts = [0u16; 28];
-        load_facts(job, at, variables, &mut facts);
+        load_rows(job, at, variables, &mut facts);
         let g = check_cover(cert, starts, variables, job[at], &s, &facts, t);
         let Checked::Upto(u) = g else {
             return g;

@@ -86,8 +86,9 @@ fn is_bare(cert: &[u8], start: usize, variables: usize, count: usize) -> bool
     cert[start + 2 + variables + count] == 0
 }
 
-// A quick test of the cover at a place by a member that lists no fact. An entry of 9 variables and 12 cells has 23 bytes, and one for the number of facts.
-// The member's number is read here if it is of one byte or two: a call would cost each cover.
+// A quick test of the cover at a place by a member that lists no fact. Such a cover, its number of one byte or two and at most 12 images, has at most 14 bytes:
+// where fewer are left it goes to the exact test, so that images need no test for the end. An entry of 9 variables and 12 cells has 23 bytes, and one for the number
+// of facts. The member's number is read here: a call would cost each cover.
 pub fn quick_cover(
     cert: &[u8],
     starts: &[u16],
@@ -98,10 +99,10 @@ pub fn quick_cover(
 ) -> QuickCover
     ensures { λ r. ⌜ ((among : ℕ → ℕ → ℕ → Bool) → r .next ≢ 0 → readCoverBy (certificateBuffer (now (cert .entry))) among (membersFrom (now (cert .entry)) variables (now (starts .entry))) (record { state = state; shape = shapeIn variables (now (s .entry)) }) at ≡ parsed (r .links) (r .next)) ⌝ }
 {
-    if cert.len() < 2 {
+    if cert.len() < 14 {
         return LEFT;
     }
-    if cert.len() - 2 < at {
+    if cert.len() - 14 < at {
         return LEFT;
     }
     let mut m = wide(cert[at]);
@@ -135,9 +136,6 @@ pub fn quick_cover(
         return LEFT;
     }
     if !is_bare(cert, start, variables, count) {
-        return LEFT;
-    }
-    if cert.len() - first < count {
         return LEFT;
     }
     let quick = images_embed(cert, start, variables, first, count, s);

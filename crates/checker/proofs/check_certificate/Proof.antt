@@ -5,12 +5,36 @@ use native.Mathlib.Omega.{arith}
 use lib.Seq.{length-take-le}
 use Rattle.format.specs.Parser.{parsed, certificateBuffer}
 use Rattle.format.specs.Verdict.{conclude}
-use Rattle.reader.specs.Members.{readTested}
+use Rattle.reader.specs.Members.{readTested, Bounds, MembersRead}
 use Rattle.checker.specs.Jobs.{fileIn, readCovers}
 use Rattle.checker.proofs.Verdicts.{bounds, certificate-refused, certificate-members}
 use borrow.Author.Needs.{needs}
 use Rattle.checker.proofs.check_certificate.Statement.{statement}
 use Rattle.checker.proofs.check_certificate.Tie as tie
+
+-- ---- moments on the way, and what is so then
+
+-- the beginning, once the members are read
+abbrev begun : tie.After-read-members → tie.Start
+begun c = c .before .before .before .before .before
+
+-- where they were read, once it is told that there are some
+abbrev read : tie.After-known-told2 → tie.After-read-members
+read c = c .before .before .before
+
+-- what was read
+members : (c : tie.After-known-told2)
+    → let o = read c in
+    let a = begun o .args in
+    let v = c .before .r2 .given .0 in
+    MembersRead (a .cert .now) (o .before .before .version-of .result) (a .h .variables) (a .h .states) (a .h .start) (o .read-members .last .1 .1 .1 .1 .1 .0) (v .0) (v .1 .0)
+members c = rw (c .before .r2 .given .1) at (c .before .before .before .read-members .ensures .0)
+
+-- the certificate is short, and the job has few variables and states
+limits : (s : tie.Start) → Bounds (s .args .cert .now) (s .args .h .variables) (s .args .h .states)
+limits s = bounds (s .args .job .now) (s .args .cert .now) (s .args .h) (s .pre .0) (s .pre .1)
+
+-- ---- what is to be shown
 
 version-of-requires : tie.Need-version-of-requires
 version-of-requires c κs = search needs
@@ -25,36 +49,39 @@ enum-known-r-2 : tie.Need-enum-known-r-2
 enum-known-r-2 c = search needs
 
 slice-aggregate-all : tie.Need-slice-aggregate-all
-slice-aggregate-all c = sym ((rw (c .before .before .r2 .given .1) at (c .before .before .before .before .read-members .ensures .0)) .size)
+slice-aggregate-all c = sym (members (c .before) .size)
 
 slice-aggregate-check-covers : tie.Need-slice-aggregate-check-covers
 slice-aggregate-check-covers c =
-    let m = rw (c .before .before .before .r2 .given .1) at (c .before .before .before .before .before .read-members .ensures .0) in
+    let m = members (c .before .before) in
     sym (length-take-le _ _ (omega (arith, m .size, m .number-range .1)))
 
 check-covers-requires : tie.Need-check-covers-requires
 check-covers-requires c κs =
-    let a = c .before .before .before .before .before .before .before .before .before .before .args in
-    let p = c .before .before .before .before .before .before .before .before .before .before .pre in
-    let m = rw (c .before .before .before .r2 .given .1) at (c .before .before .before .before .before .read-members .ensures .0) in
-    (p .0, m .table-is (bounds (a .job .now) (a .cert .now) (a .h) (p .0) (p .1)), m .inside, p .1)
+    let told = c .before .before in
+    let m = members told in
+    let s = begun (read told) in
+    (s .pre .0, m .table-is (limits s), m .inside, s .pre .1)
 
 returns : tie.Need-returns
 returns c =
-    let a = c .before .before .before .before .before .before .before .before .args in
-    let v = c .before .r .given in
-    certificate-refused (a .cert .now) (fileIn (a .job .now) (a .h)) _ _ (rw (v .1, c .before .before .before .before .before .version-of .ensures) at (c .before .before .before .read-members .ensures .0))
+    let o = c .before .before .before in
+    let a = begun o .args in
+    certificate-refused (a .cert .now) (fileIn (a .job .now) (a .h)) _ _ (rw (c .before .r .given .1, o .before .before .version-of .ensures) at (o .read-members .ensures .0))
 
 returns-2 : tie.Need-returns-2
 returns-2 c =
-    let a = c .before .before .before .before .before .before .before .before .before .before .before .args in
-    let p = c .before .before .before .before .before .before .before .before .before .before .before .pre in
-    let v = c .before .before .before .before .r2 .given in
-    let m = rw (v .1) at (c .before .before .before .before .before .before .read-members .ensures .0) in
-    let b = bounds (a .job .now) (a .cert .now) (a .h) (p .0) (p .1) in
+    let told = c .before .before .before in
+    let m = members told in
+    let next = told .before .r2 .given .0 .1 .0 in
+    let s = begun (read told) in
+    let a = s .args in
     let f = fileIn (a .job .now) (a .h) in
     c .check-covers .ensures
-    ∙ ap conclude (ap (λ ms. readCovers (a .cert .now) (f .job) ms (v .0 .1 .0)) (sym (m .members-are b)) ∙ certificate-members (a .cert .now) f (m .members) (v .0 .1 .0) (subst (λ (w : ℕ). readTested (certificateBuffer (a .cert .now)) w (a .h .variables) (a .h .states) (a .h .start) 0 ≡ parsed (m .members) (v .0 .1 .0)) (c .before .before .before .before .before .before .before .before .version-of .ensures) (m .read)))
+    ∙ ap conclude (ap (λ ms. readCovers (a .cert .now) (f .job) ms next) (sym (m .members-are (limits s)))
+    ∙ certificate-members (a .cert .now) f (m .members) next
+    (subst (λ (w : ℕ). readTested (certificateBuffer (a .cert .now)) w (a .h .variables) (a .h .states) (a .h .start) 0 ≡ parsed (m .members) next)
+    (read told .before .before .version-of .ensures) (m .read)))
 
 pub check-certificate-spec : {M : Type 1} → statement M
 check-certificate-spec =

@@ -1,19 +1,64 @@
 -- Where 0 is given, nothing is to be shown. Else the member stands whole, and its number and images are read and embed it.
-use Prim.Native.Nat.{_≤_, _<_}
+use Prim.Native.Nat.{_+_, _≤_, _<_}
 use mathlib.Core.Logic.{⊎-elim}
-use mathlib.Core.Path.{_≡_, refl, _∙_, sym}
+use mathlib.Core.Path.{_≡_, refl, sym}
 use native.Mathlib.Omega.{arith}
-use lib.ListN.{length, getD}
+use lib.ListN.{getD}
 use borrow.Author.Needs.{needs}
 use borrow.Author.Tests.{not-false}
 use Rattle.number.specs.Number.{numberAt}
 use Rattle.number.specs.declared.Read.the-variants.{Number}
-use Rattle.number.proofs.Reading.{number-inside, one-byte, two-bytes}
+use Rattle.number.proofs.Reading.{one-byte, two-bytes}
 use Rattle.layout.specs.Entries.{versionOf, linksEnd, Whole}
 use Rattle.covering.proofs.CoverCases.{quick-embedding}
 use Rattle.covering.proofs.Facts.{bare-facts, bare-whole}
 use Rattle.covering.proofs.quick_cover.Statement.{statement}
 use Rattle.covering.proofs.quick_cover.Tie as tie
+
+-- ---- moments on the way, and what is so then
+
+-- the beginning, once the member's first byte is read
+abbrev begun : tie.After-wide → tie.Start
+begun c = c .before .before .before .before .before .before
+
+-- where its number was found to be that of a member, once its number of cells is read
+abbrev named : tie.After-wide3 → tie.Else6
+named c = c .before .before .before .before .before .before .before .before
+
+-- where its number of cells was read, once it is found to list no fact
+abbrev sized : tie.Else11 → tie.After-wide3
+sized c = c .before .before .before
+
+-- once its number is read
+abbrev numbered : tie.Else11 → tie.Joined3
+numbered c = named (sized c) .before
+
+-- the member's number, of one byte or two, and the place after it
+number-read : (c : tie.Joined3) → let a = begun (c .before) .args in numberAt (a .cert .now) (a .at) ≡ Number (c .if3 .m) (c .if3 .first)
+number-read c =
+    let a = begun (c .before) .args in
+    let w = c .before .wide in
+    ⊎-elim
+    (λ (i, _, v, n, h, m-is, first-is). rw (m-is, first-is) (sym (two-bytes (a .cert .now) (a .at) (w .result) (w .ensures .0) (i .taken) (v .result) (v .ensures .0) (omega arith) (n .left) (h .left))))
+    (λ (i, m-is, first-is). rw (m-is, first-is) (sym (one-byte (a .cert .now) (a .at) (w .result) (w .ensures .0) (omega arith) (i .left))))
+    (c .if3 .came)
+
+number-ends : (c : tie.Joined3) → c .if3 .first ≤ begun (c .before) .args .at + 2
+number-ends c = ⊎-elim (λ (_, _, _, _, _, _, first-is). omega arith) (λ (_, _, first-is). omega arith) (c .if3 .came)
+
+-- the member lists no fact, and stands whole
+bare : (c : tie.Else11)
+    → let j = numbered c in
+    let a = begun (j .before) .args in
+    versionOf (a .cert .now) ≡ 2 → getD (a .cert .now) (linksEnd (a .cert .now) (a .variables) (getD (a .starts .now) (j .if3 .m) 0)) 0 ≡ 0
+bare c = c .before .is-bare .ensures (not-false _ (c .if11 .left))
+
+stands : (c : tie.Else11) → let j = numbered c in let a = begun (j .before) .args in Whole (a .cert .now) (a .variables) (getD (a .starts .now) (j .if3 .m) 0)
+stands c =
+    let cells = sized c .wide3 .ensures .0 in
+    bare-whole _ _ _ (bare c) (omega arith) (omega arith) (omega arith)
+
+-- ---- what is to be shown
 
 returns : tie.Need-returns
 returns c = λ _ o. absurd (o refl)
@@ -66,19 +111,6 @@ mul-start c = search needs
 shared-slice-read-start : tie.Need-shared-slice-read-start
 shared-slice-read-start c = search needs
 
--- the member's number, of one byte or two, and the place after it
-number-read : (c : tie.Joined3) → let a = c .before .before .before .before .before .before .before .args in numberAt (a .cert .now) (a .at) ≡ Number (c .if3 .m) (c .if3 .first)
-number-read c =
-    let a = c .before .before .before .before .before .before .before .args in
-    let w = c .before .wide in
-    ⊎-elim
-    (λ (i, _, v, n, h, m-is, first-is). rw (m-is, first-is) (sym (two-bytes (a .cert .now) (a .at) (w .result) (w .ensures .0) (i .taken) (v .result) (v .ensures .0) (omega arith) (n .left) (h .left))))
-    (λ (i, m-is, first-is). rw (m-is, first-is) (sym (one-byte (a .cert .now) (a .at) (w .result) (w .ensures .0) (omega arith) (i .left))))
-    (c .if3 .came)
-
-number-ends : (c : tie.Joined3) → c .if3 .first ≤ length (c .before .before .before .before .before .before .before .args .cert .now)
-number-ends c = number-inside (c .before .before .before .before .before .before .before .args .cert .now) _ _ _ (number-read c)
-
 cast-start : tie.Need-cast-start
 cast-start c = omega (arith, c .shared-slice-known5 .given (c .before .before .before .if3 .m))
 
@@ -115,42 +147,27 @@ is-bare-requires c κs = (omega arith, c .before .wide3 .ensures .0, omega arith
 returns-10 : tie.Need-returns-10
 returns-10 c = λ _ o. absurd (o refl)
 
-sub-if12 : tie.Need-sub-if12
-sub-if12 c = number-ends (c .before .before .before .before .before .before .before .before .before .before .before .before .before)
+images-embed-requires : tie.Need-images-embed-requires
+images-embed-requires c κs =
+    let k = number-ends (numbered c) in
+    (stands c, bare-facts _ _ _ (bare c), sized c .wide3 .ensures .0, omega arith)
 
 returns-11 : tie.Need-returns-11
 returns-11 c = λ _ o. absurd (o refl)
 
--- the member lists no fact, and stands whole
-bare : (c : tie.Else12) → let j = c .before .before .before .before .before .before .before .before .before .before .before .before .before .before in let a = j .before .before .before .before .before .before .before .args in versionOf (a .cert .now) ≡ 2 → getD (a .cert .now) (linksEnd (a .cert .now) (a .variables) (getD (a .starts .now) (j .if3 .m) 0)) 0 ≡ 0
-bare c = c .before .before .before .is-bare .ensures (not-false _ (c .before .before .if11 .left))
-
-stands : (c : tie.Else12) → let j = c .before .before .before .before .before .before .before .before .before .before .before .before .before .before in let a = j .before .before .before .before .before .before .before .args in Whole (a .cert .now) (a .variables) (getD (a .starts .now) (j .if3 .m) 0)
-stands c =
-    let cells = c .before .before .before .before .before .wide3 .ensures .0 in
-    bare-whole _ _ _ (bare c) (omega arith) (omega arith) (omega arith)
-
-images-embed-requires : tie.Need-images-embed-requires
-images-embed-requires c κs =
-    let k = number-ends (c .before .before .before .before .before .before .before .before .before .before .before .before .before .before) in
-    (stands c, bare-facts _ _ _ (bare c), c .before .before .before .before .before .wide3 .ensures .0, omega arith)
+add-t13 : tie.Need-add-t13
+add-t13 c = let k = number-ends (numbered (c .before .before .before .before)) in search needs
 
 returns-12 : tie.Need-returns-12
-returns-12 c = λ _ o. absurd (o refl)
-
-add-t13 : tie.Need-add-t13
-add-t13 c = search needs
-
-returns-13 : tie.Need-returns-13
-returns-13 c = λ among _.
-    let i = c .before .before in
-    let w = i .before .before .before .before .before .before in
-    let e = i .before .before .before .before .before .before .before .before .before .before .before .before .before .before in
-    let j = e .before in
-    let o = j .before .before .before .before .before .before .before in
+returns-12 c = λ among _.
+    let i = c .before .before .before in
+    let b = i .before in
+    let w = sized b in
+    let j = numbered b in
+    let o = begun (j .before) in
     let byte : o .args .state < 256 = omega (arith, o .fits .state) in
-    quick-embedding _ _ (o .args .starts .now) _ _ byte _ _ _ (number-read j) (omega (arith, e .if6 .left)) (stands (i .before)) (sym (w .before .before .if9 .left)) _ (w .wide3 .ensures .0)
-    _ (i .images-embed .ensures (not-false _ (c .if13 .left))) among
+    quick-embedding _ _ (o .args .starts .now) _ _ byte _ _ _ (number-read j) (omega (arith, named w .if6 .left)) (stands b)
+    (sym (w .before .before .if9 .left)) _ (w .wide3 .ensures .0) _ (i .images-embed .ensures (not-false _ (c .before .if12 .left))) among
 
 pub quick-cover-spec : {M : Type 1} → statement M
 quick-cover-spec =
@@ -185,9 +202,7 @@ quick-cover-spec =
     returns-9
     is-bare-requires
     returns-10
-    sub-if12
-    returns-11
     images-embed-requires
-    returns-12
+    returns-11
     add-t13
-    returns-13)
+    returns-12)

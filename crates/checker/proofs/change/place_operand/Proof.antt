@@ -8,6 +8,10 @@ use borrow.Author.Needs.{needs}
 use Rattle.checker.proofs.change.place_operand.Statement.{statement}
 use Rattle.checker.proofs.change.place_operand.Tie as tie
 
+-- the beginning, where the operand has no place
+abbrev begun : tie.Else1 → tie.Start
+begun c = c .before .before .before
+
 element-copy-out-n : tie.Need-element-copy-out-n
 element-copy-out-n c = search needs
 
@@ -28,7 +32,7 @@ element-write-s c = search needs
 
 returns-2 : tie.Need-returns-2
 returns-2 c =
-    let a = c .before .before .before .before .args in
+    let a = begun (c .before) .args in
     let code : 3 + a .k ≡ cell (a .k) = omega arith in
     rw code (sym (placed-cell (a .s .now) (a .x) (a .k) (omega arith) (omega arith)))
 
@@ -36,7 +40,7 @@ element-write-s-2 : tie.Need-element-write-s-2
 element-write-s-2 c = search needs
 
 returns-3 : tie.Need-returns-3
-returns-3 c = let a = c .before .before .before .before .before .args in sym (placed-null (a .s .now) (a .x) (a .k) (omega arith) (omega arith))
+returns-3 c = let a = begun (c .before .before) .args in sym (placed-null (a .s .now) (a .x) (a .k) (omega arith) (omega arith))
 
 add-fresh : tie.Need-add-fresh
 add-fresh c = search needs
@@ -60,7 +64,7 @@ element-write-s-5 : tie.Need-element-write-s-5
 element-write-s-5 c = search needs
 
 returns-4 : tie.Need-returns-4
-returns-4 c = let a = c .before .before .before .before .before .before .args in stored-fresh (a .s .now) (a .x) (a .k) (omega arith) (omega arith)
+returns-4 c = let a = begun (c .before .before .before) .args in stored-fresh (a .s .now) (a .x) (a .k) (omega arith) (omega arith)
 
 add-from : tie.Need-add-from
 add-from c = search needs
@@ -90,7 +94,7 @@ element-write-s-9 : tie.Need-element-write-s-9
 element-write-s-9 c = search needs
 
 returns-5 : tie.Need-returns-5
-returns-5 c = let a = c .before .before .before .before .before .before .before .args in stored-middle (a .s .now) (a .x) (a .k) (omega arith) (omega arith)
+returns-5 c = let a = begun (c .before .before .before .before) .args in stored-middle (a .s .now) (a .x) (a .k) (omega arith) (omega arith)
 
 pub place-operand-spec : {M : Type 1} → statement M
 place-operand-spec =

@@ -6,6 +6,10 @@ use borrow.Author.Needs.{needs}
 use Rattle.checker.proofs.removal.undo_rows.Statement.{statement}
 use Rattle.checker.proofs.removal.undo_rows.Tie as tie
 
+-- the beginning, once the number of cells is read
+abbrev begun : tie.After-wide → tie.Start
+begun c = c .before .before .before .before .before .before
+
 version-of-requires : tie.Need-version-of-requires
 version-of-requires c κs = search needs
 
@@ -27,7 +31,7 @@ wide-requires c κs = search needs
 returns-3 : tie.Need-returns-3
 returns-3 c =
     let w = c .before .wide .ensures .0 in
-    let a = c .before .before .before .before .before .before .before .args in
+    let a = begun (c .before) .args in
     rows-kept (a .kind) (a .prepared .now) (a .rows .now) (a .k) (taken-past (a .kind) (a .prepared .now) (a .k) (omega (arith, w)))
 
 take-out-requires : tie.Need-take-out-requires
@@ -35,9 +39,10 @@ take-out-requires c κs = search needs
 
 returns-4 : tie.Need-returns-4
 returns-4 c =
-    let e = c .before .before in
-    let a = e .before .before .before .before .before .before .before .args in
-    rows-out (a .kind) (a .prepared .now) (a .rows .now) (a .k) (taken-is (a .kind) (a .prepared .now) (a .k) (e .before .before .before .if2 .left) (omega (arith, e .before .wide .ensures .0))) _ _ (c .take-out .ensures .0) (c .take-out .ensures .1)
+    let w = c .before .before .before in
+    let a = begun w .args in
+    rows-out (a .kind) (a .prepared .now) (a .rows .now) (a .k) (taken-is (a .kind) (a .prepared .now) (a .k) (w .before .before .if2 .left) (omega (arith, w .wide .ensures .0))) _ _
+    (c .take-out .ensures .0) (c .take-out .ensures .1)
 
 pub undo-rows-spec : {M : Type 1} → statement M
 undo-rows-spec =

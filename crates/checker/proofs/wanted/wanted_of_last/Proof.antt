@@ -36,9 +36,10 @@ wanted-last-requires c κs = search needs
 
 returns : tie.Need-returns
 returns c =
-    let a = c .before .before .before .before .before .before .args in
+    let o = c .before .before .before .before in
+    let a = o .before .before .args in
     let links : 3 + getD (a .s .now) 0 0 - 3 ≡ getD (a .s .now) 0 0 = omega arith in
-    rw (← c .before .before .before .before .before .place-of .ensures, ← c .before .before .before .before .place-of2 .ensures) (rw links at (c .wanted-last .ensures))
+    rw (← o .before .place-of .ensures, ← o .place-of2 .ensures) (rw links at (c .wanted-last .ensures))
 
 pub wanted-of-last-spec : {M : Type 1} → statement M
 wanted-of-last-spec =

@@ -1,5 +1,5 @@
 -- The loop marks the images in turn: those before i are marked, and it is known whether they differ (`Marked`).
-use Prim.Native.Nat.{ℕ, _-_, _≤_, _<_}
+use Prim.Native.Nat.{_-_, _≤_, _<_}
 use lib.ListN.{getD, take}
 use mathlib.Core.Logic.{⊎-elim}
 use mathlib.Core.Path.{_≡_, sym, _∙_}
@@ -21,6 +21,18 @@ Inv-loop images count marks₀ apart₀ i₀ marks apart i = (i ≤ count) × Ma
 abbrev μ-loop : tie.MeasureT-loop
 μ-loop images count marks₀ apart₀ i₀ marks apart i = count - i
 
+-- ---- moments on the way
+
+-- the beginning
+abbrev begun : tie.In-loop Inv-loop μ-loop → tie.Start Inv-loop μ-loop
+begun c = c .before .before .before .before
+
+-- where the loop's turn began, once its image is marked
+abbrev turn : tie.After-mark-image Inv-loop μ-loop → tie.In-loop Inv-loop μ-loop
+turn c = c .before .before .before .before
+
+-- ---- what is to be shown
+
 clear-requires : tie.Need-clear-requires Inv-loop μ-loop
 clear-requires c κs = search needs
 
@@ -28,10 +40,10 @@ loop-holds : tie.Need-loop-holds Inv-loop μ-loop
 loop-holds c = (omega arith, marked-none _ (rw (c .clear .ensures) marks-none))
 
 add-wide : tie.Need-add-wide Inv-loop μ-loop
-add-wide c = omega (arith, c .before .before .before .before .before .pre .few)
+add-wide c = omega (arith, begun (c .before) .pre .few)
 
 element-copy-out-wide : tie.Need-element-copy-out-wide Inv-loop μ-loop
-element-copy-out-wide c = omega (arith, c .before .before .before .before .before .pre .few)
+element-copy-out-wide c = omega (arith, begun (c .before) .pre .few)
 
 wide-requires : tie.Need-wide-requires Inv-loop μ-loop
 wide-requires c κs = search needs
@@ -40,17 +52,17 @@ mark-image-requires : tie.Need-mark-image-requires Inv-loop μ-loop
 mark-image-requires c κs = search needs
 
 add-i : tie.Need-add-i Inv-loop μ-loop
-add-i c = omega (arith, c .before .before .before .before .before .before .before .before .before .pre .few)
+add-i c = omega (arith, begun (turn (c .before)) .pre .few)
 
 loop-less : tie.Need-loop-less Inv-loop μ-loop
 loop-less c = search needs
 
 loop-again : tie.Need-loop-again Inv-loop μ-loop
 loop-again c =
-    let a = c .before .before .before .before .before .before .before .before .before .args in
-    let m = c .before .before .before .before .before .before .before .before .before .pre in
-    let l = c .before .before .before .before .before .before .loop in
-    let images = imagesIn (a .count) (a .images .now) in
+    let l = turn (c .before) .before .loop in
+    let o = begun (turn (c .before)) in
+    let m = o .pre in
+    let images = imagesIn (o .args .count) (o .args .images .now) in
     let inside = images-length _ _ _ m in
     let p = c .before .before .wide .result in
     let e : p ≡ cell (getD images (l .i) 0) = c .before .before .wide .ensures .0 ∙ sym (image-at _ _ _ m (l .i) (omega arith)) in

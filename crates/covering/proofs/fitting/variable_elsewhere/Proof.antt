@@ -17,6 +17,14 @@ Inv-loop cert first count images s i₀ i = Passing (varFitsIn cert first images
 abbrev μ-loop : tie.MeasureT-loop
 μ-loop cert first count images s i₀ i = count - i
 
+-- ---- moments on the way
+
+-- the beginning
+abbrev begun : tie.In-loop Inv-loop μ-loop → tie.Start Inv-loop μ-loop
+begun c = c .before .before .before
+
+-- ---- what is to be shown
+
 loop-holds : tie.Need-loop-holds Inv-loop μ-loop
 loop-holds c = pass-none _ _
 
@@ -40,11 +48,14 @@ element-copy-out-if2 c = search needs
 
 returns : tie.Need-returns Inv-loop μ-loop
 returns c =
-    let a = c .before .before .before .before .before .before .before .before .before .args in
-    let i = c .before .before .before .before .before .before .before .loop .i in
-    sym (ap (numberOr _) (pass-failed _ _ i (c .before .before .before .before .before .before .before .loop .inv) (omega arith)
-    (elsewhere (a .cert .now) (a .first) (a .images .now) (a .s .now) i (c .before .before .before .before .wide .result) (c .before .before .before .before .wide .ensures .0) (c .before .before .image-of .result)
-    (c .before .before .image-of .ensures) (c .before .before .before .if1 .taken) (c .if2 .taken))))
+    let m = c .before .before in
+    let w = m .before .before in
+    let t = w .before .before in
+    let a = begun t .args in
+    let i = t .before .loop .i in
+    sym (ap (numberOr _) (pass-failed _ _ i (t .before .loop .inv) (omega arith)
+    (elsewhere (a .cert .now) (a .first) (a .images .now) (a .s .now) i (w .wide .result) (w .wide .ensures .0) (m .image-of .result)
+    (m .image-of .ensures) (m .before .if1 .taken) (c .if2 .taken))))
 
 add-i : tie.Need-add-i Inv-loop μ-loop
 add-i c = search needs
@@ -54,10 +65,11 @@ loop-less c = search needs
 
 loop-again : tie.Need-loop-again Inv-loop μ-loop
 loop-again c =
-    let a = c .before .before .before .before .before .before .args in
-    let i = c .before .before .before .before .loop .i in
+    let t = c .before .before .before in
+    let a = begun t .args in
+    let i = t .before .loop .i in
     let e = c .before .wide .ensures .0 in
-    pass-more _ _ i (c .before .before .before .before .loop .inv) (omega arith)
+    pass-more _ _ i (t .before .loop .inv) (omega arith)
     (⊎-elim (λ (_, m, _, z). at-image (a .cert .now) (a .first) (a .images .now) (a .s .now) i (c .before .wide .result) e (m .result) (m .ensures) (z .left))
     (λ n. unplaced (a .cert .now) (a .first) (a .images .now) (a .s .now) i (c .before .wide .result) e (n .left)) (c .if1 .came))
 

@@ -1,6 +1,6 @@
 -- The loop follows the paths in turn, as `follow_paths` does. The image of a place that the member has is an end, so what is met there is one. A link
 -- that stands there at once is a path of one step (`follow-direct`).
-use Prim.Native.Nat.{ℕ, _-_, _≤_}
+use Prim.Native.Nat.{ℕ, _-_, _≤_, _<_}
 use mathlib.Core.Logic.{⊎-elim}
 use mathlib.Core.Path.{_≡_, refl, sym, _∙_}
 use native.Mathlib.Omega.{arith}
@@ -22,20 +22,52 @@ Inv-loop cert first count images marks₀ s links₀ i₀ marks links i =
 abbrev μ-loop : tie.MeasureT-loop
 μ-loop cert first count images marks₀ s links₀ i₀ marks links i = count - i
 
+-- ---- moments on the way, and what is so then
+
+-- the beginning
+abbrev begun : tie.In-loop Inv-loop μ-loop → tie.Start Inv-loop μ-loop
+begun c = c .before .before .before
+
+-- where the loop's turn began, once the image of its cell is read
+abbrev turn : tie.After-wide2 Inv-loop μ-loop → tie.In-loop Inv-loop μ-loop
+turn c = c .before .before .before .before .before .before
+
+-- where that image was read, once its path is followed
+abbrev imaged : tie.After-walk Inv-loop μ-loop → tie.After-wide2 Inv-loop μ-loop
+imaged c = c .before .before .before .before .before .before .before
+
+-- where the path was followed, once it fits
+abbrev followed : tie.After-struct-known2 Inv-loop μ-loop → tie.After-walk Inv-loop μ-loop
+followed c = c .before .before .before .before .before
+
+-- there are few images
+few : (s : tie.Start Inv-loop μ-loop) → s .args .count ≤ 12
+few s = let (m, p, l) = s .pre in l .images .few
+
+-- the image of the cell is one of the covered shape
+inside : (c : tie.After-wide2 Inv-loop μ-loop) → c .wide2 .result < 28
+inside c =
+    let t = turn c in
+    let (m, p, l) = begun t .pre in
+    let w = fit-walk _ _ _ _ _ _ _ _ l _ _ _ (t .before .loop .inv .1 m p l) (omega arith) _ (c .before .before .before .before .wide .ensures .0) _ (c .wide2 .ensures .0) in
+    omega (arith, w .high, l .linked .fit)
+
+-- ---- what is to be shown
+
 loop-holds : tie.Need-loop-holds Inv-loop μ-loop
 loop-holds c = (omega arith, λ m p l. fit-none _ _ _ _ _ _ _ _ l)
 
 add-wide : tie.Need-add-wide Inv-loop μ-loop
-add-wide c = let (m, p, l) = c .before .before .before .pre in omega (arith, l .inside)
+add-wide c = let (m, p, l) = begun c .pre in omega (arith, l .inside)
 
 shared-slice-read-wide : tie.Need-shared-slice-read-wide Inv-loop μ-loop
-shared-slice-read-wide c = let (m, p, l) = c .before .before .before .before .pre in omega (arith, l .inside)
+shared-slice-read-wide c = let (m, p, l) = begun (c .before) .pre in omega (arith, l .inside)
 
 wide-requires : tie.Need-wide-requires Inv-loop μ-loop
 wide-requires c κs = search needs
 
 add-if2 : tie.Need-add-if2 Inv-loop μ-loop
-add-if2 c = let (m, p, l) = c .before .before .before .before .before .before .pre in omega (arith, l .images .few)
+add-if2 c = omega (arith, few (begun (c .before .before .before)))
 
 returns : tie.Need-returns Inv-loop μ-loop
 returns c = λ m p l z. let v : _≡_ {A = ℕ} 0 1 = cc in absurd (omega arith)
@@ -44,33 +76,25 @@ add-wide-2 : tie.Need-add-wide-2 Inv-loop μ-loop
 add-wide-2 c = search needs
 
 element-copy-out-wide : tie.Need-element-copy-out-wide Inv-loop μ-loop
-element-copy-out-wide c = let (m, p, l) = c .before .before .before .before .before .before .before .pre in omega (arith, l .images .few)
+element-copy-out-wide c = omega (arith, few (begun (c .before .before .before .before)))
 
 wide-requires-2 : tie.Need-wide-requires-2 Inv-loop μ-loop
 wide-requires-2 c κs = search needs
 
 element-copy-out-if3 : tie.Need-element-copy-out-if3 Inv-loop μ-loop
-element-copy-out-if3 c =
-    let (m, p, l) = c .before .before .before .before .before .before .before .before .before .pre in
-    let f = c .before .before .before .before .before .before .before .loop .inv .1 m p l in
-    let w = fit-walk _ _ _ _ _ _ _ _ l _ _ _ f (omega arith) _ (c .before .before .before .before .wide .ensures .0) _ (c .wide2 .ensures .0) in
-    omega (arith, w .high, l .linked .fit)
+element-copy-out-if3 c = inside c
 
 element-copy-out-if3-2 : tie.Need-element-copy-out-if3-2 Inv-loop μ-loop
-element-copy-out-if3-2 c = let (m, p, l) = c .before .before .before .before .before .before .before .before .before .before .pre in omega (arith, l .images .few)
+element-copy-out-if3-2 c = omega (arith, few (begun (turn (c .before))))
 
 add-links : tie.Need-add-links Inv-loop μ-loop
 add-links c =
-    let (m, p, l) = c .before .before .before .before .before .before .before .before .before .before .before .before .pre in
-    let f = c .before .before .before .before .before .before .before .before .before .before .loop .inv .1 m p l in
-    omega (arith, f .few, l .images .few)
+    let t = turn (c .before .before .before) in
+    let (m, p, l) = begun t .pre in
+    omega (arith, t .before .loop .inv .1 m p l .few, few (begun t))
 
 element-copy-out-wide-2 : tie.Need-element-copy-out-wide-2 Inv-loop μ-loop
-element-copy-out-wide-2 c =
-    let (m, p, l) = c .before .before .before .before .before .before .before .before .before .before .before .before .before .pre in
-    let f = c .before .before .before .before .before .before .before .before .before .before .before .loop .inv .1 m p l in
-    let w = fit-walk _ _ _ _ _ _ _ _ l _ _ _ f (omega arith) _ (c .before .before .before .before .before .before .before .before .wide .ensures .0) _ (c .before .before .before .before .wide2 .ensures .0) in
-    omega (arith, w .high, l .linked .fit)
+element-copy-out-wide-2 c = inside (c .before .before .before .before)
 
 wide-requires-3 : tie.Need-wide-requires-3 Inv-loop μ-loop
 wide-requires-3 c κs = search needs
@@ -79,7 +103,7 @@ walk-requires : tie.Need-walk-requires Inv-loop μ-loop
 walk-requires c κs = search needs
 
 element-copy-out-wide-3 : tie.Need-element-copy-out-wide-3 Inv-loop μ-loop
-element-copy-out-wide-3 c = let (m, p, l) = c .before .before .before .before .before .before .before .before .before .before .before .before .before .before .before .before .pre in omega (arith, l .images .few)
+element-copy-out-wide-3 c = omega (arith, few (begun (turn (imaged c))))
 
 wide-requires-4 : tie.Need-wide-requires-4 Inv-loop μ-loop
 wide-requires-4 c κs = search needs
@@ -90,10 +114,12 @@ returns-2 c = λ m p l z. let v : _≡_ {A = ℕ} 0 1 = cc in absurd (omega arit
 -- each of at most 12 walks adds at most 29
 add-links-2 : tie.Need-add-links-2 Inv-loop μ-loop
 add-links-2 c =
-    let (m, p, l) = c .before .before .before .before .before .before .before .before .before .before .before .before .before .before .before .before .before .before .before .before .before .pre in
-    let f = c .before .before .before .before .before .before .before .before .before .before .before .before .before .before .before .before .before .before .before .loop .inv .1 m p l in
-    let most = walked-few _ _ _ _ _ _ _ _ l _ _ _ f _ _ (c .before .before .before .before .before .walk .ensures .1) in
-    omega (arith, f .few, most, l .images .few)
+    let w = followed c in
+    let t = turn (imaged w) in
+    let (m, p, l) = begun t .pre in
+    let f = t .before .loop .inv .1 m p l in
+    let most = walked-few _ _ _ _ _ _ _ _ l _ _ _ f _ _ (w .walk .ensures .1) in
+    omega (arith, f .few, most, few (begun t))
 
 add-i : tie.Need-add-i Inv-loop μ-loop
 add-i c = search needs
@@ -107,7 +133,7 @@ loop-again c = (
   λ m p l.
       let f = c .before .before .before .before .loop .inv .1 m p l in
       let e = c .before .wide .ensures .0 in
-      let images = c .before .before .before .before .before .before .args .images .now in
+      let images = begun (c .before .before .before) .args .images .now in
       let q = c .before .wide .result in
       ⊎-elim
       (λ (n, b, _, s, _, _, d, y, a).

@@ -17,6 +17,14 @@ Inv-loop cert first count images s i₀ i = Passing (varFitsIn cert first images
 abbrev μ-loop : tie.MeasureT-loop
 μ-loop cert first count images s i₀ i = count - i
 
+-- ---- moments on the way
+
+-- the beginning
+abbrev begun : tie.In-loop Inv-loop μ-loop → tie.Start Inv-loop μ-loop
+begun c = c .before .before .before
+
+-- ---- what is to be shown
+
 loop-holds : tie.Need-loop-holds Inv-loop μ-loop
 loop-holds c = pass-none _ _
 
@@ -52,11 +60,12 @@ loop-less c = search needs
 
 loop-again : tie.Need-loop-again Inv-loop μ-loop
 loop-again c =
-    let a = c .before .before .before .before .before .before .args in
-    let i = c .before .before .before .before .loop .i in
+    let t = c .before .before .before in
+    let a = begun t .args in
+    let i = t .before .loop .i in
     let p = c .before .wide .result in
     let e = c .before .wide .ensures .0 in
-    pass-more _ _ i (c .before .before .before .before .loop .inv) (omega arith)
+    pass-more _ _ i (t .before .loop .inv) (omega arith)
     (⊎-elim
     (λ (_, b, _, _, z). at-image (a .cert .now) (a .first) (a .images .now) (a .s .now) i p e _ (sym (image-read (a .images .now) p (omega (arith, b .left)))) (z .left))
     (λ n. unplaced (a .cert .now) (a .first) (a .images .now) (a .s .now) i p e (n .left)) (c .if1 .came))

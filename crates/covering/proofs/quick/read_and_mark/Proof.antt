@@ -16,6 +16,18 @@ Inv-loop cert first count n images₀ marks₀ i₀ images marks i = ReadingMark
 abbrev μ-loop : tie.MeasureT-loop
 μ-loop cert first count n images₀ marks₀ i₀ images marks i = count - i
 
+-- ---- moments on the way
+
+-- the beginning
+abbrev begun : tie.In-loop Inv-loop μ-loop → tie.Start Inv-loop μ-loop
+begun c = c .before .before .before .before .before
+
+-- where the loop's turn began, once its image is marked
+abbrev turn : tie.After-mark-image Inv-loop μ-loop → tie.In-loop Inv-loop μ-loop
+turn c = c .before .before .before .before .before .before
+
+-- ---- what is to be shown
+
 clear-requires : tie.Need-clear-requires Inv-loop μ-loop
 clear-requires c κs = search needs
 
@@ -46,7 +58,7 @@ mark-image-requires c κs = search needs
 returns-2 : tie.Need-returns-2 Inv-loop μ-loop
 returns-2 c =
     let (was, now) = c .before .mark-image .ensures in
-    rw now (taking-again _ _ _ _ _ _ _ (c .before .before .before .before .before .before .before .before .loop .inv) (c .before .before .wide2 .result + 3) (omega arith) (sym was ∙ not-true _ (c .if2 .taken)))
+    rw now (taking-again _ _ _ _ _ _ _ (turn (c .before) .before .loop .inv) (c .before .before .wide2 .result + 3) (omega arith) (sym was ∙ not-true _ (c .if2 .taken)))
 
 add-images : tie.Need-add-images Inv-loop μ-loop
 add-images c = search needs
@@ -66,10 +78,10 @@ loop-less c = search needs
 loop-again : tie.Need-loop-again Inv-loop μ-loop
 loop-again c =
     let (was, now) = c .before .mark-image .ensures in
-    let a = c .before .before .before .before .before .before .before .before .before .before .before .before .args in
-    let i = c .before .before .before .before .before .before .before .before .loop .i in
+    let t = turn (c .before) in
+    let a = begun t .args in
     rw now
-    (taking-more _ _ _ _ _ _ _ (c .before .before .before .before .before .before .before .before .loop .inv) (omega arith) (omega arith) (omega arith) (omega arith) (getD (a .cert .now) (a .first + i) 0) (c .before .before .wide2 .result + 3) refl (omega arith) (omega arith)
+    (taking-more _ _ _ _ _ _ _ (t .before .loop .inv) (omega arith) (omega arith) (omega arith) (omega arith) (getD (a .cert .now) (a .first + t .before .loop .i) 0) (c .before .before .wide2 .result + 3) refl (omega arith) (omega arith)
     (sym was ∙ not-false _ (c .if2 .left)))
 
 returns-3 : tie.Need-returns-3 Inv-loop μ-loop

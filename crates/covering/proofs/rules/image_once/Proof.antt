@@ -14,29 +14,38 @@ Inv-loop images count i j₀ j = (m : ImageCodes count 25 images) (b : i < count
 abbrev μ-loop : tie.MeasureT-loop
 μ-loop images count i j₀ j = count - j
 
+-- ---- moments on the way
+
+-- the beginning
+abbrev begun : tie.In-loop Inv-loop μ-loop → tie.Start Inv-loop μ-loop
+begun c = c .before .before
+
+-- ---- what is to be shown
+
 loop-holds : tie.Need-loop-holds Inv-loop μ-loop
 loop-holds c = λ m b. differ-none _ _ m _ b
 
 add-if2 : tie.Need-add-if2 Inv-loop μ-loop
-add-if2 c = let k = c .before .before .before .pre .0 .few in omega arith
+add-if2 c = omega (arith, begun (c .before) .pre .0 .few)
 
 element-copy-out-if2 : tie.Need-element-copy-out-if2 Inv-loop μ-loop
-element-copy-out-if2 c = let k = c .before .before .before .pre .0 .few in omega arith
+element-copy-out-if2 c = omega (arith, begun (c .before) .pre .0 .few)
 
 add-if2-2 : tie.Need-add-if2-2 Inv-loop μ-loop
-add-if2-2 c = let k = c .before .before .before .before .pre .0 .few in omega arith
+add-if2-2 c = omega (arith, begun (c .before .before) .pre .0 .few)
 
 element-copy-out-if2-2 : tie.Need-element-copy-out-if2-2 Inv-loop μ-loop
-element-copy-out-if2-2 c = let k = c .before .before .before .before .pre .0 .few in omega arith
+element-copy-out-if2-2 c = omega (arith, begun (c .before .before) .pre .0 .few)
 
 returns : tie.Need-returns Inv-loop μ-loop
 returns c =
-    let (m, b) = c .before .before .before .before .before .before .pre in
-    let t = c .before .before .before .before .before .loop in
+    let i = c .before .before .before .before in
+    let (m, b) = begun i .pre in
+    let t = i .before .loop in
     differ-not _ _ m _ b (t .j) (t .inv m b) (omega arith) (c .before .before .before .if1 .taken) (c .if2 .taken)
 
 add-j : tie.Need-add-j Inv-loop μ-loop
-add-j c = let k = c .before .before .before .pre .0 .few in omega arith
+add-j c = omega (arith, begun (c .before) .pre .0 .few)
 
 loop-less : tie.Need-loop-less Inv-loop μ-loop
 loop-less c = search needs

@@ -24,14 +24,26 @@ Inv-loop cert first count images marks s i₀ i =
 abbrev μ-loop : tie.MeasureT-loop
 μ-loop cert first count images marks s i₀ i = count - i
 
+-- ---- moments on the way
+
+-- the beginning
+abbrev begun : tie.In-loop Inv-loop μ-loop → tie.Start Inv-loop μ-loop
+begun c = c .before .before .before
+
+-- where the loop's turn began, once the image of its cell is read
+abbrev turn : tie.After-wide2 Inv-loop μ-loop → tie.In-loop Inv-loop μ-loop
+turn c = c .before .before .before .before .before
+
+-- ---- what is to be shown
+
 loop-holds : tie.Need-loop-holds Inv-loop μ-loop
 loop-holds c = (omega arith, λ m p l. pass-none _ _)
 
 add-wide : tie.Need-add-wide Inv-loop μ-loop
-add-wide c = let (m, p, l) = c .before .before .before .pre in omega (arith, l .inside)
+add-wide c = let (m, p, l) = begun c .pre in omega (arith, l .inside)
 
 shared-slice-read-wide : tie.Need-shared-slice-read-wide Inv-loop μ-loop
-shared-slice-read-wide c = let (m, p, l) = c .before .before .before .before .pre in omega (arith, l .inside)
+shared-slice-read-wide c = let (m, p, l) = begun (c .before) .pre in omega (arith, l .inside)
 
 wide-requires : tie.Need-wide-requires Inv-loop μ-loop
 wide-requires c κs = search needs
@@ -40,7 +52,7 @@ add-wide-2 : tie.Need-add-wide-2 Inv-loop μ-loop
 add-wide-2 c = search needs
 
 element-copy-out-wide : tie.Need-element-copy-out-wide Inv-loop μ-loop
-element-copy-out-wide c = let (m, p, l) = c .before .before .before .before .before .before .pre in omega (arith, l .images .few)
+element-copy-out-wide c = let (m, p, l) = begun (c .before .before .before) .pre in omega (arith, l .images .few)
 
 wide-requires-2 : tie.Need-wide-requires-2 Inv-loop μ-loop
 wide-requires-2 c κs = search needs
@@ -53,8 +65,9 @@ wide-requires-3 c κs = search needs
 
 element-copy-out-wide-2 : tie.Need-element-copy-out-wide-2 Inv-loop μ-loop
 element-copy-out-wide-2 c =
-    let (m, p, l) = c .before .before .before .before .before .before .before .before .before .before .pre in
-    let w = walk-from _ _ _ _ _ _ _ _ l (c .before .before .before .before .before .before .before .before .loop .i) (omega arith) _ (c .before .before .before .before .before .wide .ensures .0) _ (c .before .before .wide2 .ensures .0) [] _ (l .marked) in
+    let b = c .before .before in
+    let (m, p, l) = begun (turn b) .pre in
+    let w = walk-from _ _ _ _ _ _ _ _ l (turn b .before .loop .i) (omega arith) _ (b .before .before .before .wide .ensures .0) _ (b .wide2 .ensures .0) [] _ (l .marked) in
     omega (arith, w .high, l .linked .fit)
 
 wide-requires-4 : tie.Need-wide-requires-4 Inv-loop μ-loop
@@ -65,11 +78,11 @@ stop-from-requires c κs = search needs
 
 returns : tie.Need-returns Inv-loop μ-loop
 returns c = λ m p l.
-    let t = c .before .before .before .before .before .before .before .before .before .before .before .before .loop in
-    let e = c .before .before .before .before .before .before .before .before .before .wide .ensures .0 in
-    let s = c .before .before .before .before .before .before .wide2 .ensures .0 in
+    let n = c .before .before .before .before in
+    let b = n .before .before in
+    let t = turn b .before .loop in
     sym (ap (numberOr _)
-    (meet-not _ _ _ _ _ _ _ _ l (t .i) (t .inv .1 m p l) (omega arith) _ e _ s (c .before .before .before .before .before .before .before .before .if1 .taken) _ (c .before .before .before .before .wide3 .ensures .0 ∙ c .before .before .before .before .before .image-of .ensures) _ _
+    (meet-not _ _ _ _ _ _ _ _ l (t .i) (t .inv .1 m p l) (omega arith) _ (b .before .before .before .wide .ensures .0) _ (b .wide2 .ensures .0) (b .before .before .if1 .taken) _ (n .wide3 .ensures .0 ∙ n .before .image-of .ensures) _ _
     (c .before .before .wide4 .ensures .0) (c .before .stop-from .ensures) (c .if2 .taken)))
 
 add-i : tie.Need-add-i Inv-loop μ-loop
