@@ -58,11 +58,14 @@ same-length c = search needs
 
 returns : tie.Need-returns
 returns c =
-    let k = c .before .before .before .before .before .before .before .before .before .before .before .before .check .ensures in
-    let r-is = c .before .before .before .before .before .before .before .before .before .before .counts .given .1 in (
+    let lent = c .before .before in
+    let known = lent .before .before .before .before in
+    let counted = known .before .before .before .before in
+    let k = counted .before .before .check .ensures in
+    let r-is = counted .counts .given .1 in (
       rw (← k .0, r-is) refl,
       told-values _ _ _ (k .0) (k .1 .0) (k .1 .1) _ _ _ (told-accepted _ _ _ (k .0) (k .1 .0) (k .1 .1) _ r-is)
-          (rw (← k .0, r-is) (c .before .before .lend .ensures)),
+          (rw (← k .0, r-is) (lent .lend .ensures)),
     )
 
 same-length-2 : tie.Need-same-length-2
@@ -70,12 +73,15 @@ same-length-2 c = search needs
 
 returns-2 : tie.Need-returns-2
 returns-2 c =
-    let k = c .before .before .before .before .before .before .before .before .before .before .before .check .ensures in
-    let r-is = c .before .before .before .before .before .before .before .before .before .refusal .given .1 in (
+    let lent = c .before .before .before in
+    let named = lent .before .before .before in
+    let refused = named .before .before .before in
+    let k = refused .before .before .check .ensures in
+    let r-is = refused .refusal .given .1 in (
       rw (← k .0, r-is) (c .refusal-number .ensures),
       told-values _ _ _ (k .0) (k .1 .0) (k .1 .1) _ _ _
           (told-refused _ _ _ (k .0) (k .1 .0) (k .1 .1) _ _ _ r-is (c .refusal-number .ensures))
-          (rw (← k .0, r-is, ← c .before .before .before .before .before .before .before .rule-number .ensures, ← c .before .before .before .before .before .before .rule-name .ensures) (c .before .before .before .lend2 .ensures)),
+          (rw (← k .0, r-is, ← named .before .rule-number .ensures, ← named .rule-name .ensures) (lent .lend2 .ensures)),
     )
 
 pub vorruda-verdict-spec : {M : Type 1} → statement M

@@ -57,31 +57,31 @@ same-length : tie.Need-same-length
 same-length c = search needs
 
 returns : tie.Need-returns
-returns c = told _ _ (c .before .before .before .before .before .before .answer .given .1) _ _ _ refl (c .before .before .lend .ensures)
+returns c = let o = c .before .before in told _ _ (o .before .before .before .before .answer .given .1) _ _ _ refl (o .lend .ensures)
 
 same-length-2 : tie.Need-same-length-2
 same-length-2 c = search needs
 
 returns-2 : tie.Need-returns-2
-returns-2 c = told _ _ (c .before .before .before .before .before .before .before .answer2 .given .1) _ _ _ (c .refusal-number .ensures) (c .before .before .before .lend2 .ensures)
+returns-2 c = let o = c .before .before .before in told _ _ (o .before .before .before .before .answer2 .given .1) _ _ _ (c .refusal-number .ensures) (o .lend2 .ensures)
 
 same-length-3 : tie.Need-same-length-3
 same-length-3 c = search needs
 
 returns-3 : tie.Need-returns-3
-returns-3 c = told _ _ (c .before .before .before .before .before .enum-told .given .1) _ _ _ refl (c .before .before .lend3 .ensures)
+returns-3 c = let o = c .before .before in told _ _ (o .before .before .before .enum-told .given .1) _ _ _ refl (o .lend3 .ensures)
 
 same-length-4 : tie.Need-same-length-4
 same-length-4 c = search needs
 
 returns-4 : tie.Need-returns-4
-returns-4 c = told _ _ (c .before .before .before .before .before .enum-told2 .given .1) _ _ _ refl (c .before .before .lend4 .ensures)
+returns-4 c = let o = c .before .before in told _ _ (o .before .before .before .enum-told2 .given .1) _ _ _ refl (o .lend4 .ensures)
 
 same-length-5 : tie.Need-same-length-5
 same-length-5 c = search needs
 
 returns-5 : tie.Need-returns-5
-returns-5 c = told _ _ (c .before .before .before .before .before .before .answer3 .given .1) _ _ _ refl (c .before .before .lend5 .ensures)
+returns-5 c = let o = c .before .before in told _ _ (o .before .before .before .before .answer3 .given .1) _ _ _ refl (o .lend5 .ensures)
 
 pub tell-spec : {M : Type 1} → statement M
 tell-spec =

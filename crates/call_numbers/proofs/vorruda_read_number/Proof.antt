@@ -30,18 +30,22 @@ same-length c = search needs
 
 returns : tie.Need-returns
 returns c =
+    let o = c .before .before in
+    let t = o .before .before .before .before in
     rw
-    (← c .before .before .before .before .before .before .before .before .read-number .ensures, c .before .before .before .before .before .before .n .given .1)
-    (refl, c .before .before .lend .ensures)
+    (← t .before .before .read-number .ensures, t .n .given .1)
+    (refl, o .lend .ensures)
 
 same-length-2 : tie.Need-same-length-2
 same-length-2 c = search needs
 
 returns-2 : tie.Need-returns-2
 returns-2 c =
+    let o = c .before .before in
+    let t = o .before .before .before .before in
     rw
-    (← c .before .before .before .before .before .before .before .before .read-number .ensures, c .before .before .before .before .before .before .place .given .1)
-    (refl, c .before .before .lend2 .ensures)
+    (← t .before .before .read-number .ensures, t .place .given .1)
+    (refl, o .lend2 .ensures)
 
 pub vorruda-read-number-spec : {M : Type 1} → statement M
 vorruda-read-number-spec =

@@ -42,12 +42,13 @@ same-length-2 c = search needs
 
 returns : tie.Need-returns
 returns c =
-    let at-k = c .before .before .before .before .before .before in
-    let w = c .before .before .before .before .before .before .before .before .before .before .write-numbers in (
-      rw (← w .ensures .0, at-k .k .given .1) refl,
+    let o = c .before .before in
+    let t = o .before .before .before .before in
+    let w = t .before .before .before .before .write-numbers in (
+      rw (← w .ensures .0, t .k .given .1) refl,
       (
         rw (← w .ensures .0) (w .ensures .1),
-        rw (← w .ensures .0, at-k .k .given .1) (c .before .before .lend .ensures),
+        rw (← w .ensures .0, t .k .given .1) (o .lend .ensures),
       ),
     )
 
@@ -59,12 +60,13 @@ same-length-4 c = search needs
 
 returns-2 : tie.Need-returns-2
 returns-2 c =
-    let at-i = c .before .before .before .before .before .before in
-    let w = c .before .before .before .before .before .before .before .before .before .before .write-numbers in (
-      rw (← w .ensures .0, at-i .i .given .1) refl,
+    let o = c .before .before in
+    let t = o .before .before .before .before in
+    let w = t .before .before .before .before .write-numbers in (
+      rw (← w .ensures .0, t .i .given .1) refl,
       (
         rw (← w .ensures .0) (w .ensures .1),
-        rw (← w .ensures .0, at-i .i .given .1) (c .before .before .lend2 .ensures),
+        rw (← w .ensures .0, t .i .given .1) (o .lend2 .ensures),
       ),
     )
 
@@ -76,12 +78,13 @@ same-length-6 c = search needs
 
 returns-3 : tie.Need-returns-3
 returns-3 c =
-    let at-k2 = c .before .before .before .before .before .before in
-    let w = c .before .before .before .before .before .before .before .before .before .before .write-numbers in (
-      rw (← w .ensures .0, at-k2 .k2 .given .1) refl,
+    let o = c .before .before in
+    let t = o .before .before .before .before in
+    let w = t .before .before .before .before .write-numbers in (
+      rw (← w .ensures .0, t .k2 .given .1) refl,
       (
         rw (← w .ensures .0) (w .ensures .1),
-        rw (← w .ensures .0, at-k2 .k2 .given .1) (c .before .before .lend3 .ensures),
+        rw (← w .ensures .0, t .k2 .given .1) (o .lend3 .ensures),
       ),
     )
 

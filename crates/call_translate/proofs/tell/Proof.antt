@@ -39,19 +39,25 @@ same-length : tie.Need-same-length
 same-length c = search needs
 
 returns : tie.Need-returns
-returns c = told _ _ (c .before .before .before .before .before .before .answer .given .1) _ _ _ refl (c .before .before .lend .ensures)
+returns c =
+    let l = c .before .before in
+    told _ _ (l .before .before .before .before .answer .given .1) _ _ _ refl (l .lend .ensures)
 
 same-length-2 : tie.Need-same-length-2
 same-length-2 c = search needs
 
 returns-2 : tie.Need-returns-2
-returns-2 c = told _ _ (c .before .before .before .before .before .before .before .answer2 .given .1) _ _ _ (c .fault-number .ensures) (c .before .before .before .lend2 .ensures)
+returns-2 c =
+    let l = c .before .before .before in
+    told _ _ (l .before .before .before .before .answer2 .given .1) _ _ _ (c .fault-number .ensures) (l .lend2 .ensures)
 
 same-length-3 : tie.Need-same-length-3
 same-length-3 c = search needs
 
 returns-3 : tie.Need-returns-3
-returns-3 c = told _ _ (c .before .before .before .before .before .before .answer3 .given .1) _ _ _ refl (c .before .before .lend3 .ensures)
+returns-3 c =
+    let l = c .before .before in
+    told _ _ (l .before .before .before .before .answer3 .given .1) _ _ _ refl (l .lend3 .ensures)
 
 pub tell-spec : {M : Type 1} → statement M
 tell-spec =

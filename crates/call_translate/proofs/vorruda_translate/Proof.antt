@@ -4,6 +4,10 @@ use borrow.Author.Needs.{needs}
 use Rattle.call_translate.proofs.vorruda_translate.Statement.{statement}
 use Rattle.call_translate.proofs.vorruda_translate.Tie as tie
 
+-- where the text was translated, once this is told
+abbrev made : tie.After-tell → tie.After-translate
+made c = c .before .before .before .before .before .before
+
 translate-requires : tie.Need-translate-requires
 translate-requires c κs = search needs
 
@@ -21,9 +25,9 @@ same-length-3 c = search needs
 
 returns : tie.Need-returns
 returns c =
-    let r = c .before .before .before .before .before .before .before .before .translate in
-    let t = c .before .before .tell in
-    translated _ _ _ _ _ (r .result) _ _ _ (r .ensures) (t .ensures .0) (t .ensures .1)
+    let t = c .before .before in
+    let r = made t .translate in
+    translated _ _ _ _ _ (r .result) _ _ _ (r .ensures) (t .tell .ensures .0) (t .tell .ensures .1)
 
 pub vorruda-translate-spec : {M : Type 1} → statement M
 vorruda-translate-spec =

@@ -7,6 +7,10 @@ use borrow.Author.Needs.{needs}
 use Rattle.factrows.proofs.add_fact.Statement.{statement}
 use Rattle.factrows.proofs.add_fact.Tie as tie
 
+-- the beginning, once both cells are known to be cells
+abbrev begun : tie.Else2 → tie.Start
+begun c = c .before .before
+
 returns : tie.Need-returns
 returns c = let a = c .before .args in rw (le-ltb (a .c) 14 (omega arith)) refl
 
@@ -17,16 +21,16 @@ add-below-requires : tie.Need-add-below-requires
 add-below-requires c κs = search needs
 
 returns-3 : tie.Need-returns-3
-returns-3 c = let a = c .before .before .before .before .before .args in rw (lt-ltb (a .c) 14 (omega arith), lt-ltb (a .d) 14 (omega arith), c .before .before .if3 .taken) (c .add-below .ensures)
+returns-3 c = let a = begun (c .before .before .before) .args in rw (lt-ltb (a .c) 14 (omega arith), lt-ltb (a .d) 14 (omega arith), c .before .before .if3 .taken) (c .add-below .ensures)
 
 add-equal-requires : tie.Need-add-equal-requires
 add-equal-requires c κs = search needs
 
 returns-4 : tie.Need-returns-4
-returns-4 c = let a = c .before .before .before .before .before .before .args in rw (lt-ltb (a .c) 14 (omega arith), lt-ltb (a .d) 14 (omega arith), c .before .before .if4 .taken) (c .add-equal .ensures)
+returns-4 c = let a = begun (c .before .before .before .before) .args in rw (lt-ltb (a .c) 14 (omega arith), lt-ltb (a .d) 14 (omega arith), c .before .before .if4 .taken) (c .add-equal .ensures)
 
 returns-5 : tie.Need-returns-5
-returns-5 c = let a = c .before .before .before .before .args in rw (lt-ltb (a .c) 14 (omega arith), lt-ltb (a .d) 14 (omega arith)) (no-kind (a .rows .now) (a .c) (a .d) (a .kind) (c .before .if3 .left) (c .if4 .left))
+returns-5 c = let a = begun (c .before .before) .args in rw (lt-ltb (a .c) 14 (omega arith), lt-ltb (a .d) 14 (omega arith)) (no-kind (a .rows .now) (a .c) (a .d) (a .kind) (c .before .if3 .left) (c .if4 .left))
 
 pub add-fact-spec : {M : Type 1} → statement M
 add-fact-spec =

@@ -14,6 +14,10 @@ Inv-loop rows₀ c d up p₀ rows p = (p ≤ 14) × Turned (belowAt c d rows₀)
 abbrev μ-loop : tie.MeasureT-loop
 μ-loop rows₀ c d up p₀ rows p = 14 - p
 
+-- the beginning, from the loop
+abbrev begun : tie.At-loop Inv-loop μ-loop → tie.Start Inv-loop μ-loop
+begun c = c .before .before .before .before .before
+
 sized-requires : tie.Need-sized-requires Inv-loop μ-loop
 sized-requires c κs = search needs
 
@@ -55,17 +59,18 @@ loop-less c = search needs
 
 loop-again : tie.Need-loop-again Inv-loop μ-loop
 loop-again c =
-    let a = c .before .before .before .before .before .before .before .before .before .args in
-    let at = c .before .before .before .before .loop in
+    let o = c .before .before .before .before in
+    let a = begun o .args in
+    let at = o .loop in
     let l = a .rows .now in (
       omega arith,
       turn-more (belowAt (a .c) (a .d) l) l (at .rows) (at .p) (at .inv .1) (c .below-row .result) (omega arith)
-          (c .below-row .ensures ∙ below-new (a .c) (a .d) l (at .rows) (at .p) (c .before .before .before .before .before .up-of .result) (at .inv .1) (omega arith) (c .before .before .before .before .before .up-of .ensures)),
+          (c .below-row .ensures ∙ below-new (a .c) (a .d) l (at .rows) (at .p) (o .before .up-of .result) (at .inv .1) (omega arith) (o .before .up-of .ensures)),
     )
 
 returns : tie.Need-returns Inv-loop μ-loop
 returns c =
-    let a = c .before .before .before .before .before .before .args in
+    let a = begun (c .before) .args in
     let at = c .before .loop in
     let l = a .rows .now in
     turn-all (belowAt (a .c) (a .d) l) l (at .rows) (at .p) (at .inv .1) (λ j h b. below-rest (a .c) (a .d) l j (omega arith))

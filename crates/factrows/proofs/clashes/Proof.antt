@@ -7,6 +7,10 @@ use borrow.Author.Needs.{needs}
 use Rattle.factrows.proofs.clashes.Statement.{statement}
 use Rattle.factrows.proofs.clashes.Tie as tie
 
+-- the beginning, once both cells are known to be cells
+abbrev begun : tie.Else2 → tie.Start
+begun c = c .before .before
+
 returns : tie.Need-returns
 returns c = let a = c .before .args in rw (le-ltb (a .c) 14 (omega arith)) refl
 
@@ -17,7 +21,7 @@ at-most-requires : tie.Need-at-most-requires
 at-most-requires c κs = search needs
 
 returns-3 : tie.Need-returns-3
-returns-3 c = let a = c .before .before .before .before .args in rw (lt-ltb (a .c) 14 (omega arith), lt-ltb (a .d) 14 (omega arith), c .before .if3 .taken) (c .at-most .ensures)
+returns-3 c = let a = begun (c .before .before) .args in rw (lt-ltb (a .c) 14 (omega arith), lt-ltb (a .d) 14 (omega arith), c .before .if3 .taken) (c .at-most .ensures)
 
 over-of-requires : tie.Need-over-of-requires
 over-of-requires c κs = search needs
@@ -26,10 +30,10 @@ is-either-on-requires : tie.Need-is-either-on-requires
 is-either-on-requires c κs = search needs
 
 returns-4 : tie.Need-returns-4
-returns-4 c = let a = c .before .before .before .before .before .before .args in rw (lt-ltb (a .c) 14 (omega arith), lt-ltb (a .d) 14 (omega arith), c .before .before .if4 .taken, ← c .before .over-of .ensures) (c .is-either-on .ensures)
+returns-4 c = let a = begun (c .before .before .before .before) .args in rw (lt-ltb (a .c) 14 (omega arith), lt-ltb (a .d) 14 (omega arith), c .before .before .if4 .taken, ← c .before .over-of .ensures) (c .is-either-on .ensures)
 
 returns-5 : tie.Need-returns-5
-returns-5 c = let a = c .before .before .before .before .args in rw (lt-ltb (a .c) 14 (omega arith), lt-ltb (a .d) 14 (omega arith)) (no-clash (a .rows .now) (a .c) (a .d) (a .kind) (c .before .if3 .left) (c .if4 .left))
+returns-5 c = let a = begun (c .before .before) .args in rw (lt-ltb (a .c) 14 (omega arith), lt-ltb (a .d) 14 (omega arith)) (no-clash (a .rows .now) (a .c) (a .d) (a .kind) (c .before .if3 .left) (c .if4 .left))
 
 pub clashes-spec : {M : Type 1} → statement M
 clashes-spec =

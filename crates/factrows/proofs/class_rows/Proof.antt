@@ -14,6 +14,10 @@ Inv-loop rows₀ class j₀ rows j = (14 ≤ j) × ((j ≤ 28) × Turned (classA
 abbrev μ-loop : tie.MeasureT-loop
 μ-loop rows₀ class j₀ rows j = 28 - j
 
+-- the beginning, from the loop
+abbrev begun : tie.At-loop Inv-loop μ-loop → tie.Start Inv-loop μ-loop
+begun c = c .before .before .before
+
 sized-requires : tie.Need-sized-requires Inv-loop μ-loop
 sized-requires c κs = search needs
 
@@ -49,15 +53,16 @@ loop-less c = search needs
 
 loop-again : tie.Need-loop-again Inv-loop μ-loop
 loop-again c =
-    let a = c .before .before .before .before .before .before .args in
-    let at = c .before .before .before .loop in
+    let o = c .before .before .before in
+    let a = begun o .args in
+    let at = o .loop in
     let l = a .rows .now in
     let t = at .inv .1 .1 in
     (omega arith, (omega arith, turn-more (classAt (a .class) l) l (at .rows) (at .j) t (c .class-row .result) (omega arith) (c .class-row .ensures ∙ class-new (a .class) l (at .rows) (at .j) t (at .inv .0))))
 
 returns : tie.Need-returns Inv-loop μ-loop
 returns c =
-    let a = c .before .before .before .before .args in
+    let a = begun (c .before) .args in
     let at = c .before .loop in
     let l = a .rows .now in
     turn-all (classAt (a .class) l) l (at .rows) (at .j) (at .inv .1 .1) (λ j h b. absurd (omega arith))

@@ -14,6 +14,14 @@ Inv-loop rows₀ s i₀ rows i = (i ≤ count s) × (rows ≡ closedFrom s (coun
 abbrev μ-loop : tie.MeasureT-loop
 μ-loop rows₀ s i₀ rows i = i
 
+-- the beginning, from the loop
+abbrev begun : tie.At-loop Inv-loop μ-loop → tie.Start Inv-loop μ-loop
+begun c = c .before .before .before .before
+
+-- where the loop's turn began, once the fact's first number is read
+abbrev turn : tie.After-wide Inv-loop μ-loop → tie.At-loop Inv-loop μ-loop
+turn c = c .before .before .before .before
+
 clear-requires : tie.Need-clear-requires Inv-loop μ-loop
 clear-requires c κs = search needs
 
@@ -64,15 +72,18 @@ loop-less c = search needs
 
 loop-again : tie.Need-loop-again Inv-loop μ-loop
 loop-again c =
-    let s = c .before .before .before .before .before .before .before .before .before .before .before .before .before .args .s .now in
-    let at = c .before .before .before .before .before .before .before .before .before .loop in (
+    let w = c .before .before .before in
+    let v = w .before .before in
+    let o = turn v in
+    let s = begun o .args .s .now in
+    let at = o .loop in (
       omega arith,
       c .add-fact .ensures
-          ∙ rw (c .before .before .before .before .before .wide .ensures .0, c .before .before .before .wide2 .ensures .0, c .before .wide3 .ensures .0, at .inv .1) (closed-more s (count s) (at .i) (omega arith) (at .inv .0)),
+          ∙ rw (v .wide .ensures .0, w .wide2 .ensures .0, c .before .wide3 .ensures .0, at .inv .1) (closed-more s (count s) (at .i) (omega arith) (at .inv .0)),
     )
 
 returns : tie.Need-returns Inv-loop μ-loop
-returns c = let s = c .before .before .before .before .before .args .s .now in let at = c .before .loop in at .inv .1 ∙ closed-all s (count s) (at .i) (omega arith)
+returns c = let s = begun (c .before) .args .s .now in let at = c .before .loop in at .inv .1 ∙ closed-all s (count s) (at .i) (omega arith)
 
 pub close-spec : {M : Type 1} → statement M
 close-spec =

@@ -16,6 +16,10 @@ Inv-loop rows₀ c j₀ rows j = (c < 14) × ((j ≤ 28) × Turned (λ i. offRow
 abbrev μ-loop : tie.MeasureT-loop
 μ-loop rows₀ c j₀ rows j = 28 - j
 
+-- the beginning, from the loop
+abbrev begun : tie.At-loop Inv-loop μ-loop → tie.Start Inv-loop μ-loop
+begun c = c .before .before .before .before
+
 returns : tie.Need-returns Inv-loop μ-loop
 returns c = let a = c .before .args in rw (le-ltb (a .c) 14 (omega arith)) refl
 
@@ -51,8 +55,9 @@ loop-less c = search needs
 
 loop-again : tie.Need-loop-again Inv-loop μ-loop
 loop-again c =
-    let a = c .before .before .before .before .before .before .before .args in
-    let at = c .before .before .before .loop in
+    let o = c .before .before .before in
+    let a = begun o .args in
+    let at = o .loop in
     let l = a .rows .now in
     let t = at .inv .1 .1 in
     (at .inv .0, (omega arith, turn-more (λ i. offRow (getD l i 0) (a .c)) l (at .rows) (at .j) t (c .off .result) (omega arith) (c .off .ensures ∙ ap (λ (x : ℕ). offRow x (a .c)) (t .old (at .j) (omega arith)))))
@@ -74,7 +79,7 @@ element-write-rows-3 c = search needs
 
 returns-2 : tie.Need-returns-2 Inv-loop μ-loop
 returns-2 c =
-    let a = c .before .before .before .before .before .args in
+    let a = begun (c .before) .args in
     let at = c .before .loop in
     let end : at .j ≡ 28 = omega (arith, at .inv .1 .0) in
     rw (lt-ltb (a .c) 14 (at .inv .0)) (drop-set (a .c) (a .rows .now) (at .rows) (at .inv .0) (rw end at (at .inv .1 .1)))

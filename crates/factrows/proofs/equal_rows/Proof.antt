@@ -14,6 +14,14 @@ Inv-loop rows₀ c d class over all some p₀ rows p = (p ≤ 14) × Turned (equ
 abbrev μ-loop : tie.MeasureT-loop
 μ-loop rows₀ c d class over all some p₀ rows p = 14 - p
 
+-- the beginning, once class, over and some are known
+abbrev begun : tie.After-some-of Inv-loop μ-loop → tie.Start Inv-loop μ-loop
+begun c = c .before .before .before .before .before .before .before
+
+-- where the class became known, once all three are
+abbrev classed : tie.After-some-of Inv-loop μ-loop → tie.After-class-of Inv-loop μ-loop
+classed c = c .before .before .before
+
 sized-requires : tie.Need-sized-requires Inv-loop μ-loop
 sized-requires c κs = search needs
 
@@ -27,7 +35,9 @@ some-of-requires : tie.Need-some-of-requires Inv-loop μ-loop
 some-of-requires c κs = search needs
 
 loop-holds : tie.Need-loop-holds Inv-loop μ-loop
-loop-holds c = let a = c .before .before .before .before .before .before .before .args in (omega arith, turn-none (equalAt (a .c) (a .d) (a .rows .now)) (a .rows .now) 0 (c .before .before .before .before .before .sized .ensures) (λ j h. absurd (omega arith)))
+loop-holds c =
+    let a = begun c .args in
+    (omega arith, turn-none (equalAt (a .c) (a .d) (a .rows .now)) (a .rows .now) 0 (classed c .before .before .sized .ensures) (λ j h. absurd (omega arith)))
 
 mul-equal-row : tie.Need-mul-equal-row Inv-loop μ-loop
 mul-equal-row c = search needs
@@ -52,19 +62,22 @@ loop-less c = search needs
 
 loop-again : tie.Need-loop-again Inv-loop μ-loop
 loop-again c =
-    let a = c .before .before .before .before .before .before .before .before .before .before .before .args in
+    let o = c .before .before .before .before in
+    let a = begun o .args in
     let at = c .before .before .before .loop in
-    let l = a .rows .now in (
+    let l = a .rows .now in
+    let class = classed o .class-of in
+    let over = o .before .over-of in
+    let some = o .some-of in (
       omega arith,
       turn-more (equalAt (a .c) (a .d) l) l (at .rows) (at .p) (at .inv .1) (c .equal-row .result) (omega arith)
           (c .equal-row .ensures
-          ∙ equal-new (a .c) (a .d) l (at .rows) (at .p) (c .before .before .before .before .before .before .before .class-of .result) (c .before .before .before .before .before .over-of .result) (c .before .before .before .before .some-of .result) (at .inv .1) (omega arith)
-          (c .before .before .before .before .before .before .before .class-of .ensures) (c .before .before .before .before .before .over-of .ensures) (c .before .before .before .before .some-of .ensures)),
+          ∙ equal-new (a .c) (a .d) l (at .rows) (at .p) (class .result) (over .result) (some .result) (at .inv .1) (omega arith) (class .ensures) (over .ensures) (some .ensures)),
     )
 
 returns : tie.Need-returns Inv-loop μ-loop
 returns c =
-    let a = c .before .before .before .before .before .before .before .before .before .args in
+    let a = begun (c .before .before) .args in
     let at = c .before .loop in
     let l = a .rows .now in
     turn-all (equalAt (a .c) (a .d) l) l (at .rows) (at .p) (at .inv .1) (λ j h b. equal-rest (a .c) (a .d) l j (omega arith))

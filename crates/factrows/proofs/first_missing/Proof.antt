@@ -15,6 +15,10 @@ Inv-loop rows s images n p₀ p = Passing (cellHolds rows s images) n p
 abbrev μ-loop : tie.MeasureT-loop
 μ-loop rows s images n p₀ p = n - p
 
+-- the beginning, from the loop
+abbrev begun : tie.At-loop Inv-loop μ-loop → tie.Start Inv-loop μ-loop
+begun c = c .before .before
+
 loop-holds : tie.Need-loop-holds Inv-loop μ-loop
 loop-holds c = let a = c .before .args in pass-none (cellHolds (a .rows .now) (a .s .now) (a .images .now)) (a .n)
 
@@ -23,8 +27,9 @@ cell-holds-requires c κs = search needs
 
 returns : tie.Need-returns Inv-loop μ-loop
 returns c =
-    let a = c .before .before .before .before .before .args in
-    let at = c .before .before .before .loop in
+    let o = c .before .before .before in
+    let a = begun o .args in
+    let at = o .loop in
     rw (pass-failed (cellHolds (a .rows .now) (a .s .now) (a .images .now)) (a .n) (at .p) (at .inv) (omega arith) (sym (c .before .cell-holds .ensures) ∙ not-true _ (c .if1 .taken))) refl
 
 add-p : tie.Need-add-p Inv-loop μ-loop
@@ -35,13 +40,14 @@ loop-less c = search needs
 
 loop-again : tie.Need-loop-again Inv-loop μ-loop
 loop-again c =
-    let a = c .before .before .before .before .before .args in
-    let at = c .before .before .before .loop in
+    let o = c .before .before .before in
+    let a = begun o .args in
+    let at = o .loop in
     pass-more (cellHolds (a .rows .now) (a .s .now) (a .images .now)) (a .n) (at .p) (at .inv) (omega arith) (sym (c .before .cell-holds .ensures) ∙ not-false _ (c .if1 .left))
 
 returns-2 : tie.Need-returns-2 Inv-loop μ-loop
 returns-2 c =
-    let a = c .before .before .before .args in
+    let a = begun (c .before) .args in
     let at = c .before .loop in
     rw (pass-all (cellHolds (a .rows .now) (a .s .now) (a .images .now)) (a .n) (at .p) (at .inv) (omega arith)) refl
 

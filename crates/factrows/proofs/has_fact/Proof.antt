@@ -6,6 +6,10 @@ use borrow.Author.Needs.{needs}
 use Rattle.factrows.proofs.has_fact.Statement.{statement}
 use Rattle.factrows.proofs.has_fact.Tie as tie
 
+-- the beginning, once both cells are known to be cells
+abbrev begun : tie.Else2 → tie.Start
+begun c = c .before .before
+
 returns : tie.Need-returns
 returns c = let a = c .before .args in rw (le-ltb (a .p) 14 (omega arith)) refl
 
@@ -22,7 +26,7 @@ is-on-requires : tie.Need-is-on-requires
 is-on-requires c κs = search needs
 
 returns-3 : tie.Need-returns-3
-returns-3 c = let a = c .before .before .before .before .before .args in rw (lt-ltb (a .p) 14 (omega arith), lt-ltb (a .q) 14 (omega arith), c .before .before .if3 .taken) (c .is-on .ensures)
+returns-3 c = let a = begun (c .before .before .before) .args in rw (lt-ltb (a .p) 14 (omega arith), lt-ltb (a .q) 14 (omega arith), c .before .before .if3 .taken) (c .is-on .ensures)
 
 add-is-on : tie.Need-add-is-on
 add-is-on c = search needs
@@ -37,10 +41,10 @@ is-on-requires-2 : tie.Need-is-on-requires-2
 is-on-requires-2 c κs = search needs
 
 returns-4 : tie.Need-returns-4
-returns-4 c = let a = c .before .before .before .before .before .before .args in rw (lt-ltb (a .p) 14 (omega arith), lt-ltb (a .q) 14 (omega arith), c .before .before .if4 .taken) (c .is-on2 .ensures)
+returns-4 c = let a = begun (c .before .before .before .before) .args in rw (lt-ltb (a .p) 14 (omega arith), lt-ltb (a .q) 14 (omega arith), c .before .before .if4 .taken) (c .is-on2 .ensures)
 
 returns-5 : tie.Need-returns-5
-returns-5 c = let a = c .before .before .before .before .args in rw (lt-ltb (a .p) 14 (omega arith), lt-ltb (a .q) 14 (omega arith), le-ltb (a .kind) 2 (omega arith)) refl
+returns-5 c = let a = begun (c .before .before) .args in rw (lt-ltb (a .p) 14 (omega arith), lt-ltb (a .q) 14 (omega arith), le-ltb (a .kind) 2 (omega arith)) refl
 
 pub has-fact-spec : {M : Type 1} → statement M
 has-fact-spec =

@@ -47,7 +47,10 @@ has-fact-requires : tie.Need-has-fact-requires
 has-fact-requires c κs = search needs
 
 returns : tie.Need-returns
-returns c = c .has-fact .ensures ∙ rw (c .before .before .before .before .before .before .image-cell .ensures, c .before .before .before .image-cell2 .ensures, c .before .before .before .before .before .before .before .wide .ensures .0, c .before .before .before .before .wide2 .ensures .0, c .before .wide3 .ensures .0) refl
+returns c =
+    let second = c .before .before .before in
+    let first = second .before .before .before in
+    c .has-fact .ensures ∙ rw (first .image-cell .ensures, second .image-cell2 .ensures, first .before .wide .ensures .0, second .before .wide2 .ensures .0, c .before .wide3 .ensures .0) refl
 
 pub holds-at-spec : {M : Type 1} → statement M
 holds-at-spec =

@@ -6,6 +6,10 @@ use borrow.Author.Needs.{needs}
 use Rattle.factrows.proofs.holds_for.Statement.{statement}
 use Rattle.factrows.proofs.holds_for.Tie as tie
 
+-- the beginning, once the first cell is read
+abbrev begun : tie.After-wide → tie.Start
+begun c = c .before .before .before
+
 mul-wide : tie.Need-mul-wide
 mul-wide c = search needs
 
@@ -22,10 +26,10 @@ holds-at-requires : tie.Need-holds-at-requires
 holds-at-requires c κs = search needs
 
 returns : tie.Need-returns
-returns c = let a = c .before .before .before .before .args in rw (← c .before .wide .ensures .0, ne-eqb (c .before .wide .result) (a .p) (c .if1 .taken)) refl
+returns c = let a = begun (c .before) .args in rw (← c .before .wide .ensures .0, ne-eqb (c .before .wide .result) (a .p) (c .if1 .taken)) refl
 
 returns-2 : tie.Need-returns-2
-returns-2 c = let a = c .before .before .before .before .before .args in rw (eq-eqb (leftAt (a .s .now) (a .i)) (a .p) (sym (c .before .before .wide .ensures .0) ∙ c .before .if1 .left)) (c .holds-at .ensures)
+returns-2 c = let a = begun (c .before .before) .args in rw (eq-eqb (leftAt (a .s .now) (a .i)) (a .p) (sym (c .before .before .wide .ensures .0) ∙ c .before .if1 .left)) (c .holds-at .ensures)
 
 pub holds-for-spec : {M : Type 1} → statement M
 holds-for-spec =

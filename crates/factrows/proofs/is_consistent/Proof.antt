@@ -16,6 +16,10 @@ Inv-loop rows p₀ p = (p ≤ 14) × (isConsistent rows ≡ allFrom (14 - p) p (
 abbrev μ-loop : tie.MeasureT-loop
 μ-loop rows p₀ p = 14 - p
 
+-- the beginning, in the loop's turn
+abbrev begun : tie.In-loop Inv-loop μ-loop → tie.Start Inv-loop μ-loop
+begun c = c .before .before
+
 loop-holds : tie.Need-loop-holds Inv-loop μ-loop
 loop-holds c = (omega arith, refl)
 
@@ -31,7 +35,7 @@ is-on-requires c κs = search needs
 returns : tie.Need-returns Inv-loop μ-loop
 returns c =
     let at = c .before .before .before .before .loop in
-    sym (at .inv .1 ∙ all-failed (looseAt (c .before .before .before .before .before .args .rows .now)) 14 (at .p) (omega arith) (ap not (sym (c .before .is-on .ensures) ∙ c .if1 .taken)))
+    sym (at .inv .1 ∙ all-failed (looseAt (begun (c .before .before .before) .args .rows .now)) 14 (at .p) (omega arith) (ap not (sym (c .before .is-on .ensures) ∙ c .if1 .taken)))
 
 add-p : tie.Need-add-p Inv-loop μ-loop
 add-p c = search needs
@@ -42,7 +46,7 @@ loop-less c = search needs
 loop-again : tie.Need-loop-again Inv-loop μ-loop
 loop-again c =
     let at = c .before .before .before .before .loop in
-    (omega arith, at .inv .1 ∙ all-passed (looseAt (c .before .before .before .before .before .args .rows .now)) 14 (at .p) (omega arith) (ap not (sym (c .before .is-on .ensures) ∙ c .if1 .left)))
+    (omega arith, at .inv .1 ∙ all-passed (looseAt (begun (c .before .before .before) .args .rows .now)) 14 (at .p) (omega arith) (ap not (sym (c .before .is-on .ensures) ∙ c .if1 .left)))
 
 returns-2 : tie.Need-returns-2 Inv-loop μ-loop
 returns-2 c = let at = c .before .loop in sym (at .inv .1 ∙ all-done (looseAt (c .before .before .args .rows .now)) 14 (at .p) (omega arith))

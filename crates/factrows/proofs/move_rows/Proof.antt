@@ -15,6 +15,10 @@ Inv-loop rows₀ first last j₀ rows j = (first ≤ j) × ((j ≤ last) × Turn
 abbrev μ-loop : tie.MeasureT-loop
 μ-loop rows₀ first last j₀ rows j = last - j
 
+-- the beginning, once it is known how many rows there are
+abbrev begun : tie.After-sized Inv-loop μ-loop → tie.Start Inv-loop μ-loop
+begun c = c .before .before
+
 sized-requires : tie.Need-sized-requires Inv-loop μ-loop
 sized-requires c κs = search needs
 
@@ -47,8 +51,9 @@ loop-less c = search needs
 
 loop-again : tie.Need-loop-again Inv-loop μ-loop
 loop-again c =
-    let a = c .before .before .before .before .before .args in
-    let at = c .before .before .loop in
+    let o = c .before .before in
+    let a = begun (o .before) .args in
+    let at = o .loop in
     let l = a .rows .now in
     let t = at .inv .1 .1 in (
       omega arith,
@@ -66,7 +71,7 @@ element-write-rows-2 c = search needs
 
 returns : tie.Need-returns Inv-loop μ-loop
 returns c =
-    let a = c .before .before .before .before .args in
+    let a = begun (c .before .before) .args in
     let at = c .before .loop in
     let l = a .rows .now in
     let f = movedAt (a .first) (a .last) l in

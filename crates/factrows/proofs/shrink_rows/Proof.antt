@@ -15,6 +15,10 @@ Inv-loop rows₀ c j₀ rows j = (j ≤ 28) × Turned (λ i. shrink (getD rows�
 abbrev μ-loop : tie.MeasureT-loop
 μ-loop rows₀ c j₀ rows j = 28 - j
 
+-- the beginning, from the loop
+abbrev begun : tie.At-loop Inv-loop μ-loop → tie.Start Inv-loop μ-loop
+begun c = c .before .before .before
+
 sized-requires : tie.Need-sized-requires Inv-loop μ-loop
 sized-requires c κs = search needs
 
@@ -47,15 +51,16 @@ loop-less c = search needs
 
 loop-again : tie.Need-loop-again Inv-loop μ-loop
 loop-again c =
-    let a = c .before .before .before .before .before .before .args in
-    let at = c .before .before .before .loop in
+    let o = c .before .before .before in
+    let a = begun o .args in
+    let at = o .loop in
     let l = a .rows .now in
     let t = at .inv .1 in
     (omega arith, turn-more (λ i. shrink (getD l i 0 % 16384) (a .c)) l (at .rows) (at .j) t (c .shrunk .result) (omega arith) (c .shrunk .ensures ∙ ap (λ (x : ℕ). shrink (x % 16384) (a .c)) (t .old (at .j) (omega arith))))
 
 returns : tie.Need-returns Inv-loop μ-loop
 returns c =
-    let a = c .before .before .before .before .args in
+    let a = begun (c .before) .args in
     let at = c .before .loop in
     let l = a .rows .now in
     turn-all (λ i. shrink (getD l i 0 % 16384) (a .c)) l (at .rows) (at .j) (at .inv .1) (λ j h b. absurd (omega arith))

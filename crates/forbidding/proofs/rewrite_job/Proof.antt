@@ -12,6 +12,10 @@ use borrow.Author.Needs.{needs}
 use Rattle.forbidding.proofs.rewrite_job.Statement.{statement}
 use Rattle.forbidding.proofs.rewrite_job.Tie as tie
 
+-- the beginning, once the job is read
+abbrev begun : tie.After-read-job → tie.Start
+begun c = c .before .before .before .before .before
+
 returns : tie.Need-returns
 returns c =
     let a = c .before .before .before .args in
@@ -33,15 +37,16 @@ enum-known-answer-2 c = search needs
 
 rewrite-read-requires : tie.Need-rewrite-read-requires
 rewrite-read-requires c κs =
-    let job = c .before .before .before .before .before .before .before .before .before .args .job .now in
-    (subst (JobAnswered job) (c .before .before .answer2 .given .1) (c .before .before .before .before .read-job .ensures), omega arith, c .before .before .before .before .before .if2 .left)
+    let o = c .before .before .before .before in
+    (subst (JobAnswered (begun o .args .job .now)) (c .before .before .answer2 .given .1) (o .read-job .ensures), omega arith, o .before .if2 .left)
 
 returns-3 : tie.Need-returns-3
 returns-3 c =
-    let a = c .before .before .before .before .before .before .before .before .args in
+    let o = c .before .before .before in
+    let a = begun o .args in
     let job = a .job .now in
-    let e = fitting-job job (setOf (a .asked)) (length (a .bytes .now)) (omega arith) (c .before .before .before .before .if2 .left) in
-    let lost = subst (JobAnswered job) (c .before .answer .given .1) (c .before .before .before .read-job .ensures) in
+    let e = fitting-job job (setOf (a .asked)) (length (a .bytes .now)) (omega arith) (o .before .if2 .left) in
+    let lost = subst (JobAnswered job) (c .before .answer .given .1) (o .read-job .ensures) in
     rewrites-none job (setOf (a .asked)) _ _ _ (numbered (c .before .answer .given .0 .0)) (e ∙ ap (rewriteRead (setOf (a .asked)) (length (a .bytes .now))) lost)
 
 same-length : tie.Need-same-length

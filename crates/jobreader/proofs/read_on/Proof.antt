@@ -7,6 +7,10 @@ use borrow.Author.Needs.{needs}
 use Rattle.jobreader.proofs.read_on.Statement.{statement}
 use Rattle.jobreader.proofs.read_on.Tie as tie
 
+-- the beginning, once the number is read
+abbrev begun : tie.After-read-number → tie.Start
+begun c = c .before .before .before
+
 returns : tie.Need-returns
 returns c = let a = c .before .before .args in refused-before (a .at) (a .refusal) (ranged (jobBuffer (a .job .now)) (a .low) (a .limit)) (c .if1 .taken)
 
@@ -21,26 +25,33 @@ enum-told c = search needs
 
 returns-2 : tie.Need-returns-2
 returns-2 c =
-    let a = c .before .before .before .before .before .args in
-    unread (a .job .now) (a .at) (a .refusal) (a .low) (a .limit) (omega arith) _ (sym (c .before .before .read-number .ensures) ∙ c .enum-told .given .1)
+    let o = c .before .before in
+    let a = begun o .args in
+    unread (a .job .now) (a .at) (a .refusal) (a .low) (a .limit) (omega arith) _ (sym (o .read-number .ensures) ∙ c .enum-told .given .1)
 
 returns-3 : tie.Need-returns-3
 returns-3 c =
-    let a = c .before .before .before .before .before .before .before .args in
-    let v = c .before .before .r .given in
-    outside (a .job .now) (a .at) (a .refusal) (a .low) (a .limit) (omega arith) (v .0 .0) (v .0 .1 .0) (sym (c .before .before .before .before .read-number .ensures) ∙ v .1) (λ h. omega arith)
+    let r = c .before .before in
+    let o = r .before .before in
+    let a = begun o .args in
+    let v = r .r .given in
+    outside (a .job .now) (a .at) (a .refusal) (a .low) (a .limit) (omega arith) (v .0 .0) (v .0 .1 .0) (sym (o .read-number .ensures) ∙ v .1) (λ h. omega arith)
 
 returns-4 : tie.Need-returns-4
 returns-4 c =
-    let a = c .before .before .before .before .before .before .before .before .args in
-    let v = c .before .before .before .r .given in
-    outside (a .job .now) (a .at) (a .refusal) (a .low) (a .limit) (omega arith) (v .0 .0) (v .0 .1 .0) (sym (c .before .before .before .before .before .read-number .ensures) ∙ v .1) (λ h. omega arith)
+    let r = c .before .before .before in
+    let o = r .before .before in
+    let a = begun o .args in
+    let v = r .r .given in
+    outside (a .job .now) (a .at) (a .refusal) (a .low) (a .limit) (omega arith) (v .0 .0) (v .0 .1 .0) (sym (o .read-number .ensures) ∙ v .1) (λ h. omega arith)
 
 returns-5 : tie.Need-returns-5
 returns-5 c =
-    let a = c .before .before .before .before .before .before .before .before .args in
-    let v = c .before .before .before .r .given in
-    value (a .job .now) (a .at) (a .refusal) (a .low) (a .limit) (omega arith) (v .0 .0) (v .0 .1 .0) (sym (c .before .before .before .before .before .read-number .ensures) ∙ v .1) (omega arith) (omega arith)
+    let r = c .before .before .before in
+    let o = r .before .before in
+    let a = begun o .args in
+    let v = r .r .given in
+    value (a .job .now) (a .at) (a .refusal) (a .low) (a .limit) (omega arith) (v .0 .0) (v .0 .1 .0) (sym (o .read-number .ensures) ∙ v .1) (omega arith) (omega arith)
 
 pub read-on-spec : {M : Type 1} → statement M
 read-on-spec =

@@ -7,6 +7,10 @@ use borrow.Author.Needs.{needs}
 use Rattle.kinds.proofs.allows.Statement.{statement}
 use Rattle.kinds.proofs.allows.Tie as tie
 
+-- the beginning, once the least first operand is known
+abbrev begun : tie.After-least-a → tie.Start
+begun c = c .before .before .before
+
 returns : tie.Need-returns
 returns c = let a = c .before .args in allowed-none (a .kind) (a .variables) (a .a) (a .b) (λ l h. omega arith)
 
@@ -18,13 +22,13 @@ least-a-requires c κs = search needs
 
 returns-3 : tie.Need-returns-3
 returns-3 c =
-    let a = c .before .before .before .before .args in
+    let a = begun (c .before) .args in
     rw (← allowed-row (a .kind) (a .variables) (a .a) (a .b) (omega arith) (omega arith))
     (simp (lt-leb (leastA (a .kind)) (a .a) (omega arith)))
 
 returns-4 : tie.Need-returns-4
 returns-4 c =
-    let a = c .before .before .before .before .before .args in
+    let a = begun (c .before .before) .args in
     rw (← allowed-row (a .kind) (a .variables) (a .a) (a .b) (omega arith) (omega arith))
     (simp (le-leb (leastA (a .kind)) (a .a) (omega arith), lt-leb (a .a) (a .variables) (omega arith)))
 
@@ -33,7 +37,7 @@ least-b-requires c κs = search needs
 
 returns-5 : tie.Need-returns-5
 returns-5 c =
-    let a = c .before .before .before .before .before .before .before .args in
+    let a = begun (c .before .before .before .before) .args in
     rw (← allowed-row (a .kind) (a .variables) (a .a) (a .b) (omega arith) (omega arith))
     (simp (le-leb (leastA (a .kind)) (a .a) (omega arith), le-leb (a .a) (a .variables) (omega arith), lt-leb (leastB (a .kind)) (a .b) (omega arith)))
 
@@ -42,7 +46,8 @@ most-b-requires c κs = search needs
 
 returns-6 : tie.Need-returns-6
 returns-6 c =
-    let a = c .before .before .before .before .before .before .before .before .args in
+    let e = c .before .before .before in
+    let a = begun (e .before .before) .args in
     rw (← allowed-row (a .kind) (a .variables) (a .a) (a .b) (omega arith) (omega arith), c .most-b .ensures)
     (simp (le-leb (leastA (a .kind)) (a .a) (omega arith), le-leb (a .a) (a .variables) (omega arith), le-leb (leastB (a .kind)) (a .b) (omega arith)))
 

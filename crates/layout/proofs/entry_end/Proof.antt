@@ -8,6 +8,10 @@ use borrow.Author.Needs.{needs}
 use Rattle.layout.proofs.entry_end.Statement.{statement}
 use Rattle.layout.proofs.entry_end.Tie as tie
 
+-- the beginning, once the links are known to be inside
+abbrev begun : tie.Else1 → tie.Start
+begun c = c .before .before .before
+
 links-inside-requires : tie.Need-links-inside-requires
 links-inside-requires c κs = search needs
 
@@ -17,8 +21,8 @@ returns c =
     no-end (a .bytes .now) (a .variables) (a .at) (lost-inside (a .bytes .now) (a .variables) (a .at) (sym (c .before .links-inside .ensures) ∙ not-true _ (c .if1 .taken)))
 
 -- its links are inside
-stands : (c : tie.Else1) → let a = c .before .before .before .args in Inside (a .bytes .now) (a .variables) (a .at)
-stands c = let a = c .before .before .before .args in inside (a .bytes .now) (a .variables) (a .at) (sym (c .before .links-inside .ensures) ∙ not-false _ (c .if1 .left))
+stands : (c : tie.Else1) → let a = begun c .args in Inside (a .bytes .now) (a .variables) (a .at)
+stands c = let a = begun c .args in inside (a .bytes .now) (a .variables) (a .at) (sym (c .before .links-inside .ensures) ∙ not-false _ (c .if1 .left))
 
 add-wide : tie.Need-add-wide
 add-wide c = let w = stands c in omega arith
@@ -42,20 +46,21 @@ facts-end-requires : tie.Need-facts-end-requires
 facts-end-requires c κs = let w = stands (c .before .before) in omega (arith, c .wide .ensures .0, w .inside)
 
 -- the end that is found
-end-is : (c : tie.After-facts-end) → let a = c .before .before .before .before .before .before .args in c .facts-end .result ≡ entryEnd (a .bytes .now) (a .variables) (a .at)
+end-is : (c : tie.After-facts-end) → let a = begun (c .before .before .before) .args in c .facts-end .result ≡ entryEnd (a .bytes .now) (a .variables) (a .at)
 end-is c = rw (c .before .wide .ensures .0) at (c .facts-end .ensures)
 
 returns-2 : tie.Need-returns-2
 returns-2 c =
     let f = c .before in
-    let a = f .before .before .before .before .before .before .args in
+    let a = begun (f .before .before .before) .args in
     no-end (a .bytes .now) (a .variables) (a .at) (λ w. omega (arith, w .facts-inside, end-is f))
 
 returns-3 : tie.Need-returns-3
 returns-3 c =
     let f = c .before in
-    let i = stands (f .before .before .before) in
-    let a = f .before .before .before .before .before .before .args in
+    let e = f .before .before .before in
+    let i = stands e in
+    let a = begun e .args in
     end-is f
     ∙ end-told (a .bytes .now) (a .variables) (a .at)
     (record { variables-most = i .variables-most; cells = i .cells; inside = i .inside; facts-inside = omega (arith, end-is f) })

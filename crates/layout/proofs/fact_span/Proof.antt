@@ -14,66 +14,58 @@ use Rattle.layout.proofs.facts_first.Reads as facts-first-reads
 use Rattle.layout.proofs.version_of.Reads as version-of-reads
 use Rattle.number.proofs.wide.Reads as wide-reads
 
--- src/lib.rt:179:9
+-- the beginning, once the entry is known to have an end
+abbrev begun : tie.Else1 → tie.Start
+begun c = c .before .before .before
+
 entry-end-requires : tie.Need-entry-end-requires
 entry-end-requires c κs = search needs
 
--- src/lib.rt:181:9
 returns : tie.Need-returns
 returns c =
     let a = c .before .before .before .args in
     (omega arith, omega arith, sym (facts-lost (a .bytes .now) (a .variables) (a .at) (λ w. end-some (a .bytes .now) (a .variables) (a .at) (c .before .entry-end .result) (c .before .entry-end .ensures) w (c .if1 .taken))))
 
--- src/lib.rt:183:8
 version-of-requires : tie.Need-version-of-requires
 version-of-requires c κs = search needs
 
--- src/lib.rt:184:9
 returns-2 : tie.Need-returns-2
 returns-2 c =
-    let a = c .before .before .before .before .before .args in
+    let a = begun (c .before .before) .args in
     (omega arith, omega arith, sym (facts-none (a .bytes .now) (a .variables) (a .at) (λ e. c .if2 .taken (c .before .version-of .ensures ∙ e))))
 
--- src/lib.rt:186:36
 -- the entry is whole
-stands : (c : tie.Else2) → let a = c .before .before .before .before .before .args in Whole (a .bytes .now) (a .variables) (a .at)
+stands : (c : tie.Else2) → let a = begun (c .before .before) .args in Whole (a .bytes .now) (a .variables) (a .at)
 stands c =
-    let a = c .before .before .before .before .before .args in
+    let a = begun (c .before .before) .args in
     let o = c .before .before in
     end-whole (a .bytes .now) (a .variables) (a .at) (o .before .entry-end .result) (o .before .entry-end .ensures) (o .if1 .left)
 
 add-facts-first : tie.Need-add-facts-first
 add-facts-first c = let w = stands c in omega arith
 
--- src/lib.rt:186:36
 add-facts-first-2 : tie.Need-add-facts-first-2
 add-facts-first-2 c = let w = stands c in omega arith
 
--- src/lib.rt:186:68
 add-wide : tie.Need-add-wide
 add-wide c = let w = stands c in omega arith
 
--- src/lib.rt:186:62
 shared-slice-read-wide : tie.Need-shared-slice-read-wide
 shared-slice-read-wide c = let w = stands (c .before) in omega arith
 
--- src/lib.rt:186:57
 wide-requires : tie.Need-wide-requires
 wide-requires c κs = search needs
 
--- src/lib.rt:186:36
 add-facts-first-3 : tie.Need-add-facts-first-3
 add-facts-first-3 c = let w = stands (c .before .before) in omega (arith, c .wide .ensures .0)
 
--- src/lib.rt:186:9
 facts-first-requires : tie.Need-facts-first-requires
 facts-first-requires c κs = let w = stands (c .before .before) in omega (arith, c .wide .ensures .0, w .inside)
 
--- src/lib.rt:176:1
 returns-3 : tie.Need-returns-3
 returns-3 c =
     let e = c .before .before .before in
-    let a = e .before .before .before .before .before .args in
+    let a = begun (e .before .before) .args in
     let w = stands e in
     let second = sym (e .before .version-of .ensures) ∙ e .if2 .left in
     let first = rw (c .before .wide .ensures .0) at (c .facts-first .ensures .0) in

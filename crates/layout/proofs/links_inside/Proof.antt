@@ -6,6 +6,10 @@ use borrow.Author.Needs.{needs}
 use Rattle.layout.proofs.links_inside.Statement.{statement}
 use Rattle.layout.proofs.links_inside.Tie as tie
 
+-- the beginning, once state and number of cells are known to be inside
+abbrev begun : tie.Else3 → tie.Start
+begun c = c .before .before .before
+
 returns : tie.Need-returns
 returns c = let a = c .before .args in not-inside (a .bytes .now) (a .variables) (a .at) (λ w. omega (arith, w .variables-most))
 
@@ -31,13 +35,13 @@ shared-slice-read-n : tie.Need-shared-slice-read-n
 shared-slice-read-n c = search needs
 
 cast-n : tie.Need-cast-n
-cast-n c = omega (arith, c .shared-slice-known .given (c .before .before .before .before .args .at + 1))
+cast-n c = omega (arith, c .shared-slice-known .given (begun (c .before) .args .at + 1))
 
 returns-4 : tie.Need-returns-4
-returns-4 c = let a = c .before .before .before .before .before .args in not-inside (a .bytes .now) (a .variables) (a .at) (λ w. omega (arith, w .cells))
+returns-4 c = let a = begun (c .before .before) .args in not-inside (a .bytes .now) (a .variables) (a .at) (λ w. omega (arith, w .cells))
 
 returns-5 : tie.Need-returns-5
-returns-5 c = let a = c .before .before .before .before .before .args in inside-left (a .bytes .now) (a .variables) (a .at) _ (omega arith) (omega arith) (omega arith)
+returns-5 c = let a = begun (c .before .before) .args in inside-left (a .bytes .now) (a .variables) (a .at) _ (omega arith) (omega arith) (omega arith)
 
 pub links-inside-spec : {M : Type 1} → statement M
 links-inside-spec =

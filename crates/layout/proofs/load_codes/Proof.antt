@@ -34,15 +34,16 @@ add-move-eight-2 : tie.Need-add-move-eight-2
 add-move-eight-2 c = search needs
 
 move-eight-requires-3 : tie.Need-move-eight-requires-3
-move-eight-requires-3 c κs = let m = stand (c .before .before .before .before .before) in omega (arith, m .1 .1, c .move-eight-arg3 .given .0 .1)
+move-eight-requires-3 c κs = let o = c .before .before .before in let m = stand (o .before .before) in omega (arith, m .1 .1, c .move-eight-arg3 .given .0 .1)
 
 returns : tie.Need-returns
 returns c =
-    let t = c .before .before .before .before .before .before in
+    let o = c .before .before .before .before in
+    let t = o .before .before in
     let a = t .before .before .before .args in
     c .move-eight3 .ensures
-    ∙ rw (c .before .before .move-eight2 .ensures, c .before .before .before .before .move-eight .ensures)
-    (moved (a .bytes .now) (a .variables) (a .links) (a .n) (a .s .now) (passed t) (omega (arith, c .before .before .before .before .before .move-eight-arg .given .0 .1)))
+    ∙ rw (c .before .before .move-eight2 .ensures, o .move-eight .ensures)
+    (moved (a .bytes .now) (a .variables) (a .links) (a .n) (a .s .now) (passed t) (omega (arith, o .before .move-eight-arg .given .0 .1)))
 
 sub-copy-bytes : tie.Need-sub-copy-bytes
 sub-copy-bytes c = search needs

@@ -1,8 +1,10 @@
 -- Byte by byte: so far the bytes and the word agree, and what is left decides.
+use mathlib.Core.Bool.{_&&_}
 use mathlib.Core.Path.{_≡_, refl, sym, _∙_}
-use Prim.Native.Nat.{ℕ, _-_, _≤_}
+use Prim.Native.Nat.{ℕ, _+_, _-_, _≤_}
 use native.Mathlib.Omega.{arith}
 use borrow.Author.Tests.{eq-eqb, ne-eqb}
+use lib.Dec.{eqb}
 use lib.ListN.{length, getD, drop}
 use Rattle.lines.specs.Words.{starts}
 use Rattle.lines.proofs.Starting.{starts-short, starts-here, starts-end}
@@ -15,6 +17,25 @@ Inv-loop bytes word i₀ i = (i ≤ length word) × (length word ≤ length byte
 
 abbrev μ-loop : tie.MeasureT-loop
 μ-loop bytes word i₀ i = length word - i
+
+-- ---- moments on the way, and what is so then
+
+-- where the loop's turn began, once both bytes are read
+abbrev turn : tie.After-shared-slice-known2 Inv-loop μ-loop → tie.At-loop Inv-loop μ-loop
+turn c = c .before .before .before
+
+-- the two bytes decide, and the bytes behind them
+same : (c : tie.After-shared-slice-known2 Inv-loop μ-loop)
+    → let l = turn c in
+    let i = l .loop .i in
+    let a = l .before .before .args in
+    starts (a .bytes .now) (a .word .now) ≡ eqb (getD (a .bytes .now) i 0) (getD (a .word .now) i 0) && starts (drop (i + 1) (a .bytes .now)) (drop (i + 1) (a .word .now))
+same c =
+    let l = turn c in
+    let a = l .before .before .args in
+    l .loop .inv .2 ∙ starts-here (a .bytes .now) (a .word .now) (l .loop .i) (omega arith) (omega arith)
+
+-- ---- what is to be shown
 
 returns : tie.Need-returns Inv-loop μ-loop
 returns c = let a = c .before .args in (sym (starts-short (a .bytes .now) (a .word .now) (c .if1 .taken)), λ e. let z : _≡_ {A = ℕ} 0 1 = cc in absurd (omega arith))
@@ -30,10 +51,10 @@ shared-slice-read-if2-2 c = search needs
 
 returns-2 : tie.Need-returns-2 Inv-loop μ-loop
 returns-2 c =
-    let a = c .before .before .before .before .before .before .args in
-    let i = c .before .before .before .before .loop .i in
-    let same = c .before .before .before .before .loop .inv .2 ∙ starts-here (a .bytes .now) (a .word .now) i (omega arith) (omega arith) in
-    (sym (same ∙ simp (ne-eqb (getD (a .bytes .now) i 0) (getD (a .word .now) i 0) (c .if2 .taken))), λ e. let z : _≡_ {A = ℕ} 0 1 = cc in absurd (omega arith))
+    let l = turn (c .before) in
+    let i = l .loop .i in
+    let a = l .before .before .args in
+    (sym (same (c .before) ∙ simp (ne-eqb (getD (a .bytes .now) i 0) (getD (a .word .now) i 0) (c .if2 .taken))), λ e. let z : _≡_ {A = ℕ} 0 1 = cc in absurd (omega arith))
 
 add-i : tie.Need-add-i Inv-loop μ-loop
 add-i c = search needs
@@ -43,10 +64,10 @@ loop-less c = search needs
 
 loop-again : tie.Need-loop-again Inv-loop μ-loop
 loop-again c =
-    let a = c .before .before .before .before .before .before .args in
-    let i = c .before .before .before .before .loop .i in
-    let same = c .before .before .before .before .loop .inv .2 ∙ starts-here (a .bytes .now) (a .word .now) i (omega arith) (omega arith) in
-    (omega arith, c .before .before .before .before .loop .inv .1, same ∙ simp (eq-eqb (getD (a .bytes .now) i 0) (getD (a .word .now) i 0) (c .if2 .left)))
+    let l = turn (c .before) in
+    let i = l .loop .i in
+    let a = l .before .before .args in
+    (omega arith, l .loop .inv .1, same (c .before) ∙ simp (eq-eqb (getD (a .bytes .now) i 0) (getD (a .word .now) i 0) (c .if2 .left)))
 
 returns-3 : tie.Need-returns-3 Inv-loop μ-loop
 returns-3 c =

@@ -1,13 +1,28 @@
 -- The operand, and the bracket behind it.
-use mathlib.Core.Path.{sym, ap, _∙_}
+use mathlib.Core.Path.{_≡_, sym, ap, _∙_}
 use Rattle.lines.proofs.Starting.{rest}
-use lib.ListN.{length}
-use Prim.Native.Nat.{_-_}
+use lib.ListN.{drop}
 use Rattle.lines.specs.Words.{isWord, close}
 use Rattle.lines.specs.Line.{enclosedOf}
 use borrow.Author.Needs.{needs}
 use Rattle.lines.proofs.read_enclosed.Statement.{statement}
 use Rattle.lines.proofs.read_enclosed.Tie as tie
+
+-- ---- moments on the way, and what is so then
+
+-- where the operand was read, once it is known whether the bracket is behind it
+abbrev operand : tie.After-is-word → tie.After-read-operand
+operand c = c .before .before .before
+
+-- what is behind it is compared with the bracket
+behind : (c : tie.After-is-word)
+    → let o = operand c in
+    isWord (drop (o .read-operand .result .length) (o .before .before .args .bytes .now)) close ≡ c .is-word .result
+behind c =
+    let o = operand c in
+    sym (ap (λ l. isWord l close) (rest (o .before .before .args .bytes .now) (o .read-operand .result .length))) ∙ sym (c .is-word .ensures)
+
+-- ---- what is to be shown
 
 read-operand-requires : tie.Need-read-operand-requires
 read-operand-requires c κs = search needs
@@ -33,18 +48,14 @@ check-table-requires c κs = search needs
 returns : tie.Need-returns
 unfolding enclosedOf
 returns c =
-    let bytes = c .before .before .before .before .before .before .before .args .bytes .now in
-    let found = c .before .before .before .before .before .read-operand .ensures .0 in
-    let word = sym (ap (λ l. isWord l close) (rest bytes (c .before .before .before .before .before .read-operand .result .length))) ∙ sym (c .before .before .is-word .ensures) ∙ c .before .if1 .taken in
-    c .check-table .ensures ∙ rw (← found) (simp word)
+    let w = c .before .before in
+    c .check-table .ensures ∙ rw (← operand w .read-operand .ensures .0) (simp (behind w ∙ c .before .if1 .taken))
 
 returns-2 : tie.Need-returns-2
 unfolding enclosedOf
 returns-2 c =
-    let bytes = c .before .before .before .before .before .before .args .bytes .now in
-    let found = c .before .before .before .before .read-operand .ensures .0 in
-    let word = sym (ap (λ l. isWord l close) (rest bytes (c .before .before .before .before .read-operand .result .length))) ∙ sym (c .before .is-word .ensures) ∙ c .if1 .left in
-    rw (← found) (simp word)
+    let w = c .before in
+    rw (← operand w .read-operand .ensures .0) (simp (behind w ∙ c .if1 .left))
 
 pub read-enclosed-spec : {M : Type 1} → statement M
 read-enclosed-spec =

@@ -1,12 +1,44 @@
 -- By the word at the front.
-use mathlib.Core.Path.{sym, ap, _∙_}
+use mathlib.Core.List.{List}
+use mathlib.Core.Path.{_≡_, sym, ap, _∙_}
+use Prim.Native.Nat.{ℕ}
 use native.Mathlib.Omega.{arith}
 use Rattle.lines.proofs.Starting.{rest}
 use mathlib.Core.Bool.{true, false}
+use Rattle.lines.specs.Words.{end, while, mark, starts, isWord}
 use Rattle.lines.specs.Line.{testOf, markOf, lineOf}
 use borrow.Author.Needs.{needs}
 use Rattle.lines.proofs.read_line.Statement.{statement}
 use Rattle.lines.proofs.read_line.Tie as tie
+
+-- ---- moments on the way, and what is so then
+
+-- the bytes, which are not `end`
+abbrev bytes : tie.Else1 → List ℕ
+bytes c = c .before .before .before .before .args .bytes .now
+
+-- where this was known, once it is known whether they begin with `mark`
+abbrev past-end : tie.After-has-front → tie.Else1
+past-end c = c .before .before
+
+-- where they did not begin with `mark`, once it is known whether they begin with `while`
+abbrev past-mark : tie.After-has-front2 → tie.Else2
+past-mark c = c .before .before
+
+-- where they did not begin with `while`, once it is known whether they begin with `if`
+abbrev past-while : tie.After-has-front3 → tie.Else3
+past-while c = c .before .before
+
+no-end : (c : tie.Else1) → isWord (bytes c) end ≡ false
+no-end c = sym (c .before .is-word .ensures) ∙ c .if1 .left
+
+no-mark : (c : tie.Else2) → starts (bytes (past-end (c .before))) mark ≡ false
+no-mark c = sym (c .before .has-front .ensures .0) ∙ c .if2 .left
+
+no-while : (c : tie.Else3) → starts (bytes (past-end (past-mark (c .before) .before))) while ≡ false
+no-while c = sym (c .before .has-front2 .ensures .0) ∙ c .if3 .left
+
+-- ---- what is to be shown
 
 slice-aggregate-is-word : tie.Need-slice-aggregate-is-word
 slice-aggregate-is-word c = search needs
@@ -39,8 +71,9 @@ read-mark-requires c κs = search needs
 returns-2 : tie.Need-returns-2
 unfolding lineOf
 returns-2 c =
-    let bytes = c .before .before .before .before .before .before .before .before .before .args .bytes .now in
-    c .read-mark .ensures ∙ ap (markOf) (rest bytes 5) ∙ simp (sym (c .before .before .before .has-front .ensures .0) ∙ c .before .before .if2 .taken, sym (c .before .before .before .before .before .before .is-word .ensures) ∙ c .before .before .before .before .before .if1 .left)
+    let f = c .before .before .before in
+    let e = past-end f in
+    c .read-mark .ensures ∙ ap (markOf) (rest (bytes e) 5) ∙ simp (sym (f .has-front .ensures .0) ∙ c .before .before .if2 .taken, no-end e)
 
 slice-aggregate-has-front-2 : tie.Need-slice-aggregate-has-front-2
 slice-aggregate-has-front-2 c = search needs
@@ -63,8 +96,10 @@ read-test-requires c κs = search needs
 returns-3 : tie.Need-returns-3
 unfolding lineOf
 returns-3 c =
-    let bytes = c .before .before .before .before .before .before .before .before .before .before .before .before .args .bytes .now in
-    c .read-test .ensures ∙ ap (testOf true) (rest bytes 6) ∙ simp (sym (c .before .before .before .has-front2 .ensures .0) ∙ c .before .before .if3 .taken, sym (c .before .before .before .before .before .before .has-front .ensures .0) ∙ c .before .before .before .before .before .if2 .left, sym (c .before .before .before .before .before .before .before .before .before .is-word .ensures) ∙ c .before .before .before .before .before .before .before .before .if1 .left)
+    let f = c .before .before .before in
+    let m = past-mark f in
+    let e = past-end (m .before) in
+    c .read-test .ensures ∙ ap (testOf true) (rest (bytes e) 6) ∙ simp (sym (f .has-front2 .ensures .0) ∙ c .before .before .if3 .taken, no-mark m, no-end e)
 
 slice-aggregate-has-front-3 : tie.Need-slice-aggregate-has-front-3
 slice-aggregate-has-front-3 c = search needs
@@ -87,15 +122,23 @@ read-test-requires-2 c κs = search needs
 returns-4 : tie.Need-returns-4
 unfolding lineOf
 returns-4 c =
-    let bytes = c .before .before .before .before .before .before .before .before .before .before .before .before .before .before .before .args .bytes .now in
-    c .read-test2 .ensures ∙ ap (testOf false) (rest bytes 3) ∙ simp (sym (c .before .before .before .has-front3 .ensures .0) ∙ c .before .before .if4 .taken, sym (c .before .before .before .before .before .before .before .before .before .has-front .ensures .0) ∙ c .before .before .before .before .before .before .before .before .if2 .left, sym (c .before .before .before .before .before .before .has-front2 .ensures .0) ∙ c .before .before .before .before .before .if3 .left, sym (c .before .before .before .before .before .before .before .before .before .before .before .before .is-word .ensures) ∙ c .before .before .before .before .before .before .before .before .before .before .before .if1 .left)
+    let f = c .before .before .before in
+    let w = past-while f in
+    let m = past-mark (w .before) in
+    let e = past-end (m .before) in
+    c .read-test2 .ensures ∙ ap (testOf false) (rest (bytes e) 3)
+    ∙ simp (sym (f .has-front3 .ensures .0) ∙ c .before .before .if4 .taken, no-mark m, no-while w, no-end e)
 
 read-operation-requires : tie.Need-read-operation-requires
 read-operation-requires c κs = search needs
 
 returns-5 : tie.Need-returns-5
 unfolding lineOf
-returns-5 c = c .read-operation .ensures ∙ simp (sym (c .before .before .before .before .before .before .before .before .has-front .ensures .0) ∙ c .before .before .before .before .before .before .before .if2 .left, sym (c .before .before .before .before .before .has-front2 .ensures .0) ∙ c .before .before .before .before .if3 .left, sym (c .before .before .has-front3 .ensures .0) ∙ c .before .if4 .left, sym (c .before .before .before .before .before .before .before .before .before .before .before .is-word .ensures) ∙ c .before .before .before .before .before .before .before .before .before .before .if1 .left)
+returns-5 c =
+    let f = c .before .before in
+    let w = past-while f in
+    let m = past-mark (w .before) in
+    c .read-operation .ensures ∙ simp (no-mark m, no-while w, sym (f .has-front3 .ensures .0) ∙ c .before .if4 .left, no-end (past-end (m .before)))
 
 pub read-line-spec : {M : Type 1} → statement M
 read-line-spec =

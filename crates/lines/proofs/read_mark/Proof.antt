@@ -1,5 +1,4 @@
 -- By how many digits there are.
-use mathlib.Core.Path.{ap, _∙_}
 use mathlib.Core.Path.{_≡_, ap, _∙_}
 use Prim.Native.Nat.{_+_, _*_}
 use native.Mathlib.Omega.{arith}
@@ -9,6 +8,10 @@ use Rattle.lines.specs.Line.{digitOf, markFor, markOf}
 use borrow.Author.Needs.{needs}
 use Rattle.lines.proofs.read_mark.Statement.{statement}
 use Rattle.lines.proofs.read_mark.Tie as tie
+
+-- the beginning, once the first of two digits is read
+abbrev begun : tie.After-digit2 → tie.Start
+begun c = c .before .before .before .before .before
 
 shared-slice-read-digit : tie.Need-shared-slice-read-digit
 shared-slice-read-digit c = search needs
@@ -22,8 +25,9 @@ mark-for-requires c κs = search needs
 returns : tie.Need-returns
 unfolding markOf
 returns c =
-    let bytes = c .before .before .before .before .before .args .bytes .now in
-    c .mark-for .ensures ∙ ap markFor (c .before .digit .ensures .0) ∙ simp (eq-eqb (length bytes) 1 (c .before .before .before .if1 .taken))
+    let one = c .before .before .before in
+    let bytes = one .before .before .args .bytes .now in
+    c .mark-for .ensures ∙ ap markFor (c .before .digit .ensures .0) ∙ simp (eq-eqb (length bytes) 1 (one .if1 .taken))
 
 returns-2 : tie.Need-returns-2
 unfolding markOf
@@ -38,9 +42,11 @@ digit-requires-2 c κs = search needs
 returns-3 : tie.Need-returns-3
 unfolding markOf
 returns-3 c =
-    let bytes = c .before .before .before .before .before .before .args .bytes .now in
-    let x = c .before .digit2 .ensures .0 in
-    simp (ne-eqb (length bytes) 1 (c .before .before .before .before .if1 .left), eq-eqb (length bytes) 2 (c .before .before .before .if2 .left), lt-leb 1 (digitOf (getD bytes 0 0)) (omega (arith, x, c .if3 .taken)))
+    let d = c .before in
+    let two = d .before .before in
+    let bytes = begun d .args .bytes .now in
+    let x = d .digit2 .ensures .0 in
+    simp (ne-eqb (length bytes) 1 (two .before .if1 .left), eq-eqb (length bytes) 2 (two .if2 .left), lt-leb 1 (digitOf (getD bytes 0 0)) (omega (arith, x, c .if3 .taken)))
 
 mul-mark-for : tie.Need-mul-mark-for
 mul-mark-for c = search needs
@@ -60,12 +66,14 @@ mark-for-requires-2 c κs = search needs
 returns-4 : tie.Need-returns-4
 unfolding markOf
 returns-4 c =
-    let bytes = c .before .before .before .before .before .before .before .before .before .args .bytes .now in
-    let x = c .before .before .before .before .digit2 .ensures .0 in
+    let d = c .before .before .before .before in
+    let two = d .before .before in
+    let bytes = begun d .args .bytes .now in
+    let x = d .digit2 .ensures .0 in
     let y = c .before .digit3 .ensures .0 in
-    let k : c .before .before .before .before .digit2 .result * 10 + c .before .digit3 .result ≡ digitOf (getD bytes 0 0) * 10 + digitOf (getD bytes 1 0) = omega (arith, x, y) in
+    let k : d .digit2 .result * 10 + c .before .digit3 .result ≡ digitOf (getD bytes 0 0) * 10 + digitOf (getD bytes 1 0) = omega (arith, x, y) in
     c .mark-for2 .ensures ∙ ap markFor k
-    ∙ simp (ne-eqb (length bytes) 1 (c .before .before .before .before .before .before .before .if1 .left), eq-eqb (length bytes) 2 (c .before .before .before .before .before .before .if2 .left), le-leb 1 (digitOf (getD bytes 0 0)) (omega (arith, x, c .before .before .before .if3 .left)))
+    ∙ simp (ne-eqb (length bytes) 1 (two .before .if1 .left), eq-eqb (length bytes) 2 (two .if2 .left), le-leb 1 (digitOf (getD bytes 0 0)) (omega (arith, x, c .before .before .before .if3 .left)))
 
 pub read-mark-spec : {M : Type 1} → statement M
 read-mark-spec =

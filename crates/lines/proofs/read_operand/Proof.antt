@@ -7,6 +7,10 @@ use borrow.Author.Needs.{needs}
 use Rattle.lines.proofs.read_operand.Statement.{statement}
 use Rattle.lines.proofs.read_operand.Tie as tie
 
+-- the beginning, once it is known whether `null` stands there
+abbrev begun : tie.After-has-front → tie.Start
+begun c = c .before .before .before
+
 slice-aggregate-has-front : tie.Need-slice-aggregate-has-front
 slice-aggregate-has-front c = search needs
 
@@ -19,7 +23,9 @@ returns c = (simp (sym (c .before .has-front .ensures .0) ∙ c .if1 .taken), c 
 
 returns-2 : tie.Need-returns-2
 unfolding operandOf
-returns-2 c = (simp (sym (c .before .before .has-front .ensures .0) ∙ c .before .if1 .left) (operand-none (c .before .before .before .before .before .args .bytes .now) (c .if2 .taken)), omega arith)
+returns-2 c =
+    let f = c .before .before in
+    (simp (sym (f .has-front .ensures .0) ∙ c .before .if1 .left) (operand-none (begun f .args .bytes .now) (c .if2 .taken)), omega arith)
 
 shared-slice-read-letter : tie.Need-shared-slice-read-letter
 shared-slice-read-letter c = search needs
@@ -29,7 +35,12 @@ letter-requires c κs = search needs
 
 returns-3 : tie.Need-returns-3
 unfolding operandOf
-returns-3 c = (simp (sym (c .before .before .before .before .has-front .ensures .0) ∙ c .before .before .before .if1 .left) (operand-letter (c .before .before .before .before .before .before .before .args .bytes .now) (c .letter .ensures) (c .before .before .if2 .left)), omega (arith, c .before .before .if2 .left))
+returns-3 c =
+    let some = c .before .before in
+    let f = some .before .before in (
+      simp (sym (f .has-front .ensures .0) ∙ some .before .if1 .left) (operand-letter (begun f .args .bytes .now) (c .letter .ensures) (some .if2 .left)),
+      omega (arith, some .if2 .left),
+    )
 
 pub read-operand-spec : {M : Type 1} → statement M
 read-operand-spec =

@@ -1,13 +1,32 @@
 -- By the word at the front, or by the operand there.
-use mathlib.Core.Path.{sym, ap, _∙_}
+use mathlib.Core.Bool.{false}
+use mathlib.Core.List.{List}
+use mathlib.Core.Path.{_≡_, sym, ap, _∙_}
+use Prim.Native.Nat.{ℕ}
 use native.Mathlib.Omega.{arith}
 use Rattle.lines.proofs.Starting.{rest}
 use lib.ListN.{drop}
+use Rattle.lines.specs.Words.{new, starts}
 use Rattle.lines.specs.Line.{enclosedOf, betweenOf, operationOf}
 use Rattle.lines.specs.declared.Operand.{Operand}
 use borrow.Author.Needs.{needs}
 use Rattle.lines.proofs.read_operation.Statement.{statement}
 use Rattle.lines.proofs.read_operation.Tie as tie
+
+-- ---- moments on the way, and what is so then
+
+-- the bytes, which do not begin with `new(`
+abbrev bytes : tie.Else1 → List ℕ
+bytes c = c .before .before .before .before .args .bytes .now
+
+-- where this was known, once it is known whether they begin with `delete(`
+abbrev past-new : tie.After-has-front2 → tie.Else1
+past-new c = c .before .before
+
+no-new : (c : tie.Else1) → starts (bytes c) new ≡ false
+no-new c = sym (c .before .has-front .ensures .0) ∙ c .if1 .left
+
+-- ---- what is to be shown
 
 slice-aggregate-has-front : tie.Need-slice-aggregate-has-front
 slice-aggregate-has-front c = search needs
@@ -30,8 +49,8 @@ read-enclosed-requires c κs = search needs
 returns : tie.Need-returns
 unfolding operationOf
 returns c =
-    let bytes = c .before .before .before .before .before .before .args .bytes .now in
-    c .read-enclosed .ensures ∙ ap (enclosedOf 6) (rest bytes 4) ∙ simp (sym (c .before .before .before .has-front .ensures .0) ∙ c .before .before .if1 .taken)
+    let f = c .before .before .before in
+    c .read-enclosed .ensures ∙ ap (enclosedOf 6) (rest (f .before .before .before .args .bytes .now) 4) ∙ simp (sym (f .has-front .ensures .0) ∙ c .before .before .if1 .taken)
 
 slice-aggregate-has-front-2 : tie.Need-slice-aggregate-has-front-2
 slice-aggregate-has-front-2 c = search needs
@@ -54,8 +73,9 @@ read-enclosed-requires-2 c κs = search needs
 returns-2 : tie.Need-returns-2
 unfolding operationOf
 returns-2 c =
-    let bytes = c .before .before .before .before .before .before .before .before .before .args .bytes .now in
-    c .read-enclosed2 .ensures ∙ ap (enclosedOf 7) (rest bytes 7) ∙ simp (sym (c .before .before .before .has-front2 .ensures .0) ∙ c .before .before .if2 .taken, sym (c .before .before .before .before .before .before .has-front .ensures .0) ∙ c .before .before .before .before .before .if1 .left)
+    let f = c .before .before .before in
+    let n = past-new f in
+    c .read-enclosed2 .ensures ∙ ap (enclosedOf 7) (rest (bytes n) 7) ∙ simp (sym (f .has-front2 .ensures .0) ∙ c .before .before .if2 .taken, no-new n)
 
 read-operand-requires : tie.Need-read-operand-requires
 read-operand-requires c κs = search needs
@@ -75,11 +95,12 @@ read-between-requires c κs = search needs
 returns-3 : tie.Need-returns-3
 unfolding operationOf
 returns-3 c =
-    let bytes = c .before .before .before .before .before .before .before .before .before .before .args .bytes .now in
+    let f = c .before .before .before .before in
+    let n = past-new f in
     let found = c .before .before .read-operand in
-    c .read-between .ensures ∙ ap (betweenOf (found .result .value)) (rest bytes (found .result .length))
-    ∙ ap (λ (o : Operand). betweenOf (o .value) (drop (o .length) bytes)) (found .ensures .0)
-    ∙ simp (sym (c .before .before .before .before .has-front2 .ensures .0) ∙ c .before .before .before .if2 .left, sym (c .before .before .before .before .before .before .before .has-front .ensures .0) ∙ c .before .before .before .before .before .before .if1 .left)
+    c .read-between .ensures ∙ ap (betweenOf (found .result .value)) (rest (bytes n) (found .result .length))
+    ∙ ap (λ (o : Operand). betweenOf (o .value) (drop (o .length) (bytes n))) (found .ensures .0)
+    ∙ simp (sym (f .has-front2 .ensures .0) ∙ c .before .before .before .if2 .left, no-new n)
 
 pub read-operation-spec : {M : Type 1} → statement M
 read-operation-spec =

@@ -2,6 +2,7 @@
 use mathlib.Core.Path.{_≡_, ap, sym, _∙_}
 use Prim.Native.Nat.{_<_}
 use native.Mathlib.Omega.{arith}
+use lib.ListN.{length}
 use Rattle.marks.specs.Marks.{Walk, cellsIn, markIn}
 use Rattle.marks.proofs.Walks.{frees, Going, going-none, going-less, going-more, going-met, mark-in}
 use borrow.Author.Needs.{needs}
@@ -14,6 +15,30 @@ Inv-loop s marks₀ first n p₀ links₀ marks p links = Going s marks₀ first
 abbrev μ-loop : tie.MeasureT-loop
 μ-loop s marks₀ first n p₀ links₀ marks p links = frees marks
 
+-- ---- moments on the way, and what is so then
+
+-- where the loop's turn began, once the place reached is found free
+abbrev turn : tie.Then1 Inv-loop μ-loop → tie.At-loop Inv-loop μ-loop
+turn c = c .before .before .before
+
+-- the place reached is free
+here-free : (c : tie.Then1 Inv-loop μ-loop)
+    → let l = turn c in
+    markIn (cellsIn (l .before .before .args .s .now)) (l .loop .marks) (l .loop .p) ≡ 0
+here-free c = rw (← turn c .before .cells-held .ensures .2) (sym (c .before .mark-at .ensures .1) ∙ c .if1 .taken)
+
+-- and is one of the 28
+here-in : (c : tie.Then1 Inv-loop μ-loop) → turn c .loop .p < 28
+here-in c =
+    let held = turn c .before .cells-held .ensures in
+    omega (arith, held .1, held .2, mark-in _ _ _ (here-free c) .0)
+
+-- so it has a mark
+here-marked : (c : tie.Then1 Inv-loop μ-loop) → turn c .loop .p < length (turn c .loop .marks)
+here-marked c = omega (arith, here-in c, c .before .mark-at .ensures .0)
+
+-- ---- what is to be shown
+
 cells-held-requires : tie.Need-cells-held-requires Inv-loop μ-loop
 cells-held-requires c κs = search needs
 
@@ -22,16 +47,6 @@ loop-holds c = let a = c .before .args in going-none (a .s .now) (a .marks .now)
 
 mark-at-requires : tie.Need-mark-at-requires Inv-loop μ-loop
 mark-at-requires c κs = search needs
-
--- the place reached is free
-here-free : (c : tie.Then1 Inv-loop μ-loop) → markIn (cellsIn (c .before .before .before .before .before .args .s .now)) (c .before .before .before .loop .marks) (c .before .before .before .loop .p) ≡ 0
-here-free c = rw (← c .before .before .before .before .cells-held .ensures .2) (sym (c .before .mark-at .ensures .1) ∙ c .if1 .taken)
-
--- and is one of the 28
-here-in : (c : tie.Then1 Inv-loop μ-loop) → c .before .before .before .loop .p < 28
-here-in c =
-    let held = c .before .before .before .before .cells-held .ensures in
-    omega (arith, held .1, held .2, mark-in _ _ _ (here-free c) .0)
 
 element-write-marks : tie.Need-element-write-marks Inv-loop μ-loop
 element-write-marks c = here-in c
@@ -43,18 +58,19 @@ wide-requires : tie.Need-wide-requires Inv-loop μ-loop
 wide-requires c κs = search needs
 
 add-links : tie.Need-add-links Inv-loop μ-loop
-add-links c = let l = c .before .before .before .before .before .loop in omega (arith, l .inv .counted, c .before .before .before .mark-at .ensures .0)
+add-links c =
+    let f = c .before .before in
+    omega (arith, turn f .loop .inv .counted, f .before .mark-at .ensures .0)
 
 loop-less : tie.Need-loop-less Inv-loop μ-loop
 loop-less c =
-    let l = c .before .before .before .before .before .loop in
-    going-less _ _ _ _ _ _ (l .inv) (omega (arith, here-in (c .before .before), c .before .before .before .mark-at .ensures .0)) (here-free (c .before .before))
+    let f = c .before .before in
+    going-less _ _ _ _ _ _ (turn f .loop .inv) (here-marked f) (here-free f)
 
 loop-again : tie.Need-loop-again Inv-loop μ-loop
 loop-again c =
-    let l = c .before .before .before .before .before .loop in
-    rw (c .wide .ensures .0)
-    (going-more _ _ _ _ _ _ (l .inv) (omega (arith, here-in (c .before .before), c .before .before .before .mark-at .ensures .0)) (here-free (c .before .before)))
+    let f = c .before .before in
+    rw (c .wide .ensures .0) (going-more _ _ _ _ _ _ (turn f .loop .inv) (here-marked f) (here-free f))
 
 returns : tie.Need-returns Inv-loop μ-loop
 returns c =

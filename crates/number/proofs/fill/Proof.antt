@@ -13,6 +13,10 @@ Inv-loop numbers bytes₀ at₀ i₀ bytes at i = Filling numbers bytes₀ bytes
 abbrev μ-loop : tie.MeasureT-loop
 μ-loop numbers bytes₀ at₀ i₀ bytes at i = length numbers - i
 
+-- the beginning, from the loop
+abbrev begun : tie.At-loop Inv-loop μ-loop → tie.Start Inv-loop μ-loop
+begun c = c .before .before .before
+
 loop-holds : tie.Need-loop-holds Inv-loop μ-loop
 loop-holds c = fill-none _ _
 
@@ -24,10 +28,11 @@ shared-slice-read-put-number c = search needs
 
 put-number-requires : tie.Need-put-number-requires Inv-loop μ-loop
 put-number-requires c κs =
-    let start = c .before .before .before .before .before .before in
-    let ns = start .args .numbers .now in
-    let i = c .before .before .before .loop .i in
-    (omega (arith, length-left ns i (omega arith)), small ns i (start .pre .0) (omega arith))
+    let o = c .before .before .before in
+    let s = begun o in
+    let ns = s .args .numbers .now in
+    let i = o .loop .i in
+    (omega (arith, length-left ns i (omega arith)), small ns i (s .pre .0) (omega arith))
 
 add-i : tie.Need-add-i Inv-loop μ-loop
 add-i c = search needs
@@ -37,8 +42,10 @@ loop-less c = search needs
 
 loop-again : tie.Need-loop-again Inv-loop μ-loop
 loop-again c =
-    rw (c .before .before .put-number .ensures .0)
-    (fill-more _ _ _ _ _ (c .before .before .before .before .before .before .loop .inv) _ (omega arith) (c .before .before .before .before .before .before .before .before .before .pre .1) (c .before .before .put-number .ensures .1))
+    let p = c .before .before in
+    let o = p .before .before .before .before in
+    rw (p .put-number .ensures .0)
+    (fill-more _ _ _ _ _ (o .loop .inv) _ (omega arith) (begun o .pre .1) (p .put-number .ensures .1))
 
 same-length : tie.Need-same-length Inv-loop μ-loop
 same-length c = c .before .loop .inv .same

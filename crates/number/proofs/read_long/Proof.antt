@@ -5,6 +5,18 @@ use borrow.Author.Needs.{needs}
 use Rattle.number.proofs.read_long.Statement.{statement}
 use Rattle.number.proofs.read_long.Tie as tie
 
+-- ---- moments on the way
+
+-- the beginning, once the second byte is read
+abbrev begun : tie.After-wide → tie.Start
+begun c = c .before .before .before .before
+
+-- where it was read, once the third is
+abbrev second : tie.After-wide2 → tie.After-wide
+second c = c .before .before .before .before .before
+
+-- ---- what is to be shown
+
 sub-if1 : tie.Need-sub-if1
 sub-if1 c = search needs
 
@@ -24,7 +36,7 @@ wide-requires c κs = search needs
 
 returns-2 : tie.Need-returns-2
 returns-2 c =
-    let a = c .before .before .before .before .before .args in
+    let a = begun (c .before) .args in
     zero-second (a .bytes .now) (a .at) (a .a) (omega arith) (omega arith) (c .before .wide .result) (omega arith) (omega arith)
     (omega arith)
 
@@ -42,7 +54,7 @@ add-t14 c = search needs
 
 returns-3 : tie.Need-returns-3
 returns-3 c =
-    let a = c .before .before .before .before .before .before .args in
+    let a = begun (c .before .before) .args in
     two-bytes (a .bytes .now) (a .at) (a .a) (omega arith) (omega arith) (c .before .before .wide .result) (omega arith) (omega arith)
     (omega arith) (omega arith)
 
@@ -51,7 +63,7 @@ sub-if4 c = search needs
 
 returns-4 : tie.Need-returns-4
 returns-4 c =
-    let a = c .before .before .before .before .before .before .before .args in
+    let a = begun (c .before .before .before) .args in
     cut-at-two (a .bytes .now) (a .at) (a .a) (omega arith) (omega arith) (c .before .before .before .wide .result) (omega arith)
     (omega arith) (omega arith) (omega arith) (omega arith)
 
@@ -66,8 +78,9 @@ wide-requires-2 c κs = search needs
 
 returns-5 : tie.Need-returns-5
 returns-5 c =
-    let a = c .before .before .before .before .before .before .before .before .before .before .args in
-    zero-third (a .bytes .now) (a .at) (a .a) (omega arith) (omega arith) (c .before .before .before .before .before .before .wide .result)
+    let o = second (c .before) in
+    let a = begun o .args in
+    zero-third (a .bytes .now) (a .at) (a .a) (omega arith) (omega arith) (o .wide .result)
     (omega arith) (omega arith) (omega arith) (omega arith) (c .before .wide2 .result) (omega arith) (omega arith) (omega arith)
 
 sub-t16 : tie.Need-sub-t16
@@ -90,16 +103,18 @@ add-t22 c = search needs
 
 returns-6 : tie.Need-returns-6
 returns-6 c =
-    let a = c .before .before .before .before .before .before .before .before .before .before .before .args in
+    let o = second (c .before .before) in
+    let a = begun o .args in
     three-bytes (a .bytes .now) (a .at) (a .a) (omega arith) (omega arith)
-    (c .before .before .before .before .before .before .before .wide .result) (omega arith) (omega arith) (omega arith) (omega arith)
+    (o .wide .result) (omega arith) (omega arith) (omega arith) (omega arith)
     (c .before .before .wide2 .result) (omega arith) (omega arith) (omega arith) (omega arith)
 
 returns-7 : tie.Need-returns-7
 returns-7 c =
-    let a = c .before .before .before .before .before .before .before .before .before .before .before .args in
+    let o = second (c .before .before) in
+    let a = begun o .args in
     too-large (a .bytes .now) (a .at) (a .a) (omega arith) (omega arith)
-    (c .before .before .before .before .before .before .before .wide .result) (omega arith) (omega arith) (omega arith) (omega arith)
+    (o .wide .result) (omega arith) (omega arith) (omega arith) (omega arith)
     (c .before .before .wide2 .result) (omega arith) (omega arith) (omega arith) (omega arith)
 
 pub read-long-spec : {M : Type 1} → statement M

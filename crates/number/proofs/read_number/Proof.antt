@@ -5,6 +5,10 @@ use borrow.Author.Needs.{needs}
 use Rattle.number.proofs.read_number.Statement.{statement}
 use Rattle.number.proofs.read_number.Tie as tie
 
+-- the beginning, once the first byte is read
+abbrev begun : tie.After-wide → tie.Start
+begun c = c .before .before .before .before
+
 returns : tie.Need-returns
 returns c = let a = c .before .before .args in past-end (a .bytes .now) (a .at) (omega arith)
 
@@ -19,7 +23,7 @@ add-t8 c = search needs
 
 returns-2 : tie.Need-returns-2
 returns-2 c =
-    let a = c .before .before .before .before .before .args in
+    let a = begun (c .before) .args in
     one-byte (a .bytes .now) (a .at) (c .before .wide .result) (omega arith) (omega arith) (omega arith)
 
 read-long-requires : tie.Need-read-long-requires

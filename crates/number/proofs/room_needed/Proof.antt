@@ -39,8 +39,9 @@ loop-less c = search needs
 
 loop-again : tie.Need-loop-again Inv-loop μ-loop
 loop-again c =
-    let ns = c .before .before .before .before .before .args .numbers .now in
-    let i = c .before .before .before .loop .i in
+    let o = c .before .before .before in
+    let ns = o .before .before .args .numbers .now in
+    let i = o .loop .i in
     (omega arith, omega (arith, length-left ns i (omega arith)), omega arith)
 
 returns : tie.Need-returns Inv-loop μ-loop

@@ -6,6 +6,10 @@ use borrow.Author.Needs.{needs}
 use Rattle.placing.proofs.choices_of.Statement.{statement}
 use Rattle.placing.proofs.choices_of.Tie as tie
 
+-- the beginning, once a place is wanted
+abbrev begun : tie.After-wanted → tie.Start
+begun c = c .before .before
+
 add-past : tie.Need-add-past
 add-past c = search needs
 
@@ -38,7 +42,7 @@ choice-of-requires c κs = search needs
 
 add-one-by-one : tie.Need-add-one-by-one
 add-one-by-one c =
-    let a = c .before .before .before .before .args in
+    let a = begun (c .before .before) .args in
     omega (arith, c .choice-of .ensures, choice-of-under (a .n) (c .before .before .wanted .given .0 .0 .code))
 
 one-by-one-requires-4 : tie.Need-one-by-one-requires-4
@@ -79,7 +83,7 @@ returns-3 c = let a = c .before .before .before .args in c .one-by-one3 .ensures
 
 returns-4 : tie.Need-returns-4
 returns-4 c =
-    let a = c .before .before .before .before .before .args in
+    let a = begun (c .before .before .before) .args in
     let w = c .before .before .before .wanted .given in
     c .one-by-one4 .ensures ∙ choices-at (a .n) (a .wanted) (w .0 .0) (c .before .choice-of .result) (c .before .choice-of .ensures) (w .1)
 

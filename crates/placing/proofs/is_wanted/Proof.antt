@@ -70,28 +70,57 @@ returns-3 : tie.Need-returns-3
 returns-3 c = let a = c .before .before .before .before .args in c .choice-exists .ensures ∙ fits-any (a .links .now) (a .wanted) (a .k) (c .before .enum-told3 .given .1)
 
 returns-4 : tie.Need-returns-4
-returns-4 c = let a = c .before .before .before .before .before .args in let w = c .before .before .wanted .given in fits-at (a .links .now) (a .wanted) (a .k) (w .0 .0) (c .choice-of .result) (c .choice-of .ensures) (w .1)
+returns-4 c =
+    let o = c .before .before in
+    let a = o .before .before .before .args in
+    let w = o .wanted .given in
+    fits-at (a .links .now) (a .wanted) (a .k) (w .0 .0) (c .choice-of .result) (c .choice-of .ensures) (w .1)
 
 returns-5 : tie.Need-returns-5
-returns-5 c = let a = c .before .before .before .before .before .before .before .args in let w = c .before .before .before .before .wanted2 .given in c .choice-exists2 .ensures ∙ fits-off (a .links .now) (a .wanted) (a .k) (w .0 .0) (c .before .before .choice-of2 .result) (c .before .before .choice-of2 .ensures) (w .1) (c .before .if1 .taken)
+returns-5 c =
+    let o = c .before .before .before .before in
+    let a = o .before .before .before .args in
+    let w = o .wanted2 .given in
+    c .choice-exists2 .ensures ∙ fits-off (a .links .now) (a .wanted) (a .k) (w .0 .0) (c .before .before .choice-of2 .result) (c .before .before .choice-of2 .ensures) (w .1) (c .before .if1 .taken)
 
 returns-6 : tie.Need-returns-6
-returns-6 c = let a = c .before .before .before .before .before .before .args in let w = c .before .before .before .wanted2 .given in fits-not-off (a .links .now) (a .wanted) (a .k) (w .0 .0) (c .before .choice-of2 .result) (c .before .choice-of2 .ensures) (w .1) (omega arith)
+returns-6 c =
+    let o = c .before .before .before in
+    let a = o .before .before .before .args in
+    let w = o .wanted2 .given in
+    fits-not-off (a .links .now) (a .wanted) (a .k) (w .0 .0) (c .before .choice-of2 .result) (c .before .choice-of2 .ensures) (w .1) (omega arith)
 
 returns-7 : tie.Need-returns-7
-returns-7 c = let a = c .before .before .before .before .before .args in let w = c .before .before .wanted3 .given in c .source-fits .ensures ∙ fits-source (a .links .now) (a .wanted) (a .k) (w .0 .0) (w .1)
+returns-7 c =
+    let o = c .before .before in
+    let a = o .before .before .before .args in
+    let w = o .wanted3 .given in
+    c .source-fits .ensures ∙ fits-source (a .links .now) (a .wanted) (a .k) (w .0 .0) (w .1)
 
 returns-8 : tie.Need-returns-8
 returns-8 c = let a = c .before .before .before .before .args in c .itself-fits .ensures ∙ fits-itself (a .links .now) (a .wanted) (a .k) (c .before .enum-told4 .given .1)
 
 returns-9 : tie.Need-returns-9
-returns-9 c = let a = c .before .before .before .before .before .args in let w = c .before .before .wanted4 .given in fits-within (a .links .now) (a .wanted) (a .k) (w .0 .0) (w .0 .1 .0) (w .1) (omega arith)
+returns-9 c =
+    let o = c .before .before in
+    let a = o .before .before .before .args in
+    let w = o .wanted4 .given in
+    fits-within (a .links .now) (a .wanted) (a .k) (w .0 .0) (w .0 .1 .0) (w .1) (omega arith)
 
 returns-10 : tie.Need-returns-10
-returns-10 c = let a = c .before .before .before .before .before .before .before .before .args in let w = c .before .before .before .before .before .wanted4 .given in fits-end (a .links .now) (a .wanted) (a .k) (w .0 .0) (w .0 .1 .0) (w .1) (c .before .before .before .if2 .left) (c .before .if3 .taken) (c .choice-of3 .result) (c .choice-of3 .ensures)
+returns-10 c =
+    let e = c .before .before .before in
+    let o = e .before .before in
+    let a = o .before .before .before .args in
+    let w = o .wanted4 .given in
+    fits-end (a .links .now) (a .wanted) (a .k) (w .0 .0) (w .0 .1 .0) (w .1) (e .if2 .left) (c .before .if3 .taken) (c .choice-of3 .result) (c .choice-of3 .ensures)
 
 returns-11 : tie.Need-returns-11
-returns-11 c = let a = c .before .before .before .before .before .before .before .args in let w = c .before .before .before .before .wanted4 .given in fits-dangling (a .links .now) (a .wanted) (a .k) (w .0 .0) (w .0 .1 .0) (w .1) (c .before .before .if2 .left) (omega arith)
+returns-11 c =
+    let o = c .before .before .before .before in
+    let a = o .before .before .before .args in
+    let w = o .wanted4 .given in
+    fits-dangling (a .links .now) (a .wanted) (a .k) (w .0 .0) (w .0 .1 .0) (w .1) (c .before .before .if2 .left) (omega arith)
 
 pub is-wanted-spec : {M : Type 1} → statement M
 is-wanted-spec =

@@ -5,6 +5,10 @@ use borrow.Author.Needs.{needs}
 use Rattle.placing.proofs.source_fits.Statement.{statement}
 use Rattle.placing.proofs.source_fits.Tie as tie
 
+-- the beginning, once the choice is known to be within a link
+abbrev begun : tie.Else4 → tie.Start
+begun c = c .before .before .before
+
 shared-slice-read-link : tie.Need-shared-slice-read-link
 shared-slice-read-link c = search needs
 
@@ -33,10 +37,10 @@ shared-slice-read-link-2 : tie.Need-shared-slice-read-link-2
 shared-slice-read-link-2 c = search needs
 
 returns-5 : tie.Need-returns-5
-returns-5 c = let a = c .before .before .before .before .before .args in source-unlinked (a .links .now) (a .p .code) (a .k) (omega arith) (omega arith) (c .if5 .taken)
+returns-5 c = let a = begun (c .before .before) .args in source-unlinked (a .links .now) (a .p .code) (a .k) (omega arith) (omega arith) (c .if5 .taken)
 
 returns-6 : tie.Need-returns-6
-returns-6 c = let a = c .before .before .before .before .before .before .args in source-within (a .links .now) (a .p .code) (a .k) (omega arith) (omega arith) (c .before .if5 .left)
+returns-6 c = let a = begun (c .before .before .before) .args in source-within (a .links .now) (a .p .code) (a .k) (omega arith) (omega arith) (c .before .if5 .left)
 
 pub source-fits-spec : {M : Type 1} → statement M
 source-fits-spec =

@@ -6,6 +6,10 @@ use borrow.Author.Needs.{needs}
 use Rattle.placing.proofs.wanted_beside.Statement.{statement}
 use Rattle.placing.proofs.wanted_beside.Tie as tie
 
+-- the beginning, once the kind is known not to be the one at the source
+abbrev begun : tie.Else3 → tie.Start
+begun c = c .before .before .before .before
+
 returns : tie.Need-returns
 returns c = let a = c .before .before .args in beside-different (a .starting) (a .kind) (a .links .now) (a .q) (omega arith)
 
@@ -20,7 +24,7 @@ cell-beside-requires c κs = search needs
 
 returns-4 : tie.Need-returns-4
 returns-4 c =
-    let a = c .before .before .before .before .before .before .args in
+    let a = begun (c .before .before) .args in
     c .cell-beside .ensures ∙ beside-cells (a .starting) (a .kind) (a .links .now) (a .q) (omega arith) (c .before .before .if3 .left) (omega arith)
 
 target-of-requires : tie.Need-target-of-requires
@@ -28,7 +32,7 @@ target-of-requires c κs = search needs
 
 returns-5 : tie.Need-returns-5
 returns-5 c =
-    let a = c .before .before .before .before .before .before .args in
+    let a = begun (c .before .before) .args in
     c .target-of .ensures ∙ beside-target (a .starting) (a .kind) (a .links .now) (a .q) (omega arith) (c .before .before .if3 .left) (omega arith)
 
 pub wanted-beside-spec : {M : Type 1} → statement M

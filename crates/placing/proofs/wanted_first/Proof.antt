@@ -6,6 +6,10 @@ use borrow.Author.Needs.{needs}
 use Rattle.placing.proofs.wanted_first.Statement.{statement}
 use Rattle.placing.proofs.wanted_first.Tie as tie
 
+-- the beginning, once neither is known to be dangling
+abbrev begun : tie.Else2 → tie.Start
+begun c = c .before .before .before .before
+
 returns : tie.Need-returns
 returns c = let a = c .before .before .args in first-a-dangling (a .same) (a .x) (a .y) (omega arith)
 
@@ -17,12 +21,12 @@ both-nowhere-requires c κs = search needs
 
 returns-3 : tie.Need-returns-3
 returns-3 c =
-    let a = c .before .before .before .before .before .before .args in
+    let a = begun (c .before .before) .args in
     first-any (a .same) (a .x) (a .y) (c .before .before .before .before .if1 .left) (c .before .before .if2 .left) (sym (c .before .both-nowhere .ensures) ∙ c .if3 .taken)
 
 returns-4 : tie.Need-returns-4
 returns-4 c =
-    let a = c .before .before .before .before .before .before .args in
+    let a = begun (c .before .before) .args in
     first-once (a .same) (a .x) (a .y) (c .before .before .before .before .if1 .left) (c .before .before .if2 .left) (sym (c .before .both-nowhere .ensures) ∙ c .if3 .left)
 
 pub wanted-first-spec : {M : Type 1} → statement M

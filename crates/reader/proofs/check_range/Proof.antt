@@ -6,6 +6,14 @@ use borrow.Author.Needs.{needs}
 use Rattle.reader.proofs.check_range.Statement.{statement}
 use Rattle.reader.proofs.check_range.Tie as tie
 
+-- ---- moments on the way
+
+-- the beginning, once a number is read
+abbrev begun : tie.After-read → tie.Start
+begun c = c .before .before
+
+-- ---- what is to be shown
+
 enum-told : tie.Need-enum-told
 enum-told c = search needs
 
@@ -20,8 +28,9 @@ outside-requires c κs = search needs
 
 returns : tie.Need-returns
 returns c =
-    let a = c .before .before .before .before .before .args in
-    let r = c .before .before .before .read .given in
+    let n = c .before .before .before in
+    let a = begun n .args in
+    let r = n .read .given in
     λ bytes e. outside (a .input) bytes (a .at) (a .low) (a .limit) (r .0 .0) (r .0 .1 .0) (sym e ∙ r .1) _ (c .outside .ensures) (λ h. omega arith)
 
 outside-requires-2 : tie.Need-outside-requires-2
@@ -29,8 +38,9 @@ outside-requires-2 c κs = search needs
 
 returns-2 : tie.Need-returns-2
 returns-2 c =
-    let a = c .before .before .before .before .before .before .args in
-    let r = c .before .before .before .before .read .given in
+    let n = c .before .before .before .before in
+    let a = begun n .args in
+    let r = n .read .given in
     λ bytes e. outside (a .input) bytes (a .at) (a .low) (a .limit) (r .0 .0) (r .0 .1 .0) (sym e ∙ r .1) _ (c .outside2 .ensures) (λ h. omega arith)
 
 returns-3 : tie.Need-returns-3
@@ -41,8 +51,9 @@ returns-3 c =
 
 returns-4 : tie.Need-returns-4
 returns-4 c =
-    let a = c .before .before .before .before .before .args in
-    let r = c .before .before .before .read .given in
+    let n = c .before .before .before in
+    let a = begun n .args in
+    let r = n .read .given in
     λ bytes e. value (a .input) bytes (a .at) (a .low) (a .limit) (r .0 .0) (r .0 .1 .0) (sym e ∙ r .1) (omega arith) (omega arith)
 
 pub check-range-spec : {M : Type 1} → statement M

@@ -8,6 +8,14 @@ use borrow.Author.Needs.{needs}
 use Rattle.reader.proofs.quick_entry.Statement.{statement}
 use Rattle.reader.proofs.quick_entry.Tie as tie
 
+-- ---- moments on the way
+
+-- the beginning, once the variables and links are tested
+abbrev begun : tie.After-all-below → tie.Start
+begun c = c .before .before .before .before .before .before .before .before .before .before .before
+
+-- ---- what is to be shown
+
 returns : tie.Need-returns
 returns c = λ z. absurd (z refl)
 
@@ -70,7 +78,7 @@ all-below-requires c κs = search needs
 
 returns-8 : tie.Need-returns-8
 returns-8 c =
-    let a = c .before .before .before .before .before .before .before .before .before .before .before .before .args in
+    let a = begun (c .before) .args in
     λ z. (
       omega arith,
       omega arith,

@@ -1,8 +1,8 @@
 -- The loop: the numbers before the i-th are read, and what is left of the parser goes on at the place.
-use Prim.Native.Nat.{_-_}
+use Prim.Native.Nat.{ℕ, _-_}
 use mathlib.Core.Path.{ap, _∙_}
 use native.Mathlib.Omega.{arith}
-use Rattle.format.specs.Parser.{ranged}
+use Rattle.format.specs.Parser.{Parser, ranged}
 use Rattle.reader.specs.Number.{bufferOf, withoutValue}
 use Rattle.reader.proofs.Answers.{got, lost, passed}
 use Rattle.reader.proofs.Many.{Left, left-none, left-more, left-lost, left-all}
@@ -16,8 +16,24 @@ Inv-loop input bytes first count limit at₀ i₀ at i = Left (ranged (bufferOf 
 abbrev μ-loop : tie.MeasureT-loop
 μ-loop input bytes first count limit at₀ i₀ at i = count - i
 
+-- ---- moments on the way
+
+-- the beginning
+abbrev begun : tie.At-loop Inv-loop μ-loop → tie.Start Inv-loop μ-loop
+begun c = c .before .before
+
+-- where the loop's turn began, once its number is read
+abbrev turn : tie.After-read-ranged Inv-loop μ-loop → tie.At-loop Inv-loop μ-loop
+turn c = c .before .before
+
+-- what reads a number
+abbrev reading : tie.Start Inv-loop μ-loop → Parser ℕ
+reading s = ranged (bufferOf (s .args .input) (s .args .bytes .now)) 0 (s .args .limit)
+
+-- ---- what is to be shown
+
 loop-holds : tie.Need-loop-holds Inv-loop μ-loop
-loop-holds c = let a = c .before .args in left-none (ranged (bufferOf (a .input) (a .bytes .now)) 0 (a .limit)) (a .count) (a .first)
+loop-holds c = let s = c .before in left-none (reading s) (s .args .count) (s .args .first)
 
 read-ranged-requires : tie.Need-read-ranged-requires Inv-loop μ-loop
 read-ranged-requires c κs = search needs
@@ -33,13 +49,12 @@ reached-requires c κs = search needs
 
 returns : tie.Need-returns Inv-loop μ-loop
 returns c =
-    let a = c .before .before .before .before .before .before .before .args in
+    let r = c .before .before .before in
+    let l = turn r .loop in
+    let s = begun (turn r) in
     let e = c .before .enum-told .given .1 in
-    passed (c .before .before .before .read-ranged .ensures) (c .reached .ensures) e
-    ∙ left-lost (ranged (bufferOf (a .input) (a .bytes .now)) 0 (a .limit)) (a .count) (a .first)
-    (c .before .before .before .before .before .loop .at) (c .before .before .before .before .before .loop .i)
-    (c .before .before .before .before .before .loop .inv) _ _ (omega arith)
-    (ap withoutValue (lost (c .before .before .before .read-ranged .ensures) e))
+    passed (r .read-ranged .ensures) (c .reached .ensures) e
+    ∙ left-lost (reading s) (s .args .count) (s .args .first) (l .at) (l .i) (l .inv) _ _ (omega arith) (ap withoutValue (lost (r .read-ranged .ensures) e))
 
 add-i : tie.Need-add-i Inv-loop μ-loop
 add-i c = search needs
@@ -49,17 +64,17 @@ loop-less c = search needs
 
 loop-again : tie.Need-loop-again Inv-loop μ-loop
 loop-again c =
-    let a = c .before .before .before .before .before .before .before .args in
-    left-more (ranged (bufferOf (a .input) (a .bytes .now)) 0 (a .limit)) (a .count) (a .first)
-    (c .before .before .before .before .before .loop .at) (c .before .before .before .before .before .loop .i)
-    (c .before .before .before .before .before .loop .inv) _ (omega arith)
-    (ap withoutValue (got (c .before .before .before .read-ranged .ensures) (c .before .r .given .1)))
+    let r = c .before .before .before in
+    let l = turn r .loop in
+    let s = begun (turn r) in
+    left-more (reading s) (s .args .count) (s .args .first) (l .at) (l .i) (l .inv) _ (omega arith)
+    (ap withoutValue (got (r .read-ranged .ensures) (c .before .r .given .1)))
 
 returns-2 : tie.Need-returns-2 Inv-loop μ-loop
 returns-2 c =
-    let a = c .before .before .before .args in
-    left-all (ranged (bufferOf (a .input) (a .bytes .now)) 0 (a .limit)) (a .count) (a .first) (c .before .loop .at) (c .before .loop .i)
-    (c .before .loop .inv) (omega arith)
+    let l = c .before .loop in
+    let s = begun (c .before) in
+    left-all (reading s) (s .args .count) (s .args .first) (l .at) (l .i) (l .inv) (omega arith)
 
 pub read-codes-spec : {M : Type 1} → statement M
 read-codes-spec =

@@ -6,11 +6,12 @@ use mathlib.Core.Logic.{⊎-elim}
 use mathlib.Core.Path.{_≡_, ap, _∙_, sym}
 use native.Mathlib.Omega.{arith}
 use Rattle.run.specs.Run.{Located}
-use Rattle.format.specs.Certificate.{readMember}
+use Rattle.format.specs.Certificate.{Member, readMember}
 use Rattle.format.specs.Job.{readLocated}
 use Rattle.layout.specs.Entries.{versionOf}
-use Rattle.format.specs.Parser.{parsed, many, certificateBuffer}
+use Rattle.format.specs.Parser.{parsed, Parser, many, certificateBuffer}
 use Rattle.verdict.specs.Verdict.{reachedOf}
+use Rattle.reader.specs.Members.{placesRead, withPlaces}
 use Rattle.reader.specs.Number.{withoutValue}
 use Rattle.reader.proofs.Answers.{reached-got, reached-lost}
 use Rattle.reader.proofs.Many.{remembered, left-lost, left-all}
@@ -28,10 +29,42 @@ Inv-loop cert first count variables states start starts₀ at₀ seen₀ i₀ st
 abbrev μ-loop : tie.MeasureT-loop
 μ-loop cert first count variables states start starts₀ at₀ seen₀ i₀ starts at seen i = count - i
 
+-- ---- moments on the way, and what is so then
+
+-- the beginning
+abbrev begun : tie.At-loop Inv-loop μ-loop → tie.Start Inv-loop μ-loop
+begun c = c .before .before .before
+
+-- where the loop's turn began, once its member is read
+abbrev turn : tie.After-r Inv-loop μ-loop → tie.At-loop Inv-loop μ-loop
+turn c = c .before .before .before .before
+
+-- what reads a member
+abbrev reading : tie.Start Inv-loop μ-loop → Parser Member
+reading s = readMember (certificateBuffer (s .args .cert .now)) (versionOf (s .args .cert .now)) (s .args .variables) (s .args .states)
+
+-- the member that was read
+got-member : (c : tie.After-r Inv-loop μ-loop)
+    → let a = begun (turn c) .args in
+    (m : Located) × (readLocated (versionOf (a .cert .now)) (certificateBuffer (a .cert .now)) (a .variables) (a .states) (turn c .loop .at) ≡ parsed m (c .r .given .0 .0))
+got-member c = remembered _ _ (reached-got (c .before .before .read-member .ensures) (c .r .given .1))
+
+-- the table has the places of all members
+noted : (c : tie.After-loop Inv-loop μ-loop)
+    → let s = begun (c .before) in
+    c .before .loop .starts ≡ withPlaces (placesRead (s .args .count) (reading s) (s .args .first)) (s .args .starts .now)
+noted c =
+    let l = c .before .loop in
+    let s = begun (c .before) in
+    note-all (reading s) (s .args .count) (s .args .first) (s .args .starts .now) (l .starts) (l .at) (l .i) (l .inv .0) (omega arith) (omega arith)
+
+-- ---- what is to be shown
+
 loop-holds : tie.Need-loop-holds Inv-loop μ-loop
 loop-holds c =
-    let a = c .before .before .args in (
-      note-none (readMember (certificateBuffer (a .cert .now)) (versionOf (a .cert .now)) (a .variables) (a .states)) (a .count) (a .first) (a .starts .now),
+    let s = c .before .before in
+    let a = s .args in (
+      note-none (reading s) (a .count) (a .first) (a .starts .now),
       λ _. pass-none (a .cert .now) (a .variables) (a .states) (a .start) (a .first) (a .count),
     )
 
@@ -58,25 +91,20 @@ same-length c = search needs
 
 returns : tie.Need-returns Inv-loop μ-loop
 returns c =
-    let a = c .before .before .before .before .before .before .before .args in
+    let t = c .before .before .before .before in
+    let s = begun t in
+    let a = s .args in
+    let l = t .loop in
     let e = c .enum-told .given .1 in
-    let l = c .before .before .before .before .loop in
-    let p = readMember (certificateBuffer (a .cert .now)) (versionOf (a .cert .now)) (a .variables) (a .states) in
     let refused = sym (as-entry (a .cert .now) (a .variables) (a .states) (l .at)) ∙ reached-lost (c .before .before .read-member .ensures) e in (
       ap reachedOf e
           ∙ read-lost (a .cert .now) (a .variables) (a .states) (a .start) (a .first) (a .count) _ _
-          (left-lost p (a .count) (a .first) (l .at) (l .i) (l .inv .0 .left) _ _ (omega arith) refused),
-      note-last p (a .count) (a .first) (a .starts .now) (l .starts) (l .at) (l .i) (l .inv .0) (omega arith) (omega arith) _ _ refused,
+          (left-lost (reading s) (a .count) (a .first) (l .at) (l .i) (l .inv .0 .left) _ _ (omega arith) refused),
+      note-last (reading s) (a .count) (a .first) (a .starts .now) (l .starts) (l .at) (l .i) (l .inv .0) (omega arith) (omega arith) _ _ refused,
     )
 
--- the member that was read
-got-member : (c : tie.After-known-told Inv-loop μ-loop) → let a = c .before .before .before .before .before .before .before .before .args in
-    let l = c .before .before .before .before .before .loop in
-    (m : Located) × (readLocated (versionOf (a .cert .now)) (certificateBuffer (a .cert .now)) (a .variables) (a .states) (l .at) ≡ parsed m (c .before .r .given .0 .0))
-got-member c = remembered _ _ (reached-got (c .before .before .before .read-member .ensures) (c .before .r .given .1))
-
 may-refuse-requires : tie.Need-may-refuse-requires Inv-loop μ-loop
-may-refuse-requires c κs = let a = c .before .before .before .before .before .before .before .before .args in let (m, g) = got-member c in (a .states, m, _, g)
+may-refuse-requires c κs = let (m, g) = got-member (c .before) in (begun (turn (c .before)) .args .states, m, _, g)
 
 add-i : tie.Need-add-i Inv-loop μ-loop
 add-i c = search needs
@@ -86,11 +114,12 @@ loop-less c = search needs
 
 loop-again : tie.Need-loop-again Inv-loop μ-loop
 loop-again c =
-    let k = c .before .before in
-    let a = k .before .before .before .before .before .before .before .before .args in
-    let l = k .before .before .before .before .before .loop in
+    let k = c .before .before .before in
+    let s = begun (turn k) in
+    let a = s .args in
+    let l = turn k .loop in
     let (m, g) = got-member k in (
-      note-more (readMember (certificateBuffer (a .cert .now)) (versionOf (a .cert .now)) (a .variables) (a .states)) (a .count) (a .first) (a .starts .now) (l .starts) (l .at) (l .i)
+      note-more (reading s) (a .count) (a .first) (a .starts .now) (l .starts) (l .at) (l .i)
           (l .inv .0) (omega arith) (omega arith) _
           (sym (as-entry (a .cert .now) (a .variables) (a .states) (l .at)) ∙ ap withoutValue g),
       λ z. ⊎-elim (λ (t, y). let v : _≡_ {A = ℕ} 0 1 = cc in absurd (omega arith))
@@ -101,33 +130,26 @@ loop-again c =
 
 test-members-requires : tie.Need-test-members-requires Inv-loop μ-loop
 test-members-requires c κs =
-    let a = c .before .before .before .before .before .args in
     let l = c .before .before .loop in
-    let p = readMember (certificateBuffer (a .cert .now)) (versionOf (a .cert .now)) (a .variables) (a .states) in
-    let (ms, g) = remembered (many (a .count) p (a .first)) _ (sym (left-all p (a .count) (a .first) (l .at) (l .i) (l .inv .0 .left) (omega arith))) in
+    let s = begun (c .before .before) in
+    let a = s .args in
+    let (ms, g) = remembered (many (a .count) (reading s) (a .first)) _ (sym (left-all (reading s) (a .count) (a .first) (l .at) (l .i) (l .inv .0 .left) (omega arith))) in
     (ms, _, g)
 
 same-length-2 : tie.Need-same-length-2 Inv-loop μ-loop
 same-length-2 c = search needs
 
 returns-2 : tie.Need-returns-2 Inv-loop μ-loop
-returns-2 c =
-    let a = c .before .before .before .before .before .before .args in
-    let l = c .before .before .before .loop in
-    let p = readMember (certificateBuffer (a .cert .now)) (versionOf (a .cert .now)) (a .variables) (a .states) in
-    (c .test-members .ensures, note-all p (a .count) (a .first) (a .starts .now) (l .starts) (l .at) (l .i) (l .inv .0) (omega arith) (omega arith))
+returns-2 c = (c .test-members .ensures, noted (c .before .before))
 
 same-length-3 : tie.Need-same-length-3 Inv-loop μ-loop
 same-length-3 c = search needs
 
 returns-3 : tie.Need-returns-3 Inv-loop μ-loop
 returns-3 c =
-    let a = c .before .before .before .before .before .args in
     let l = c .before .before .loop in
-    let p = readMember (certificateBuffer (a .cert .now)) (versionOf (a .cert .now)) (a .variables) (a .states) in (
-      pass-all (a .cert .now) (a .variables) (a .states) (a .start) (a .first) (a .count) (l .at) (l .i) (l .inv .1 (c .if2 .left)) (omega arith),
-      note-all p (a .count) (a .first) (a .starts .now) (l .starts) (l .at) (l .i) (l .inv .0) (omega arith) (omega arith),
-    )
+    let a = begun (c .before .before) .args in
+    (pass-all (a .cert .now) (a .variables) (a .states) (a .start) (a .first) (a .count) (l .at) (l .i) (l .inv .1 (c .if2 .left)) (omega arith), noted (c .before))
 
 pub read-entries-spec : {M : Type 1} → statement M
 read-entries-spec =

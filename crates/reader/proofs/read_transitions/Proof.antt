@@ -2,7 +2,8 @@
 use Prim.Native.Nat.{_-_}
 use mathlib.Core.Path.{ap, _∙_}
 use native.Mathlib.Omega.{arith}
-use Rattle.format.specs.Parser.{jobBuffer}
+use Rattle.run.specs.Run.{Transition}
+use Rattle.format.specs.Parser.{Parser, jobBuffer}
 use Rattle.format.specs.Job.{readTransition}
 use Rattle.layout.specs.Entries.{versionOf}
 use Rattle.verdict.specs.Verdict.{reachedOf}
@@ -18,10 +19,24 @@ Inv-loop job first count variables states at₀ i₀ at i = Left (readTransition
 abbrev μ-loop : tie.MeasureT-loop
 μ-loop job first count variables states at₀ i₀ at i = count - i
 
+-- ---- moments on the way
+
+-- the beginning
+abbrev begun : tie.At-loop Inv-loop μ-loop → tie.Start Inv-loop μ-loop
+begun c = c .before .before
+
+-- where the loop's turn began, once its transition is read
+abbrev turn : tie.After-read-transition Inv-loop μ-loop → tie.At-loop Inv-loop μ-loop
+turn c = c .before .before
+
+-- what reads a transition
+abbrev reading : tie.Start Inv-loop μ-loop → Parser Transition
+reading s = readTransition (versionOf (s .args .job .now)) (jobBuffer (s .args .job .now)) (s .args .variables) (s .args .states)
+
+-- ---- what is to be shown
+
 loop-holds : tie.Need-loop-holds Inv-loop μ-loop
-loop-holds c =
-    let a = c .before .args in
-    left-none (readTransition (versionOf (a .job .now)) (jobBuffer (a .job .now)) (a .variables) (a .states)) (a .count) (a .first)
+loop-holds c = let s = c .before in left-none (reading s) (s .args .count) (s .args .first)
 
 read-transition-requires : tie.Need-read-transition-requires Inv-loop μ-loop
 read-transition-requires c κs = search needs
@@ -34,12 +49,11 @@ enum-told c = search needs
 
 returns : tie.Need-returns Inv-loop μ-loop
 returns c =
-    let a = c .before .before .before .before .before .before .args in
+    let r = c .before .before in
+    let l = turn r .loop in
+    let s = begun (turn r) in
     let e = c .enum-told .given .1 in
-    ap reachedOf e
-    ∙ left-lost (readTransition (versionOf (a .job .now)) (jobBuffer (a .job .now)) (a .variables) (a .states)) (a .count) (a .first)
-    (c .before .before .before .before .loop .at) (c .before .before .before .before .loop .i)
-    (c .before .before .before .before .loop .inv) _ _ (omega arith) (reached-lost (c .before .before .read-transition .ensures) e)
+    ap reachedOf e ∙ left-lost (reading s) (s .args .count) (s .args .first) (l .at) (l .i) (l .inv) _ _ (omega arith) (reached-lost (r .read-transition .ensures) e)
 
 add-i : tie.Need-add-i Inv-loop μ-loop
 add-i c = search needs
@@ -49,17 +63,16 @@ loop-less c = search needs
 
 loop-again : tie.Need-loop-again Inv-loop μ-loop
 loop-again c =
-    let a = c .before .before .before .before .before .before .before .args in
-    left-more (readTransition (versionOf (a .job .now)) (jobBuffer (a .job .now)) (a .variables) (a .states)) (a .count) (a .first)
-    (c .before .before .before .before .before .loop .at) (c .before .before .before .before .before .loop .i)
-    (c .before .before .before .before .before .loop .inv) _ (omega arith)
-    (reached-got (c .before .before .before .read-transition .ensures) (c .before .r .given .1))
+    let r = c .before .before .before in
+    let l = turn r .loop in
+    let s = begun (turn r) in
+    left-more (reading s) (s .args .count) (s .args .first) (l .at) (l .i) (l .inv) _ (omega arith) (reached-got (r .read-transition .ensures) (c .before .r .given .1))
 
 returns-2 : tie.Need-returns-2 Inv-loop μ-loop
 returns-2 c =
-    let a = c .before .before .before .args in
-    left-all (readTransition (versionOf (a .job .now)) (jobBuffer (a .job .now)) (a .variables) (a .states)) (a .count) (a .first) (c .before .loop .at)
-    (c .before .loop .i) (c .before .loop .inv) (omega arith)
+    let l = c .before .loop in
+    let s = begun (c .before) in
+    left-all (reading s) (s .args .count) (s .args .first) (l .at) (l .i) (l .inv) (omega arith)
 
 pub read-transitions-spec : {M : Type 1} → statement M
 read-transitions-spec =

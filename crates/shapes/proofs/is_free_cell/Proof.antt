@@ -6,6 +6,10 @@ use borrow.Author.Needs.{needs}
 use Rattle.shapes.proofs.is_free_cell.Statement.{statement}
 use Rattle.shapes.proofs.is_free_cell.Tie as tie
 
+-- the beginning, once the place of the cell is known
+abbrev begun : tie.After-cell → tie.Start
+begun c = c .before .before .before .before .before
+
 returns : tie.Need-returns
 returns c = let a = c .before .args in not-free-cell (a .variables) (a .s .now) (a .k) (λ f. omega (arith, f .variables-fit))
 
@@ -53,8 +57,9 @@ is-free-requires c κs = search needs
 
 returns-4 : tie.Need-returns-4
 returns-4 c =
-    let a = c .before .before .before .before .before .before .before .before .before .args in
-    c .is-free .ensures ∙ by-parts (a .variables) (a .s .now) (a .k) (omega arith) (omega arith) (omega arith) _ (c .before .before .before .before .cell .ensures)
+    let o = c .before .before .before .before in
+    let a = begun o .args in
+    c .is-free .ensures ∙ by-parts (a .variables) (a .s .now) (a .k) (omega arith) (omega arith) (omega arith) _ (o .cell .ensures)
 
 pub is-free-cell-spec : {M : Type 1} → statement M
 is-free-cell-spec =

@@ -8,6 +8,10 @@ use borrow.Author.Needs.{needs}
 use Rattle.shapes.proofs.slot_without.Statement.{statement}
 use Rattle.shapes.proofs.slot_without.Tie as tie
 
+-- the beginning, once the slot is known to be that of a link or a variable
+abbrev begun : tie.Else2 → tie.Start
+begun c = c .before .before
+
 element-copy-out-result : tie.Need-element-copy-out-result
 element-copy-out-result c = search needs
 
@@ -34,17 +38,16 @@ add-lowered c = search needs
 
 element-copy-out-lowered : tie.Need-element-copy-out-lowered
 element-copy-out-lowered c =
-    let start = c .before .before .before .before in
-    let a = start .args in
-    let p = start .pre in
-    omega (arith, c .slot-from .ensures, from-most _ (a .k) (a .i) (p .0) (p .2))
+    let s = begun (c .before .before) in
+    let a = s .args in
+    omega (arith, c .slot-from .ensures, from-most _ (a .k) (a .i) (s .pre .0) (s .pre .2))
 
 lowered-requires : tie.Need-lowered-requires
 lowered-requires c κs = search needs
 
 returns-3 : tie.Need-returns-3
 returns-3 c =
-    let a = c .before .before .before .before .before .before .args in
+    let a = begun (c .before .before .before .before) .args in
     let k-is : 3 + a .k ≡ cell (a .k) = omega arith in
     c .lowered .ensures ∙ rw (k-is, c .before .before .slot-from .ensures) (sym (slot-place (a .s .now) (a .k) (a .i) (omega arith)))
 

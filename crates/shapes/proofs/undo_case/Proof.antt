@@ -35,7 +35,8 @@ remove-cell-requires c κs = search needs
 returns-3 : tie.Need-returns-3
 unfolding isBefore arrayBefore
 returns-3 c =
-    let w = c .before .before .before .before .before in
+    let e = c .before .before .before .before in
+    let w = e .before in
     let a = w .before .before .before .args in
     rw (ne-eqb (a .kind) 7 (w .before .before .if1 .left), ← w .wide .ensures .0, lt-leb (w .wide .result) (a .k) (omega arith)) (c .remove-cell .ensures)
 

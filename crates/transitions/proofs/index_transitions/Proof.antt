@@ -33,8 +33,9 @@ index-all-requires c κs = (inside (c .before), omega arith, c .index-all-arg .g
 
 returns-3 : tie.Need-returns-3
 returns-3 c =
-    let a = c .before .before .before .before .before .before .args in
-    rw (there (a .job .now) (a .first) (a .count) (omega arith) (inside (c .before .before))) (c .index-all .ensures)
+    let e = c .before .before in
+    let a = e .before .before .before .before .args in
+    rw (there (a .job .now) (a .first) (a .count) (omega arith) (inside e)) (c .index-all .ensures)
 
 pub index-transitions-spec : {M : Type 1} → statement M
 index-transitions-spec =

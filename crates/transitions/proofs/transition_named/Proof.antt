@@ -46,8 +46,9 @@ some c = omega arith
 
 returns-2 : tie.Need-returns-2
 returns-2 c =
-    let a = c .before .before .before .before .before .args in
-    let h = some (c .before .before .before) in
+    let n = c .before .before .before in
+    let a = n .before .before .args in
+    let h = some n in
     let none = sym (tested (a .first) (a .k) _ h) ∙ sym (c .before .before .are-there .ensures) ∙ not-true _ (c .before .if2 .taken) in
     c .no-transition2 .ensures ∙ bytes-none (a .job .now) (a .first + 5 * (a .k - 1)) none ∙ sym (named-some (a .job .now) (a .first) (a .k) h)
 
@@ -69,8 +70,9 @@ read-transition-requires c κs = let a = c .before .before .before .before .args
 
 returns-3 : tie.Need-returns-3
 returns-3 c =
-    let a = c .before .before .before .before .before .args in
-    let h = some (c .before .before .before) in
+    let n = c .before .before .before in
+    let a = n .before .before .args in
+    let h = some n in
     (rw (place (a .first) (a .k) h) at (c .read-transition .ensures)) ∙ sym (bytes-all (a .job .now) (a .first + 5 * (a .k - 1)) (whole (c .before)))
     ∙ sym (named-some (a .job .now) (a .first) (a .k) h)
 

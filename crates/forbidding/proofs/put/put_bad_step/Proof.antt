@@ -4,6 +4,10 @@ use borrow.Author.Needs.{needs}
 use Rattle.forbidding.proofs.put.put_bad_step.Statement.{statement}
 use Rattle.forbidding.proofs.put.put_bad_step.Tie as tie
 
+-- where the first shape was put, once the second is
+abbrev first : tie.After-put-shape2 → tie.After-put-shape
+first c = c .before .before .before .before .before
+
 slice-aggregate-put-shape : tie.Need-slice-aggregate-put-shape
 slice-aggregate-put-shape c = search needs
 
@@ -20,10 +24,7 @@ same-length : tie.Need-same-length
 same-length c = search needs
 
 returns : tie.Need-returns
-returns c =
-    let second = c .before .before in
-    let first = c .before .before .before .before .before .before .before in
-    put-more (first .put-shape .ensures .1) (put-end (second .put-shape2 .ensures .1))
+returns c = let second = c .before .before in put-more (first second .put-shape .ensures .1) (put-end (second .put-shape2 .ensures .1))
 
 pub put-bad-step-spec : {M : Type 1} → statement M
 put-bad-step-spec =

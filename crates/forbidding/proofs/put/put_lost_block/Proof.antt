@@ -5,6 +5,18 @@ use borrow.Author.Needs.{needs}
 use Rattle.forbidding.proofs.put.put_lost_block.Statement.{statement}
 use Rattle.forbidding.proofs.put.put_lost_block.Tie as tie
 
+-- ---- moments on the way, and what is so then
+
+-- where the four with a loose cell were put, once the fifth shape is
+abbrev loose : tie.After-put-shape → tie.After-put-loose
+loose c = c .before .before .before .before .before
+
+-- where the fifth was put, once the sixth is
+abbrev fifth : tie.After-put-shape2 → tie.After-put-shape
+fifth c = c .before .before .before .before .before
+
+-- ---- what is to be shown
+
 put-loose-requires : tie.Need-put-loose-requires
 put-loose-requires c κs = search needs
 
@@ -25,9 +37,11 @@ same-length c = search needs
 
 returns : tie.Need-returns
 returns c =
-    let p = c .before .before .before .before .before .before .before .before .before .before .before .before .before .before .before .args .p in
-    put-lost (p .version) (p .variables) (p .variable) (p .state) (c .before .before .before .before .before .before .before .before .before .before .before .before .put-loose .ensures .1)
-    (put-more (c .before .before .before .before .before .before .before .put-shape .ensures .1) (put-end (c .before .before .put-shape2 .ensures .1)))
+    let d = c .before .before in
+    let e = loose (fifth d) in
+    let p = e .before .before .before .args .p in
+    put-lost (p .version) (p .variables) (p .variable) (p .state) (e .put-loose .ensures .1)
+    (put-more (fifth d .put-shape .ensures .1) (put-end (d .put-shape2 .ensures .1)))
 
 pub put-lost-block-spec : {M : Type 1} → statement M
 put-lost-block-spec =

@@ -1,9 +1,45 @@
 -- State, number of cells, places, links and the number of no facts, put in this order, are the numbers of the shape at its state.
+use mathlib.Core.Path.{_≡_}
+use Prim.Native.Nat.{_-_}
 use native.Mathlib.Omega.{arith}
+use lib.ListN.{length, set, take, replicate}
+use Rattle.heap.specs.Place.{nowhere}
 use Rattle.forbidding.proofs.Shapes.{taken-length, none-count, put-parts}
 use borrow.Author.Needs.{needs}
 use Rattle.forbidding.proofs.put.put_shape.Statement.{statement}
 use Rattle.forbidding.proofs.put.put_shape.Tie as tie
+
+-- ---- moments on the way, and what is so then
+
+-- the beginning, once the size of a count is known
+abbrev begun : tie.After-count-bytes → tie.Start
+begun c = c .before .before .before .before .before
+
+-- where it became known, once the head is put
+abbrev counted : tie.After-put-all → tie.After-count-bytes
+counted c = c .before .before .before
+
+-- where the head was put, once the places are
+abbrev headed : tie.After-put-all2 → tie.After-put-all
+headed c = c .before .before .before .before .before
+
+-- where the places were put, once the links are
+abbrev placed : tie.After-put-all3 → tie.After-put-all2
+placed c = c .before .before .before .before
+
+-- where the links were put, once the number of facts is
+abbrev linked : tie.After-put-all4 → tie.After-put-all3
+linked c = c .before .before .before .before .before
+
+-- as many places as the shape has variables
+places : (s : tie.Start) → let a = s .args in a .p .variables ≡ length (take (a .p .variables) (set (replicate 8 nowhere) (a .p .variable - 1) (a .place)))
+places s = taken-length (s .args .p .variables) (s .args .p .variable) (s .args .place) (s .pre .0 .most)
+
+-- no facts are as many bytes as a count has
+facts : (c : tie.After-count-bytes) → c .count-bytes .result ≡ length (take (c .count-bytes .result) (replicate 1 nowhere))
+facts c = none-count (c .count-bytes .result) (c .count-bytes .ensures .1)
+
+-- ---- what is to be shown
 
 cast-t14 : tie.Need-cast-t14
 cast-t14 c = search needs
@@ -30,34 +66,41 @@ array-share-prefix-vars : tie.Need-array-share-prefix-vars
 array-share-prefix-vars c = search needs
 
 slice-aggregate-put-all-2 : tie.Need-slice-aggregate-put-all-2
-slice-aggregate-put-all-2 c = let s = c .before .before .before .before .before .before .before .before .before .before .before .before in taken-length (s .args .p .variables) (s .args .p .variable) (s .args .place) (s .pre .0 .most)
+slice-aggregate-put-all-2 c = places (begun (counted (c .before .before .before .before)))
 
 put-all-requires-2 : tie.Need-put-all-requires-2
-put-all-requires-2 c κs = let s = c .before .before .before .before .before .before .before .before .before .before .before .before in omega (arith, taken-length (s .args .p .variables) (s .args .p .variable) (s .args .place) (s .pre .0 .most))
+put-all-requires-2 c κs = omega (arith, places (begun (counted (c .before .before .before .before))))
 
 put-all-requires-3 : tie.Need-put-all-requires-3
-put-all-requires-3 c κs = let s = c .before .before .before .before .before .before .before .before .before .before .before .before .before .before .before .before in omega (arith, taken-length (s .args .p .variables) (s .args .p .variable) (s .args .place) (s .pre .0 .most))
+put-all-requires-3 c κs = omega (arith, places (begun (counted (headed (c .before .before .before)))))
 
 array-share-prefix-none : tie.Need-array-share-prefix-none
-array-share-prefix-none c = omega (arith, c .before .before .before .before .before .before .before .before .before .before .before .before .before .before .before .count-bytes .ensures .1)
+array-share-prefix-none c = omega (arith, counted (headed (placed (c .before .before .before))) .count-bytes .ensures .1)
 
 slice-aggregate-put-all-3 : tie.Need-slice-aggregate-put-all-3
-slice-aggregate-put-all-3 c = none-count (c .before .before .before .before .before .before .before .before .before .before .before .before .before .before .before .before .count-bytes .result) (c .before .before .before .before .before .before .before .before .before .before .before .before .before .before .before .before .count-bytes .ensures .1)
+slice-aggregate-put-all-3 c = facts (counted (headed (placed (c .before .before .before .before))))
 
 put-all-requires-4 : tie.Need-put-all-requires-4
-put-all-requires-4 c κs = let s = c .before .before .before .before .before .before .before .before .before .before .before .before .before .before .before .before .before .before .before .before .before in omega (arith, taken-length (s .args .p .variables) (s .args .p .variable) (s .args .place) (s .pre .0 .most), none-count (c .before .before .before .before .before .before .before .before .before .before .before .before .before .before .before .before .count-bytes .result) (c .before .before .before .before .before .before .before .before .before .before .before .before .before .before .before .before .count-bytes .ensures .1), c .before .before .before .before .before .before .before .before .before .before .before .before .before .before .before .before .count-bytes .ensures .0)
+put-all-requires-4 c κs =
+    let o = counted (headed (placed (c .before .before .before .before))) in
+    omega (arith, places (begun o), facts o, o .count-bytes .ensures .0)
 
 same-length : tie.Need-same-length
 same-length c = search needs
 
 returns : tie.Need-returns
 returns c =
-    let s = c .before .before .before .before .before .before .before .before .before .before .before .before .before .before .before .before .before .before .before .before .before .before .before .before in
+    let d = c .before .before in
+    let e = linked d in
+    let f = placed e in
+    let g = headed f in
+    let o = counted g in
+    let s = begun o in
     let p = s .args .p in
-    let count = c .before .before .before .before .before .before .before .before .before .before .before .before .before .before .before .before .before .before .before .count-bytes in (
-      omega (arith, taken-length (s .args .p .variables) (s .args .p .variable) (s .args .place) (s .pre .0 .most), none-count (c .before .before .before .before .before .before .before .before .before .before .before .before .before .before .before .before .before .before .before .count-bytes .result) (c .before .before .before .before .before .before .before .before .before .before .before .before .before .before .before .before .before .before .before .count-bytes .ensures .1), count .ensures .0),
+    let count = o .count-bytes in (
+      omega (arith, places s, facts o, count .ensures .0),
       put-parts (p .version) (p .state) (p .variables) (p .variable) (s .args .place) (s .args .links .now) (count .result) (count .ensures .0) (s .pre .0 .some)
-          (s .pre .0 .variable) (s .pre .0 .most) (c .before .before .before .before .before .before .before .before .before .before .before .before .before .before .before .before .put-all .ensures) (c .before .before .before .before .before .before .before .before .before .before .before .put-all2 .ensures) (c .before .before .before .before .before .before .before .put-all3 .ensures) (c .before .before .put-all4 .ensures),
+          (s .pre .0 .variable) (s .pre .0 .most) (g .put-all .ensures) (f .put-all2 .ensures) (e .put-all3 .ensures) (d .put-all4 .ensures),
     )
 
 pub put-shape-spec : {M : Type 1} → statement M

@@ -7,6 +7,18 @@ use borrow.Author.Needs.{needs}
 use Rattle.forbidding.proofs.steps.put_step.Statement.{statement}
 use Rattle.forbidding.proofs.steps.put_step.Tie as tie
 
+-- ---- moments on the way, and what is so then
+
+-- the beginning, once it is known whether the transition steps through a variable
+abbrev begun : tie.After-steps-through → tie.Start
+begun c = c .before .before .before .before
+
+-- where that became known, once it steps through one
+abbrev through : tie.After-put-bad-step-arg → tie.After-steps-through
+through c = c .before .before .before .before .before .before
+
+-- ---- what is to be shown
+
 transition-at-requires : tie.Need-transition-at-requires
 transition-at-requires c κs = search needs
 
@@ -24,9 +36,10 @@ cast-state c = search needs
 
 put-bad-step-requires : tie.Need-put-bad-step-requires
 put-bad-step-requires c κs =
-    let s = c .before .before .before .before .before .before .before .before .before .before in
-    let t = c .before .before .before .before .before .before .before .transition-at in
-    let step = c .before .before .before .before .before .before .steps-through in
+    let o = through c in
+    let s = begun o in
+    let t = o .before .transition-at in
+    let step = o .steps-through in
     let in-range = variable-in (s .args .job .now) (s .args .from) (t .result) (t .ensures) (s .pre .0 .whole) (step .result) (step .ensures) (s .args .variables) _ (c .before .before .before .before .step .given .1) (s .pre .0) in
     let size = step-bytes (s .args .job .now) (s .args .from) (t .result) (t .ensures) (s .pre .0 .whole) (step .result) (step .ensures) (s .args .variables) _ (c .before .before .before .before .step .given .1) in (
       record {
@@ -46,14 +59,16 @@ same-length c = search needs
 
 returns : tie.Need-returns
 returns c =
-    let s = c .before .before .before .before .before .before .before .before .before .before .before .before .before in
-    let t = c .before .before .before .before .before .before .before .before .before .before .transition-at in
-    let step = c .before .before .before .before .before .before .before .before .before .steps-through in
-    put-through (s .args .job .now) (s .args .from) (t .result) (t .ensures) (s .pre .0 .whole) (step .result) (step .ensures) (s .args .variables) _ (c .before .before .before .before .before .before .before .step .given .1) (rw (c .before .before .before .before .before .version-of .ensures) at (c .before .before .put-bad-step .ensures))
+    let a = c .before .before .before in
+    let o = through a in
+    let s = begun o in
+    let t = o .before .transition-at in
+    let step = o .steps-through in
+    put-through (s .args .job .now) (s .args .from) (t .result) (t .ensures) (s .pre .0 .whole) (step .result) (step .ensures) (s .args .variables) _ (a .before .before .before .before .step .given .1) (rw (a .before .before .version-of .ensures) at (c .before .before .put-bad-step .ensures))
 
 returns-2 : tie.Need-returns-2
 returns-2 c =
-    let s = c .before .before .before .before .before .before in
+    let s = begun (c .before .before) in
     let t = c .before .before .before .transition-at in
     let step = c .before .before .steps-through in
     put-nothing (s .args .job .now) (s .args .from) (t .result) (t .ensures) (s .pre .0 .whole) (step .result) (step .ensures) (s .args .variables) _ _ (c .enum-told .given .1) (omega (arith, s .pre .2))

@@ -12,18 +12,22 @@ Inv-loop job first count variables bytes₀ at next₀ i₀ bytes next i = Putti
 abbrev μ-loop : tie.MeasureT-loop
 μ-loop job first count variables bytes₀ at next₀ i₀ bytes next i = count - i
 
+-- the beginning, in the loop's turn
+abbrev begun : tie.In-loop Inv-loop μ-loop → tie.Start Inv-loop μ-loop
+begun c = c .before .before .before .before
+
 loop-holds : tie.Need-loop-holds Inv-loop μ-loop
 loop-holds c = steps-none _ _ _ _ _ _ (c .before .before .pre .2)
 
 mul-put-step : tie.Need-mul-put-step Inv-loop μ-loop
-mul-put-step c = omega (arith, c .before .before .before .before .pre .0 (c .before .loop .i) (omega arith) .whole)
+mul-put-step c = omega (arith, begun c .pre .0 (c .before .loop .i) (omega arith) .whole)
 
 add-put-step : tie.Need-add-put-step Inv-loop μ-loop
-add-put-step c = omega (arith, c .before .before .before .before .pre .0 (c .before .loop .i) (omega arith) .whole)
+add-put-step c = omega (arith, begun c .pre .0 (c .before .loop .i) (omega arith) .whole)
 
 put-step-requires : tie.Need-put-step-requires Inv-loop μ-loop
 put-step-requires c κs =
-    let s = c .before .before .before .before .before in
+    let s = begun (c .before) in
     let l = c .before .before .loop in (
       s .pre .0 (l .i) (omega arith),
       s .pre .1,
@@ -37,7 +41,9 @@ loop-less : tie.Need-loop-less Inv-loop μ-loop
 loop-less c = search needs
 
 loop-again : tie.Need-loop-again Inv-loop μ-loop
-loop-again c = steps-more _ _ _ _ _ _ (c .before .before .before .before .before .before .before .before .pre .2) _ _ _ (c .before .before .before .before .before .loop .inv) (omega arith) _ _ (c .before .before .put-step .ensures)
+loop-again c =
+    let i = c .before .before .before .before in
+    steps-more _ _ _ _ _ _ (begun i .pre .2) _ _ _ (i .before .loop .inv) (omega arith) _ _ (c .before .before .put-step .ensures)
 
 same-length : tie.Need-same-length Inv-loop μ-loop
 same-length c = c .before .loop .inv .put .same

@@ -7,6 +7,10 @@ use borrow.Author.Needs.{needs}
 use Rattle.forbidding.proofs.steps.shapes_at.Statement.{statement}
 use Rattle.forbidding.proofs.steps.shapes_at.Tie as tie
 
+-- the beginning, once the transition is read
+abbrev begun : tie.After-transition-at → tie.Start
+begun c = c .before .before
+
 transition-at-requires : tie.Need-transition-at-requires
 transition-at-requires c κs = search needs
 
@@ -21,7 +25,7 @@ enum-told-2 c = search needs
 
 returns : tie.Need-returns
 returns c =
-    let s = c .before .before .before .before .before in
+    let s = begun (c .before .before .before) in
     let t = c .before .before .before .transition-at in
     let step = c .before .before .steps-through in (
       λ n. sym (ap length (shapes-through (s .args .job .now) (s .args .at) (t .result) (t .ensures) (s .pre) (step .result) (step .ensures) n _ (c .enum-told .given .1))),
@@ -30,7 +34,7 @@ returns c =
 
 returns-2 : tie.Need-returns-2
 returns-2 c =
-    let s = c .before .before .before .before .before in
+    let s = begun (c .before .before .before) in
     let t = c .before .before .before .transition-at in
     let step = c .before .before .steps-through in (
       λ n. sym (ap length (shapes-none (s .args .job .now) (s .args .at) (t .result) (t .ensures) (s .pre) (step .result) (step .ensures) n (c .enum-told2 .given .1))),

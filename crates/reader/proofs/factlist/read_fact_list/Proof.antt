@@ -1,8 +1,11 @@
 -- The loop: i of the facts are read, and what is left of the parser goes on at the place, after a fact that the least rank is due after.
 use Prim.Native.Nat.{_-_}
-use mathlib.Core.Path.{_∙_}
+use mathlib.Core.Path.{_≡_, _∙_}
 use native.Mathlib.Omega.{arith}
-use Rattle.reader.specs.Number.{bufferOf}
+use Rattle.format.specs.Job.{readFact}
+use Rattle.format.specs.Parser.{Buffer}
+use Rattle.reader.specs.Facts.{ranked}
+use Rattle.reader.specs.Number.{bufferOf, rangedOf}
 use Rattle.reader.proofs.Answers.{got, lost, passed}
 use Rattle.reader.proofs.Facts.{Rising, rise-none, rise-all, rise-lost, rank-small, rise-more}
 use borrow.Author.Needs.{needs}
@@ -15,8 +18,31 @@ Inv-loop input bytes first n count at₀ least₀ i₀ at least i = Rising (buff
 abbrev μ-loop : tie.MeasureT-loop
 μ-loop input bytes first n count at₀ least₀ i₀ at least i = count - i
 
+-- ---- moments on the way, and what is so then
+
+-- the beginning
+abbrev begun : tie.At-loop Inv-loop μ-loop → tie.Start Inv-loop μ-loop
+begun c = c .before .before
+
+-- where the loop's turn began, once its fact is read
+abbrev turn : tie.After-read-fact Inv-loop μ-loop → tie.At-loop Inv-loop μ-loop
+turn c = c .before .before
+
+-- what is read
+abbrev buffer : tie.Start Inv-loop μ-loop → Buffer
+buffer s = bufferOf (s .args .input) (s .args .bytes .now)
+
+-- the answer is that of the fact's parser
+answer : (c : tie.After-read-fact Inv-loop μ-loop)
+    → let l = turn c .loop in
+    let s = begun (turn c) in
+    rangedOf (c .read-fact .result) ≡ ranked (readFact (buffer s) (s .args .n) (l .inv .last) (l .at))
+answer c = let i = turn c .loop .inv in c .read-fact .ensures (i .last) (i .due)
+
+-- ---- what is to be shown
+
 loop-holds : tie.Need-loop-holds Inv-loop μ-loop
-loop-holds c = let a = c .before .args in rise-none (bufferOf (a .input) (a .bytes .now)) (a .n) (a .count) (a .first)
+loop-holds c = let s = c .before in rise-none (buffer s) (s .args .n) (s .args .count) (s .args .first)
 
 read-fact-requires : tie.Need-read-fact-requires Inv-loop μ-loop
 read-fact-requires c κs = search needs
@@ -32,18 +58,18 @@ reached-requires c κs = search needs
 
 returns : tie.Need-returns Inv-loop μ-loop
 returns c =
-    let a = c .before .before .before .before .before .before .before .args in
-    let l = c .before .before .before .before .before .loop in
+    let r = c .before .before .before in
+    let l = turn r .loop in
+    let s = begun (turn r) in
     let e = c .before .enum-told .given .1 in
-    let h = c .before .before .before .read-fact .ensures (l .inv .last) (l .inv .due) in
-    passed h (c .reached .ensures) e ∙ rise-lost (bufferOf (a .input) (a .bytes .now)) (a .n) (a .count) (a .first) (l .at) (l .least) (l .i) (l .inv) (omega arith) _ _ (lost h e)
+    passed (answer r) (c .reached .ensures) e ∙ rise-lost (buffer s) (s .args .n) (s .args .count) (s .args .first) (l .at) (l .least) (l .i) (l .inv) (omega arith) _ _ (lost (answer r) e)
 
 add-least : tie.Need-add-least Inv-loop μ-loop
 add-least c =
-    let a = c .before .before .before .before .before .before .before .args in
-    let l = c .before .before .before .before .before .loop in
-    let h = c .before .before .before .read-fact .ensures (l .inv .last) (l .inv .due) in
-    let small = rank-small (bufferOf (a .input) (a .bytes .now)) (a .n) (a .count) (a .first) (l .at) (l .least) (l .i) (l .inv) (omega arith) _ _ (got h (c .before .r .given .1)) (omega arith) in
+    let r = c .before .before .before in
+    let l = turn r .loop in
+    let s = begun (turn r) in
+    let small = rank-small (buffer s) (s .args .n) (s .args .count) (s .args .first) (l .at) (l .least) (l .i) (l .inv) (omega arith) _ _ (got (answer r) (c .before .r .given .1)) (omega arith) in
     omega arith
 
 add-i : tie.Need-add-i Inv-loop μ-loop
@@ -54,16 +80,16 @@ loop-less c = search needs
 
 loop-again : tie.Need-loop-again Inv-loop μ-loop
 loop-again c =
-    let a = c .before .before .before .before .before .before .before .args in
-    let l = c .before .before .before .before .before .loop in
-    let h = c .before .before .before .read-fact .ensures (l .inv .last) (l .inv .due) in
-    rise-more (bufferOf (a .input) (a .bytes .now)) (a .n) (a .count) (a .first) (l .at) (l .least) (l .i) (l .inv) (omega arith) _ _ (got h (c .before .r .given .1))
+    let r = c .before .before .before in
+    let l = turn r .loop in
+    let s = begun (turn r) in
+    rise-more (buffer s) (s .args .n) (s .args .count) (s .args .first) (l .at) (l .least) (l .i) (l .inv) (omega arith) _ _ (got (answer r) (c .before .r .given .1))
 
 returns-2 : tie.Need-returns-2 Inv-loop μ-loop
 returns-2 c =
-    let a = c .before .before .before .args in
     let l = c .before .loop in
-    rise-all (bufferOf (a .input) (a .bytes .now)) (a .n) (a .count) (a .first) (l .at) (l .least) (l .i) (l .inv) (omega arith)
+    let s = begun (c .before) in
+    rise-all (buffer s) (s .args .n) (s .args .count) (s .args .first) (l .at) (l .least) (l .i) (l .inv) (omega arith)
 
 pub read-fact-list-spec : {M : Type 1} → statement M
 read-fact-list-spec =

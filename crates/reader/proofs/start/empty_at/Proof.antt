@@ -33,9 +33,10 @@ none-at-requires c κs = search needs
 
 returns-2 : tie.Need-returns-2
 returns-2 c =
-    let a = c .before .before .before .before .before .args in
+    let o = c .before .before in
+    let a = o .before .before .before .args in
     let size : a .at + 1 + a .variables - (a .at + 1) ≡ a .variables = omega arith in
-    c .none-at .ensures ∙ rw (size, eq-eqb _ 0 (c .before .before .if1 .left)) refl
+    c .none-at .ensures ∙ rw (size, eq-eqb _ 0 (o .if1 .left)) refl
 
 pub empty-at-spec : {M : Type 1} → statement M
 empty-at-spec =

@@ -7,10 +7,18 @@ use borrow.Author.Needs.{needs}
 use Rattle.reader.proofs.start.may_refuse.Statement.{statement}
 use Rattle.reader.proofs.start.may_refuse.Tie as tie
 
+-- ---- moments on the way
+
+-- the beginning, before the state is read
+abbrev begun : tie.After-shared-slice-known2 → tie.Start
+begun c = c .before .before
+
+-- ---- what is to be shown
+
 shared-slice-read-state : tie.Need-shared-slice-read-state
 shared-slice-read-state c =
-    let a = c .before .before .args in
-    let (states, l, next, h) = c .before .before .pre in
+    let a = begun c .args in
+    let (states, l, next, h) = begun c .pre in
     first-inside (a .cert .now) (a .variables) states (a .start) (a .at) l next h
 
 returns : tie.Need-returns
@@ -21,26 +29,26 @@ cast-if2 c = search needs
 
 returns-2 : tie.Need-returns-2
 returns-2 c = λ states l next h z.
-    let a = c .before .before .before .before .args in
+    let a = begun (c .before .before) .args in
     let (state-is, w) = stand-byte (a .cert .now) (a .variables) states (a .start) (a .at) l next h (omega arith) in
     other-state (a .cert .now) (a .variables) states (a .start) (a .at) l next h (a .at + 1) w (λ e. c .if2 .taken (sym state-is ∙ e))
 
 add-empty-at : tie.Need-add-empty-at
 add-empty-at c =
-    let a = c .before .before .before .before .args in
-    let (states, l, next, h) = c .before .before .before .before .pre in
-    omega (arith, first-inside (a .cert .now) (a .variables) states (a .start) (a .at) l next h)
+    let s = begun (c .before .before) in
+    let (states, l, next, h) = s .pre in
+    omega (arith, first-inside (s .args .cert .now) (s .args .variables) states (s .args .start) (s .args .at) l next h)
 
 empty-at-requires : tie.Need-empty-at-requires
 empty-at-requires c κs =
-    let a = c .before .before .before .before .args in
-    let (states, l, next, h) = c .before .before .before .before .pre in
-    let (_, w) = stand-byte (a .cert .now) (a .variables) states (a .start) (a .at) l next h (omega arith) in
+    let s = begun (c .before .before) in
+    let (states, l, next, h) = s .pre in
+    let (_, w) = stand-byte (s .args .cert .now) (s .args .variables) states (s .args .start) (s .args .at) l next h (omega arith) in
     omega (arith, w .links-inside)
 
 returns-3 : tie.Need-returns-3
 returns-3 c = λ states l next h z.
-    let a = c .before .before .before .before .before .args in
+    let a = begun (c .before .before .before) .args in
     let (state-is, w) = stand-byte (a .cert .now) (a .variables) states (a .start) (a .at) l next h (omega arith) in
     not-empty (a .cert .now) (a .variables) states (a .start) (a .at) l next h (a .at + 1) w (state-is ∙ c .before .if2 .left) (sym (c .empty-at .ensures) ∙ z)
 

@@ -4,7 +4,7 @@ use mathlib.Core.Path.{ap, _∙_}
 use native.Mathlib.Omega.{arith}
 use Rattle.verdict.specs.Verdict.{reachedOf}
 use Rattle.reader.proofs.Answers.{reached-got, reached-lost}
-use Rattle.reader.proofs.Testing.{Testing, test-none, next-member, test-lost, test-more, test-all}
+use Rattle.reader.proofs.Testing.{Testing, Next, test-none, next-member, test-lost, test-more, test-all}
 use borrow.Author.Needs.{needs}
 use Rattle.reader.proofs.start.test_members.Statement.{statement}
 use Rattle.reader.proofs.start.test_members.Tie as tie
@@ -15,11 +15,32 @@ Inv-loop cert first count variables states start at₀ i₀ at i = Testing cert 
 abbrev μ-loop : tie.MeasureT-loop
 μ-loop cert first count variables states start at₀ i₀ at i = count - i
 
+-- ---- moments on the way, and what is so then
+
+-- the beginning
+abbrev begun : tie.At-loop Inv-loop μ-loop → tie.Start Inv-loop μ-loop
+begun c = c .before .before
+
+-- the member that is tested next
+next : (c : tie.In-loop Inv-loop μ-loop)
+    → let l = c .before .loop in
+    let a = begun (c .before) .args in
+    Next (a .cert .now) (a .variables) (a .states) (a .start) (a .first) (a .count) (l .at) (l .i) (l .inv .left) (l .inv .end)
+next c =
+    let l = c .before .loop in
+    let a = begun (c .before) .args in
+    next-member (a .cert .now) (a .variables) (a .states) (a .start) (a .first) (a .count) (l .at) (l .i) (l .inv) (omega arith)
+
+-- ---- what is to be shown
+
 loop-holds : tie.Need-loop-holds Inv-loop μ-loop
-loop-holds c = let a = c .before .args in let p = c .before .pre in test-none (a .cert .now) (a .variables) (a .states) (a .start) (a .first) (a .count) (p .0) (p .1) (p .2)
+loop-holds c =
+    let a = c .before .args in
+    let (ms, end, read) = c .before .pre in
+    test-none (a .cert .now) (a .variables) (a .states) (a .start) (a .first) (a .count) ms end read
 
 test-member-requires : tie.Need-test-member-requires Inv-loop μ-loop
-test-member-requires c κs = let a = c .before .before .before .args in let l = c .before .loop in let n = next-member (a .cert .now) (a .variables) (a .states) (a .start) (a .first) (a .count) (l .at) (l .i) (l .inv) (omega arith) in (n .located, n .mid, n .read)
+test-member-requires c κs = let n = next c in (n .located, n .mid, n .read)
 
 enum-known-r : tie.Need-enum-known-r Inv-loop μ-loop
 enum-known-r c = search needs
@@ -28,7 +49,16 @@ enum-told : tie.Need-enum-told Inv-loop μ-loop
 enum-told c = search needs
 
 returns : tie.Need-returns Inv-loop μ-loop
-returns c = let a = c .before .before .before .before .before .before .args in let l = c .before .before .before .before .loop in let n = next-member (a .cert .now) (a .variables) (a .states) (a .start) (a .first) (a .count) (l .at) (l .i) (l .inv) (omega arith) in ap reachedOf (c .enum-told .given .1) ∙ test-lost (a .cert .now) (a .variables) (a .states) (a .start) (a .first) (a .count) (l .at) (l .i) (l .inv) n _ _ (reached-lost (c .before .before .test-member .ensures (n .located) (n .mid) (n .read)) (c .enum-told .given .1))
+returns c =
+    let r = c .before .before in
+    let t = r .before in
+    let l = t .before .loop in
+    let a = begun (t .before) .args in
+    let n = next t in
+    let e = c .enum-told .given .1 in
+    ap reachedOf e
+    ∙ test-lost (a .cert .now) (a .variables) (a .states) (a .start) (a .first) (a .count) (l .at) (l .i) (l .inv) n _ _
+    (reached-lost (r .test-member .ensures (n .located) (n .mid) (n .read)) e)
 
 add-i : tie.Need-add-i Inv-loop μ-loop
 add-i c = search needs
@@ -37,10 +67,20 @@ loop-less : tie.Need-loop-less Inv-loop μ-loop
 loop-less c = search needs
 
 loop-again : tie.Need-loop-again Inv-loop μ-loop
-loop-again c = let a = c .before .before .before .before .before .before .before .args in let l = c .before .before .before .before .before .loop in let n = next-member (a .cert .now) (a .variables) (a .states) (a .start) (a .first) (a .count) (l .at) (l .i) (l .inv) (omega arith) in test-more (a .cert .now) (a .variables) (a .states) (a .start) (a .first) (a .count) (l .at) (l .i) (l .inv) n _ (omega arith) (reached-got (c .before .before .before .test-member .ensures (n .located) (n .mid) (n .read)) (c .before .r .given .1))
+loop-again c =
+    let r = c .before .before .before in
+    let t = r .before in
+    let l = t .before .loop in
+    let a = begun (t .before) .args in
+    let n = next t in
+    test-more (a .cert .now) (a .variables) (a .states) (a .start) (a .first) (a .count) (l .at) (l .i) (l .inv) n _ (omega arith)
+    (reached-got (r .test-member .ensures (n .located) (n .mid) (n .read)) (c .before .r .given .1))
 
 returns-2 : tie.Need-returns-2 Inv-loop μ-loop
-returns-2 c = let a = c .before .before .before .args in let l = c .before .loop in test-all (a .cert .now) (a .variables) (a .states) (a .start) (a .first) (a .count) (l .at) (l .i) (l .inv) (omega arith)
+returns-2 c =
+    let l = c .before .loop in
+    let a = begun (c .before) .args in
+    test-all (a .cert .now) (a .variables) (a .states) (a .start) (a .first) (a .count) (l .at) (l .i) (l .inv) (omega arith)
 
 pub test-members-spec : {M : Type 1} → statement M
 test-members-spec =

@@ -29,7 +29,10 @@ slice-write-vars : tie.Need-slice-write-vars Inv-loop μ-loop
 slice-write-vars c = search needs
 
 loop-less : tie.Need-loop-less Inv-loop μ-loop
-loop-less c = let l = c .before .before .before .before .loop in omega (arith, length-set (l .vars) (l .i) (c .before .before .before .before .before .args .gone), c .before .before .before .loop-test .taken)
+loop-less c =
+    let o = c .before .before .before in
+    let l = o .before .loop in
+    omega (arith, length-set (l .vars) (l .i) (o .before .before .args .gone), o .loop-test .taken)
 
 loop-again : tie.Need-loop-again Inv-loop μ-loop
 loop-again c =

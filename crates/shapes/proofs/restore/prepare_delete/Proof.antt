@@ -42,11 +42,12 @@ count-cases-requires c κs =
 
 returns : tie.Need-returns
 returns c =
-    let o = c .before .before .before .before .before in
+    let t = c .before .before .before .before in
+    let o = t .before in
     let a = o .before .before .before .before .args in
     let (is, shape) = o .restore-deleted .ensures in
     let part : 18 + a .variables - 18 ≡ a .variables = omega arith in
-    (cases-some (a .variables) (a .a) (a .s .now) _ _ is shape (c .before .before .before .before .if1 .taken) _ (rw part at (c .count-cases .ensures)), rw is at shape)
+    (cases-some (a .variables) (a .a) (a .s .now) _ _ is shape (t .if1 .taken) _ (rw part at (c .count-cases .ensures)), rw is at shape)
 
 returns-2 : tie.Need-returns-2
 returns-2 c =

@@ -7,6 +7,10 @@ use borrow.Author.Needs.{needs}
 use Rattle.shapes.proofs.restore.restore_deleted.Statement.{statement}
 use Rattle.shapes.proofs.restore.restore_deleted.Tie as tie
 
+-- the beginning, once the place of a is read
+abbrev begun : tie.After-x → tie.Start
+begun c = c .before .before .before .before .before
+
 element-copy-out-n : tie.Need-element-copy-out-n
 element-copy-out-n c = search needs
 
@@ -26,10 +30,10 @@ element-copy-out-x : tie.Need-element-copy-out-x
 element-copy-out-x c = search needs
 
 returns-4 : tie.Need-returns-4
-returns-4 c = let a = c .before .before .before .before .before .before .args in (sym (not-restorable (a .variables) (a .a) (a .s .now) (λ h. h .not-null (c .if4 .taken))), refl)
+returns-4 c = let a = begun (c .before) .args in (sym (not-restorable (a .variables) (a .a) (a .s .now) (λ h. h .not-null (c .if4 .taken))), refl)
 
 returns-5 : tie.Need-returns-5
-returns-5 c = let a = c .before .before .before .before .before .before .before .args in (sym (not-restorable (a .variables) (a .a) (a .s .now) (λ h. omega (arith, h .no-cell, c .if5 .taken))), refl)
+returns-5 c = let a = begun (c .before .before) .args in (sym (not-restorable (a .variables) (a .a) (a .s .now) (λ h. omega (arith, h .no-cell, c .if5 .taken))), refl)
 
 forget-links-requires : tie.Need-forget-links-requires
 forget-links-requires c κs = search needs
@@ -61,7 +65,7 @@ element-write-t-3 c = search needs
 returns-6 : tie.Need-returns-6
 returns-6 c =
     let o = c .before in
-    let a = o .before .before .before .before .before .before .before .before .args in (
+    let a = begun (o .before .before .before) .args in (
       sym (restorable (a .variables) (a .a) (a .s .now)
           (record { variables-fit = omega arith; a-fits = omega arith; cell-fits = omega arith; not-null = o .before .before .if4 .left; no-cell = omega (arith, o .before .if5 .left) })),
       stored (a .s .now) _ (a .a) (c .forget-links .ensures),

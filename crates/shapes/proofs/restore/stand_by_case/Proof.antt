@@ -10,6 +10,10 @@ use borrow.Author.Needs.{needs}
 use Rattle.shapes.proofs.restore.stand_by_case.Statement.{statement}
 use Rattle.shapes.proofs.restore.stand_by_case.Tie as tie
 
+-- the beginning, once there is known to be room
+abbrev begun : tie.Else2 → tie.Start
+begun c = c .before .before .before .before
+
 slice-read-n : tie.Need-slice-read-n
 slice-read-n c = search needs
 
@@ -45,7 +49,7 @@ same-length c = search needs
 returns-3 : tie.Need-returns-3
 returns-3 c =
     let o = c .before .before in
-    let a = o .before .before .before .before .before .before .args in
+    let a = begun (o .before .before) .args in
     let part : 18 + a .variables - 18 ≡ a .variables = omega arith in
     rw (le-leb (a .variables) 9 (omega arith), le-leb (cellCount (a .t .now)) 14 (omega arith), ← post-is 18 (18 + a .variables) (a .t .now) (omega arith))
     (refl, ap (λ (v : List ℕ). putMid 18 (18 + a .variables - 18) (a .t .now) v) (rw part at (o .choose-case .ensures)))

@@ -33,6 +33,22 @@ Inv-loop2 self used i₀ i = (i ≤ 64) × Marked self 64 × (allFrom (64 - i) i
 abbrev μ-loop2 : tie.MeasureT-loop2
 μ-loop2 self used i₀ i = 64 - i
 
+-- ---- moments on the way
+
+-- the beginning, at a turn of the first loop
+abbrev begun : tie.At-loop Inv-loop μ-loop Inv-loop2 μ-loop2 → tie.Start Inv-loop μ-loop Inv-loop2 μ-loop2
+begun c = c .before .before
+
+-- the same at a turn of the second
+abbrev begun2 : tie.At-loop2 Inv-loop μ-loop Inv-loop2 μ-loop2 → tie.Start Inv-loop μ-loop Inv-loop2 μ-loop2
+begun2 c = begun (c .before .before)
+
+-- the turn of the second, once its cell's link is tested
+abbrev turn2 : tie.After-is-aimed Inv-loop μ-loop Inv-loop2 μ-loop2 → tie.At-loop2 Inv-loop μ-loop Inv-loop2 μ-loop2
+turn2 c = c .before .before .before
+
+-- ---- what is to be shown
+
 loop-holds : tie.Need-loop-holds Inv-loop μ-loop Inv-loop2 μ-loop2
 loop-holds c = (omega arith, λ j h. absurd (omega arith))
 
@@ -44,8 +60,9 @@ element-copy-out-if1 c = search needs
 
 returns : tie.Need-returns Inv-loop μ-loop Inv-loop2 μ-loop2
 returns c =
-    let t = c .before .before .before .before .args .t1 in
-    let i = c .before .before .loop .i in
+    let at-loop = c .before .before in
+    let t = begun at-loop .args .t1 in
+    let i = at-loop .loop .i in
     let fits = sym (ap (placeFits (t .used) (getD (t .used) i false)) (code-at (t .links) i)) ∙ unlike (t .used) _ (getD (t .used) i false) (c .if1 .taken) in
     sym (all-missed (cellFits t) 64 0 i (omega arith) (omega arith) fits)
 
@@ -59,7 +76,7 @@ loop-again : tie.Need-loop-again Inv-loop μ-loop Inv-loop2 μ-loop2
 loop-again c = (omega arith, λ j h. go j h (ℕ-discrete j (c .before .before .loop .i)))
   where
     t : Heap64
-    t = c .before .before .before .before .args .t1
+    t = begun (c .before .before) .args .t1
 
     here : cellFits t (c .before .before .loop .i) ≡ aimed (t .used) (getD (t .links) (c .before .before .loop .i) (placeOf 0) .code)
     here =
@@ -81,8 +98,8 @@ is-aimed-requires c κs = search needs
 
 returns-2 : tie.Need-returns-2 Inv-loop μ-loop Inv-loop2 μ-loop2
 returns-2 c =
-    let at-loop2 = c .before .before .before .before in
-    let t = c .before .before .before .before .before .before .before .before .args .t1 in
+    let at-loop2 = turn2 (c .before) in
+    let t = begun2 at-loop2 .args .t1 in
     let v = at-loop2 .loop2 .inv in
     let i = at-loop2 .loop2 .i in
     sym (all-failed (cellFits t) 64 i (omega arith) (v .1 i (omega arith) ∙ sym (c .before .is-aimed .ensures) ∙ not-true _ (c .if2 .taken)))
@@ -96,8 +113,8 @@ loop2-less c = search needs
 
 loop2-again : tie.Need-loop2-again Inv-loop μ-loop Inv-loop2 μ-loop2
 loop2-again c =
-    let at-loop2 = c .before .before .before .before in
-    let t = c .before .before .before .before .before .before .before .before .args .t1 in
+    let at-loop2 = turn2 (c .before) in
+    let t = begun2 at-loop2 .args .t1 in
     let v = at-loop2 .loop2 .inv in
     let i = at-loop2 .loop2 .i in (
       omega arith,
@@ -108,9 +125,8 @@ loop2-again c =
 
 returns-3 : tie.Need-returns-3 Inv-loop μ-loop Inv-loop2 μ-loop2
 returns-3 c =
-    let t = c .before .before .before .before .before .args .t1 in
-    let i = c .before .loop2 .i in
-    sym (all-done (cellFits t) 64 i (omega arith)) ∙ c .before .loop2 .inv .2
+    let at-loop2 = c .before in
+    sym (all-done (cellFits (begun2 at-loop2 .args .t1)) 64 (at-loop2 .loop2 .i) (omega arith)) ∙ at-loop2 .loop2 .inv .2
 
 pub cells-fit-spec : {M : Type 1} → statement M
 cells-fit-spec =

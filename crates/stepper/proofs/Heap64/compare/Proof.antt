@@ -1,7 +1,9 @@
 -- Blocked where an operand is at * or the comparison fails; else the heap stays.
+use mathlib.Core.Logic.{_≢_}
 use mathlib.Core.Path.{_≡_, _∙_, sym}
 use native.Mathlib.Omega.{arith}
 use Rattle.heap.specs.Codes.{varIn}
+use Rattle.heap.specs.Place.{dangling}
 use Rattle.place.specs.Place.{codes}
 use Rattle.stepper.specs.Table.{Sized}
 use Rattle.stepper.specs.declared.Heap64.{Heap64}
@@ -9,12 +11,6 @@ use Rattle.stepper.proofs.Formed.{Formed, formed}
 use Rattle.stepper.proofs.Perform.{dangling-a, dangling-b, same-equal, same-different, other-equal, other-different}
 use Rattle.stepper.proofs.Heap64.compare.Statement.{statement}
 use Rattle.stepper.proofs.Heap64.compare.Tie as tie
-
-place-of-requires : tie.Need-place-of-requires
-place-of-requires c κs = omega (arith, formed (c .args .self) (c .pre .0 .formed) .most)
-
-place-of-requires-2 : tie.Need-place-of-requires-2
-place-of-requires-2 c κs = omega (arith, formed (c .before .args .self) (c .before .pre .0 .formed) .most)
 
 -- ---- once both operands are looked up
 
@@ -37,6 +33,26 @@ module _ (p : tie.After-place-of2) where
   pb : p .place-of2 .result .code ≡ varIn (codes (t .vars)) (start .args .b)
   pb = p .place-of2 .ensures
 
+-- ---- where neither of them is at *
+
+module _ (q : tie.Else2) where
+  abbrev looked : tie.After-place-of2
+  looked = q .before .before .before .before
+
+  na : varIn (codes (t looked .vars)) (start looked .args .a) ≢ dangling
+  na z = q .before .before .if1 .left (pa looked ∙ z)
+
+  nb : varIn (codes (t looked .vars)) (start looked .args .b) ≢ dangling
+  nb z = q .if2 .left (pb looked ∙ z)
+
+-- ---- what is to be shown
+
+place-of-requires : tie.Need-place-of-requires
+place-of-requires c κs = omega (arith, formed (c .args .self) (c .pre .0 .formed) .most)
+
+place-of-requires-2 : tie.Need-place-of-requires-2
+place-of-requires-2 c κs = omega (arith, formed (c .before .args .self) (c .before .pre .0 .formed) .most)
+
 returns : tie.Need-returns
 returns c =
     let p = c .before .before in
@@ -51,34 +67,34 @@ returns-2 c =
 
 returns-3 : tie.Need-returns-3
 returns-3 c =
-    let p = c .before .before .before .before .before .before .before .before in
+    let q = c .before .before .before .before in
+    let p = looked q in
     let a = start p .args in
-    λ x. same-equal (t p) (s p) (f p) x (a .equal) (a .a) (a .b)
-    (λ z. c .before .before .before .before .before .before .if1 .left (pa p ∙ z)) (λ z. c .before .before .before .before .if2 .left (pb p ∙ z))
+    λ x. same-equal (t p) (s p) (f p) x (a .equal) (a .a) (a .b) (na q) (nb q)
     (sym (pa p) ∙ c .before .if3 .taken ∙ pb p) (c .if4 .taken)
 
 returns-4 : tie.Need-returns-4
 returns-4 c =
-    let p = c .before .before .before .before .before .before .before .before in
+    let q = c .before .before .before .before in
+    let p = looked q in
     let a = start p .args in
-    λ x. same-different (t p) (s p) (f p) x (a .equal) (a .a) (a .b)
-    (λ z. c .before .before .before .before .before .before .if1 .left (pa p ∙ z)) (λ z. c .before .before .before .before .if2 .left (pb p ∙ z))
+    λ x. same-different (t p) (s p) (f p) x (a .equal) (a .a) (a .b) (na q) (nb q)
     (sym (pa p) ∙ c .before .if3 .taken ∙ pb p) (c .if4 .left)
 
 returns-5 : tie.Need-returns-5
 returns-5 c =
-    let p = c .before .before .before .before .before .before .before .before in
+    let q = c .before .before .before .before in
+    let p = looked q in
     let a = start p .args in
-    λ x. other-equal (t p) (s p) (f p) x (a .equal) (a .a) (a .b)
-    (λ z. c .before .before .before .before .before .before .if1 .left (pa p ∙ z)) (λ z. c .before .before .before .before .if2 .left (pb p ∙ z))
+    λ x. other-equal (t p) (s p) (f p) x (a .equal) (a .a) (a .b) (na q) (nb q)
     (λ z. c .before .if3 .left (pa p ∙ z ∙ sym (pb p))) (c .if5 .taken)
 
 returns-6 : tie.Need-returns-6
 returns-6 c =
-    let p = c .before .before .before .before .before .before .before .before in
+    let q = c .before .before .before .before in
+    let p = looked q in
     let a = start p .args in
-    λ x. other-different (t p) (s p) (f p) x (a .equal) (a .a) (a .b)
-    (λ z. c .before .before .before .before .before .before .if1 .left (pa p ∙ z)) (λ z. c .before .before .before .before .if2 .left (pb p ∙ z))
+    λ x. other-different (t p) (s p) (f p) x (a .equal) (a .a) (a .b) (na q) (nb q)
     (λ z. c .before .if3 .left (pa p ∙ z ∙ sym (pb p))) (c .if5 .left)
 
 pub compare-spec : {M : Type 1} → statement M

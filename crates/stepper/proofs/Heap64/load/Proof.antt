@@ -1,16 +1,37 @@
 -- Blocked where b is at no cell or its link is at *; else a stands where the link does.
 use Prim.Native.Nat.{_-_}
-use mathlib.Core.Path.{refl, ap, _∙_, sym}
+use mathlib.Core.Path.{_≡_, refl, ap, _∙_, sym}
 use native.Mathlib.Omega.{arith}
+use Rattle.stepper.specs.declared.Heap64.{Heap64}
 use Rattle.stepper.proofs.Formed.{formed}
 use Rattle.stepper.proofs.Change.{withVar}
-use Rattle.stepper.proofs.Perform.{moved, blocked, put, linked-stands, taken}
+use Rattle.stepper.proofs.Perform.{moved, blocked, put, linked-stands}
 use Rattle.heap.specs.Operation.{load}
 use Rattle.heap.specs.Codes.{varIn, linkIn}
 use Rattle.place.specs.Place.{codes}
 use borrow.Author.Needs.{needs}
 use Rattle.stepper.proofs.Heap64.load.Statement.{statement}
 use Rattle.stepper.proofs.Heap64.load.Tie as tie
+
+-- ---- moments on the way, and what is so then
+
+-- once b's place is looked up
+module _ (p : tie.After-place-of) where
+  abbrev start : tie.Start
+  start = p .before
+
+  abbrev t : Heap64
+  t = start .args .self
+
+-- the link that is looked up then is that of the place
+link-is : (l : tie.After-link-of)
+    → let p = l .before in
+    l .link-of .result .code ≡ linkIn (codes (t p .links)) (varIn (codes (t p .vars)) (start p .args .b))
+link-is l =
+    let p = l .before in
+    l .link-of .ensures ∙ ap (linkIn (codes (t p .links))) (p .place-of .ensures)
+
+-- ---- what is to be shown
 
 place-of-requires : tie.Need-place-of-requires
 place-of-requires c κs = omega (arith, formed (c .args .self) (c .pre .0 .formed) .most)
@@ -20,41 +41,40 @@ link-of-requires c κs = search needs
 
 returns : tie.Need-returns
 returns c =
-    let start = c .before .before .before .before in
-    let t = start .args .self in
-    let le = c .before .before .link-of .ensures ∙ ap (linkIn (codes (t .links))) (c .before .before .before .place-of .ensures) in
-    λ x. blocked t x (load (start .args .a) (start .args .b)) refl
-    (λ d. d .0 (sym le ∙ c .if1 .taken))
+    let l = c .before .before in
+    let p = l .before in
+    let a = start p .args in
+    λ x. blocked (t p) x (load (a .a) (a .b)) refl
+    (λ d. d .0 (sym (link-is l) ∙ c .if1 .taken))
 
 returns-2 : tie.Need-returns-2
 returns-2 c =
-    let start = c .before .before .before .before .before .before in
-    let t = start .args .self in
-    let le = c .before .before .before .before .link-of .ensures ∙ ap (linkIn (codes (t .links))) (c .before .before .before .before .before .place-of .ensures) in
-    λ x. blocked t x
-    (load (start .args .a) (start .args .b)) refl
-    (λ d. d .1 (sym le ∙ c .if2 .taken))
+    let l = c .before .before .before .before in
+    let p = l .before in
+    let a = start p .args in
+    λ x. blocked (t p) x (load (a .a) (a .b)) refl
+    (λ d. d .1 (sym (link-is l) ∙ c .if2 .taken))
 
 sub-p : tie.Need-sub-p
 sub-p c = search needs
 
 element-set-from-p : tie.Need-element-set-from-p
 element-set-from-p c =
-    let start = c .before .before .before .before .before .before in
-    omega
-    (arith, formed (start .args .self) (start .pre .0 .formed) .most)
+    let l = c .before .before .before .before in
+    let p = l .before in
+    omega (arith, formed (t p) (start p .pre .0 .formed) .most)
 
 returns-3 : tie.Need-returns-3
 returns-3 c =
-    let at-link-of = c .before .before .before .before in
-    let start = at-link-of .before .before in
-    let t = start .args .self in
-    let s = start .pre .0 .sized in
-    let f = formed t (start .pre .0 .formed) in
-    let le = at-link-of .link-of .ensures ∙ ap (linkIn (codes (t .links))) (c .before .before .before .before .before .place-of .ensures) in
-    λ x. moved t x (load (start .args .a) (start .args .b))
-    (withVar t (start .args .a - 1) (at-link-of .link-of .result))
-    (put t s f x (load (start .args .a) (start .args .b)) (start .args .a) (at-link-of .link-of .result) refl (λ z. c .before .before .if1 .left (le ∙ z), λ z. c .if2 .left (le ∙ z)) (omega arith) (omega arith) (rw le (linked-stands t s f (varIn (codes (t .vars)) (start .args .b)) (λ z. c .before .before .if1 .left (le ∙ z)))) (rw le refl))
+    let l = c .before .before .before .before in
+    let p = l .before in
+    let a = start p .args in
+    let s = start p .pre .0 .sized in
+    let f = formed (t p) (start p .pre .0 .formed) in
+    let le = link-is l in
+    λ x. moved (t p) x (load (a .a) (a .b))
+    (withVar (t p) (a .a - 1) (l .link-of .result))
+    (put (t p) s f x (load (a .a) (a .b)) (a .a) (l .link-of .result) refl (λ z. c .before .before .if1 .left (le ∙ z), λ z. c .if2 .left (le ∙ z)) (omega arith) (omega arith) (rw le (linked-stands (t p) s f (varIn (codes (t p .vars)) (a .b)) (λ z. c .before .before .if1 .left (le ∙ z)))) (rw le refl))
 
 pub load-spec : {M : Type 1} → statement M
 load-spec =

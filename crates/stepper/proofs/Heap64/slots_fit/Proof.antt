@@ -19,6 +19,26 @@ Inv-loop self used variables i₀ i = (i ≤ 8) × (allFrom (8 - i) i (slotFits 
 abbrev μ-loop : tie.MeasureT-loop
 μ-loop self used variables i₀ i = 8 - i
 
+-- ---- moments on the way, and what is so then
+
+-- the beginning, at a turn of the loop
+abbrev begun : tie.At-loop Inv-loop μ-loop → tie.Start Inv-loop μ-loop
+begun c = c .before .before
+
+-- the turn, once its slot is tested
+abbrev turn : tie.After-is-aimed Inv-loop μ-loop → tie.At-loop Inv-loop μ-loop
+turn c = c .before .before .before .before
+
+-- what was tested is the slot of i
+tested : (c : tie.After-is-aimed Inv-loop μ-loop) → slotFits (begun (turn c) .args .t1) (turn c .loop .i) ≡ c .is-aimed .result
+tested c =
+    let t = begun (turn c) .args .t1 in
+    let i = turn c .loop .i in
+    sym (ap (placeFits (t .used) (ltb i (t .variables))) (code-at (t .vars) i))
+    ∙ alike (t .used) _ (ltb i (t .variables)) (c .before .before .if1 .left) ∙ sym (c .is-aimed .ensures)
+
+-- ---- what is to be shown
+
 cast-variables : tie.Need-cast-variables Inv-loop μ-loop
 cast-variables c = search needs
 
@@ -30,26 +50,19 @@ element-copy-out-code c = search needs
 
 returns : tie.Need-returns Inv-loop μ-loop
 returns c =
-    let t = c .before .before .before .before .args .t1 in
-    let i = c .before .before .loop .i in
+    let at-loop = c .before .before in
+    let t = begun at-loop .args .t1 in
+    let i = at-loop .loop .i in
     let fits = sym (ap (placeFits (t .used) (ltb i (t .variables))) (code-at (t .vars) i)) ∙ unlike (t .used) _ (ltb i (t .variables)) (c .if1 .taken) in
-    sym (all-failed (slotFits t) 8 i (omega arith) fits) ∙ c .before .before .loop .inv .1
+    sym (all-failed (slotFits t) 8 i (omega arith) fits) ∙ at-loop .loop .inv .1
 
 is-aimed-requires : tie.Need-is-aimed-requires Inv-loop μ-loop
 is-aimed-requires c κs = search needs
 
--- what was tested is the slot of i
-tested : (c : tie.After-is-aimed Inv-loop μ-loop) → slotFits (c .before .before .before .before .before .before .args .t1) (c .before .before .before .before .loop .i) ≡ c .is-aimed .result
-tested c =
-    let t = c .before .before .before .before .before .before .args .t1 in
-    let i = c .before .before .before .before .loop .i in
-    sym (ap (placeFits (t .used) (ltb i (t .variables))) (code-at (t .vars) i))
-    ∙ alike (t .used) _ (ltb i (t .variables)) (c .before .before .if1 .left) ∙ sym (c .is-aimed .ensures)
-
 returns-2 : tie.Need-returns-2 Inv-loop μ-loop
 returns-2 c =
-    let at-loop = c .before .before .before .before .before in
-    let t = c .before .before .before .before .before .before .before .args .t1 in
+    let at-loop = turn (c .before) in
+    let t = begun at-loop .args .t1 in
     let i = at-loop .loop .i in
     sym (all-failed (slotFits t) 8 i (omega arith) (tested (c .before) ∙ not-true _ (c .if2 .taken)))
     ∙ at-loop .loop .inv .1
@@ -62,8 +75,8 @@ loop-less c = search needs
 
 loop-again : tie.Need-loop-again Inv-loop μ-loop
 loop-again c =
-    let at-loop = c .before .before .before .before .before in
-    let t = c .before .before .before .before .before .before .before .args .t1 in
+    let at-loop = turn (c .before) in
+    let t = begun at-loop .args .t1 in
     let i = at-loop .loop .i in (
       omega arith,
       sym (all-passed (slotFits t) 8 i (omega arith) (tested (c .before) ∙ not-false _ (c .if2 .left)))
@@ -72,9 +85,8 @@ loop-again c =
 
 returns-3 : tie.Need-returns-3 Inv-loop μ-loop
 returns-3 c =
-    let t = c .before .before .before .args .t1 in
-    let i = c .before .loop .i in
-    sym (all-done (slotFits t) 8 i (omega arith)) ∙ c .before .loop .inv .1
+    let at-loop = c .before in
+    sym (all-done (slotFits (begun at-loop .args .t1)) 8 (at-loop .loop .i) (omega arith)) ∙ at-loop .loop .inv .1
 
 pub slots-fit-spec : {M : Type 1} → statement M
 slots-fit-spec =

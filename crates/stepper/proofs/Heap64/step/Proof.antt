@@ -13,6 +13,10 @@ use borrow.Author.Needs.{needs}
 use Rattle.stepper.proofs.Heap64.step.Statement.{statement}
 use Rattle.stepper.proofs.Heap64.step.Tie as tie
 
+-- the beginning, once it is known whether the kind and the operands are allowed
+abbrev begun : tie.After-allows → tie.Start
+begun c = c .before .before .before .before
+
 is-well-formed-requires : tie.Need-is-well-formed-requires
 is-well-formed-requires c κs = search needs
 
@@ -31,7 +35,7 @@ allows-requires c κs = search needs
 
 returns-2 : tie.Need-returns-2
 returns-2 c =
-    let a = c .before .before .before .before .before .args in
+    let a = begun (c .before) .args in
     let w = c .before .before .before .before .is-well-formed in
     let k = c .before .allows in
     steps (a .self) (w .ensures .1) (a .kind) (a .a) (a .b) (a .value) (omega arith) _
@@ -40,7 +44,7 @@ returns-2 c =
 -- where the kind and the operands are allowed
 module _ (c : tie.Else2) where
   abbrev start : tie.Start
-  start = c .before .before .before .before .before
+  start = begun (c .before)
 
   ready : FormedTable (start .args .self)
   ready =

@@ -1,17 +1,53 @@
 -- Blocked where a is at no cell or b at *; else the link of a's cell stands where b does.
 use Prim.Native.Nat.{_-_}
-use mathlib.Core.Path.{refl, ap, _∙_, sym}
+use mathlib.Core.Path.{_≡_, refl, ap, _∙_, sym}
 use native.Mathlib.Omega.{arith}
-use Rattle.stepper.proofs.Formed.{formed}
+use Rattle.stepper.specs.Table.{Sized}
+use Rattle.stepper.specs.declared.Heap64.{Heap64}
+use Rattle.stepper.proofs.Formed.{Formed, formed}
 use Rattle.stepper.proofs.Change.{withLink}
-use Rattle.stepper.proofs.Perform.{moved, blocked, linked, stored, taken}
+use Rattle.stepper.proofs.Perform.{moved, blocked, UsedCell, linked, stored}
 use Rattle.heap.specs.Codes.{varIn, linkIn}
 use Rattle.heap.specs.Operation.{store}
 use Rattle.place.specs.Place.{codes}
-use Rattle.stepper.proofs.Perform.{UsedCell}
 use borrow.Author.Needs.{needs}
 use Rattle.stepper.proofs.Heap64.store.Statement.{statement}
 use Rattle.stepper.proofs.Heap64.store.Tie as tie
+
+-- ---- once the link of a's place is looked up
+
+module _ (p : tie.After-link-of) where
+  abbrev start : tie.Start
+  start = p .before .before
+
+  abbrev t : Heap64
+  t = start .args .self
+
+  s : Sized t
+  s = start .pre .0 .sized
+
+  f : Formed t
+  f = formed t (start .pre .0 .formed)
+
+  link-is : p .link-of .result .code ≡ linkIn (codes (t .links)) (varIn (codes (t .vars)) (start .args .a))
+  link-is = p .link-of .ensures ∙ ap (linkIn (codes (t .links))) (p .before .place-of .ensures)
+
+-- ---- where a stands at a used cell
+
+module _ (c : tie.Else1) where
+  abbrev called : tie.After-link-of
+  called = c .before .before
+
+  at-cell : UsedCell (t called) (s called) (f called) (called .before .place-of .result .code)
+  at-cell =
+      linked (t called) (s called) (f called) (called .before .place-of .result .code)
+      (λ z. c .if1 .left (called .link-of .ensures ∙ z))
+
+-- the same once b's place is looked up and is not *
+abbrev known : tie.After-struct-known3 → tie.Else1
+known c = c .before .before .before .before
+
+-- ---- what is to be shown
 
 place-of-requires : tie.Need-place-of-requires
 place-of-requires c κs = omega (arith, formed (c .args .self) (c .pre .0 .formed) .most)
@@ -21,56 +57,39 @@ link-of-requires c κs = search needs
 
 returns : tie.Need-returns
 returns c =
-    let start = c .before .before .before .before in
-    let t = start .args .self in
-    let le = c .before .before .link-of .ensures ∙ ap (linkIn (codes (t .links))) (c .before .before .before .place-of .ensures) in
-    λ x. blocked t x (store (start .args .a) (start .args .b)) refl
-    (λ d. d .0 (sym le ∙ c .if1 .taken))
+    let p = c .before .before in
+    let a = start p .args in
+    λ x. blocked (t p) x (store (a .a) (a .b)) refl
+    (λ d. d .0 (sym (link-is p) ∙ c .if1 .taken))
 
 place-of-requires-2 : tie.Need-place-of-requires-2
-place-of-requires-2 c κs =
-    let start = c .before .before .before .before in
-    omega (arith, formed (start .args .self) (start .pre .0 .formed) .most)
+place-of-requires-2 c κs = omega (arith, f (called c) .most)
 
 returns-2 : tie.Need-returns-2
 returns-2 c =
-    let start = c .before .before .before .before .before .before .before in
-    let t = start .args .self in
-    λ x. blocked t x
-    (store (start .args .a) (start .args .b))
-    refl (λ d. d .1 (sym (c .before .before .place-of2 .ensures) ∙ c .if2 .taken))
-
--- a stands at a used cell
-module _ (c : tie.After-struct-known3) where
-  abbrev called : tie.After-link-of
-  called = c .before .before .before .before .before .before
-
-  abbrev start : tie.Start
-  start = called .before .before
-
-  at-cell : UsedCell (start .args .self) (start .pre .0 .sized) (formed (start .args .self) (start .pre .0 .formed)) (called .before .place-of .result .code)
-  at-cell =
-      linked (start .args .self) (start .pre .0 .sized) (formed (start .args .self) (start .pre .0 .formed)) (called .before .place-of .result .code)
-      (λ z. c .before .before .before .before .if1 .left (called .link-of .ensures ∙ z))
+    let p = called (c .before .before .before) in
+    let a = start p .args in
+    λ x. blocked (t p) x (store (a .a) (a .b)) refl
+    (λ d. d .1 (sym (c .before .before .place-of2 .ensures) ∙ c .if2 .taken))
 
 sub-i : tie.Need-sub-i
-sub-i c = omega (arith, at-cell c .is-cell)
+sub-i c = omega (arith, at-cell (known c) .is-cell)
 
 cast-i : tie.Need-cast-i
 cast-i c = search needs
 
 element-set-from-p : tie.Need-element-set-from-p
-element-set-from-p c = omega (arith, at-cell c .is-cell, at-cell c .inside)
+element-set-from-p c = omega (arith, at-cell (known c) .is-cell, at-cell (known c) .inside)
 
 returns-3 : tie.Need-returns-3
 returns-3 c =
-    let at-place-of2 = c .before .before .before in
-    let at-place-of = at-place-of2 .before .before .before .before in
-    let start = at-place-of .before in
-    let t = start .args .self in
-    let le = c .before .before .before .before .before .before .link-of .ensures ∙ ap (linkIn (codes (t .links))) (at-place-of .place-of .ensures) in
-    λ x. rw (at-place-of .place-of .ensures)
-    (moved t x (store (start .args .a) (start .args .b)) (withLink t (varIn (codes (t .vars)) (start .args .a) - 3) (at-place-of2 .place-of2 .result)) (stored t (start .pre .0 .sized) (formed t (start .pre .0 .formed)) x (start .args .a) (start .args .b) (at-place-of2 .place-of2 .result) (λ z. c .before .before .before .before .if1 .left (le ∙ z)) (at-place-of2 .place-of2 .ensures) (c .before .if2 .left) (omega arith)))
+    let e = known c in
+    let p = called e in
+    let a = start p .args in
+    let b-at = c .before .before .before .place-of2 in
+    λ x. rw (p .before .place-of .ensures)
+    (moved (t p) x (store (a .a) (a .b)) (withLink (t p) (varIn (codes (t p .vars)) (a .a) - 3) (b-at .result))
+    (stored (t p) (s p) (f p) x (a .a) (a .b) (b-at .result) (λ z. e .if1 .left (link-is p ∙ z)) (b-at .ensures) (c .before .if2 .left) (omega arith)))
 
 pub store-spec : {M : Type 1} → statement M
 store-spec =

@@ -4,14 +4,17 @@ use Rattle.lines.proofs.read_line.Reads as read-line-reads
 use Rattle.translating.proofs.blocks.line_end.Reads as line-end-reads
 use Rattle.translating.proofs.steps.begin.Reads as begin-reads
 use Rattle.translating.proofs.steps.close.Reads as close-reads
+use mathlib.Core.List.{List, _∷_}
+use mathlib.Core.Path.{_≡_}
 use native.Mathlib.Omega.{arith}
-use Prim.Native.Nat.{_+_, _-_, _*_, _≤_}
-use lib.ListN.{length}
-use Rattle.translating.specs.Work.{Work}
+use Prim.Native.Nat.{ℕ, _+_, _-_, _*_, _≤_, _<_}
+use lib.ListN.{length, drop}
+use Rattle.listing.specs.Text.{linesOf}
+use Rattle.translating.specs.Reading.{restFrom}
+use Rattle.translating.specs.Work.{Work, Within}
 use Rattle.translating.specs.declared.Fault.the-variants.{Grammar}
 use Rattle.translating.specs.declared.blocks.Block.the-variants as block
 use Rattle.translating.proofs.Nesting.{Passed, mark-in, moved, passed-none, passed-more, block-after, block-over, block-last, block-line, block-ended, block-refused, statement-further, statement-passed, statement-on, statement-ended, statement-refused, inner, open-over, over-within, open-refused, ended-within, close-statement, close-refused}
-use Prim.Native.Nat.{ℕ, _<_}
 use borrow.Fn.Kinds.{In}
 use borrow.Fn.PlainCycle.{Measures, is, falls, and}
 use Rattle.translating.proofs.blocks.read_block.Reads as read-block
@@ -61,620 +64,394 @@ abbrev read-block-μ-loop : read-block-lts.MeasureT-loop
 read-block-μ-loop text depth job₀ letters₀ states₀ reached₀ job letters states reached =
     length text - reached .at
 
-read-block-loop-holds : (t : ℕ) → read-block-lts.Need-loop-holds (
-  line-end-reads.Asked,
-  line-end-reads.Learnt,
-  read-line-reads.Asked,
-  read-line-reads.Learnt,
-  read-statement-below t,
-  read-statement.Post,
-) (read-block-at t) read-block.Post read-block-Inv-loop read-block-μ-loop
-read-block-loop-holds t c = let a = c .before .args in passed-none (a .text .now) (a .depth) (a .p) (record { job = a .job .now; letters = a .letters .now; states = a .states .now }) (c .before .pre .1 .0) (c .before .pre .1 .1)
+module _ (t : ℕ) where
+  -- ---- a block: what its calls promise, the moments on the way, and what is so then
 
-read-block-returns : (t : ℕ) → read-block-lts.Need-returns (
-  line-end-reads.Asked,
-  line-end-reads.Learnt,
-  read-line-reads.Asked,
-  read-line-reads.Learnt,
-  read-statement-below t,
-  read-statement.Post,
-) (read-block-at t) read-block.Post read-block-Inv-loop read-block-μ-loop
-read-block-returns t c =
-    let a = c .before .before .before .args in
-    let text = a .text .now in
-    let w : Work = (record { job = a .job .now; letters = a .letters .now; states = a .states .now }) in
-    let l = c .before .loop in
-    let v : Work = record { job = l .job; letters = l .letters; states = l .states } in
-    block-after text (a .depth) (a .p) w (l .reached) v (l .inv) (block.Over (l .reached)) v (block-over text (a .depth) (l .reached) v (l .inv .further .within) (c .if1 .taken))
+  abbrev block-claims : read-block-lts.Claims
+  block-claims = (line-end-reads.Asked, line-end-reads.Learnt, read-line-reads.Asked, read-line-reads.Learnt, read-statement-below t, read-statement.Post)
 
-read-block-line-end-requires : (t : ℕ) → read-block-lts.Need-line-end-requires (
-  line-end-reads.Asked,
-  line-end-reads.Learnt,
-  read-line-reads.Asked,
-  read-line-reads.Learnt,
-  read-statement-below t,
-  read-statement.Post,
-) (read-block-at t) read-block.Post read-block-Inv-loop read-block-μ-loop
-read-block-line-end-requires t c κs = search needs
+  abbrev Block-loop : Type 0
+  Block-loop = read-block-lts.At-loop block-claims (read-block-at t) read-block.Post read-block-Inv-loop read-block-μ-loop
 
-read-block-add-t20 : (t : ℕ) → read-block-lts.Need-add-t20 (
-  line-end-reads.Asked,
-  line-end-reads.Learnt,
-  read-line-reads.Asked,
-  read-line-reads.Learnt,
-  read-statement-below t,
-  read-statement.Post,
-) (read-block-at t) read-block.Post read-block-Inv-loop read-block-μ-loop
-read-block-add-t20 t c = omega (arith, c .before .before .before .before .loop .inv .further .within .passed)
+  abbrev Block-ended : Type 0
+  Block-ended = read-block-lts.After-line-end block-claims (read-block-at t) read-block.Post read-block-Inv-loop read-block-μ-loop
 
-read-block-returns-2 : (t : ℕ) → read-block-lts.Need-returns-2 (
-  line-end-reads.Asked,
-  line-end-reads.Learnt,
-  read-line-reads.Asked,
-  read-line-reads.Learnt,
-  read-statement-below t,
-  read-statement.Post,
-) (read-block-at t) read-block.Post read-block-Inv-loop read-block-μ-loop
-read-block-returns-2 t c =
-    let a = c .before .before .before .before .before .before .args in
-    let text = a .text .now in
-    let w : Work = (record { job = a .job .now; letters = a .letters .now; states = a .states .now }) in
-    let l = c .before .before .before .before .loop in
-    let v : Work = record { job = l .job; letters = l .letters; states = l .states } in
-    let end = c .before .before .line-end in
-    block-after text (a .depth) (a .p) w (l .reached) v (l .inv) (block.Refused Grammar (l .reached .passed + 1)) v
-    (block-last text (a .depth) (l .reached) v (end .result) (c .before .before .before .if1 .left) (c .before .if2 .taken) (end .ensures .2))
+  abbrev Block-line : Type 0
+  Block-line = read-block-lts.After-read-line block-claims (read-block-at t) read-block.Post read-block-Inv-loop read-block-μ-loop
 
-read-block-sub-read-line : (t : ℕ) → read-block-lts.Need-sub-read-line (
-  line-end-reads.Asked,
-  line-end-reads.Learnt,
-  read-line-reads.Asked,
-  read-line-reads.Learnt,
-  read-statement-below t,
-  read-statement.Post,
-) (read-block-at t) read-block.Post read-block-Inv-loop read-block-μ-loop
-read-block-sub-read-line t c = search needs
+  abbrev Block-statement : Type 0
+  Block-statement = read-block-lts.After-read-statement block-claims (read-block-at t) read-block.Post read-block-Inv-loop read-block-μ-loop
 
-read-block-part-read-line-start : (t : ℕ) → read-block-lts.Need-part-read-line-start (
-  line-end-reads.Asked,
-  line-end-reads.Learnt,
-  read-line-reads.Asked,
-  read-line-reads.Learnt,
-  read-statement-below t,
-  read-statement.Post,
-) (read-block-at t) read-block.Post read-block-Inv-loop read-block-μ-loop
-read-block-part-read-line-start t c = search needs
+  -- where the loop's turn began, once the line's end is found
+  abbrev turn : Block-ended → Block-loop
+  turn c = c .before .before
 
-read-block-part-read-line-end : (t : ℕ) → read-block-lts.Need-part-read-line-end (
-  line-end-reads.Asked,
-  line-end-reads.Learnt,
-  read-line-reads.Asked,
-  read-line-reads.Learnt,
-  read-statement-below t,
-  read-statement.Post,
-) (read-block-at t) read-block.Post read-block-Inv-loop read-block-μ-loop
-read-block-part-read-line-end t c = search needs
+  -- where the line's end was found, once the line is read
+  abbrev cut : Block-line → Block-ended
+  cut c = c .before .before .before
 
-read-block-read-line-requires : (t : ℕ) → read-block-lts.Need-read-line-requires (
-  line-end-reads.Asked,
-  line-end-reads.Learnt,
-  read-line-reads.Asked,
-  read-line-reads.Learnt,
-  read-statement-below t,
-  read-statement.Post,
-) (read-block-at t) read-block.Post read-block-Inv-loop read-block-μ-loop
-read-block-read-line-requires t c κs = search needs
+  -- where the line was read, once its statement is
+  abbrev first-line : Block-statement → Block-line
+  first-line c = c .before .before .before .before
 
-read-block-add-t17 : (t : ℕ) → read-block-lts.Need-add-t17 (
-  line-end-reads.Asked,
-  line-end-reads.Learnt,
-  read-line-reads.Asked,
-  read-line-reads.Learnt,
-  read-statement-below t,
-  read-statement.Post,
-) (read-block-at t) read-block.Post read-block-Inv-loop read-block-μ-loop
-read-block-add-t17 t c = search needs
+  -- the text, and how deep the block is
+  abbrev block-text : Block-loop → List ℕ
+  block-text l = l .before .before .args .text .now
 
-read-block-read-statement-requires : (t : ℕ) → read-block-lts.Need-read-statement-requires (
-  line-end-reads.Asked,
-  line-end-reads.Learnt,
-  read-line-reads.Asked,
-  read-line-reads.Learnt,
-  read-statement-below t,
-  read-statement.Post,
-) (read-block-at t) read-block.Post read-block-Inv-loop read-block-μ-loop
-read-block-read-statement-requires t c κs =
-    let a = c .before .before .before .before .before .before .before .before .before .before .args in
-    let text = a .text .now in
-    let w : Work = (record { job = a .job .now; letters = a .letters .now; states = a .states .now }) in
-    let l = c .before .before .before .before .before .before .before .before .loop in
-    let v : Work = record { job = l .job; letters = l .letters; states = l .states } in
-    let end = c .before .before .before .before .before .before .line-end .ensures in (
-      omega (arith, c .before .before .before .before .before .before .before .before .before .before .pre .0, end .0, l .inv .further .on, c .before .before .before .before .before .if2 .left),
-      (mark-in _ _ (c .before .before .before .read-line .ensures), moved (l .reached) v _ (l .inv .further .within), omega (arith, c .before .before .before .before .before .if2 .left), c .before .before .before .before .before .before .before .before .before .before .pre .1 .2),
-    )
+  abbrev block-depth : Block-loop → ℕ
+  block-depth l = l .before .before .args .depth
 
-read-block-enum-known-first : (t : ℕ) → read-block-lts.Need-enum-known-first (
-  line-end-reads.Asked,
-  line-end-reads.Learnt,
-  read-line-reads.Asked,
-  read-line-reads.Learnt,
-  read-statement-below t,
-  read-statement.Post,
-) (read-block-at t) read-block.Post read-block-Inv-loop read-block-μ-loop
-read-block-enum-known-first t c = search needs
+  -- the work as the block begins, as the turn begins, and once the statement is read
+  abbrev begun-with : Block-loop → Work
+  begun-with l = let a = l .before .before .args in record { job = a .job .now; letters = a .letters .now; states = a .states .now }
 
-read-block-loop-less : (t : ℕ) → read-block-lts.Need-loop-less (
-  line-end-reads.Asked,
-  line-end-reads.Learnt,
-  read-line-reads.Asked,
-  read-line-reads.Learnt,
-  read-statement-below t,
-  read-statement.Post,
-) (read-block-at t) read-block.Post read-block-Inv-loop read-block-μ-loop
-read-block-loop-less t c =
-    let a = c .before .before .before .before .before .before .before .before .before .before .before .before .before .before .args in
-    let text = a .text .now in
-    let w : Work = (record { job = a .job .now; letters = a .letters .now; states = a .states .now }) in
-    let l = c .before .before .before .before .before .before .before .before .before .before .before .before .loop in
-    let v : Work = record { job = l .job; letters = l .letters; states = l .states } in
-    let end = c .before .before .before .before .before .before .before .before .before .before .line-end in
-    let cut = end .ensures in
-    let read = c .before .before .before .before .before .before .before .read-line in
-    let lines = block-line text (a .depth) (l .reached) v (read .result) (end .result) (read .ensures) (cut .0) (c .before .before .before .before .before .before .before .before .before .if2 .left) (cut .2) (cut .3 (c .before .before .before .before .before .before .before .before .before .if2 .left)) in
-    let on : l .reached .at ≤ end .result + 1 = omega (arith, cut .0) in
-    let st = c .before .before .before .read-statement in
-    let further = statement-further text (a .depth) (l .reached) v (read .result) (end .result + 1) on lines (st .result) (record { job = st .last .1 .1 .1 .1 .0; letters = st .last .1 .1 .1 .1 .1 .0; states = st .last .1 .1 .1 .1 .1 .1 .0 }) (c .before .first .given .0 .0) (st .ensures) (c .before .first .given .1) in
-    omega (arith, cut .0, further .on, c .before .before .before .before .before .before .before .before .before .if2 .left)
+  abbrev turned-with : Block-loop → Work
+  turned-with l = record { job = l .loop .job; letters = l .loop .letters; states = l .loop .states }
 
-read-block-loop-again : (t : ℕ) → read-block-lts.Need-loop-again (
-  line-end-reads.Asked,
-  line-end-reads.Learnt,
-  read-line-reads.Asked,
-  read-line-reads.Learnt,
-  read-statement-below t,
-  read-statement.Post,
-) (read-block-at t) read-block.Post read-block-Inv-loop read-block-μ-loop
-read-block-loop-again t c =
-    let a = c .before .before .before .before .before .before .before .before .before .before .before .before .before .before .args in
-    let text = a .text .now in
-    let w : Work = (record { job = a .job .now; letters = a .letters .now; states = a .states .now }) in
-    let l = c .before .before .before .before .before .before .before .before .before .before .before .before .loop in
-    let v : Work = record { job = l .job; letters = l .letters; states = l .states } in
-    let end = c .before .before .before .before .before .before .before .before .before .before .line-end in
-    let cut = end .ensures in
-    let read = c .before .before .before .before .before .before .before .read-line in
-    let lines = block-line text (a .depth) (l .reached) v (read .result) (end .result) (read .ensures) (cut .0) (c .before .before .before .before .before .before .before .before .before .if2 .left) (cut .2) (cut .3 (c .before .before .before .before .before .before .before .before .before .if2 .left)) in
-    let on : l .reached .at ≤ end .result + 1 = omega (arith, cut .0) in
-    let st = c .before .before .before .read-statement in
-    passed-more text (a .depth) (a .p) w (l .reached) v (l .inv) (c .before .first .given .0 .0) (record { job = st .last .1 .1 .1 .1 .0; letters = st .last .1 .1 .1 .1 .1 .0; states = st .last .1 .1 .1 .1 .1 .1 .0 })
-    (statement-passed text (a .depth) (l .reached) v (read .result) (end .result + 1) on lines (st .result) (record { job = st .last .1 .1 .1 .1 .0; letters = st .last .1 .1 .1 .1 .1 .0; states = st .last .1 .1 .1 .1 .1 .1 .0 }) (c .before .first .given .0 .0) (st .ensures) (c .before .first .given .1))
+  abbrev read-with : Block-statement → Work
+  read-with c =
+      let w = c .read-statement .last in
+      record { job = w .1 .1 .1 .1 .0; letters = w .1 .1 .1 .1 .1 .0; states = w .1 .1 .1 .1 .1 .1 .0 }
 
-read-block-enum-known-first-2 : (t : ℕ) → read-block-lts.Need-enum-known-first-2 (
-  line-end-reads.Asked,
-  line-end-reads.Learnt,
-  read-line-reads.Asked,
-  read-line-reads.Learnt,
-  read-statement-below t,
-  read-statement.Post,
-) (read-block-at t) read-block.Post read-block-Inv-loop read-block-μ-loop
-read-block-enum-known-first-2 t c = search needs
+  -- the line's end is not before its beginning
+  onward : (c : Block-line) → turn (cut c) .loop .reached .at ≤ cut c .line-end .result + 1
+  onward c = omega (arith, cut c .line-end .ensures .0)
 
-read-block-returns-3 : (t : ℕ) → read-block-lts.Need-returns-3 (
-  line-end-reads.Asked,
-  line-end-reads.Learnt,
-  read-line-reads.Asked,
-  read-line-reads.Learnt,
-  read-statement-below t,
-  read-statement.Post,
-) (read-block-at t) read-block.Post read-block-Inv-loop read-block-μ-loop
-read-block-returns-3 t c =
-    let a = c .before .before .before .before .before .before .before .before .before .before .before .before .before .before .args in
-    let text = a .text .now in
-    let w : Work = (record { job = a .job .now; letters = a .letters .now; states = a .states .now }) in
-    let l = c .before .before .before .before .before .before .before .before .before .before .before .before .loop in
-    let v : Work = record { job = l .job; letters = l .letters; states = l .states } in
-    let end = c .before .before .before .before .before .before .before .before .before .before .line-end in
-    let cut = end .ensures in
-    let read = c .before .before .before .before .before .before .before .read-line in
-    let lines = block-line text (a .depth) (l .reached) v (read .result) (end .result) (read .ensures) (cut .0) (c .before .before .before .before .before .before .before .before .before .if2 .left) (cut .2) (cut .3 (c .before .before .before .before .before .before .before .before .before .if2 .left)) in
-    let on : l .reached .at ≤ end .result + 1 = omega (arith, cut .0) in
-    let st = c .before .before .before .read-statement in
-    block-after text (a .depth) (a .p) w (l .reached) v (l .inv) (block.Ended (c .before .first2 .given .0 .0)) (record { job = st .last .1 .1 .1 .1 .0; letters = st .last .1 .1 .1 .1 .1 .0; states = st .last .1 .1 .1 .1 .1 .1 .0 }) (block-ended text (a .depth) (l .reached) v (read .result) (end .result + 1) on lines (st .result) (record { job = st .last .1 .1 .1 .1 .0; letters = st .last .1 .1 .1 .1 .1 .0; states = st .last .1 .1 .1 .1 .1 .1 .0 }) (c .before .first2 .given .0 .0) (st .ensures) (c .before .first2 .given .1))
+  -- the line, and the lines behind it
+  lines : (c : Block-line)
+      → let e = cut c in
+      let l = turn e in
+      restFrom (block-text l) (l .loop .reached) ≡ c .read-line .result ∷ linesOf (drop (e .line-end .result + 1) (block-text l))
+  lines c =
+      let e = cut c in
+      let l = turn e in
+      let inside = c .before .before .if2 .left in
+      block-line (block-text l) (block-depth l) (l .loop .reached) (turned-with l) (c .read-line .result) (e .line-end .result) (c .read-line .ensures) (e .line-end .ensures .0) inside (e .line-end .ensures .2) (e .line-end .ensures .3 inside)
 
-read-block-enum-known-first-3 : (t : ℕ) → read-block-lts.Need-enum-known-first-3 (
-  line-end-reads.Asked,
-  line-end-reads.Learnt,
-  read-line-reads.Asked,
-  read-line-reads.Learnt,
-  read-statement-below t,
-  read-statement.Post,
-) (read-block-at t) read-block.Post read-block-Inv-loop read-block-μ-loop
-read-block-enum-known-first-3 t c = search needs
+  -- ---- a block: what is to be shown
 
-read-block-returns-4 : (t : ℕ) → read-block-lts.Need-returns-4 (
-  line-end-reads.Asked,
-  line-end-reads.Learnt,
-  read-line-reads.Asked,
-  read-line-reads.Learnt,
-  read-statement-below t,
-  read-statement.Post,
-) (read-block-at t) read-block.Post read-block-Inv-loop read-block-μ-loop
-read-block-returns-4 t c =
-    let a = c .before .before .before .before .before .before .before .before .before .before .before .before .before .before .args in
-    let text = a .text .now in
-    let w : Work = (record { job = a .job .now; letters = a .letters .now; states = a .states .now }) in
-    let l = c .before .before .before .before .before .before .before .before .before .before .before .before .loop in
-    let v : Work = record { job = l .job; letters = l .letters; states = l .states } in
-    let end = c .before .before .before .before .before .before .before .before .before .before .line-end in
-    let cut = end .ensures in
-    let read = c .before .before .before .before .before .before .before .read-line in
-    let lines = block-line text (a .depth) (l .reached) v (read .result) (end .result) (read .ensures) (cut .0) (c .before .before .before .before .before .before .before .before .before .if2 .left) (cut .2) (cut .3 (c .before .before .before .before .before .before .before .before .before .if2 .left)) in
-    let on : l .reached .at ≤ end .result + 1 = omega (arith, cut .0) in
-    let st = c .before .before .before .read-statement in
-    block-after text (a .depth) (a .p) w (l .reached) v (l .inv) (block.Refused (c .before .first3 .given .0 .0) (c .before .first3 .given .0 .1 .0)) (record { job = st .last .1 .1 .1 .1 .0; letters = st .last .1 .1 .1 .1 .1 .0; states = st .last .1 .1 .1 .1 .1 .1 .0 })
-    (block-refused text (a .depth) (l .reached) v (read .result) (end .result + 1) on lines (st .result) (record { job = st .last .1 .1 .1 .1 .0; letters = st .last .1 .1 .1 .1 .1 .0; states = st .last .1 .1 .1 .1 .1 .1 .0 }) (c .before .first3 .given .0 .0) (c .before .first3 .given .0 .1 .0) (st .ensures) (c .before .first3 .given .1))
+  read-block-loop-holds : read-block-lts.Need-loop-holds block-claims (read-block-at t) read-block.Post read-block-Inv-loop read-block-μ-loop
+  read-block-loop-holds c = let a = c .before .args in passed-none (a .text .now) (a .depth) (a .p) (record { job = a .job .now; letters = a .letters .now; states = a .states .now }) (c .before .pre .1 .0) (c .before .pre .1 .1)
 
-read-statement-begin-requires : (t : ℕ) → read-statement-lts.Need-begin-requires (
-  begin-reads.Asked,
-  begin-reads.Learnt,
-  read-block-below t,
-  read-block.Post,
-  close-reads.Asked,
-  close-reads.Learnt,
-) (read-statement-at t) read-statement.Post
-read-statement-begin-requires t c κs = search needs
+  read-block-returns : read-block-lts.Need-returns block-claims (read-block-at t) read-block.Post read-block-Inv-loop read-block-μ-loop
+  read-block-returns c =
+      let l = c .before in
+      let v = turned-with l in
+      let q = l .loop .reached in
+      block-after (block-text l) (block-depth l) (l .before .before .args .p) (begun-with l) q v (l .loop .inv) (block.Over q) v
+      (block-over (block-text l) (block-depth l) q v (l .loop .inv .further .within) (c .if1 .taken))
 
-read-statement-enum-known-begun : (t : ℕ) → read-statement-lts.Need-enum-known-begun (
-  begin-reads.Asked,
-  begin-reads.Learnt,
-  read-block-below t,
-  read-block.Post,
-  close-reads.Asked,
-  close-reads.Learnt,
-) (read-statement-at t) read-statement.Post
-read-statement-enum-known-begun t c = search needs
+  read-block-line-end-requires : read-block-lts.Need-line-end-requires block-claims (read-block-at t) read-block.Post read-block-Inv-loop read-block-μ-loop
+  read-block-line-end-requires c κs = search needs
 
-read-statement-enum-told : (t : ℕ) → read-statement-lts.Need-enum-told (
-  begin-reads.Asked,
-  begin-reads.Learnt,
-  read-block-below t,
-  read-block.Post,
-  close-reads.Asked,
-  close-reads.Learnt,
-) (read-statement-at t) read-statement.Post
-read-statement-enum-told t c = search needs
+  read-block-add-t20 : read-block-lts.Need-add-t20 block-claims (read-block-at t) read-block.Post read-block-Inv-loop read-block-μ-loop
+  read-block-add-t20 c = omega (arith, turn (c .before .before) .loop .inv .further .within .passed)
 
-read-statement-enum-known-begun-2 : (t : ℕ) → read-statement-lts.Need-enum-known-begun-2 (
-  begin-reads.Asked,
-  begin-reads.Learnt,
-  read-block-below t,
-  read-block.Post,
-  close-reads.Asked,
-  close-reads.Learnt,
-) (read-statement-at t) read-statement.Post
-read-statement-enum-known-begun-2 t c = search needs
+  read-block-returns-2 : read-block-lts.Need-returns-2 block-claims (read-block-at t) read-block.Post read-block-Inv-loop read-block-μ-loop
+  read-block-returns-2 c =
+      let e = c .before .before in
+      let l = turn e in
+      let v = turned-with l in
+      let q = l .loop .reached in
+      block-after (block-text l) (block-depth l) (l .before .before .args .p) (begun-with l) q v (l .loop .inv) (block.Refused Grammar (q .passed + 1)) v
+      (block-last (block-text l) (block-depth l) q v (e .line-end .result) (e .before .if1 .left) (c .before .if2 .taken) (e .line-end .ensures .2))
 
-read-statement-enum-known-begun-3 : (t : ℕ) → read-statement-lts.Need-enum-known-begun-3 (
-  begin-reads.Asked,
-  begin-reads.Learnt,
-  read-block-below t,
-  read-block.Post,
-  close-reads.Asked,
-  close-reads.Learnt,
-) (read-statement-at t) read-statement.Post
-read-statement-enum-known-begun-3 t c = search needs
+  read-block-sub-read-line : read-block-lts.Need-sub-read-line block-claims (read-block-at t) read-block.Post read-block-Inv-loop read-block-μ-loop
+  read-block-sub-read-line c = search needs
 
-read-statement-add-read-block : (t : ℕ) → read-statement-lts.Need-add-read-block (
-  begin-reads.Asked,
-  begin-reads.Learnt,
-  read-block-below t,
-  read-block.Post,
-  close-reads.Asked,
-  close-reads.Learnt,
-) (read-statement-at t) read-statement.Post
-read-statement-add-read-block t c = search needs
+  read-block-part-read-line-start : read-block-lts.Need-part-read-line-start block-claims (read-block-at t) read-block.Post read-block-Inv-loop read-block-μ-loop
+  read-block-part-read-line-start c = search needs
 
-read-statement-read-block-requires : (t : ℕ) → read-statement-lts.Need-read-block-requires (
-  begin-reads.Asked,
-  begin-reads.Learnt,
-  read-block-below t,
-  read-block.Post,
-  close-reads.Asked,
-  close-reads.Learnt,
-) (read-statement-at t) read-statement.Post
-read-statement-read-block-requires t c κs =
-    let a = c .before .before .before .before .before .before .before .before .before .before .before .args in
-    let text = a .text .now in
-    let pre = c .before .before .before .before .before .before .before .before .before .before .before .pre .1 in
-    let w : Work = (record { job = a .job .now; letters = a .letters .now; states = a .states .now }) in
-    let r = c .before .before .before .before .before .before .begin in
-    let w′ : Work = (record { job = r .last .1 .1 .1 .0; letters = r .last .1 .1 .1 .1 .0; states = r .last .1 .1 .1 .1 .1 .0 }) in
-    let opened = c .before .before .before .before .begun3 .given in
-    let q = opened .0 .0 in
-    let o = opened .0 .1 .0 in
-    let i = inner text (a .line) (a .depth) (a .p) w (pre .1) (pre .2) (r .result) w′ (r .ensures) q o (opened .1) in
-    (omega (arith, c .before .before .before .before .before .before .before .before .before .before .before .pre .0, i .at), (i .within, omega (arith, i .at, pre .2), omega (arith, i .deep)))
+  read-block-part-read-line-end : read-block-lts.Need-part-read-line-end block-claims (read-block-at t) read-block.Post read-block-Inv-loop read-block-μ-loop
+  read-block-part-read-line-end c = search needs
 
-read-statement-enum-known-inner : (t : ℕ) → read-statement-lts.Need-enum-known-inner (
-  begin-reads.Asked,
-  begin-reads.Learnt,
-  read-block-below t,
-  read-block.Post,
-  close-reads.Asked,
-  close-reads.Learnt,
-) (read-statement-at t) read-statement.Post
-read-statement-enum-known-inner t c = search needs
+  read-block-read-line-requires : read-block-lts.Need-read-line-requires block-claims (read-block-at t) read-block.Post read-block-Inv-loop read-block-μ-loop
+  read-block-read-line-requires c κs = search needs
 
-read-statement-add-t31 : (t : ℕ) → read-statement-lts.Need-add-t31 (
-  begin-reads.Asked,
-  begin-reads.Learnt,
-  read-block-below t,
-  read-block.Post,
-  close-reads.Asked,
-  close-reads.Learnt,
-) (read-statement-at t) read-statement.Post
-read-statement-add-t31 t c =
-    let a = c .before .before .before .before .before .before .before .before .before .before .before .before .before .before .before .before .args in
-    let text = a .text .now in
-    let pre = c .before .before .before .before .before .before .before .before .before .before .before .before .before .before .before .before .pre .1 in
-    let w : Work = (record { job = a .job .now; letters = a .letters .now; states = a .states .now }) in
-    let r = c .before .before .before .before .before .before .before .before .before .before .before .begin in
-    let w′ : Work = (record { job = r .last .1 .1 .1 .0; letters = r .last .1 .1 .1 .1 .0; states = r .last .1 .1 .1 .1 .1 .0 }) in
-    let opened = c .before .before .before .before .before .before .before .before .before .begun3 .given in
-    let q = opened .0 .0 in
-    let o = opened .0 .1 .0 in
-    let b = c .before .before .before .before .read-block in
-    let w″ : Work = (record { job = b .last .1 .1 .1 .0; letters = b .last .1 .1 .1 .1 .0; states = b .last .1 .1 .1 .1 .1 .0 }) in
-    let ended = c .before .before .inner .given in
-    omega (arith, over-within text (a .line) (a .depth) (a .p) w (pre .1) (pre .2) (r .result) w′ (r .ensures) q o (opened .1) (b .result) w″ (b .ensures) (ended .0 .0) (ended .1) .passed)
+  read-block-add-t17 : read-block-lts.Need-add-t17 block-claims (read-block-at t) read-block.Post read-block-Inv-loop read-block-μ-loop
+  read-block-add-t17 c = search needs
 
-read-statement-enum-known-inner-2 : (t : ℕ) → read-statement-lts.Need-enum-known-inner-2 (
-  begin-reads.Asked,
-  begin-reads.Learnt,
-  read-block-below t,
-  read-block.Post,
-  close-reads.Asked,
-  close-reads.Learnt,
-) (read-statement-at t) read-statement.Post
-read-statement-enum-known-inner-2 t c = search needs
+  read-block-read-statement-requires : read-block-lts.Need-read-statement-requires block-claims (read-block-at t) read-block.Post read-block-Inv-loop read-block-μ-loop
+  read-block-read-statement-requires c κs =
+      let r = c .before .before .before in
+      let e = cut r in
+      let l = turn e in
+      let s = l .before .before in
+      let inside = r .before .before .if2 .left in (
+        omega (arith, s .pre .0, e .line-end .ensures .0, l .loop .inv .further .on, inside),
+        (mark-in _ _ (r .read-line .ensures), moved (l .loop .reached) (turned-with l) _ (l .loop .inv .further .within), omega (arith, inside), s .pre .1 .2),
+      )
 
-read-statement-enum-known-inner-3 : (t : ℕ) → read-statement-lts.Need-enum-known-inner-3 (
-  begin-reads.Asked,
-  begin-reads.Learnt,
-  read-block-below t,
-  read-block.Post,
-  close-reads.Asked,
-  close-reads.Learnt,
-) (read-statement-at t) read-statement.Post
-read-statement-enum-known-inner-3 t c = search needs
+  read-block-enum-known-first : read-block-lts.Need-enum-known-first block-claims (read-block-at t) read-block.Post read-block-Inv-loop read-block-μ-loop
+  read-block-enum-known-first c = search needs
 
-read-statement-close-requires : (t : ℕ) → read-statement-lts.Need-close-requires (
-  begin-reads.Asked,
-  begin-reads.Learnt,
-  read-block-below t,
-  read-block.Post,
-  close-reads.Asked,
-  close-reads.Learnt,
-) (read-statement-at t) read-statement.Post
-read-statement-close-requires t c κs =
-    let a = c .before .before .before .before .before .before .before .before .before .before .before .before .before .before .before .before .args in
-    let text = a .text .now in
-    let pre = c .before .before .before .before .before .before .before .before .before .before .before .before .before .before .before .before .pre .1 in
-    let w : Work = (record { job = a .job .now; letters = a .letters .now; states = a .states .now }) in
-    let r = c .before .before .before .before .before .before .before .before .before .before .before .begin in
-    let w′ : Work = (record { job = r .last .1 .1 .1 .0; letters = r .last .1 .1 .1 .1 .0; states = r .last .1 .1 .1 .1 .1 .0 }) in
-    let opened = c .before .before .before .before .before .before .before .before .before .begun3 .given in
-    let q = opened .0 .0 in
-    let o = opened .0 .1 .0 in
-    let b = c .before .before .before .before .read-block in
-    let w″ : Work = (record { job = b .last .1 .1 .1 .0; letters = b .last .1 .1 .1 .1 .0; states = b .last .1 .1 .1 .1 .1 .0 }) in
-    let ended = c .before .before .inner3 .given in
-    let i = inner text (a .line) (a .depth) (a .p) w (pre .1) (pre .2) (r .result) w′ (r .ensures) q o (opened .1) in
-    let bounds = ended-within text (a .line) (a .depth) (a .p) w (pre .1) (pre .2) (r .result) w′ (r .ensures) q o (opened .1) (b .result) w″ (b .ensures) (ended .0 .0) (ended .1) in
-    (bounds .job, bounds .passed, bounds .count, i .state)
+  read-block-loop-less : read-block-lts.Need-loop-less block-claims (read-block-at t) read-block.Post read-block-Inv-loop read-block-μ-loop
+  read-block-loop-less c =
+      let st = c .before .before .before in
+      let r = first-line st in
+      let e = cut r in
+      let l = turn e in
+      let further = statement-further (block-text l) (block-depth l) (l .loop .reached) (turned-with l) (r .read-line .result) (e .line-end .result + 1) (onward r) (lines r) (st .read-statement .result) (read-with st) (c .before .first .given .0 .0) (st .read-statement .ensures) (c .before .first .given .1) in
+      omega (arith, e .line-end .ensures .0, further .on, r .before .before .if2 .left)
 
-read-statement-enum-known-led : (t : ℕ) → read-statement-lts.Need-enum-known-led (
-  begin-reads.Asked,
-  begin-reads.Learnt,
-  read-block-below t,
-  read-block.Post,
-  close-reads.Asked,
-  close-reads.Learnt,
-) (read-statement-at t) read-statement.Post
-read-statement-enum-known-led t c = search needs
+  read-block-loop-again : read-block-lts.Need-loop-again block-claims (read-block-at t) read-block.Post read-block-Inv-loop read-block-μ-loop
+  read-block-loop-again c =
+      let st = c .before .before .before in
+      let r = first-line st in
+      let e = cut r in
+      let l = turn e in
+      let told = c .before .first .given in
+      passed-more (block-text l) (block-depth l) (l .before .before .args .p) (begun-with l) (l .loop .reached) (turned-with l) (l .loop .inv) (told .0 .0) (read-with st)
+      (statement-passed (block-text l) (block-depth l) (l .loop .reached) (turned-with l) (r .read-line .result) (e .line-end .result + 1) (onward r) (lines r) (st .read-statement .result) (read-with st) (told .0 .0) (st .read-statement .ensures) (told .1))
 
-read-statement-enum-told-2 : (t : ℕ) → read-statement-lts.Need-enum-told-2 (
-  begin-reads.Asked,
-  begin-reads.Learnt,
-  read-block-below t,
-  read-block.Post,
-  close-reads.Asked,
-  close-reads.Learnt,
-) (read-statement-at t) read-statement.Post
-read-statement-enum-told-2 t c = search needs
+  read-block-enum-known-first-2 : read-block-lts.Need-enum-known-first-2 block-claims (read-block-at t) read-block.Post read-block-Inv-loop read-block-μ-loop
+  read-block-enum-known-first-2 c = search needs
 
-read-statement-add-t35 : (t : ℕ) → read-statement-lts.Need-add-t35 (
-  begin-reads.Asked,
-  begin-reads.Learnt,
-  read-block-below t,
-  read-block.Post,
-  close-reads.Asked,
-  close-reads.Learnt,
-) (read-statement-at t) read-statement.Post
-read-statement-add-t35 t c =
-    let a = c .before .before .before .before .before .before .before .before .before .before .before .before .before .before .before .before .before .before .before .before .args in
-    let text = a .text .now in
-    let pre = c .before .before .before .before .before .before .before .before .before .before .before .before .before .before .before .before .before .before .before .before .pre .1 in
-    let w : Work = (record { job = a .job .now; letters = a .letters .now; states = a .states .now }) in
-    let r = c .before .before .before .before .before .before .before .before .before .before .before .before .before .before .before .begin in
-    let w′ : Work = (record { job = r .last .1 .1 .1 .0; letters = r .last .1 .1 .1 .1 .0; states = r .last .1 .1 .1 .1 .1 .0 }) in
-    let opened = c .before .before .before .before .before .before .before .before .before .before .before .before .before .begun3 .given in
-    let q = opened .0 .0 in
-    let o = opened .0 .1 .0 in
-    let b = c .before .before .before .before .before .before .before .before .read-block in
-    let w″ : Work = (record { job = b .last .1 .1 .1 .0; letters = b .last .1 .1 .1 .1 .0; states = b .last .1 .1 .1 .1 .1 .0 }) in
-    let ended = c .before .before .before .before .before .before .inner3 .given in
-    omega (arith, ended-within text (a .line) (a .depth) (a .p) w (pre .1) (pre .2) (r .result) w′ (r .ensures) q o (opened .1) (b .result) w″ (b .ensures) (ended .0 .0) (ended .1) .passed)
+  read-block-returns-3 : read-block-lts.Need-returns-3 block-claims (read-block-at t) read-block.Post read-block-Inv-loop read-block-μ-loop
+  read-block-returns-3 c =
+      let st = c .before .before .before in
+      let r = first-line st in
+      let e = cut r in
+      let l = turn e in
+      let told = c .before .first2 .given in
+      block-after (block-text l) (block-depth l) (l .before .before .args .p) (begun-with l) (l .loop .reached) (turned-with l) (l .loop .inv) (block.Ended (told .0 .0)) (read-with st)
+      (block-ended (block-text l) (block-depth l) (l .loop .reached) (turned-with l) (r .read-line .result) (e .line-end .result + 1) (onward r) (lines r) (st .read-statement .result) (read-with st) (told .0 .0) (st .read-statement .ensures) (told .1))
 
-read-statement-returns : (t : ℕ) → read-statement-lts.Need-returns (
-  begin-reads.Asked,
-  begin-reads.Learnt,
-  read-block-below t,
-  read-block.Post,
-  close-reads.Asked,
-  close-reads.Learnt,
-) (read-statement-at t) read-statement.Post
-read-statement-returns t c =
-    let a = c .before .before .before .before .before .before .before .before .args in
-    let text = a .text .now in
-    let pre = c .before .before .before .before .before .before .before .before .pre .1 in
-    let w : Work = (record { job = a .job .now; letters = a .letters .now; states = a .states .now }) in
-    let r = c .before .before .before .begin in
-    let w′ : Work = (record { job = r .last .1 .1 .1 .0; letters = r .last .1 .1 .1 .1 .0; states = r .last .1 .1 .1 .1 .1 .0 }) in
-    statement-on text (a .line) (a .depth) (a .p) w (pre .1) (pre .2) (r .result) w′ (r .ensures) (c .before .begun .given .0 .0) (c .before .begun .given .1)
+  read-block-enum-known-first-3 : read-block-lts.Need-enum-known-first-3 block-claims (read-block-at t) read-block.Post read-block-Inv-loop read-block-μ-loop
+  read-block-enum-known-first-3 c = search needs
 
-read-statement-returns-2 : (t : ℕ) → read-statement-lts.Need-returns-2 (
-  begin-reads.Asked,
-  begin-reads.Learnt,
-  read-block-below t,
-  read-block.Post,
-  close-reads.Asked,
-  close-reads.Learnt,
-) (read-statement-at t) read-statement.Post
-read-statement-returns-2 t c =
-    let a = c .before .before .before .before .before .before .before .args in
-    let text = a .text .now in
-    let pre = c .before .before .before .before .before .before .before .pre .1 in
-    let w : Work = (record { job = a .job .now; letters = a .letters .now; states = a .states .now }) in
-    let r = c .before .before .begin in
-    let w′ : Work = (record { job = r .last .1 .1 .1 .0; letters = r .last .1 .1 .1 .1 .0; states = r .last .1 .1 .1 .1 .1 .0 }) in
-    statement-ended text (a .line) (a .depth) (a .p) w (pre .1) (pre .2) (r .result) w′ (r .ensures) (c .enum-told .given .1)
+  read-block-returns-4 : read-block-lts.Need-returns-4 block-claims (read-block-at t) read-block.Post read-block-Inv-loop read-block-μ-loop
+  read-block-returns-4 c =
+      let st = c .before .before .before in
+      let r = first-line st in
+      let e = cut r in
+      let l = turn e in
+      let told = c .before .first3 .given in
+      block-after (block-text l) (block-depth l) (l .before .before .args .p) (begun-with l) (l .loop .reached) (turned-with l) (l .loop .inv) (block.Refused (told .0 .0) (told .0 .1 .0)) (read-with st)
+      (block-refused (block-text l) (block-depth l) (l .loop .reached) (turned-with l) (r .read-line .result) (e .line-end .result + 1) (onward r) (lines r) (st .read-statement .result) (read-with st) (told .0 .0) (told .0 .1 .0) (st .read-statement .ensures) (told .1))
 
-read-statement-returns-3 : (t : ℕ) → read-statement-lts.Need-returns-3 (
-  begin-reads.Asked,
-  begin-reads.Learnt,
-  read-block-below t,
-  read-block.Post,
-  close-reads.Asked,
-  close-reads.Learnt,
-) (read-statement-at t) read-statement.Post
-read-statement-returns-3 t c =
-    let a = c .before .before .before .before .before .before .before .before .args in
-    let text = a .text .now in
-    let pre = c .before .before .before .before .before .before .before .before .pre .1 in
-    let w : Work = (record { job = a .job .now; letters = a .letters .now; states = a .states .now }) in
-    let r = c .before .before .before .begin in
-    let w′ : Work = (record { job = r .last .1 .1 .1 .0; letters = r .last .1 .1 .1 .1 .0; states = r .last .1 .1 .1 .1 .1 .0 }) in
-    statement-refused text (a .line) (a .depth) (a .p) w (pre .1) (pre .2) (r .result) w′ (r .ensures) (c .before .begun2 .given .0 .0) (c .before .begun2 .given .0 .1 .0) (c .before .begun2 .given .1)
+  -- ---- a statement: what its calls promise, the moments on the way, and what is so then
 
-read-statement-returns-4 : (t : ℕ) → read-statement-lts.Need-returns-4 (
-  begin-reads.Asked,
-  begin-reads.Learnt,
-  read-block-below t,
-  read-block.Post,
-  close-reads.Asked,
-  close-reads.Learnt,
-) (read-statement-at t) read-statement.Post
-read-statement-returns-4 t c =
-    let a = c .before .before .before .before .before .before .before .before .before .before .before .before .before .before .before .before .args in
-    let text = a .text .now in
-    let pre = c .before .before .before .before .before .before .before .before .before .before .before .before .before .before .before .before .pre .1 in
-    let w : Work = (record { job = a .job .now; letters = a .letters .now; states = a .states .now }) in
-    let r = c .before .before .before .before .before .before .before .before .before .before .before .begin in
-    let w′ : Work = (record { job = r .last .1 .1 .1 .0; letters = r .last .1 .1 .1 .1 .0; states = r .last .1 .1 .1 .1 .1 .0 }) in
-    let opened = c .before .before .before .before .before .before .before .before .before .begun3 .given in
-    let q = opened .0 .0 in
-    let o = opened .0 .1 .0 in
-    let b = c .before .before .before .before .read-block in
-    let w″ : Work = (record { job = b .last .1 .1 .1 .0; letters = b .last .1 .1 .1 .1 .0; states = b .last .1 .1 .1 .1 .1 .0 }) in
-    let ended = c .before .before .inner .given in
-    open-over text (a .line) (a .depth) (a .p) w (pre .1) (pre .2) (r .result) w′ (r .ensures) q o (opened .1) (b .result) w″ (b .ensures) (ended .0 .0) (ended .1)
+  abbrev statement-claims : read-statement-lts.Claims
+  statement-claims = (begin-reads.Asked, begin-reads.Learnt, read-block-below t, read-block.Post, close-reads.Asked, close-reads.Learnt)
 
-read-statement-returns-5 : (t : ℕ) → read-statement-lts.Need-returns-5 (
-  begin-reads.Asked,
-  begin-reads.Learnt,
-  read-block-below t,
-  read-block.Post,
-  close-reads.Asked,
-  close-reads.Learnt,
-) (read-statement-at t) read-statement.Post
-read-statement-returns-5 t c =
-    let a = c .before .before .before .before .before .before .before .before .before .before .before .before .before .before .before .args in
-    let text = a .text .now in
-    let pre = c .before .before .before .before .before .before .before .before .before .before .before .before .before .before .before .pre .1 in
-    let w : Work = (record { job = a .job .now; letters = a .letters .now; states = a .states .now }) in
-    let r = c .before .before .before .before .before .before .before .before .before .before .begin in
-    let w′ : Work = (record { job = r .last .1 .1 .1 .0; letters = r .last .1 .1 .1 .1 .0; states = r .last .1 .1 .1 .1 .1 .0 }) in
-    let opened = c .before .before .before .before .before .before .before .before .begun3 .given in
-    let q = opened .0 .0 in
-    let o = opened .0 .1 .0 in
-    let b = c .before .before .before .read-block in
-    let w″ : Work = (record { job = b .last .1 .1 .1 .0; letters = b .last .1 .1 .1 .1 .0; states = b .last .1 .1 .1 .1 .1 .0 }) in
-    let ended = c .before .inner2 .given in
-    open-refused text (a .line) (a .depth) (a .p) w (pre .1) (pre .2) (r .result) w′ (r .ensures) q o (opened .1) (b .result) w″ (b .ensures) (ended .0 .0) (ended .0 .1 .0) (ended .1)
+  abbrev Statement-start : Type 0
+  Statement-start = read-statement-lts.Start statement-claims (read-statement-at t) read-statement.Post
 
-read-statement-returns-6 : (t : ℕ) → read-statement-lts.Need-returns-6 (
-  begin-reads.Asked,
-  begin-reads.Learnt,
-  read-block-below t,
-  read-block.Post,
-  close-reads.Asked,
-  close-reads.Learnt,
-) (read-statement-at t) read-statement.Post
-read-statement-returns-6 t c =
-    let a = c .before .before .before .before .before .before .before .before .before .before .before .before .before .before .before .before .before .before .before .before .args in
-    let text = a .text .now in
-    let pre = c .before .before .before .before .before .before .before .before .before .before .before .before .before .before .before .before .before .before .before .before .pre .1 in
-    let w : Work = (record { job = a .job .now; letters = a .letters .now; states = a .states .now }) in
-    let r = c .before .before .before .before .before .before .before .before .before .before .before .before .before .before .before .begin in
-    let w′ : Work = (record { job = r .last .1 .1 .1 .0; letters = r .last .1 .1 .1 .1 .0; states = r .last .1 .1 .1 .1 .1 .0 }) in
-    let opened = c .before .before .before .before .before .before .before .before .before .before .before .before .before .begun3 .given in
-    let q = opened .0 .0 in
-    let o = opened .0 .1 .0 in
-    let b = c .before .before .before .before .before .before .before .before .read-block in
-    let w″ : Work = (record { job = b .last .1 .1 .1 .0; letters = b .last .1 .1 .1 .1 .0; states = b .last .1 .1 .1 .1 .1 .0 }) in
-    let ended = c .before .before .before .before .before .before .inner3 .given in
-    let bounds = ended-within text (a .line) (a .depth) (a .p) w (pre .1) (pre .2) (r .result) w′ (r .ensures) q o (opened .1) (b .result) w″ (b .ensures) (ended .0 .0) (ended .1) in
-    let l = c .before .before .before .close in
-    let closes = l .ensures (w″ .letters) (w″ .states) bounds in
-    close-statement text (a .line) (a .depth) (a .p) w (pre .1) (pre .2) (r .result) w′ (r .ensures) q o (opened .1) (b .result) w″ (b .ensures) (ended .0 .0) (ended .1) (l .result) (record { job = l .last .1 .1 .0; letters = w″ .letters; states = w″ .states }) closes (c .before .led .given .0 .0) (c .before .led .given .1)
+  abbrev Statement-begun : Type 0
+  Statement-begun = read-statement-lts.After-begin statement-claims (read-statement-at t) read-statement.Post
 
-read-statement-returns-7 : (t : ℕ) → read-statement-lts.Need-returns-7 (
-  begin-reads.Asked,
-  begin-reads.Learnt,
-  read-block-below t,
-  read-block.Post,
-  close-reads.Asked,
-  close-reads.Learnt,
-) (read-statement-at t) read-statement.Post
-read-statement-returns-7 t c =
-    let a = c .before .before .before .before .before .before .before .before .before .before .before .before .before .before .before .before .before .before .before .before .args in
-    let text = a .text .now in
-    let pre = c .before .before .before .before .before .before .before .before .before .before .before .before .before .before .before .before .before .before .before .before .pre .1 in
-    let w : Work = (record { job = a .job .now; letters = a .letters .now; states = a .states .now }) in
-    let r = c .before .before .before .before .before .before .before .before .before .before .before .before .before .before .before .begin in
-    let w′ : Work = (record { job = r .last .1 .1 .1 .0; letters = r .last .1 .1 .1 .1 .0; states = r .last .1 .1 .1 .1 .1 .0 }) in
-    let opened = c .before .before .before .before .before .before .before .before .before .before .before .before .before .begun3 .given in
-    let q = opened .0 .0 in
-    let o = opened .0 .1 .0 in
-    let b = c .before .before .before .before .before .before .before .before .read-block in
-    let w″ : Work = (record { job = b .last .1 .1 .1 .0; letters = b .last .1 .1 .1 .1 .0; states = b .last .1 .1 .1 .1 .1 .0 }) in
-    let ended = c .before .before .before .before .before .before .inner3 .given in
-    let bounds = ended-within text (a .line) (a .depth) (a .p) w (pre .1) (pre .2) (r .result) w′ (r .ensures) q o (opened .1) (b .result) w″ (b .ensures) (ended .0 .0) (ended .1) in
-    let l = c .before .before .before .close in
-    let closes = l .ensures (w″ .letters) (w″ .states) bounds in
-    close-refused text (a .line) (a .depth) (a .p) w (pre .1) (pre .2) (r .result) w′ (r .ensures) q o (opened .1) (b .result) w″ (b .ensures) (ended .0 .0) (ended .1) (l .result) (record { job = l .last .1 .1 .0; letters = w″ .letters; states = w″ .states }) closes (c .before .enum-told2 .given .1)
+  abbrev Statement-opened : Type 0
+  Statement-opened = read-statement-lts.After-begun3 statement-claims (read-statement-at t) read-statement.Post
+
+  abbrev Statement-read : Type 0
+  Statement-read = read-statement-lts.After-read-block statement-claims (read-statement-at t) read-statement.Post
+
+  abbrev Statement-ended : Type 0
+  Statement-ended = read-statement-lts.After-inner3 statement-claims (read-statement-at t) read-statement.Post
+
+  abbrev Statement-closed : Type 0
+  Statement-closed = read-statement-lts.After-close statement-claims (read-statement-at t) read-statement.Post
+
+  -- the beginning, once what the line does is done
+  abbrev start : Statement-begun → Statement-start
+  start c = c .before .before .before .before .before
+
+  -- where the line's work was done, once it is known to open a block
+  abbrev begun : Statement-opened → Statement-begun
+  begun c = c .before .before
+
+  -- where the block was opened, once it is read
+  abbrev opened : Statement-read → Statement-opened
+  opened c = c .before .before .before .before .before
+
+  -- where the block was read, once it is known to end with `end`
+  abbrev read : Statement-ended → Statement-read
+  read c = c .before .before
+
+  -- where it ended, once it is closed
+  abbrev ended : Statement-closed → Statement-ended
+  ended c = c .before .before .before
+
+  -- the work at the beginning, once what the line does is done, and once the block is read
+  abbrev start-work : Statement-start → Work
+  start-work s = let a = s .args in record { job = a .job .now; letters = a .letters .now; states = a .states .now }
+
+  abbrev begun-work : Statement-begun → Work
+  begun-work c = let w = c .begin .last in record { job = w .1 .1 .1 .0; letters = w .1 .1 .1 .1 .0; states = w .1 .1 .1 .1 .1 .0 }
+
+  abbrev read-work : Statement-read → Work
+  read-work c = let w = c .read-block .last in record { job = w .1 .1 .1 .0; letters = w .1 .1 .1 .1 .0; states = w .1 .1 .1 .1 .1 .0 }
+
+  -- at its `end` the block is within its bounds
+  ended-well : (c : Statement-ended) → Within (c .inner3 .given .0 .0) (read-work (read c))
+  ended-well c =
+      let r = read c in
+      let o = opened r in
+      let b = begun o in
+      let s = start b in
+      let a = s .args in
+      let pre = s .pre .1 in
+      let told = o .begun3 .given in
+      ended-within (a .text .now) (a .line) (a .depth) (a .p) (start-work s) (pre .1) (pre .2) (b .begin .result) (begun-work b) (b .begin .ensures) (told .0 .0) (told .0 .1 .0) (told .1) (r .read-block .result) (read-work r) (r .read-block .ensures) (c .inner3 .given .0 .0) (c .inner3 .given .1)
+
+  -- ---- a statement: what is to be shown
+
+  read-statement-begin-requires : read-statement-lts.Need-begin-requires statement-claims (read-statement-at t) read-statement.Post
+  read-statement-begin-requires c κs = search needs
+
+  read-statement-enum-known-begun : read-statement-lts.Need-enum-known-begun statement-claims (read-statement-at t) read-statement.Post
+  read-statement-enum-known-begun c = search needs
+
+  read-statement-enum-told : read-statement-lts.Need-enum-told statement-claims (read-statement-at t) read-statement.Post
+  read-statement-enum-told c = search needs
+
+  read-statement-enum-known-begun-2 : read-statement-lts.Need-enum-known-begun-2 statement-claims (read-statement-at t) read-statement.Post
+  read-statement-enum-known-begun-2 c = search needs
+
+  read-statement-enum-known-begun-3 : read-statement-lts.Need-enum-known-begun-3 statement-claims (read-statement-at t) read-statement.Post
+  read-statement-enum-known-begun-3 c = search needs
+
+  read-statement-add-read-block : read-statement-lts.Need-add-read-block statement-claims (read-statement-at t) read-statement.Post
+  read-statement-add-read-block c = search needs
+
+  read-statement-read-block-requires : read-statement-lts.Need-read-block-requires statement-claims (read-statement-at t) read-statement.Post
+  read-statement-read-block-requires c κs =
+      let o = c .before .before .before .before in
+      let b = begun o in
+      let s = start b in
+      let a = s .args in
+      let pre = s .pre .1 in
+      let told = o .begun3 .given in
+      let i = inner (a .text .now) (a .line) (a .depth) (a .p) (start-work s) (pre .1) (pre .2) (b .begin .result) (begun-work b) (b .begin .ensures) (told .0 .0) (told .0 .1 .0) (told .1) in
+      (omega (arith, s .pre .0, i .at), (i .within, omega (arith, i .at, pre .2), omega (arith, i .deep)))
+
+  read-statement-enum-known-inner : read-statement-lts.Need-enum-known-inner statement-claims (read-statement-at t) read-statement.Post
+  read-statement-enum-known-inner c = search needs
+
+  read-statement-add-t31 : read-statement-lts.Need-add-t31 statement-claims (read-statement-at t) read-statement.Post
+  read-statement-add-t31 c =
+      let r = c .before .before .before .before in
+      let o = opened r in
+      let b = begun o in
+      let s = start b in
+      let a = s .args in
+      let pre = s .pre .1 in
+      let told = o .begun3 .given in
+      let over = c .before .before .inner .given in
+      omega (arith, over-within (a .text .now) (a .line) (a .depth) (a .p) (start-work s) (pre .1) (pre .2) (b .begin .result) (begun-work b) (b .begin .ensures) (told .0 .0) (told .0 .1 .0) (told .1) (r .read-block .result) (read-work r) (r .read-block .ensures) (over .0 .0) (over .1) .passed)
+
+  read-statement-enum-known-inner-2 : read-statement-lts.Need-enum-known-inner-2 statement-claims (read-statement-at t) read-statement.Post
+  read-statement-enum-known-inner-2 c = search needs
+
+  read-statement-enum-known-inner-3 : read-statement-lts.Need-enum-known-inner-3 statement-claims (read-statement-at t) read-statement.Post
+  read-statement-enum-known-inner-3 c = search needs
+
+  read-statement-close-requires : read-statement-lts.Need-close-requires statement-claims (read-statement-at t) read-statement.Post
+  read-statement-close-requires c κs =
+      let e = c .before .before in
+      let bounds = ended-well e in
+      let o = opened (read e) in
+      let b = begun o in
+      let s = start b in
+      let a = s .args in
+      let pre = s .pre .1 in
+      let told = o .begun3 .given in
+      let i = inner (a .text .now) (a .line) (a .depth) (a .p) (start-work s) (pre .1) (pre .2) (b .begin .result) (begun-work b) (b .begin .ensures) (told .0 .0) (told .0 .1 .0) (told .1) in
+      (bounds .job, bounds .passed, bounds .count, i .state)
+
+  read-statement-enum-known-led : read-statement-lts.Need-enum-known-led statement-claims (read-statement-at t) read-statement.Post
+  read-statement-enum-known-led c = search needs
+
+  read-statement-enum-told-2 : read-statement-lts.Need-enum-told-2 statement-claims (read-statement-at t) read-statement.Post
+  read-statement-enum-told-2 c = search needs
+
+  read-statement-add-t35 : read-statement-lts.Need-add-t35 statement-claims (read-statement-at t) read-statement.Post
+  read-statement-add-t35 c = omega (arith, ended-well (ended (c .before .before .before)) .passed)
+
+  read-statement-returns : read-statement-lts.Need-returns statement-claims (read-statement-at t) read-statement.Post
+  read-statement-returns c =
+      let b = c .before .before .before in
+      let s = start b in
+      let a = s .args in
+      let pre = s .pre .1 in
+      statement-on (a .text .now) (a .line) (a .depth) (a .p) (start-work s) (pre .1) (pre .2) (b .begin .result) (begun-work b) (b .begin .ensures) (c .before .begun .given .0 .0) (c .before .begun .given .1)
+
+  read-statement-returns-2 : read-statement-lts.Need-returns-2 statement-claims (read-statement-at t) read-statement.Post
+  read-statement-returns-2 c =
+      let b = c .before .before in
+      let s = start b in
+      let a = s .args in
+      let pre = s .pre .1 in
+      statement-ended (a .text .now) (a .line) (a .depth) (a .p) (start-work s) (pre .1) (pre .2) (b .begin .result) (begun-work b) (b .begin .ensures) (c .enum-told .given .1)
+
+  read-statement-returns-3 : read-statement-lts.Need-returns-3 statement-claims (read-statement-at t) read-statement.Post
+  read-statement-returns-3 c =
+      let b = c .before .before .before in
+      let s = start b in
+      let a = s .args in
+      let pre = s .pre .1 in
+      let why = c .before .begun2 .given in
+      statement-refused (a .text .now) (a .line) (a .depth) (a .p) (start-work s) (pre .1) (pre .2) (b .begin .result) (begun-work b) (b .begin .ensures) (why .0 .0) (why .0 .1 .0) (why .1)
+
+  read-statement-returns-4 : read-statement-lts.Need-returns-4 statement-claims (read-statement-at t) read-statement.Post
+  read-statement-returns-4 c =
+      let r = c .before .before .before .before in
+      let o = opened r in
+      let b = begun o in
+      let s = start b in
+      let a = s .args in
+      let pre = s .pre .1 in
+      let told = o .begun3 .given in
+      let over = c .before .before .inner .given in
+      open-over (a .text .now) (a .line) (a .depth) (a .p) (start-work s) (pre .1) (pre .2) (b .begin .result) (begun-work b) (b .begin .ensures) (told .0 .0) (told .0 .1 .0) (told .1) (r .read-block .result) (read-work r) (r .read-block .ensures) (over .0 .0) (over .1)
+
+  read-statement-returns-5 : read-statement-lts.Need-returns-5 statement-claims (read-statement-at t) read-statement.Post
+  read-statement-returns-5 c =
+      let r = c .before .before .before in
+      let o = opened r in
+      let b = begun o in
+      let s = start b in
+      let a = s .args in
+      let pre = s .pre .1 in
+      let told = o .begun3 .given in
+      let why = c .before .inner2 .given in
+      open-refused (a .text .now) (a .line) (a .depth) (a .p) (start-work s) (pre .1) (pre .2) (b .begin .result) (begun-work b) (b .begin .ensures) (told .0 .0) (told .0 .1 .0) (told .1) (r .read-block .result) (read-work r) (r .read-block .ensures) (why .0 .0) (why .0 .1 .0) (why .1)
+
+  read-statement-returns-6 : read-statement-lts.Need-returns-6 statement-claims (read-statement-at t) read-statement.Post
+  read-statement-returns-6 c =
+      let k = c .before .before .before in
+      let e = ended k in
+      let r = read e in
+      let o = opened r in
+      let b = begun o in
+      let s = start b in
+      let a = s .args in
+      let pre = s .pre .1 in
+      let told = o .begun3 .given in
+      let end = e .inner3 .given in
+      let w = read-work r in
+      let closes = k .close .ensures (w .letters) (w .states) (ended-well e) in
+      close-statement (a .text .now) (a .line) (a .depth) (a .p) (start-work s) (pre .1) (pre .2) (b .begin .result) (begun-work b) (b .begin .ensures) (told .0 .0) (told .0 .1 .0) (told .1) (r .read-block .result) (read-work r) (r .read-block .ensures) (end .0 .0) (end .1) (k .close .result) (record { job = k .close .last .1 .1 .0; letters = w .letters; states = w .states }) closes (c .before .led .given .0 .0) (c .before .led .given .1)
+
+  read-statement-returns-7 : read-statement-lts.Need-returns-7 statement-claims (read-statement-at t) read-statement.Post
+  read-statement-returns-7 c =
+      let k = c .before .before .before in
+      let e = ended k in
+      let r = read e in
+      let o = opened r in
+      let b = begun o in
+      let s = start b in
+      let a = s .args in
+      let pre = s .pre .1 in
+      let told = o .begun3 .given in
+      let end = e .inner3 .given in
+      let w = read-work r in
+      let closes = k .close .ensures (w .letters) (w .states) (ended-well e) in
+      close-refused (a .text .now) (a .line) (a .depth) (a .p) (start-work s) (pre .1) (pre .2) (b .begin .result) (begun-work b) (b .begin .ensures) (told .0 .0) (told .0 .1 .0) (told .1) (r .read-block .result) (read-work r) (r .read-block .ensures) (end .0 .0) (end .1) (k .close .result) (record { job = k .close .last .1 .1 .0; letters = w .letters; states = w .states }) closes (c .before .enum-told2 .given .1)
 
 pub +read-block+read-statement-spec : {M : Type 1} → statement M
-+read-block+read-statement-spec = close μ-read-block μ-read-statement (λ t. read-block-lts.spec (
-  line-end-reads.Asked,
-  line-end-reads.Learnt,
-  read-line-reads.Asked,
-  read-line-reads.Learnt,
-  read-statement-below t,
-  read-statement.Post,
-)
++read-block+read-statement-spec = close μ-read-block μ-read-statement (λ t. read-block-lts.spec (block-claims t)
     (read-block-at t)
     read-block.Post
     read-block-Inv-loop
@@ -697,14 +474,7 @@ pub +read-block+read-statement-spec : {M : Type 1} → statement M
     (read-block-returns-3 t)
     (read-block-enum-known-first-3 t)
     (read-block-returns-4 t))
-    λ t. read-statement-lts.spec (
-      begin-reads.Asked,
-      begin-reads.Learnt,
-      read-block-below t,
-      read-block.Post,
-      close-reads.Asked,
-      close-reads.Learnt,
-    )
+    λ t. read-statement-lts.spec (statement-claims t)
     (read-statement-at t)
     read-statement.Post
     (read-statement-begin-requires t)

@@ -32,8 +32,9 @@ enum-known-line-4 c = search needs
 
 mark-requires : tie.Need-mark-requires
 mark-requires c κs =
-    let pre = c .before .before .before .before .before .pre in
-    (subst MarkIn (c .before .before .before .line4 .given .1) (pre .0), pre .1 .job, pre .1 .states, pre .1 .passed, pre .1 .count, pre .1 .met)
+    let l = c .before .before .before in
+    let pre = l .before .before .pre in
+    (subst MarkIn (l .line4 .given .1) (pre .0), pre .1 .job, pre .1 .states, pre .1 .passed, pre .1 .count, pre .1 .met)
 
 enum-told-2 : tie.Need-enum-told-2
 enum-told-2 c = search needs
@@ -42,19 +43,31 @@ add-t21 : tie.Need-add-t21
 add-t21 c = search needs
 
 returns : tie.Need-returns
-returns c = let a = c .before .before .before .before .before .before .args in rw (c .before .before .before .before .line .given .1) (c .perform .ensures (a .depth) (a .states .now) (c .before .before .before .before .before .before .pre .1 .states))
+returns c =
+    let l = c .before .before .before .before in
+    let s = l .before .before in
+    rw (l .line .given .1) (c .perform .ensures (s .args .depth) (s .args .states .now) (s .pre .1 .states))
 
 returns-2 : tie.Need-returns-2
-returns-2 c = let a = c .before .before .before .before .before .before .args in rw (c .before .before .before .before .line2 .given .1) (c .open-block .ensures (a .states .now) (c .before .before .before .before .before .before .pre .1 .states))
+returns-2 c =
+    let l = c .before .before .before .before in
+    let s = l .before .before in
+    rw (l .line2 .given .1) (c .open-block .ensures (s .args .states .now) (s .pre .1 .states))
 
 returns-3 : tie.Need-returns-3
-returns-3 c = let a = c .before .before .before .before .before .before .args in rw (c .before .before .before .before .line3 .given .1) (c .open-block2 .ensures (a .states .now) (c .before .before .before .before .before .before .pre .1 .states))
+returns-3 c =
+    let l = c .before .before .before .before in
+    let s = l .before .before in
+    rw (l .line3 .given .1) (c .open-block2 .ensures (s .args .states .now) (s .pre .1 .states))
 
 returns-4 : tie.Need-returns-4
 returns-4 c = (c .enum-told .given .1, refl)
 
 returns-5 : tie.Need-returns-5
-returns-5 c = let a = c .before .before .before .before .before .before .args in rw (c .before .before .before .before .line4 .given .1) (c .mark .ensures (a .depth) (a .letters .now) (c .before .before .before .before .before .before .pre .1 .letters))
+returns-5 c =
+    let l = c .before .before .before .before in
+    let s = l .before .before in
+    rw (l .line4 .given .1) (c .mark .ensures (s .args .depth) (s .args .letters .now) (s .pre .1 .letters))
 
 returns-6 : tie.Need-returns-6
 returns-6 c = λ os e. rw (c .before .enum-told2 .given .1, add-one (c .before .before .before .args .p .passed)) refl

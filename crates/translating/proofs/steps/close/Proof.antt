@@ -11,6 +11,18 @@ use borrow.Author.Needs.{needs}
 use Rattle.translating.proofs.steps.close.Statement.{statement}
 use Rattle.translating.proofs.steps.close.Tie as tie
 
+-- ---- moments on the way
+
+-- the beginning, once it is known where the first transition leads
+abbrev begun : tie.After-back-to → tie.Start
+begun c = c .before .before .before .before .before .before
+
+-- where the first transition was put, once the second is
+abbrev first : tie.After-put-transition2 → tie.After-put-transition
+first c = c .before .before .before .before .before
+
+-- ---- what is to be shown
+
 returns : tie.Need-returns
 returns c = let a = c .before .before .args in λ letters states bounds. close-full (a .p) (record { job = a .job .now; letters = letters; states = states }) (a .opened) bounds (c .if1 .taken)
 
@@ -25,8 +37,8 @@ back-to-requires c κs = search needs
 
 put-transition-requires : tie.Need-put-transition-requires
 put-transition-requires c κs =
-    let a = c .before .before .before .before .before .before .args in
-    let pre = c .before .before .before .before .before .before .pre in
+    let a = begun c .args in
+    let pre = begun c .pre in
     let below : c .back-to .result < 64 =
     subst (λ x. x < 64) (sym (c .back-to .ensures)) (cond-below (a .opened .loops) 64 (a .opened .state) (a .p .passed + 1) (pre .3) (omega arith)) in
     (pre .0, omega arith, omega arith, below)
@@ -45,15 +57,17 @@ add-t10 c = search needs
 
 returns-2 : tie.Need-returns-2
 returns-2 c =
-    let a = c .before .before .before .before .before .before .before .before .before .before .before .before .before .args in
+    let one = first (c .before) in
+    let b = one .before in
+    let a = begun b .args in
     let p = a .p in
     let new = add-one (p .passed) in
-    let back = c .before .before .before .before .before .before .before .back-to .ensures ∙ ap (cond (a .opened .loops) (a .opened .state)) new in
-    let one = subst (λ x. Adds (a .job .now) (p .count) (p .passed) skipNumbers x (c .before .before .before .before .before .before .put-transition .last .0)) back
-    (subst (λ o. Adds (a .job .now) (p .count) (p .passed) o (c .before .before .before .before .before .before .before .back-to .result) (c .before .before .before .before .before .before .put-transition .last .0)) (c .before .before .before .before .before .before .before .before .skip .ensures) (c .before .before .before .before .before .before .put-transition .ensures)) in
-    let two = rw (c .before .before .opposite-of .ensures, new, add-one (p .count)) at (c .before .put-transition2 .ensures) in
+    let back = b .back-to .ensures ∙ ap (cond (a .opened .loops) (a .opened .state)) new in
+    let adds = subst (λ x. Adds (a .job .now) (p .count) (p .passed) skipNumbers x (one .put-transition .last .0)) back
+    (subst (λ o. Adds (a .job .now) (p .count) (p .passed) o (b .back-to .result) (one .put-transition .last .0)) (b .before .skip .ensures) (one .put-transition .ensures)) in
+    let adds-two = rw (c .before .before .opposite-of .ensures, new, add-one (p .count)) at (c .before .put-transition2 .ensures) in
     λ letters states bounds.
-    rw (new, add-two (p .count)) (close-on p (record { job = a .job .now; letters = letters; states = states }) (a .opened) bounds _ _ (omega arith) one two)
+    rw (new, add-two (p .count)) (close-on p (record { job = a .job .now; letters = letters; states = states }) (a .opened) bounds _ _ (omega arith) adds adds-two)
 
 pub close-spec : {M : Type 1} → statement M
 close-spec =

@@ -5,6 +5,10 @@ use borrow.Author.Needs.{needs}
 use Rattle.translating.proofs.steps.lead.Statement.{statement}
 use Rattle.translating.proofs.steps.lead.Tie as tie
 
+-- the beginning, once the transition is put
+abbrev begun : tie.After-put-transition → tie.Start
+begun c = c .before .before .before .before .before .before
+
 returns : tie.Need-returns
 returns c = search needs
 
@@ -22,13 +26,14 @@ add-t9 c = search needs
 
 returns-3 : tie.Need-returns-3
 returns-3 c =
-    let a = c .before .before .before .before .before .before .before .args in
+    let put = c .before in
+    let a = begun put .args in
     let one = add-one (a .p .passed) in
     let two = add-one (a .p .count) in (
       omega arith,
       omega arith,
       λ i. record { at = a .p .at; passed = one i; count = two i; met = a .met },
-      rw (← one) (c .before .put-transition .ensures),
+      rw (← one) (put .put-transition .ensures),
     )
 
 pub lead-spec : {M : Type 1} → statement M

@@ -7,6 +7,22 @@ use borrow.Author.Needs.{needs}
 use Rattle.translating.proofs.steps.mark.Statement.{statement}
 use Rattle.translating.proofs.steps.mark.Tie as tie
 
+-- ---- moments on the way, and what is so then
+
+-- the beginning, once a free mark led on
+abbrev begun : tie.After-lead → tie.Start
+begun c = c .before .before .before .before .before
+
+-- it leads by `skip`
+by-skip : (c : tie.After-lead)
+    → let a = begun c .args in
+    Leads (a .p) (a .p .met) skipNumbers (a .job .now) (c .lead .result) (c .lead .last .1 .1 .1 .0)
+by-skip c =
+    let a = begun c .args in
+    subst (λ o. Leads (a .p) (a .p .met) o (a .job .now) (c .lead .result) (c .lead .last .1 .1 .1 .0)) (c .before .before .skip .ensures) (c .lead .ensures)
+
+-- ---- what is to be shown
+
 element-copy-out-if1 : tie.Need-element-copy-out-if1
 element-copy-out-if1 c = search needs
 
@@ -42,21 +58,21 @@ add-t20 c = search needs
 
 returns-2 : tie.Need-returns-2
 returns-2 c =
-    let a = c .before .before .before .before .before .before .before .before .before .args in
-    let pre = c .before .before .before .before .before .before .before .before .before .pre in
-    let by = subst (λ o. Leads (a .p) (a .p .met) o (a .job .now) (c .before .before .before .before .lead .result) (c .before .before .before .before .lead .last .1 .1 .1 .0)) (c .before .before .before .before .before .before .skip .ensures) (c .before .before .before .before .lead .ensures) in
-    let leads = subst (λ r. Leads (a .p) (a .p .met) skipNumbers (a .job .now) r (c .before .before .before .before .lead .last .1 .1 .1 .0)) (c .before .before .led .given .1) by in
+    let l = c .before .before .before .before in
+    let s = begun l in
+    let a = s .args in
+    let leads = subst (λ r. Leads (a .p) (a .p .met) skipNumbers (a .job .now) r (l .lead .last .1 .1 .1 .0)) (c .before .before .led .given .1) (by-skip l) in
     λ depth letters size.
-    mark-on (a .p) (a .job .now) letters (pre .3) (pre .4) (a .k) (a .states .now) (pre .2) (pre .0) size (pre .5) (c .before .before .before .before .before .before .before .if1 .left) depth _ _ leads
+    mark-on (a .p) (a .job .now) letters (s .pre .3) (s .pre .4) (a .k) (a .states .now) (s .pre .2) (s .pre .0) size (s .pre .5) (l .before .before .before .if1 .left) depth _ _ leads
 
 returns-3 : tie.Need-returns-3
 returns-3 c =
-    let a = c .before .before .before .before .before .before .before .before .args in
-    let pre = c .before .before .before .before .before .before .before .before .pre in
-    let by = subst (λ o. Leads (a .p) (a .p .met) o (a .job .now) (c .before .before .before .lead .result) (c .before .before .before .lead .last .1 .1 .1 .0)) (c .before .before .before .before .before .skip .ensures) (c .before .before .before .lead .ensures) in
-    let leads = subst (λ r. Leads (a .p) (a .p .met) skipNumbers (a .job .now) r (c .before .before .before .lead .last .1 .1 .1 .0)) (c .before .enum-told .given .1) by in
+    let l = c .before .before .before in
+    let s = begun l in
+    let a = s .args in
+    let leads = subst (λ r. Leads (a .p) (a .p .met) skipNumbers (a .job .now) r (l .lead .last .1 .1 .1 .0)) (c .before .enum-told .given .1) (by-skip l) in
     λ depth letters size.
-    mark-full (a .p) (a .job .now) letters (pre .3) (pre .4) (a .k) (a .states .now) (pre .2) (pre .0) size (pre .5) (c .before .before .before .before .before .before .if1 .left) depth leads
+    mark-full (a .p) (a .job .now) letters (s .pre .3) (s .pre .4) (a .k) (a .states .now) (s .pre .2) (s .pre .0) size (s .pre .5) (l .before .before .before .if1 .left) depth leads
 
 pub mark-spec : {M : Type 1} → statement M
 mark-spec =

@@ -6,6 +6,18 @@ use borrow.Author.Needs.{needs}
 use Rattle.translating.proofs.steps.perform.Statement.{statement}
 use Rattle.translating.proofs.steps.perform.Tie as tie
 
+-- ---- moments on the way
+
+-- the beginning, once the operation led on
+abbrev begun : tie.After-lead → tie.Start
+begun c = c .before .before .before .before .before
+
+-- where its operands were numbered
+abbrev numbered : tie.After-lead → tie.After-number-operation
+numbered c = c .before .before .before
+
+-- ---- what is to be shown
+
 number-operation-requires : tie.Need-number-operation-requires
 number-operation-requires c κs = search needs
 
@@ -23,19 +35,21 @@ add-t13 c = search needs
 
 returns : tie.Need-returns
 returns c =
-    let a = c .before .before .before .before .before .before .before .before .args in
-    let pre = c .before .before .before .before .before .before .before .before .pre in
-    let n = c .before .before .before .before .before .before .number-operation in
-    let leads = subst (λ r. Leads (a .p) (n .result .met) (n .result .operation) (a .job .now) r (c .before .before .before .lead .last .1 .1 .1 .0)) (c .before .led .given .1) (c .before .before .before .lead .ensures) in
-    λ depth states size. perform-on (a .p) (a .job .now) (a .letters .now) (pre .2) (pre .3) (a .operation) (n .result) _ (n .ensures) states size _ depth _ leads
+    let l = c .before .before .before in
+    let s = begun l in
+    let a = s .args in
+    let n = numbered l .number-operation in
+    let leads = subst (λ r. Leads (a .p) (n .result .met) (n .result .operation) (a .job .now) r (l .lead .last .1 .1 .1 .0)) (c .before .led .given .1) (l .lead .ensures) in
+    λ depth states size. perform-on (a .p) (a .job .now) (a .letters .now) (s .pre .2) (s .pre .3) (a .operation) (n .result) _ (n .ensures) states size _ depth _ leads
 
 returns-2 : tie.Need-returns-2
 returns-2 c =
-    let a = c .before .before .before .before .before .before .before .before .args in
-    let pre = c .before .before .before .before .before .before .before .before .pre in
-    let n = c .before .before .before .before .before .before .number-operation in
-    let leads = subst (λ r. Leads (a .p) (n .result .met) (n .result .operation) (a .job .now) r (c .before .before .before .lead .last .1 .1 .1 .0)) (c .before .enum-told .given .1) (c .before .before .before .lead .ensures) in
-    λ depth states size. perform-full (a .p) (a .job .now) (a .letters .now) (pre .2) (pre .3) (a .operation) (n .result) _ (n .ensures) states size depth leads
+    let l = c .before .before .before in
+    let s = begun l in
+    let a = s .args in
+    let n = numbered l .number-operation in
+    let leads = subst (λ r. Leads (a .p) (n .result .met) (n .result .operation) (a .job .now) r (l .lead .last .1 .1 .1 .0)) (c .before .enum-told .given .1) (l .lead .ensures) in
+    λ depth states size. perform-full (a .p) (a .job .now) (a .letters .now) (s .pre .2) (s .pre .3) (a .operation) (n .result) _ (n .ensures) states size depth leads
 
 pub perform-spec : {M : Type 1} → statement M
 perform-spec =
