@@ -10,11 +10,18 @@ use crate::random::Random;
 use crate::reference::heap::Heap;
 use crate::reference::listing::MARKS;
 use crate::reference::number::bytes_of;
-use crate::reference::stepper;
+use crate::reference::stepper::{self, NO_VALUES};
 use crate::{baseline, library};
 
 const NUMBERS: usize = 10_000;
 const STEPS: usize = 5_000;
+
+/// A walk has so many: in a long one all cells are lost, and then nothing moves.
+const WALK: usize = 50;
+
+/// The values that are lent to steps are below this number.
+const VALUES: u16 = 7;
+
 const LISTINGS: usize = 200;
 
 /// The work with its names.
@@ -23,6 +30,7 @@ pub fn works() -> Vec<(&'static str, Work<'static>)> {
         ("10,000 numbers read", reading()),
         ("10,000 numbers written", writing()),
         ("5,000 steps", stepping()),
+        ("5,000 steps with values", stepping_with_values()),
         ("200 listings translated", translating()),
     ]
 }
@@ -75,7 +83,7 @@ fn writing() -> Work<'static> {
     }
 }
 
-/// A walk from the empty heap.
+/// Walks from the empty heap.
 fn stepping() -> Work<'static> {
     Work {
         proved: Box::new(walk(library::step)),
@@ -84,24 +92,61 @@ fn stepping() -> Work<'static> {
 }
 
 fn walk(step: fn(&mut [u8], u32, u32, u32) -> u32) -> impl Fn() {
-    let mut random = Random::new(0x10_5eed);
-    let operations: Vec<(u32, u32, u32)> = (0..STEPS)
-        .map(|_| {
-            let kind = random.pick(&[1, 2, 3, 4, 5, 5, 6, 6, 6, 7]);
-            let mut operand = |lowest| (lowest + random.below(5 - lowest)) as u32;
-            match kind {
-                6 | 7 => (kind, operand(1), 0),
-                _ => (kind, operand(1), operand(usize::from(kind == 4))),
-            }
-        })
-        .collect();
+    let operations = random_operations(&[1, 2, 3, 4, 5, 5, 6, 6, 6, 7]);
     let empty = stepper::bytes_of(&Heap::empty(4));
     move || {
-        let mut heap = empty;
-        for &(kind, a, b) in &operations {
-            black_box(step(&mut heap, kind, a, b));
+        for walk in operations.chunks(WALK) {
+            let mut heap = empty;
+            for &(kind, a, b) in walk {
+                black_box(step(&mut heap, kind, a, b));
+            }
         }
     }
+}
+
+/// A kind and its operands.
+type Numbers = (u32, u32, u32);
+
+/// A step on the bytes and values of a heap, with the value that is lent.
+type StepWithValues = fn(&mut [u8], &mut [u32], Numbers, u16) -> u32;
+
+/// The same with values.
+fn stepping_with_values() -> Work<'static> {
+    Work {
+        proved: Box::new(walk_with_values(library::step_values)),
+        baseline: Box::new(walk_with_values(baseline::stepper::step_values)),
+    }
+}
+
+fn walk_with_values(step: StepWithValues) -> impl Fn() {
+    let operations = random_operations(&[1, 3, 4, 5, 5, 6, 6, 7, 8, 9, 10, 11, 12, 13, 13]);
+    let empty = stepper::bytes_of(&Heap::empty(4));
+    move || {
+        for walk in operations.chunks(WALK) {
+            let (mut heap, mut values) = (empty, NO_VALUES);
+            for (&numbers, value) in walk.iter().zip((0..VALUES).cycle()) {
+                black_box(step(&mut heap, &mut values, numbers, value));
+            }
+        }
+    }
+}
+
+/// Operations of these kinds on four variables.
+fn random_operations(kinds: &[u32]) -> Vec<Numbers> {
+    let mut random = Random::new(0x10_5eed);
+    let mut operation = || {
+        let kind = random.pick(kinds);
+        let mut operand = |lowest| (lowest + random.below(5 - lowest)) as u32;
+        match kind {
+            6 | 7 | 13 => (kind, operand(1), 0),
+            _ => (
+                kind,
+                operand(1),
+                operand(usize::from(kind == 4 || kind > 7)),
+            ),
+        }
+    };
+    (0..STEPS).map(|_| operation()).collect()
 }
 
 /// Random listings of all sizes.
