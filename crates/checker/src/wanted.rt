@@ -1,4 +1,4 @@
-// Which choices of its operands an operation of kinds 1 to 5 retains, in the shape of an array.
+// Which choices of its operands an operation of kinds 1 to 5 or 8 to 13 retains, in the shape of an array.
 use place::NOWHERE;
 use place::Place;
 use placing::Wanted;
