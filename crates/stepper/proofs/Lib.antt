@@ -6,3 +6,5 @@ pub mod Dangle
 pub mod Perform
 pub mod Values
 pub mod Steps
+pub mod Outcomes
+pub mod Turns

@@ -13,6 +13,7 @@ ghost use Rattle.kinds.specs.Kinds.{allowed};
 ghost use Rattle.lists.specs.Test.{allFrom};
 ghost use Rattle.place.specs.Place.{codes};
 ghost use Rattle.stepper.specs.Step.{outcomeCode, lowestUnused, comparison, valueTest, codesMeet, otherValue, codesDiffer, perform, performNamed, Performs, PerformsNamed, Steps};
+ghost use Rattle.stepper.specs.Turns.{Repeats, StepsInTurn, ended};
 ghost use Rattle.stepper.specs.Table.{aimed, slotFits, cellFits, valueFits, wellFormed, Sized, FormedTable, codeIn, mostCode, dangleVars, dangleLinks};
 
 // A heap of up to 64 cells: how many variables there are, where each stands, which cells are used, where their links stand, and the codes of
@@ -564,5 +565,54 @@ impl Heap64 {
             return self.perform_on_links(kind as usize, a as usize, b as usize);
         }
         self.perform_on_values(kind as usize, a as usize, b as usize, value)
+    }
+
+    // An operation, n times, up to a step that does not move.
+    fn repeat(self, kind: u8, a: u8, b: u8, n: u8) -> Stepped
+        ensures { λ r. ⌜ Repeats kind a b n ended self r ⌝ }
+    {
+        let mut heap = self;
+        let mut i: u8 = 0;
+        while i < n {
+            let stepped = heap.step(kind as u32, a as u32, b as u32, 0);
+            let outcome = stepped.outcome;
+            let Outcome::Moved = outcome else {
+                return stepped;
+            };
+            heap = stepped.heap;
+            i += 1;
+        }
+        Stepped {
+            heap,
+            outcome: Outcome::Moved,
+        }
+    }
+
+    // Several operations in turn, each by four bytes: its kind, a, b, and how many times it is done. Each is done as `step` does it, with 0 lent; the
+    // first step that does not move ends it.
+    pub fn steps(self, turns: &[u8]) -> Stepped
+        ensures { λ r. ⌜ StepsInTurn self (now (turns .entry)) r ⌝ }
+    {
+        if !self.is_well_formed() {
+            return Stepped {
+                heap: self,
+                outcome: Outcome::Refused(StepRefusal::IllFormed),
+            };
+        }
+        let mut heap = self;
+        let mut i: usize = 0;
+        while 4 <= turns.len() - i {
+            let stepped = heap.repeat(turns[i], turns[i + 1], turns[i + 2], turns[i + 3]);
+            let outcome = stepped.outcome;
+            let Outcome::Moved = outcome else {
+                return stepped;
+            };
+            heap = stepped.heap;
+            i += 4;
+        }
+        Stepped {
+            heap,
+            outcome: Outcome::Moved,
+        }
     }
 }
