@@ -1,8 +1,8 @@
 -- The stepper's promise, from the definition of a step.
 use mathlib.Core.Bool.{Bool, true, false, _&&_, cond}
-use mathlib.Core.Logic.{ite}
+use mathlib.Core.Logic.{ite, ⊎-elim}
 use mathlib.Core.Option.{Option, none, some}
-use mathlib.Core.Path.{_≡_, refl, sym, _∙_, subst}
+use mathlib.Core.Path.{_≡_, refl, sym, ap, _∙_, subst}
 use Prim.Native.Nat.{ℕ, suc, _-_, _≤_}
 use native.Mathlib.Omega.{arith}
 use borrow.Author.Tests.{leb-false}
@@ -22,7 +22,7 @@ use Rattle.stepper.specs.declared.StepRefusal.the-variants.{IllFormed, B
 use Rattle.stepper.specs.declared.Stepped.{Stepped}
 use Rattle.stepper.proofs.Change.{withVar, withLink, withValue, withCell}
 use Rattle.stepper.proofs.Formed.{Formed, formed, well-formed, value-most}
-use Rattle.stepper.proofs.Perform.{Changes, moved, blocked, full, operand-stands, linked-stands, still, put, stored, written, taken, withoutPlace, freed}
+use Rattle.stepper.proofs.Perform.{Changes, moved, blocked, full, operand-stands, linked-stands, still, put, stored, written, taken, withoutPlace, freed, new-not-blocked}
 
 module _ (t : Heap64) (s : Sized t) (f : Formed t) (value : ℕ) (lent : value ≤ 65535) where
   -- an enabled operation has a well formed table after it
@@ -55,15 +55,24 @@ module _ (t : Heap64) (s : Sized t) (f : Formed t) (value : ℕ) (lent : value �
   changed (read a) v e r =
       (withValue t (varIn (codes (t .vars)) a - 3) (suc value), written t s f value (read a) a (suc value) refl e e (omega arith) refl)
 
--- a step that did not move
-stayed : (t : Heap64) (kind a b value : ℕ) (o : Outcome) → (o ≡ Moved → ⊥) → stays t o ≡ stepOf t kind a b value → Steps t kind a b value (stays t o)
-stayed t kind a b value o n e = record { result = e; does = λ z. absurd (n z); returns = λ z. refl; formed = λ h. h }
-
+-- outcomes differ
 refused-stays : (r : StepRefusal) → _≡_ {A = Outcome} (Refused r) Moved → ⊥
 refused-stays r e = let z : _≡_ {A = ℕ} 0 1 = cc in omega arith
 
+refused-free : (r : StepRefusal) → _≡_ {A = Outcome} (Refused r) Blocked → ⊥
+refused-free r e = let z : _≡_ {A = ℕ} 0 1 = cc in omega arith
+
 blocked-stays : _≡_ {A = Outcome} Blocked Moved → ⊥
 blocked-stays e = let z : _≡_ {A = ℕ} 0 1 = cc in omega arith
+
+module _ (t : Heap64) (kind a b value : ℕ) where
+  -- a step that did not move
+  stayed : (o : Outcome) → (o ≡ Moved → ⊥) → ((c : ℕ) → operation (t .variables) kind a b ≡ some (new c) → o ≡ Blocked → ⊥)
+      → stays t o ≡ stepOf t kind a b value → Steps t kind a b value (stays t o)
+  stayed o n free e = record { result = e; does = λ z. absurd (n z); returns = λ z. refl; formed = λ h. h; new-moves = free }
+
+  refused : (r : StepRefusal) → stays t (Refused r) ≡ stepOf t kind a b value → Steps t kind a b value (stays t (Refused r))
+  refused r = stayed (Refused r) (refused-stays r) (λ c k. refused-free r)
 
 module _ (t : Heap64) (s : Sized t) (kind a b value : ℕ) (lent : value ≤ 65535) where
   abbrev Promise : Type 0
@@ -84,11 +93,23 @@ module _ (t : Heap64) (s : Sized t) (kind a b value : ℕ) (lent : value ≤ 655
             does = λ z. (o, named, c .enabled, c .heap);
             returns = λ n. absurd (n refl);
             formed = λ h. well-formed t′ (c .formed);
+            new-moves = λ k z y. blocked-stays (sym y);
           })
 
+      -- a blocked operation is not new
+      not-new : stays t Blocked ≡ perform t value o → (k : ℕ) → operation (t .variables) kind a b ≡ some (new k) → ⊥
+      not-new same k z =
+          let is-new : o ≡ new k = cc (named) in
+          let outcome : Blocked ≡ perform t value (new k) .outcome =
+          ap (λ (q : Stepped). q .outcome) same ∙ ap (λ (q : Op). perform t value q .outcome) is-new in
+          ⊎-elim (λ m. blocked-stays (outcome ∙ m)) (λ m. refused-free Full (sym (outcome ∙ m)))
+          (new-not-blocked t (record { sized = s; formed = well-formed t f }) value k)
+
       by-room : (full? : Bool) → allocates o && leb 64 (lowestUnused (t .used)) ≡ full? → Dec (Enabled o (choice t value o) (heapOf t)) → Promise
-      by-room true r d = let same = full t value o r ∙ e in promised (stays t (Refused Full)) same (stayed t kind a b value (Refused Full) (refused-stays Full) same)
-      by-room false r (no n) = let same = blocked t value o r n ∙ e in promised (stays t Blocked) same (stayed t kind a b value Blocked blocked-stays same)
+      by-room true r d = let same = full t value o r ∙ e in promised (stays t (Refused Full)) same (refused t kind a b value Full same)
+      by-room false r (no n) =
+          let is = blocked t value o r n in
+          promised (stays t Blocked) (is ∙ e) (stayed t kind a b value Blocked blocked-stays (λ k z y. not-new is k z) (is ∙ e))
       by-room false r (yes d) = let c = changed t s f value lent o (named-allowed (t .variables) kind a b o named) d r in moves (c .0) (c .1)
 
   pub steps : Promise
@@ -98,10 +119,10 @@ module _ (t : Heap64) (s : Sized t) (kind a b value : ℕ) (lent : value ≤ 655
       by-form : (w : Bool) → wellFormed t ≡ w → (o : Option Op) → operation (t .variables) kind a b ≡ o → Promise
       by-form false w o e =
           let same : stays t (Refused IllFormed) ≡ stepOf t kind a b value = rw w refl in
-          promised (stays t (Refused IllFormed)) same (stayed t kind a b value (Refused IllFormed) (refused-stays IllFormed) same)
+          promised (stays t (Refused IllFormed)) same (refused t kind a b value IllFormed same)
       by-form true w none e =
           let same : stays t (Refused BadOperation) ≡ stepOf t kind a b value = rw (w, e) refl in
-          promised (stays t (Refused BadOperation)) same (stayed t kind a b value (Refused BadOperation) (refused-stays BadOperation) same)
+          promised (stays t (Refused BadOperation)) same (refused t kind a b value BadOperation same)
       by-form true w (some o) e = by-operation (formed t w) o e (rw (w, e) refl)
 
 -- a step keeps the lengths of the arrays

@@ -99,8 +99,8 @@ unfoldable pub stepOf : Heap64 → ℕ → ℕ → ℕ → ℕ → Stepped
 stepOf t kind a b value =
     cond (wellFormed t) (performNamed t value (operation (t .variables) kind a b)) (stays t (Refused IllFormed))
 
--- What the stepper promises. A step that moved has done the operation on the heap that the table stands for; and a well formed table
--- stays well formed.
+-- What the stepper promises. A step that moved has done the operation on the heap that the table stands for; a well formed table stays well
+-- formed; and new, which is enabled "always", is not blocked.
 pub record Steps (t : Heap64) (kind a b value : ℕ) (r : Stepped) : Type 0 where
   pub result : r ≡ stepOf t kind a b value
   pub does :
@@ -109,3 +109,4 @@ pub record Steps (t : Heap64) (kind a b value : ℕ) (r : Stepped) : Type 0 wher
       × (heapOf (r .heap) ≡ after o (choice t value o) (heapOf t))
   pub returns : (r .outcome ≡ Moved → ⊥) → r .heap ≡ t
   pub formed : wellFormed t ≡ true → wellFormed (r .heap) ≡ true
+  pub new-moves : (c : ℕ) → operation (t .variables) kind a b ≡ some (new c) → r .outcome ≡ Blocked → ⊥
