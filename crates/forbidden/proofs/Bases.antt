@@ -10,7 +10,7 @@ use Rattle.lists.proofs.List.{every-none, every-cons, every-one, every-append, 
 use Rattle.heap.specs.Codes.{varIn, linkIn}
 use Rattle.heap.specs.Heap.{Heap}
 use Rattle.heap.specs.Place.{nowhere, null, dangling, cell}
-use Rattle.graph.specs.Follow.{follow}
+use Rattle.heap.specs.Follow.{follow}
 use Rattle.graph.specs.Graph.{Graph, Embeds}
 use Rattle.graph.proofs.Proper.{IsPlace, Closed}
 use Rattle.shape.specs.Shape.{Shape, linkAt, size, shapeGraph, heapGraph}

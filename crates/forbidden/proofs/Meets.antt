@@ -4,7 +4,7 @@ use mathlib.Core.Logic.{_↔_, _⊎_, inl, inr}
 use mathlib.Core.Path.{_≡_}
 use Prim.Native.Nat.{ℕ, zero, suc}
 use Rattle.heap.specs.Heap.{Heap}
-use Rattle.graph.specs.Follow.{follow}
+use Rattle.heap.specs.Follow.{follow}
 use Rattle.graph.specs.Graph.{Chain}
 use Rattle.graph.proofs.Follow.{follow-chain, chain-follow}
 use Rattle.forbidden.specs.Meets.{Meets}

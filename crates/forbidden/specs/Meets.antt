@@ -2,7 +2,7 @@
 use mathlib.Core.Path.{_≡_}
 use Prim.Native.Nat.{ℕ}
 use Rattle.heap.specs.Heap.{Heap}
-use Rattle.graph.specs.Follow.{follow}
+use Rattle.heap.specs.Follow.{follow}
 
 -- The place q is met by following links from variable x: after some number of steps, none among them, since "x at # counts as met".
 abbrev pub Meets : Heap → ℕ → ℕ → Type 0

@@ -3,7 +3,7 @@ use mathlib.Core.List.{List, [], _∷_, List·Memᴰ·head, List·Memᴰ·tail, 
 use mathlib.Core.Path.{_≡_, refl, sym, ap, _∙_}
 use Prim.Native.Nat.{ℕ, zero, suc}
 use Rattle.lists.specs.List.{_∈_}
-use Rattle.graph.specs.Follow.{follow}
+use Rattle.heap.specs.Follow.{follow}
 use Rattle.graph.specs.Graph.{Chain}
 
 -- Following links from p visits the places of the list, the first of which is p, and then q. With no place, p is q.

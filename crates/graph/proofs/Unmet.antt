@@ -7,7 +7,7 @@ use native.Mathlib.Decide.{ℕ-discrete}
 use native.Mathlib.Omega.{arith}
 use Rattle.lists.specs.List.{_∈_}
 use Rattle.heap.specs.Place.{nowhere, null, dangling}
-use Rattle.graph.specs.Follow.{follow}
+use Rattle.heap.specs.Follow.{follow}
 use Rattle.graph.specs.Graph.{Graph, Embeds}
 use Rattle.graph.proofs.Chain.{chain-step}
 use Rattle.graph.proofs.Paths.{place-off-path}
