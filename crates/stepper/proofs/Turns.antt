@@ -1,14 +1,10 @@
 -- Several steps in turn: one step more, and one operation more.
-use mathlib.Core.List.{List, [], _∷_}
 use mathlib.Core.Logic.{_≢_}
 use mathlib.Core.Path.{_≡_, refl, sym, ap, _∙_, subst}
-use Prim.Native.Nat.{ℕ, zero, suc, _+_, _≤_, _<_}
+use Prim.Native.Nat.{ℕ, zero, suc}
 use native.Mathlib.Omega.{arith}
-use native.Mathlib.Numerals.{add-one}
-use lib.ListN.{length, getD, drop}
-use lib.Seq.{drop-cons}
 use Rattle.stepper.specs.Step.{stays, Steps}
-use Rattle.stepper.specs.Turns.{onMoved, Repeats, ended, InTurn}
+use Rattle.stepper.specs.Turns.{onMoved, Repeats, ended}
 use Rattle.stepper.specs.declared.Heap64.{Heap64}
 use Rattle.stepper.specs.declared.Outcome.{Outcome}
 use Rattle.stepper.specs.declared.Outcome.the-variants.{Moved, Blocked, Refused}
@@ -56,24 +52,3 @@ module _ (kind a b : ℕ) (rest : Heap64 → Stepped → Type 0) where
       go Moved w on = on w
       go Blocked w on = w
       go (Refused f) w on = w
-
--- ---- the turns that are left from a place on
-
-pub next-turn : (turns : List ℕ) (i : ℕ) → i + 4 ≤ length turns
-    → drop i turns ≡ getD turns i 0 ∷ getD turns (i + 1) 0 ∷ getD turns (i + 2) 0 ∷ getD turns (i + 3) 0 ∷ drop (i + 4) turns
-next-turn turns i h =
-    one i (omega arith) ∙ ap (λ l. getD turns i 0 ∷ l) (one (i + 1) (omega arith) ∙ ap (λ l. getD turns (i + 1) 0 ∷ l) (rw (plus 1)
-    (one (i + 2) (omega arith) ∙ ap (λ l. getD turns (i + 2) 0 ∷ l) (rw (plus 2) (one (i + 3) (omega arith) ∙ rw (plus 3) refl)))))
-  where
-    one : (k : ℕ) → k < length turns → drop k turns ≡ getD turns k 0 ∷ drop (k + 1) turns
-    one k b = rw (add-one k) (drop-cons turns k 0 b)
-
-    plus : (k : ℕ) → (i + k) + 1 ≡ i + (k + 1)
-    plus k = omega arith
-
-pub no-turn : (turns : List ℕ) (t : Heap64) → length turns < 4 → InTurn turns t (stays t Moved)
-no-turn [] t h = refl
-no-turn (kind ∷ []) t h = refl
-no-turn (kind ∷ a ∷ []) t h = refl
-no-turn (kind ∷ a ∷ b ∷ []) t h = refl
-no-turn (kind ∷ a ∷ b ∷ n ∷ turns) t h = absurd (omega arith)

@@ -2,7 +2,7 @@
 use mathlib.Core.Bool.{true, false}
 use mathlib.Core.List.{List, [], _∷_}
 use mathlib.Core.Path.{_≡_}
-use Prim.Native.Nat.{ℕ, zero, suc}
+use Prim.Native.Nat.{ℕ, zero, suc, _/_, _%_}
 use Rattle.stepper.specs.Step.{stays, Steps}
 use Rattle.stepper.specs.Table.{wellFormed}
 use Rattle.stepper.specs.declared.Heap64.{Heap64}
@@ -27,13 +27,11 @@ Repeats kind a b (suc n) rest t r =
 abbrev pub ended : Heap64 → Stepped → Type 0
 ended t r = r ≡ stays t Moved
 
--- r comes of the operations in turn, each given by four numbers: its kind, a, b, and how many times it is done
+-- r comes of the operations in turn. A turn is one number: to the base 16 its digits are, from the last on, b, a and the kind; what is left before
+-- them is how many times the operation is done.
 abbrev pub InTurn : List ℕ → Heap64 → Stepped → Type 0
 InTurn [] t r = ended t r
-InTurn (kind ∷ []) t r = ended t r
-InTurn (kind ∷ a ∷ []) t r = ended t r
-InTurn (kind ∷ a ∷ b ∷ []) t r = ended t r
-InTurn (kind ∷ a ∷ b ∷ n ∷ turns) t r = Repeats kind a b n (InTurn turns) t r
+InTurn (turn ∷ turns) t r = Repeats (turn / 256 % 16) (turn / 16 % 16) (turn % 16) (turn / 4096) (InTurn turns) t r
 
 -- What several steps promise: refusal 13, or what steps in turn give.
 pub record StepsInTurn (t : Heap64) (turns : List ℕ) (r : Stepped) : Type 0 where

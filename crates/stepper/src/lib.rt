@@ -568,13 +568,13 @@ impl Heap64 {
     }
 
     // An operation, n times, up to a step that does not move.
-    fn repeat(self, kind: u8, a: u8, b: u8, n: u8) -> Stepped
+    fn repeat(self, kind: u32, a: u32, b: u32, n: u32) -> Stepped
         ensures { λ r. ⌜ Repeats kind a b n ended self r ⌝ }
     {
         let mut heap = self;
-        let mut i: u8 = 0;
+        let mut i: u32 = 0;
         while i < n {
-            let stepped = heap.step(kind as u32, a as u32, b as u32, 0);
+            let stepped = heap.step(kind, a, b, 0);
             let outcome = stepped.outcome;
             let Outcome::Moved = outcome else {
                 return stepped;
@@ -588,9 +588,9 @@ impl Heap64 {
         }
     }
 
-    // Several operations in turn, each by four bytes: its kind, a, b, and how many times it is done. Each is done as `step` does it, with 0 lent; the
-    // first step that does not move ends it.
-    pub fn steps(self, turns: &[u8]) -> Stepped
+    // Several operations in turn, each done as `step` does it, with 0 lent; the first step that does not move ends it. A turn is a number, best written to
+    // the base 16: the digits b, a and the kind, from the last on, and before them how many times it is done. 0x1312 is 1 := 2, once.
+    pub fn steps(self, turns: &[u32]) -> Stepped
         ensures { λ r. ⌜ StepsInTurn self (now (turns .entry)) r ⌝ }
     {
         if !self.is_well_formed() {
@@ -601,14 +601,15 @@ impl Heap64 {
         }
         let mut heap = self;
         let mut i: usize = 0;
-        while 4 <= turns.len() - i {
-            let stepped = heap.repeat(turns[i], turns[i + 1], turns[i + 2], turns[i + 3]);
+        while i < turns.len() {
+            let turn = turns[i];
+            let stepped = heap.repeat(turn / 256 % 16, turn / 16 % 16, turn % 16, turn / 4096);
             let outcome = stepped.outcome;
             let Outcome::Moved = outcome else {
                 return stepped;
             };
             heap = stepped.heap;
-            i += 4;
+            i += 1;
         }
         Stepped {
             heap,

@@ -1,18 +1,20 @@
 -- The loop: what the turns that are left give is what all of them give.
 use mathlib.Core.Bool.{Bool, true, false}
-use mathlib.Core.List.{List}
+use mathlib.Core.List.{List, [], _∷_}
 use mathlib.Core.Path.{_≡_, refl, sym, _∙_, subst}
-use Prim.Native.Nat.{ℕ, _+_, _-_, _≤_}
+use Prim.Native.Nat.{ℕ, _+_, _-_, _/_, _%_, _≤_}
 use native.Mathlib.Omega.{arith}
 use borrow.Author.Tests.{not-true, not-false}
-use lib.ListN.{length, getD, drop, length-drop}
+use native.Mathlib.Numerals.{add-one}
+use lib.ListN.{length, getD, drop, drop-of-length-le}
+use lib.Seq.{drop-cons}
 use Rattle.stepper.specs.Step.{stays}
 use Rattle.stepper.specs.Turns.{Repeats, InTurn, StepsInTurn}
 use Rattle.stepper.specs.declared.Heap64.{Heap64}
 use Rattle.stepper.specs.declared.Outcome.the-variants.{Moved}
 use Rattle.stepper.specs.declared.Stepped.{Stepped}
 use Rattle.stepper.proofs.Outcomes.{other-outcome}
-use Rattle.stepper.proofs.Turns.{goes-on, ends-here, next-turn, no-turn}
+use Rattle.stepper.proofs.Turns.{goes-on, ends-here}
 use borrow.Author.Needs.{needs}
 use Rattle.stepper.proofs.Heap64.steps.Statement.{statement}
 use Rattle.stepper.proofs.Heap64.steps.Tie as tie
@@ -48,7 +50,7 @@ module _ (e : tie.Else1 Inv-loop μ-loop) where
 -- one operation is done as often as it says
 module _ (c : tie.After-repeat Inv-loop μ-loop) where
   abbrev in-loop : tie.At-loop Inv-loop μ-loop
-  in-loop = c .before .before .before .before .before .before
+  in-loop = c .before .before .before
 
   abbrev begun : tie.Else1 Inv-loop μ-loop
   begun = in-loop .before
@@ -56,19 +58,18 @@ module _ (c : tie.After-repeat Inv-loop μ-loop) where
   abbrev i : ℕ
   i = in-loop .loop .i
 
-  -- a number of the turn
-  abbrev part : ℕ → ℕ
-  part k = getD (turns begun) (i + k) 0
+  abbrev turn : ℕ
+  turn = getD (turns begun) i 0
 
   abbrev Rest : Heap64 → Stepped → Type 0
-  Rest = InTurn (drop (i + 4) (turns begun))
+  Rest = InTurn (drop (i + 1) (turns begun))
 
   -- what this one and the rest give is what all give
-  whole : (r : Stepped) → Repeats (getD (turns begun) i 0) (part 1) (part 2) (part 3) Rest (in-loop .loop .heap) r
+  whole : (r : Stepped) → Repeats (turn / 256 % 16) (turn / 16 % 16) (turn % 16) (turn / 4096) Rest (in-loop .loop .heap) r
       → InTurn (turns begun) (start begun .args .self) r
   whole r w =
-      in-loop .loop .inv .1 r
-      (subst (λ (l : List ℕ). InTurn l (in-loop .loop .heap) r) (sym (next-turn (turns begun) i (omega arith))) w)
+      let left : drop i (turns begun) ≡ turn ∷ drop (i + 1) (turns begun) = rw (add-one i) (drop-cons (turns begun) i 0 (omega arith)) in
+      in-loop .loop .inv .1 r (subst (λ (l : List ℕ). InTurn l (in-loop .loop .heap) r) (sym left) w)
 
 -- ---- what is to be shown
 
@@ -86,29 +87,11 @@ returns c =
 loop-holds : tie.Need-loop-holds Inv-loop μ-loop
 loop-holds c = (omega arith, λ r w. w)
 
-sub-loop : tie.Need-sub-loop Inv-loop μ-loop
-sub-loop c = search needs
+mul-turn : tie.Need-mul-turn Inv-loop μ-loop
+mul-turn c = search needs
 
-shared-slice-read-repeat : tie.Need-shared-slice-read-repeat Inv-loop μ-loop
-shared-slice-read-repeat c = search needs
-
-add-repeat : tie.Need-add-repeat Inv-loop μ-loop
-add-repeat c = search needs
-
-shared-slice-read-repeat-2 : tie.Need-shared-slice-read-repeat-2 Inv-loop μ-loop
-shared-slice-read-repeat-2 c = search needs
-
-add-repeat-2 : tie.Need-add-repeat-2 Inv-loop μ-loop
-add-repeat-2 c = search needs
-
-shared-slice-read-repeat-3 : tie.Need-shared-slice-read-repeat-3 Inv-loop μ-loop
-shared-slice-read-repeat-3 c = search needs
-
-add-repeat-3 : tie.Need-add-repeat-3 Inv-loop μ-loop
-add-repeat-3 c = search needs
-
-shared-slice-read-repeat-4 : tie.Need-shared-slice-read-repeat-4 Inv-loop μ-loop
-shared-slice-read-repeat-4 c = search needs
+shared-slice-read-turn : tie.Need-shared-slice-read-turn Inv-loop μ-loop
+shared-slice-read-turn c = search needs
 
 repeat-requires : tie.Need-repeat-requires Inv-loop μ-loop
 repeat-requires c κs = search needs
@@ -122,7 +105,7 @@ returns-2 c =
     let r = p .repeat in
     promised (begun p) (r .result)
     (whole p (r .result)
-    (ends-here (getD (turns (begun p)) (i p) 0) (part p 1) (part p 2) (Rest p) (part p 3) (in-loop p .loop .heap) (r .result) (r .ensures)
+    (ends-here (turn p / 256 % 16) (turn p / 16 % 16) (turn p % 16) (Rest p) (turn p / 4096) (in-loop p .loop .heap) (r .result) (r .ensures)
     (other-outcome (r .result .outcome) (c .match .keys2))))
 
 add-i : tie.Need-add-i Inv-loop μ-loop
@@ -137,15 +120,17 @@ loop-again c =
     let p = m .before .before in
     let r = p .repeat in
     (omega arith, λ q w. whole p q
-    (goes-on (getD (turns (begun p)) (i p) 0) (part p 1) (part p 2) (Rest p) (part p 3) (in-loop p .loop .heap) (r .result) (r .ensures) (m .enum-told .given .1) q w))
+    (goes-on (turn p / 256 % 16) (turn p / 16 % 16) (turn p % 16) (Rest p) (turn p / 4096) (in-loop p .loop .heap) (r .result) (r .ensures) (m .enum-told .given .1) q w))
 
 returns-3 : tie.Need-returns-3 Inv-loop μ-loop
 returns-3 c =
     let l = c .before in
     let e = l .before in
+    let over : length (turns e) ≤ l .loop .i = omega arith in
+    let none : drop (l .loop .i) (turns e) ≡ [] = drop-of-length-le (turns e) over in
     promised e (stays (l .loop .heap) Moved)
     (l .loop .inv .1 (stays (l .loop .heap) Moved)
-    (no-turn (drop (l .loop .i) (turns e)) (l .loop .heap) (omega (arith, length-drop (l .loop .i) (turns e)))))
+    (subst (λ (k : List ℕ). InTurn k (l .loop .heap) (stays (l .loop .heap) Moved)) (sym none) refl))
 
 pub steps-spec : {M : Type 1} → statement M
 steps-spec =
@@ -156,14 +141,8 @@ steps-spec =
     is-well-formed-requires
     returns
     loop-holds
-    sub-loop
-    shared-slice-read-repeat
-    add-repeat
-    shared-slice-read-repeat-2
-    add-repeat-2
-    shared-slice-read-repeat-3
-    add-repeat-3
-    shared-slice-read-repeat-4
+    mul-turn
+    shared-slice-read-turn
     repeat-requires
     enum-told
     returns-2
