@@ -118,9 +118,11 @@ loop-again : tie.Need-loop-again Inv-loop μ-loop
 loop-again c =
     let m = c .before in
     let p = m .before .before in
-    let r = p .repeat in
-    (omega arith, λ q w. whole p q
-    (goes-on (turn p / 256 % 16) (turn p / 16 % 16) (turn p % 16) (Rest p) (turn p / 4096) (in-loop p .loop .heap) (r .result) (r .ensures) (m .enum-told .given .1) q w))
+    let r = p .repeat in (
+      omega arith,
+      λ q w. whole p q
+          (goes-on (turn p / 256 % 16) (turn p / 16 % 16) (turn p % 16) (Rest p) (turn p / 4096) (in-loop p .loop .heap) (r .result) (r .ensures) (m .enum-told .given .1) q w),
+    )
 
 returns-3 : tie.Need-returns-3 Inv-loop μ-loop
 returns-3 c =
