@@ -1,0 +1,9 @@
+pub mod Chains
+pub mod Measuring
+pub mod Bound
+pub mod Meaning
+pub mod Moving
+pub mod Walking
+pub mod Inserting
+pub mod Removing
+pub mod Answering

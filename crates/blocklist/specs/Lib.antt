@@ -1,0 +1,4 @@
+pub mod BlockList
+pub mod Sentences
+pub mod Answers
+pub mod Parts
