@@ -5,7 +5,7 @@ use place::NOWHERE;
 use place::Place;
 ghost use mathlib.Core.Bool.{true};
 ghost use mathlib.Core.Path.{_≡_};
-ghost use Prim.Native.Nat.{_≤_};
+ghost use Prim.Native.Nat.{_+_, _≤_};
 ghost use lib.ListN.{length};
 ghost use Rattle.heap.specs.Codes.{varIn, linkIn};
 ghost use Rattle.heap.specs.Operation.{assign, load, store, new, delete, copy, read, operation};
@@ -13,7 +13,8 @@ ghost use Rattle.kinds.specs.Kinds.{allowed};
 ghost use Rattle.lists.specs.Test.{allFrom};
 ghost use Rattle.place.specs.Place.{codes};
 ghost use Rattle.stepper.specs.Step.{outcomeCode, lowestUnused, comparison, valueTest, codesMeet, otherValue, codesDiffer, perform, performNamed, Performs, PerformsNamed, Steps};
-ghost use Rattle.stepper.specs.Turns.{Repeats, StepsInTurn, ended};
+ghost use Rattle.stepper.specs.Turns.{InTurn, StepsInTurn};
+ghost use Rattle.stepper.specs.InPlace.{Tested, Foretells, TurnAt};
 ghost use Rattle.stepper.specs.Table.{aimed, slotFits, cellFits, valueFits, wellFormed, Sized, FormedTable, codeIn, mostCode, dangleVars, dangleLinks};
 
 // A heap of up to 64 cells: how many variables there are, where each stands, which cells are used, where their links stand, and the codes of
@@ -44,6 +45,24 @@ pub enum Outcome {
 pub struct Stepped {
     pub heap: Heap64,
     pub outcome: Outcome,
+}
+
+// An operation that is to be done so many times; `named` says whether its kind and operands keep to the table of kinds.
+struct Turn {
+    kind: usize,
+    a: usize,
+    b: usize,
+    times: u8,
+    named: bool,
+}
+
+// What a step does in place: a variable goes to a place or to where the link of a cell stands, or the link of a cell goes to a place. Variables and cells
+// are given by their numbers from 0. `Other`: something else, or it does not move.
+enum Put {
+    Variable(usize, Place),
+    Follow(usize, usize),
+    Link(usize, Place),
+    Other,
 }
 
 // What a host is told of an outcome.
@@ -107,6 +126,81 @@ fn codes_differ(larger: bool, v: u32, w: u32) -> bool
         return codes_meet(false, v, w);
     }
     codes_meet(false, w, v)
+}
+
+// Where an operand stands.
+fn place_in(vars: [Place; 8], a: usize) -> Place
+    requires { ⌜ a ≤ 8 ⌝ }
+    ensures { λ r. ⌜ r .code ≡ varIn (codes vars) a ⌝ }
+{
+    if a == 0 {
+        return Place::NULL;
+    }
+    vars[a - 1]
+}
+
+// What a step of kinds 3 to 5 puts where, in a well formed heap with these variables.
+fn put_of(vars: [Place; 8], turn: Turn) -> Put
+    requires { ⌜ Tested turn ⌝ }
+    ensures { λ r. ⌜ Foretells vars turn r ⌝ }
+{
+    if !turn.named {
+        return Put::Other;
+    }
+    let kind = turn.kind;
+    let a = turn.a;
+    let b = turn.b;
+    match kind {
+        3 => {
+            let p = place_in(vars, b);
+            if p.code == DANGLING {
+                return Put::Other;
+            }
+            let v = a - 1;
+            Put::Variable(v, p)
+        }
+        4 => {
+            let at = place_in(vars, b);
+            if at.code < FIRST_CELL {
+                return Put::Other;
+            }
+            let v = a - 1;
+            let i = (at.code - FIRST_CELL) as usize;
+            Put::Follow(v, i)
+        }
+        5 => {
+            let at = place_in(vars, a);
+            let p = place_in(vars, b);
+            if at.code < FIRST_CELL {
+                return Put::Other;
+            }
+            if p.code == DANGLING {
+                return Put::Other;
+            }
+            let i = (at.code - FIRST_CELL) as usize;
+            Put::Link(i, p)
+        }
+        _ => Put::Other,
+    }
+}
+
+// The operation at a place in a list of turns.
+fn turn_at(turns: &[u8], i: usize, variables: usize) -> Turn
+    requires { ⌜ i + 4 ≤ length (now turns) ⌝ }
+    ensures { λ r. ⌜ TurnAt (now (turns .entry)) i variables r ⌝ }
+{
+    let kind = turns[i] as usize;
+    let a = turns[i + 1] as usize;
+    let b = turns[i + 2] as usize;
+    let times = turns[i + 3];
+    let named = kinds::allows(variables, kind, a, b);
+    Turn {
+        kind,
+        a,
+        b,
+        times,
+        named,
+    }
 }
 
 impl Heap64 {
@@ -544,6 +638,24 @@ impl Heap64 {
         }
     }
 
+    // One operation on a well formed heap.
+    fn step_formed(self, kind: usize, a: usize, b: usize, value: u16) -> Stepped
+        requires { ⌜ FormedTable self ⌝ }
+        ensures { λ r. ⌜ Steps self kind a b value r ⌝ }
+    {
+        let variables = self.variables as usize;
+        if !kinds::allows(variables, kind, a, b) {
+            return Stepped {
+                heap: self,
+                outcome: Outcome::Refused(StepRefusal::BadOperation),
+            };
+        }
+        if kind <= 7 {
+            return self.perform_on_links(kind, a, b);
+        }
+        self.perform_on_values(kind, a, b, value)
+    }
+
     // One operation, by its kind and operands. A larger value, a smaller value and read write the value that is lent; the other kinds ignore it.
     pub fn step(self, kind: u32, a: u32, b: u32, value: u16) -> Stepped
         ensures { λ r. ⌜ Steps self kind a b value r ⌝ }
@@ -554,33 +666,49 @@ impl Heap64 {
                 outcome: Outcome::Refused(StepRefusal::IllFormed),
             };
         }
-        let variables = self.variables as usize;
-        if !kinds::allows(variables, kind as usize, a as usize, b as usize) {
-            return Stepped {
-                heap: self,
-                outcome: Outcome::Refused(StepRefusal::BadOperation),
-            };
-        }
-        if kind <= 7 {
-            return self.perform_on_links(kind as usize, a as usize, b as usize);
-        }
-        self.perform_on_values(kind as usize, a as usize, b as usize, value)
+        self.step_formed(kind as usize, a as usize, b as usize, value)
     }
 
-    // An operation, n times, up to a step that does not move.
-    fn repeat(self, kind: u8, a: u8, b: u8, n: u8) -> Stepped
-        ensures { λ r. ⌜ Repeats kind a b n ended self r ⌝ }
+    // Several operations in turn on a well formed heap, as `steps` says.
+    fn steps_formed(self, turns: &[u8]) -> Stepped
+        requires { ⌜ FormedTable self ⌝ }
+        ensures { λ r. ⌜ InTurn (now (turns .entry)) self r ⌝ }
     {
+        let variables = self.variables as usize;
         let mut heap = self;
-        let mut i: u8 = 0;
-        while i < n {
-            let stepped = heap.step(kind as u32, a as u32, b as u32, 0);
-            let outcome = stepped.outcome;
-            let Outcome::Moved = outcome else {
-                return stepped;
-            };
-            heap = stepped.heap;
-            i += 1;
+        let mut i: usize = 0;
+        while 4 <= turns.len() - i {
+            let turn = turn_at(turns, i, variables);
+            let mut left = turn.times;
+            i += 4;
+            while 0 < left {
+                left -= 1;
+                let vars = heap.vars;
+                match put_of(vars, turn) {
+                    Put::Variable(j, p) => {
+                        heap.vars[j] = p;
+                        continue;
+                    }
+                    Put::Follow(j, k) => {
+                        let p = heap.links[k];
+                        if p.code != DANGLING {
+                            heap.vars[j] = p;
+                            continue;
+                        }
+                    }
+                    Put::Link(j, p) => {
+                        heap.links[j] = p;
+                        continue;
+                    }
+                    Put::Other => {}
+                }
+                let stepped = heap.step_formed(turn.kind, turn.a, turn.b, 0);
+                let outcome = stepped.outcome;
+                let Outcome::Moved = outcome else {
+                    return stepped;
+                };
+                heap = stepped.heap;
+            }
         }
         Stepped {
             heap,
@@ -599,20 +727,6 @@ impl Heap64 {
                 outcome: Outcome::Refused(StepRefusal::IllFormed),
             };
         }
-        let mut heap = self;
-        let mut i: usize = 0;
-        while 4 <= turns.len() - i {
-            let stepped = heap.repeat(turns[i], turns[i + 1], turns[i + 2], turns[i + 3]);
-            let outcome = stepped.outcome;
-            let Outcome::Moved = outcome else {
-                return stepped;
-            };
-            heap = stepped.heap;
-            i += 4;
-        }
-        Stepped {
-            heap,
-            outcome: Outcome::Moved,
-        }
+        self.steps_formed(turns)
     }
 }

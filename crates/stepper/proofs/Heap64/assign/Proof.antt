@@ -3,7 +3,7 @@ use Prim.Native.Nat.{_-_}
 use mathlib.Core.Path.{refl, _∙_, sym}
 use native.Mathlib.Omega.{arith}
 use Rattle.stepper.proofs.Formed.{formed}
-use Rattle.stepper.proofs.Change.{withVar}
+use Rattle.stepper.specs.InPlace.{withVar}
 use Rattle.stepper.proofs.Perform.{moved, blocked, put, operand-stands, taken}
 use Rattle.heap.specs.Operation.{assign}
 use borrow.Author.Needs.{needs}

@@ -4,7 +4,7 @@ use mathlib.Core.Path.{_≡_, refl, ap, _∙_, sym}
 use native.Mathlib.Omega.{arith}
 use Rattle.stepper.specs.declared.Heap64.{Heap64}
 use Rattle.stepper.proofs.Formed.{formed}
-use Rattle.stepper.proofs.Change.{withVar}
+use Rattle.stepper.specs.InPlace.{withVar}
 use Rattle.stepper.proofs.Perform.{moved, blocked, put, linked-stands}
 use Rattle.heap.specs.Operation.{load}
 use Rattle.heap.specs.Codes.{varIn, linkIn}

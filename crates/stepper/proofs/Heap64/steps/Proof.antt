@@ -1,81 +1,24 @@
--- The loop: what the turns that are left give is what all of them give.
+-- Ill formed, or steps in turn on a well formed heap.
 use mathlib.Core.Bool.{Bool, true, false}
-use mathlib.Core.List.{List}
-use mathlib.Core.Path.{_≡_, refl, sym, _∙_, subst}
-use Prim.Native.Nat.{ℕ, _+_, _-_, _≤_}
+use mathlib.Core.Path.{_≡_, refl, sym, _∙_}
+use Prim.Native.Nat.{ℕ}
 use native.Mathlib.Omega.{arith}
 use borrow.Author.Tests.{not-true, not-false}
-use lib.ListN.{length, getD, drop, length-drop}
-use Rattle.stepper.specs.Step.{stays}
-use Rattle.stepper.specs.Turns.{Repeats, InTurn, StepsInTurn}
-use Rattle.stepper.specs.declared.Heap64.{Heap64}
-use Rattle.stepper.specs.declared.Outcome.the-variants.{Moved}
-use Rattle.stepper.specs.declared.Stepped.{Stepped}
-use Rattle.stepper.proofs.Outcomes.{other-outcome}
-use Rattle.stepper.proofs.Turns.{goes-on, ends-here, next-turn, no-turn}
+use Rattle.stepper.specs.Table.{wellFormed}
 use borrow.Author.Needs.{needs}
 use Rattle.stepper.proofs.Heap64.steps.Statement.{statement}
 use Rattle.stepper.proofs.Heap64.steps.Tie as tie
 
-abbrev Inv-loop : tie.InvT-loop
-Inv-loop turns heap₀ i₀ heap i =
-    (i ≤ length turns) × ((r : Stepped) → InTurn (drop i turns) heap r → InTurn turns heap₀ r)
-
-abbrev μ-loop : tie.MeasureT-loop
-μ-loop turns heap₀ i₀ heap i = length turns - i
-
 apart : _≡_ {A = Bool} true false → ⊥
 apart e = let z : _≡_ {A = ℕ} 0 1 = cc in omega arith
 
--- ---- moments on the way, and what is so then
+is-formed : (c : tie.Else1) → wellFormed (c .before .before .before .args .self) ≡ true
+is-formed c = let w = c .before .is-well-formed in sym (w .ensures .0) ∙ not-false (w .result) (c .if1 .left)
 
--- the heap is well formed
-module _ (e : tie.Else1 Inv-loop μ-loop) where
-  abbrev start : tie.Start Inv-loop μ-loop
-  start = e .before .before .before
-
-  abbrev turns : List ℕ
-  turns = start .args .turns .now
-
-  promised : (r : Stepped) → InTurn turns (start .args .self) r → StepsInTurn (start .args .self) turns r
-  promised r p =
-      let w = e .before .is-well-formed in
-      record {
-        ill-formed = λ h. absurd (apart (sym (sym (w .ensures .0) ∙ not-false (w .result) (e .if1 .left)) ∙ h));
-        in-turn = λ h. p;
-      }
-
--- one operation is done as often as it says
-module _ (c : tie.After-repeat Inv-loop μ-loop) where
-  abbrev in-loop : tie.At-loop Inv-loop μ-loop
-  in-loop = c .before .before .before .before .before .before
-
-  abbrev begun : tie.Else1 Inv-loop μ-loop
-  begun = in-loop .before
-
-  abbrev i : ℕ
-  i = in-loop .loop .i
-
-  -- a number of the turn
-  abbrev part : ℕ → ℕ
-  part k = getD (turns begun) (i + k) 0
-
-  abbrev Rest : Heap64 → Stepped → Type 0
-  Rest = InTurn (drop (i + 4) (turns begun))
-
-  -- what this one and the rest give is what all give
-  whole : (r : Stepped) → Repeats (getD (turns begun) i 0) (part 1) (part 2) (part 3) Rest (in-loop .loop .heap) r
-      → InTurn (turns begun) (start begun .args .self) r
-  whole r w =
-      in-loop .loop .inv .1 r
-      (subst (λ (l : List ℕ). InTurn l (in-loop .loop .heap) r) (sym (next-turn (turns begun) i (omega arith))) w)
-
--- ---- what is to be shown
-
-is-well-formed-requires : tie.Need-is-well-formed-requires Inv-loop μ-loop
+is-well-formed-requires : tie.Need-is-well-formed-requires
 is-well-formed-requires c κs = search needs
 
-returns : tie.Need-returns Inv-loop μ-loop
+returns : tie.Need-returns
 returns c =
     let w = c .before .is-well-formed in
     record {
@@ -83,91 +26,15 @@ returns c =
       in-turn = λ h. absurd (apart (sym h ∙ sym (w .ensures .0) ∙ not-true (w .result) (c .if1 .taken)));
     }
 
-loop-holds : tie.Need-loop-holds Inv-loop μ-loop
-loop-holds c = (omega arith, λ r w. w)
+steps-formed-requires : tie.Need-steps-formed-requires
+steps-formed-requires c κs = record { sized = c .before .is-well-formed .ensures .1; formed = is-formed c }
 
-sub-loop : tie.Need-sub-loop Inv-loop μ-loop
-sub-loop c = search needs
-
-shared-slice-read-repeat : tie.Need-shared-slice-read-repeat Inv-loop μ-loop
-shared-slice-read-repeat c = search needs
-
-add-repeat : tie.Need-add-repeat Inv-loop μ-loop
-add-repeat c = search needs
-
-shared-slice-read-repeat-2 : tie.Need-shared-slice-read-repeat-2 Inv-loop μ-loop
-shared-slice-read-repeat-2 c = search needs
-
-add-repeat-2 : tie.Need-add-repeat-2 Inv-loop μ-loop
-add-repeat-2 c = search needs
-
-shared-slice-read-repeat-3 : tie.Need-shared-slice-read-repeat-3 Inv-loop μ-loop
-shared-slice-read-repeat-3 c = search needs
-
-add-repeat-3 : tie.Need-add-repeat-3 Inv-loop μ-loop
-add-repeat-3 c = search needs
-
-shared-slice-read-repeat-4 : tie.Need-shared-slice-read-repeat-4 Inv-loop μ-loop
-shared-slice-read-repeat-4 c = search needs
-
-repeat-requires : tie.Need-repeat-requires Inv-loop μ-loop
-repeat-requires c κs = search needs
-
-enum-told : tie.Need-enum-told Inv-loop μ-loop
-enum-told c = search needs
-
-returns-2 : tie.Need-returns-2 Inv-loop μ-loop
+returns-2 : tie.Need-returns-2
 returns-2 c =
-    let p = c .before in
-    let r = p .repeat in
-    promised (begun p) (r .result)
-    (whole p (r .result)
-    (ends-here (getD (turns (begun p)) (i p) 0) (part p 1) (part p 2) (Rest p) (part p 3) (in-loop p .loop .heap) (r .result) (r .ensures)
-    (other-outcome (r .result .outcome) (c .match .keys2))))
-
-add-i : tie.Need-add-i Inv-loop μ-loop
-add-i c = search needs
-
-loop-less : tie.Need-loop-less Inv-loop μ-loop
-loop-less c = search needs
-
-loop-again : tie.Need-loop-again Inv-loop μ-loop
-loop-again c =
-    let m = c .before in
-    let p = m .before .before in
-    let r = p .repeat in
-    (omega arith, λ q w. whole p q
-    (goes-on (getD (turns (begun p)) (i p) 0) (part p 1) (part p 2) (Rest p) (part p 3) (in-loop p .loop .heap) (r .result) (r .ensures) (m .enum-told .given .1) q w))
-
-returns-3 : tie.Need-returns-3 Inv-loop μ-loop
-returns-3 c =
-    let l = c .before in
-    let e = l .before in
-    promised e (stays (l .loop .heap) Moved)
-    (l .loop .inv .1 (stays (l .loop .heap) Moved)
-    (no-turn (drop (l .loop .i) (turns e)) (l .loop .heap) (omega (arith, length-drop (l .loop .i) (turns e)))))
+    record {
+      ill-formed = λ h. absurd (apart (sym (is-formed (c .before)) ∙ h));
+      in-turn = λ h. c .steps-formed .ensures;
+    }
 
 pub steps-spec : {M : Type 1} → statement M
-steps-spec =
-    tie.close
-    (tie.spec
-    Inv-loop
-    μ-loop
-    is-well-formed-requires
-    returns
-    loop-holds
-    sub-loop
-    shared-slice-read-repeat
-    add-repeat
-    shared-slice-read-repeat-2
-    add-repeat-2
-    shared-slice-read-repeat-3
-    add-repeat-3
-    shared-slice-read-repeat-4
-    repeat-requires
-    enum-told
-    returns-2
-    add-i
-    loop-less
-    loop-again
-    returns-3)
+steps-spec = tie.close (tie.spec is-well-formed-requires returns steps-formed-requires returns-2)

@@ -5,7 +5,7 @@ use native.Mathlib.Omega.{arith}
 use Rattle.stepper.specs.Table.{Sized}
 use Rattle.stepper.specs.declared.Heap64.{Heap64}
 use Rattle.stepper.proofs.Formed.{Formed, formed}
-use Rattle.stepper.proofs.Change.{withLink}
+use Rattle.stepper.specs.InPlace.{withLink}
 use Rattle.stepper.proofs.Perform.{moved, blocked, UsedCell, linked, stored}
 use Rattle.heap.specs.Codes.{varIn, linkIn}
 use Rattle.heap.specs.Operation.{store}
