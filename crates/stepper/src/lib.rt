@@ -139,6 +139,21 @@ fn place_in(vars: [Place; 8], a: usize) -> Place
     vars[a - 1]
 }
 
+// Where the link of the cell at a place stands: nowhere, if no cell is there.
+fn link_in(links: [Place; 64], p: Place) -> Place
+    ensures { λ r. ⌜ r .code ≡ linkIn (codes links) (p .code) ⌝ }
+{
+    let code = p.code;
+    if code < FIRST_CELL {
+        return Place::NOWHERE;
+    }
+    if 66 < code {
+        return Place::NOWHERE;
+    }
+    let i = (code - FIRST_CELL) as usize;
+    links[i]
+}
+
 // What a step of kinds 3 to 5 puts where, in a well formed heap with these variables.
 fn put_of(vars: [Place; 8], turn: Turn) -> Put
     requires { ⌜ Tested turn ⌝ }
@@ -282,32 +297,6 @@ impl Heap64 {
         self.values_fit()
     }
 
-    // Where an operand stands.
-    fn place_of(self, a: usize) -> Place
-        requires { ⌜ a ≤ 8 ⌝ }
-        ensures { λ r. ⌜ r .code ≡ varIn (codes (self .vars)) a ⌝ }
-    {
-        if a == 0 {
-            return Place::NULL;
-        }
-        self.vars[a - 1]
-    }
-
-    // Where the link of the cell at a place stands: nowhere, if no cell is there.
-    fn link_of(self, p: Place) -> Place
-        ensures { λ r. ⌜ r .code ≡ linkIn (codes (self .links)) (p .code) ⌝ }
-    {
-        let code = p.code;
-        if code < FIRST_CELL {
-            return Place::NOWHERE;
-        }
-        if 66 < code {
-            return Place::NOWHERE;
-        }
-        let i = (code - FIRST_CELL) as usize;
-        self.links[i]
-    }
-
     // The code of the value of the cell at a place: 0, if no cell is there or it has none.
     fn value_of(self, p: Place) -> u32
         ensures { λ r. ⌜ r ≡ codeIn (self .values) (p .code) ⌝ }
@@ -370,8 +359,9 @@ impl Heap64 {
         requires { ⌜ (FormedTable self) × (a ≤ self .variables) × (b ≤ self .variables) ⌝ }
         ensures { λ r. ⌜ Performs self (comparison equal a b) r ⌝ }
     {
-        let p = self.place_of(a);
-        let q = self.place_of(b);
+        let vars = self.vars;
+        let p = place_in(vars, a);
+        let q = place_in(vars, b);
         if p.code == DANGLING {
             return Stepped {
                 heap: self,
@@ -413,7 +403,8 @@ impl Heap64 {
         requires { ⌜ (FormedTable self) × (1 ≤ a) × (a ≤ self .variables) × (b ≤ self .variables) ⌝ }
         ensures { λ r. ⌜ Performs self (assign a b) r ⌝ }
     {
-        let p = self.place_of(b);
+        let vars = self.vars;
+        let p = place_in(vars, b);
         if p.code == DANGLING {
             return Stepped {
                 heap: self,
@@ -433,8 +424,10 @@ impl Heap64 {
         requires { ⌜ (FormedTable self) × (1 ≤ a) × (a ≤ self .variables) × (b ≤ self .variables) ⌝ }
         ensures { λ r. ⌜ Performs self (load a b) r ⌝ }
     {
-        let at = self.place_of(b);
-        let p = self.link_of(at);
+        let vars = self.vars;
+        let links = self.links;
+        let at = place_in(vars, b);
+        let p = link_in(links, at);
         if p.code == NOWHERE {
             return Stepped {
                 heap: self,
@@ -460,15 +453,17 @@ impl Heap64 {
         requires { ⌜ (FormedTable self) × (a ≤ self .variables) × (b ≤ self .variables) ⌝ }
         ensures { λ r. ⌜ Performs self (store a b) r ⌝ }
     {
-        let at = self.place_of(a);
-        let link = self.link_of(at);
+        let vars = self.vars;
+        let links = self.links;
+        let at = place_in(vars, a);
+        let link = link_in(links, at);
         if link.code == NOWHERE {
             return Stepped {
                 heap: self,
                 outcome: Outcome::Blocked,
             };
         }
-        let p = self.place_of(b);
+        let p = place_in(vars, b);
         if p.code == DANGLING {
             return Stepped {
                 heap: self,
@@ -512,8 +507,10 @@ impl Heap64 {
         requires { ⌜ (FormedTable self) × (a ≤ self .variables) ⌝ }
         ensures { λ r. ⌜ Performs self (delete a) r ⌝ }
     {
-        let at = self.place_of(a);
-        let link = self.link_of(at);
+        let vars = self.vars;
+        let links = self.links;
+        let at = place_in(vars, a);
+        let link = link_in(links, at);
         if link.code == NOWHERE {
             return Stepped {
                 heap: self,
@@ -537,8 +534,9 @@ impl Heap64 {
         requires { ⌜ (FormedTable self) × (a ≤ self .variables) × (b ≤ self .variables) ⌝ }
         ensures { λ r. ⌜ Performs self (valueTest equal a b) r ⌝ }
     {
-        let p = self.place_of(a);
-        let q = self.place_of(b);
+        let vars = self.vars;
+        let p = place_in(vars, a);
+        let q = place_in(vars, b);
         let v = self.value_of(p);
         let w = self.value_of(q);
         if codes_meet(equal, v, w) {
@@ -558,8 +556,10 @@ impl Heap64 {
         requires { ⌜ (FormedTable self) × (a ≤ self .variables) ⌝ }
         ensures { λ r. ⌜ r ≡ perform self value (read a) ⌝ }
     {
-        let at = self.place_of(a);
-        let link = self.link_of(at);
+        let vars = self.vars;
+        let links = self.links;
+        let at = place_in(vars, a);
+        let link = link_in(links, at);
         if link.code == NOWHERE {
             return Stepped {
                 heap: self,
@@ -580,7 +580,8 @@ impl Heap64 {
         requires { ⌜ (FormedTable self) × (a ≤ self .variables) × (b ≤ self .variables) ⌝ }
         ensures { λ r. ⌜ Performs self (copy a b) r ⌝ }
     {
-        let q = self.place_of(b);
+        let vars = self.vars;
+        let q = place_in(vars, b);
         let w = self.value_of(q);
         if w == 0 {
             return Stepped {
@@ -596,7 +597,8 @@ impl Heap64 {
         requires { ⌜ (FormedTable self) × (a ≤ self .variables) × (b ≤ self .variables) ⌝ }
         ensures { λ r. ⌜ r ≡ perform self value (otherValue larger a b) ⌝ }
     {
-        let q = self.place_of(b);
+        let vars = self.vars;
+        let q = place_in(vars, b);
         let w = self.value_of(q);
         if !codes_differ(larger, w, value as u32 + 1) {
             return Stepped {

@@ -1,5 +1,4 @@
 -- Each arm of the match puts what the row of its kind says.
-use mathlib.Core.Bool.{true}
 use mathlib.Core.Option.{some}
 use mathlib.Core.Path.{_≡_, refl, ap, _∙_, sym}
 use Prim.Native.Nat.{ℕ}
