@@ -16,6 +16,7 @@ use Rattle.heap.specs.Operation.{dangled, write}
 use Rattle.heap.specs.Place.{nowhere, dangling, cell}
 use Rattle.place.specs.Place.{placeOf, codes}
 use Rattle.place.specs.declared.Place.{Place}
+use Rattle.stepper.specs.InPlace.{withVar, withLink}
 use Rattle.stepper.specs.Table.{heapOf, Sized, valueOf, codeIn, mostCode, standing, slotFits, cellFits, valueFits, danglePlace}
 use Rattle.stepper.specs.declared.Heap64.{Heap64}
 use Rattle.stepper.proofs.Formed.{Formed, var-stands, slot-empty, link-stands, link-empty, code-most, code-unused}
@@ -117,9 +118,6 @@ module _ (l : List Place) (i : ℕ) (p : Place) where
 
 -- ---- a variable put at a place
 
-abbrev pub withVar : Heap64 → ℕ → Place → Heap64
-withVar t v p = record { variables = t .variables; vars = set (t .vars) v p; used = t .used; links = t .links; values = t .values }
-
 module _ (t : Heap64) (s : Sized t) (v : ℕ) (p : Place) where
   pub sized-with-var : Sized (withVar t v p)
   sized-with-var = record { vars = length-set (t .vars) v p ∙ s .vars; used = s .used; links = s .links; values = s .values }
@@ -149,9 +147,6 @@ module _ (t : Heap64) (s : Sized t) (v : ℕ) (p : Place) where
           slot-none (withVar t v p) i (set-off (t .vars) v p i (omega arith) ∙ slot-empty t f i (omega arith) b) (omega arith)
 
 -- ---- the link of a used cell put at a place
-
-abbrev pub withLink : Heap64 → ℕ → Place → Heap64
-withLink t i p = record { variables = t .variables; vars = t .vars; used = t .used; links = set (t .links) i p; values = t .values }
 
 module _ (t : Heap64) (s : Sized t) (i : ℕ) (p : Place) where
   pub sized-with-link : Sized (withLink t i p)

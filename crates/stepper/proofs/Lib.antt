@@ -6,5 +6,6 @@ pub mod Dangle
 pub mod Perform
 pub mod Values
 pub mod Steps
+pub mod InPlace
 pub mod Outcomes
 pub mod Turns

@@ -21,8 +21,10 @@ use Rattle.stepper.specs.Table.{heapOf, tableOf, Sized, valueOf, standin
 use Rattle.stepper.specs.declared.Heap64.{Heap64}
 use Rattle.stepper.specs.declared.Outcome.the-variants.{Moved, Blocked, Refused}
 use Rattle.stepper.specs.declared.StepRefusal.the-variants.{Full}
-use Rattle.stepper.proofs.Change.{withVar, sized-with-var, heap-with-var, formed-with-var, withLink, sized-with-link, heap-with-link, formed-with-link, withValue, sized-with-value, heap-with-value, formed-with-value, withCell, sized-with-cell, heap-with-cell, formed-with-cell, withoutCell, sized-without, heap-without, formed-without}
-use Rattle.stepper.proofs.Formed.{Formed, formed, table-of, var-stands, link-stands, link-empty}
+use Rattle.stepper.specs.InPlace.{withVar, withLink}
+use Rattle.stepper.proofs.Change.{sized-with-var, heap-with-var, formed-with-var, sized-with-link, heap-with-link, formed-with-link, withValue, sized-with-value, heap-with-value, formed-with-value, withCell, sized-with-cell, heap-with-cell, formed-with-cell, withoutCell, sized-without, heap-without, formed-without}
+use Rattle.stepper.proofs.Formed.{Formed, formed, table-of, var-stands, link-stands, link-empty, stands-somewhere}
+use Rattle.stepper.proofs.Places.{standing-cell}
 use Rattle.heap.proofs.Codes.{by-code}
 
 -- ---- lowest unused cell
@@ -122,6 +124,24 @@ module _ (t : Heap64) (s : Sized t) (f : Formed t) where
   linked-stands p n =
       let l = linked p n in
       rw (l .is-cell) (link-stands t f (l .number) (l .inside) (l .used))
+
+  -- what stands where a cell's place is stands at a used cell, and has a link
+  pub at-cell : (p : ℕ) → 3 ≤ p → standing (t .used) p ≡ true → UsedCell p
+  at-cell p h st = record { number = p - 3; is-cell = omega arith; inside = go (decLt (p - 3) 64); used = used }
+    where
+      used : getD (t .used) (p - 3) false ≡ true
+      used = standing-cell (t .used) p h ∙ st
+
+      go : Dec (p - 3 < 64) → p - 3 < 64
+      go (yes l) = l
+      go (no n) =
+          let z : false ≡ true = sym (List·getD-eq-default (t .used) false (omega (arith, s .used))) ∙ used in
+          let q : _≡_ {A = ℕ} 0 1 = cc in
+          absurd (omega arith)
+
+  pub has-link : (p : ℕ) → UsedCell p → linkIn (codes (t .links)) p ≢ nowhere
+  has-link p u e =
+      stands-somewhere (t .used) _ (link-stands t f (u .number) (u .inside) (u .used)) (ap (linkIn (codes (t .links))) (sym (u .is-cell)) ∙ e)
 
 -- ---- the operations
 

@@ -20,7 +20,8 @@ use Rattle.stepper.specs.declared.Outcome.the-variants.{Moved, Blocked, 
 use Rattle.stepper.specs.declared.StepRefusal.{StepRefusal}
 use Rattle.stepper.specs.declared.StepRefusal.the-variants.{IllFormed, BadOperation, Full}
 use Rattle.stepper.specs.declared.Stepped.{Stepped}
-use Rattle.stepper.proofs.Change.{withVar, withLink, withValue, withCell}
+use Rattle.stepper.specs.InPlace.{withVar, withLink}
+use Rattle.stepper.proofs.Change.{withValue, withCell}
 use Rattle.stepper.proofs.Formed.{Formed, formed, well-formed, value-most}
 use Rattle.stepper.proofs.Perform.{Changes, moved, blocked, full, operand-stands, linked-stands, still, put, stored, written, taken, withoutPlace, freed, new-not-blocked}
 
@@ -125,21 +126,31 @@ module _ (t : Heap64) (s : Sized t) (kind a b value : ℕ) (lent : value ≤ 655
           promised (stays t (Refused BadOperation)) same (refused t kind a b value BadOperation same)
       by-form true w (some o) e = by-operation (formed t w) o e (rw (w, e) refl)
 
--- a step keeps the lengths of the arrays
-pub sized-step : (t : Heap64) (kind a b value : ℕ) → Sized t → Sized (stepOf t kind a b value .heap)
-unfolding stepOf perform tableOf
-sized-step t kind a b value s = by-form (wellFormed t) (operation (t .variables) kind a b)
+-- what is so of a table, and of every table after an operation, is so after a step
+after-step : (P : Heap64 → Type 0) (t : Heap64) (kind a b value : ℕ) → P t → ((o : Op) → P (tableAfter t o (choice t value o)))
+    → P (stepOf t kind a b value .heap)
+unfolding stepOf perform
+after-step P t kind a b value here there = by-form (wellFormed t) (operation (t .variables) kind a b)
   where
-    by-room : {P : Type 0} (o : Op) (full? : Bool) (d : Dec P)
-        → Sized (cond full? (stays t (Refused Full)) (ite d (stays (tableAfter t o (choice t value o)) Moved) (stays t Blocked)) .heap)
-    by-room o true d = s
-    by-room o false (yes p) = record { vars = refl; used = refl; links = refl; values = refl }
-    by-room o false (no n) = s
+    by-room : {Q : Type 0} (o : Op) (full? : Bool) (d : Dec Q)
+        → P (cond full? (stays t (Refused Full)) (ite d (stays (tableAfter t o (choice t value o)) Moved) (stays t Blocked)) .heap)
+    by-room o true d = here
+    by-room o false (yes q) = there o
+    by-room o false (no n) = here
 
-    by-form : (w : Bool) (o : Option Op) → Sized (cond w (performNamed t value o) (stays t (Refused IllFormed)) .heap)
-    by-form false o = s
-    by-form true none = s
+    by-form : (w : Bool) (o : Option Op) → P (cond w (performNamed t value o) (stays t (Refused IllFormed)) .heap)
+    by-form false o = here
+    by-form true none = here
     by-form true (some o) = by-room o (allocates o && leb 64 (lowestUnused (t .used))) (enabled? o (choice t value o) (heapOf t))
+
+-- a step keeps the lengths of the arrays, and how many variables there are
+pub sized-step : (t : Heap64) (kind a b value : ℕ) → Sized t → Sized (stepOf t kind a b value .heap)
+unfolding tableOf
+sized-step t kind a b value s = after-step Sized t kind a b value s (λ o. record { vars = refl; used = refl; links = refl; values = refl })
+
+pub variables-step : (t : Heap64) (kind a b value : ℕ) → stepOf t kind a b value .heap .variables ≡ t .variables
+unfolding tableOf
+variables-step t kind a b value = after-step (λ u. u .variables ≡ t .variables) t kind a b value refl (λ o. refl)
 
 -- ---- a step in the order in which the code takes it
 

@@ -1,3 +1,4 @@
 pub mod Table
 pub mod Step
 pub mod Turns
+pub mod InPlace

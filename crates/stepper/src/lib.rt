@@ -13,7 +13,8 @@ ghost use Rattle.kinds.specs.Kinds.{allowed};
 ghost use Rattle.lists.specs.Test.{allFrom};
 ghost use Rattle.place.specs.Place.{codes};
 ghost use Rattle.stepper.specs.Step.{outcomeCode, lowestUnused, comparison, valueTest, codesMeet, otherValue, codesDiffer, perform, performNamed, Performs, PerformsNamed, Steps};
-ghost use Rattle.stepper.specs.Turns.{Repeats, StepsInTurn, ended};
+ghost use Rattle.stepper.specs.Turns.{InTurn, StepsInTurn};
+ghost use Rattle.stepper.specs.InPlace.{Tested, Foretells, TurnOf};
 ghost use Rattle.stepper.specs.Table.{aimed, slotFits, cellFits, valueFits, wellFormed, Sized, FormedTable, codeIn, mostCode, dangleVars, dangleLinks};
 
 // A heap of up to 64 cells: how many variables there are, where each stands, which cells are used, where their links stand, and the codes of
@@ -44,6 +45,24 @@ pub enum Outcome {
 pub struct Stepped {
     pub heap: Heap64,
     pub outcome: Outcome,
+}
+
+// An operation that is to be done so many times; `named` says whether its kind and operands keep to the table of kinds.
+struct Turn {
+    kind: usize,
+    a: usize,
+    b: usize,
+    times: u32,
+    named: bool,
+}
+
+// What a step does in place: a variable goes to a place or to where the link of a cell stands, or the link of a cell goes to a place. Variables and cells
+// are given by their numbers from 0. `Other`: something else, or it does not move.
+enum Put {
+    Variable(usize, Place),
+    Follow(usize, usize),
+    Link(usize, Place),
+    Other,
 }
 
 // What a host is told of an outcome.
@@ -107,6 +126,94 @@ fn codes_differ(larger: bool, v: u32, w: u32) -> bool
         return codes_meet(false, v, w);
     }
     codes_meet(false, w, v)
+}
+
+// Where an operand stands.
+fn place_in(vars: [Place; 8], a: usize) -> Place
+    requires { ⌜ a ≤ 8 ⌝ }
+    ensures { λ r. ⌜ r .code ≡ varIn (codes vars) a ⌝ }
+{
+    if a == 0 {
+        return Place::NULL;
+    }
+    vars[a - 1]
+}
+
+// Where the link of the cell at a place stands: nowhere, if no cell is there.
+fn link_in(links: [Place; 64], p: Place) -> Place
+    ensures { λ r. ⌜ r .code ≡ linkIn (codes links) (p .code) ⌝ }
+{
+    let code = p.code;
+    if code < FIRST_CELL {
+        return Place::NOWHERE;
+    }
+    if 66 < code {
+        return Place::NOWHERE;
+    }
+    let i = (code - FIRST_CELL) as usize;
+    links[i]
+}
+
+// What a step of kinds 3 to 5 puts where, in a well formed heap with these variables.
+fn put_of(vars: [Place; 8], turn: Turn) -> Put
+    requires { ⌜ Tested turn ⌝ }
+    ensures { λ r. ⌜ Foretells vars turn r ⌝ }
+{
+    if !turn.named {
+        return Put::Other;
+    }
+    let kind = turn.kind;
+    let a = turn.a;
+    let b = turn.b;
+    match kind {
+        3 => {
+            let p = place_in(vars, b);
+            if p.code == DANGLING {
+                return Put::Other;
+            }
+            let v = a - 1;
+            Put::Variable(v, p)
+        }
+        4 => {
+            let at = place_in(vars, b);
+            if at.code < FIRST_CELL {
+                return Put::Other;
+            }
+            let v = a - 1;
+            let i = (at.code - FIRST_CELL) as usize;
+            Put::Follow(v, i)
+        }
+        5 => {
+            let at = place_in(vars, a);
+            let p = place_in(vars, b);
+            if at.code < FIRST_CELL {
+                return Put::Other;
+            }
+            if p.code == DANGLING {
+                return Put::Other;
+            }
+            let i = (at.code - FIRST_CELL) as usize;
+            Put::Link(i, p)
+        }
+        _ => Put::Other,
+    }
+}
+
+// The operation that a number gives as a turn.
+fn turn_of(number: u32, variables: usize) -> Turn
+    ensures { λ r. ⌜ TurnOf number variables r ⌝ }
+{
+    let kind = (number / 256 % 16) as usize;
+    let a = (number / 16 % 16) as usize;
+    let b = (number % 16) as usize;
+    let named = kinds::allows(variables, kind, a, b);
+    Turn {
+        kind,
+        a,
+        b,
+        times: number / 4096,
+        named,
+    }
 }
 
 impl Heap64 {
@@ -188,32 +295,6 @@ impl Heap64 {
         self.values_fit()
     }
 
-    // Where an operand stands.
-    fn place_of(self, a: usize) -> Place
-        requires { ⌜ a ≤ 8 ⌝ }
-        ensures { λ r. ⌜ r .code ≡ varIn (codes (self .vars)) a ⌝ }
-    {
-        if a == 0 {
-            return Place::NULL;
-        }
-        self.vars[a - 1]
-    }
-
-    // Where the link of the cell at a place stands: nowhere, if no cell is there.
-    fn link_of(self, p: Place) -> Place
-        ensures { λ r. ⌜ r .code ≡ linkIn (codes (self .links)) (p .code) ⌝ }
-    {
-        let code = p.code;
-        if code < FIRST_CELL {
-            return Place::NOWHERE;
-        }
-        if 66 < code {
-            return Place::NOWHERE;
-        }
-        let i = (code - FIRST_CELL) as usize;
-        self.links[i]
-    }
-
     // The code of the value of the cell at a place: 0, if no cell is there or it has none.
     fn value_of(self, p: Place) -> u32
         ensures { λ r. ⌜ r ≡ codeIn (self .values) (p .code) ⌝ }
@@ -276,8 +357,9 @@ impl Heap64 {
         requires { ⌜ (FormedTable self) × (a ≤ self .variables) × (b ≤ self .variables) ⌝ }
         ensures { λ r. ⌜ Performs self (comparison equal a b) r ⌝ }
     {
-        let p = self.place_of(a);
-        let q = self.place_of(b);
+        let vars = self.vars;
+        let p = place_in(vars, a);
+        let q = place_in(vars, b);
         if p.code == DANGLING {
             return Stepped {
                 heap: self,
@@ -319,7 +401,8 @@ impl Heap64 {
         requires { ⌜ (FormedTable self) × (1 ≤ a) × (a ≤ self .variables) × (b ≤ self .variables) ⌝ }
         ensures { λ r. ⌜ Performs self (assign a b) r ⌝ }
     {
-        let p = self.place_of(b);
+        let vars = self.vars;
+        let p = place_in(vars, b);
         if p.code == DANGLING {
             return Stepped {
                 heap: self,
@@ -339,8 +422,10 @@ impl Heap64 {
         requires { ⌜ (FormedTable self) × (1 ≤ a) × (a ≤ self .variables) × (b ≤ self .variables) ⌝ }
         ensures { λ r. ⌜ Performs self (load a b) r ⌝ }
     {
-        let at = self.place_of(b);
-        let p = self.link_of(at);
+        let vars = self.vars;
+        let links = self.links;
+        let at = place_in(vars, b);
+        let p = link_in(links, at);
         if p.code == NOWHERE {
             return Stepped {
                 heap: self,
@@ -366,15 +451,17 @@ impl Heap64 {
         requires { ⌜ (FormedTable self) × (a ≤ self .variables) × (b ≤ self .variables) ⌝ }
         ensures { λ r. ⌜ Performs self (store a b) r ⌝ }
     {
-        let at = self.place_of(a);
-        let link = self.link_of(at);
+        let vars = self.vars;
+        let links = self.links;
+        let at = place_in(vars, a);
+        let link = link_in(links, at);
         if link.code == NOWHERE {
             return Stepped {
                 heap: self,
                 outcome: Outcome::Blocked,
             };
         }
-        let p = self.place_of(b);
+        let p = place_in(vars, b);
         if p.code == DANGLING {
             return Stepped {
                 heap: self,
@@ -418,8 +505,10 @@ impl Heap64 {
         requires { ⌜ (FormedTable self) × (a ≤ self .variables) ⌝ }
         ensures { λ r. ⌜ Performs self (delete a) r ⌝ }
     {
-        let at = self.place_of(a);
-        let link = self.link_of(at);
+        let vars = self.vars;
+        let links = self.links;
+        let at = place_in(vars, a);
+        let link = link_in(links, at);
         if link.code == NOWHERE {
             return Stepped {
                 heap: self,
@@ -443,8 +532,9 @@ impl Heap64 {
         requires { ⌜ (FormedTable self) × (a ≤ self .variables) × (b ≤ self .variables) ⌝ }
         ensures { λ r. ⌜ Performs self (valueTest equal a b) r ⌝ }
     {
-        let p = self.place_of(a);
-        let q = self.place_of(b);
+        let vars = self.vars;
+        let p = place_in(vars, a);
+        let q = place_in(vars, b);
         let v = self.value_of(p);
         let w = self.value_of(q);
         if codes_meet(equal, v, w) {
@@ -464,8 +554,10 @@ impl Heap64 {
         requires { ⌜ (FormedTable self) × (a ≤ self .variables) ⌝ }
         ensures { λ r. ⌜ r ≡ perform self value (read a) ⌝ }
     {
-        let at = self.place_of(a);
-        let link = self.link_of(at);
+        let vars = self.vars;
+        let links = self.links;
+        let at = place_in(vars, a);
+        let link = link_in(links, at);
         if link.code == NOWHERE {
             return Stepped {
                 heap: self,
@@ -486,7 +578,8 @@ impl Heap64 {
         requires { ⌜ (FormedTable self) × (a ≤ self .variables) × (b ≤ self .variables) ⌝ }
         ensures { λ r. ⌜ Performs self (copy a b) r ⌝ }
     {
-        let q = self.place_of(b);
+        let vars = self.vars;
+        let q = place_in(vars, b);
         let w = self.value_of(q);
         if w == 0 {
             return Stepped {
@@ -502,7 +595,8 @@ impl Heap64 {
         requires { ⌜ (FormedTable self) × (a ≤ self .variables) × (b ≤ self .variables) ⌝ }
         ensures { λ r. ⌜ r ≡ perform self value (otherValue larger a b) ⌝ }
     {
-        let q = self.place_of(b);
+        let vars = self.vars;
+        let q = place_in(vars, b);
         let w = self.value_of(q);
         if !codes_differ(larger, w, value as u32 + 1) {
             return Stepped {
@@ -544,6 +638,24 @@ impl Heap64 {
         }
     }
 
+    // One operation on a well formed heap.
+    fn step_formed(self, kind: usize, a: usize, b: usize, value: u16) -> Stepped
+        requires { ⌜ FormedTable self ⌝ }
+        ensures { λ r. ⌜ Steps self kind a b value r ⌝ }
+    {
+        let variables = self.variables as usize;
+        if !kinds::allows(variables, kind, a, b) {
+            return Stepped {
+                heap: self,
+                outcome: Outcome::Refused(StepRefusal::BadOperation),
+            };
+        }
+        if kind <= 7 {
+            return self.perform_on_links(kind, a, b);
+        }
+        self.perform_on_values(kind, a, b, value)
+    }
+
     // One operation, by its kind and operands. A larger value, a smaller value and read write the value that is lent; the other kinds ignore it.
     pub fn step(self, kind: u32, a: u32, b: u32, value: u16) -> Stepped
         ensures { λ r. ⌜ Steps self kind a b value r ⌝ }
@@ -554,33 +666,49 @@ impl Heap64 {
                 outcome: Outcome::Refused(StepRefusal::IllFormed),
             };
         }
-        let variables = self.variables as usize;
-        if !kinds::allows(variables, kind as usize, a as usize, b as usize) {
-            return Stepped {
-                heap: self,
-                outcome: Outcome::Refused(StepRefusal::BadOperation),
-            };
-        }
-        if kind <= 7 {
-            return self.perform_on_links(kind as usize, a as usize, b as usize);
-        }
-        self.perform_on_values(kind as usize, a as usize, b as usize, value)
+        self.step_formed(kind as usize, a as usize, b as usize, value)
     }
 
-    // An operation, n times, up to a step that does not move.
-    fn repeat(self, kind: u32, a: u32, b: u32, n: u32) -> Stepped
-        ensures { λ r. ⌜ Repeats kind a b n ended self r ⌝ }
+    // Several operations in turn on a well formed heap, as `steps` says.
+    fn steps_formed(self, turns: &[u32]) -> Stepped
+        requires { ⌜ FormedTable self ⌝ }
+        ensures { λ r. ⌜ InTurn (now (turns .entry)) self r ⌝ }
     {
+        let variables = self.variables as usize;
         let mut heap = self;
-        let mut i: u32 = 0;
-        while i < n {
-            let stepped = heap.step(kind, a, b, 0);
-            let outcome = stepped.outcome;
-            let Outcome::Moved = outcome else {
-                return stepped;
-            };
-            heap = stepped.heap;
+        let mut i: usize = 0;
+        while i < turns.len() {
+            let turn = turn_of(turns[i], variables);
+            let mut left = turn.times;
             i += 1;
+            while 0 < left {
+                left -= 1;
+                let vars = heap.vars;
+                match put_of(vars, turn) {
+                    Put::Variable(j, p) => {
+                        heap.vars[j] = p;
+                        continue;
+                    }
+                    Put::Follow(j, k) => {
+                        let p = heap.links[k];
+                        if p.code != DANGLING {
+                            heap.vars[j] = p;
+                            continue;
+                        }
+                    }
+                    Put::Link(j, p) => {
+                        heap.links[j] = p;
+                        continue;
+                    }
+                    Put::Other => {}
+                }
+                let stepped = heap.step_formed(turn.kind, turn.a, turn.b, 0);
+                let outcome = stepped.outcome;
+                let Outcome::Moved = outcome else {
+                    return stepped;
+                };
+                heap = stepped.heap;
+            }
         }
         Stepped {
             heap,
@@ -599,21 +727,6 @@ impl Heap64 {
                 outcome: Outcome::Refused(StepRefusal::IllFormed),
             };
         }
-        let mut heap = self;
-        let mut i: usize = 0;
-        while i < turns.len() {
-            let turn = turns[i];
-            let stepped = heap.repeat(turn / 256 % 16, turn / 16 % 16, turn % 16, turn / 4096);
-            let outcome = stepped.outcome;
-            let Outcome::Moved = outcome else {
-                return stepped;
-            };
-            heap = stepped.heap;
-            i += 1;
-        }
-        Stepped {
-            heap,
-            outcome: Outcome::Moved,
-        }
+        self.steps_formed(turns)
     }
 }

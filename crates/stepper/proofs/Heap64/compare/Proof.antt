@@ -14,9 +14,9 @@ use Rattle.stepper.proofs.Heap64.compare.Tie as tie
 
 -- ---- once both operands are looked up
 
-module _ (p : tie.After-place-of2) where
+module _ (p : tie.After-place-in2) where
   abbrev start : tie.Start
-  start = p .before .before
+  start = p .before .before .before
 
   abbrev t : Heap64
   t = start .args .self
@@ -27,16 +27,16 @@ module _ (p : tie.After-place-of2) where
   f : Formed t
   f = formed t (start .pre .0 .formed)
 
-  pa : p .before .place-of .result .code ≡ varIn (codes (t .vars)) (start .args .a)
-  pa = p .before .place-of .ensures
+  pa : p .before .place-in .result .code ≡ varIn (codes (t .vars)) (start .args .a)
+  pa = p .before .place-in .ensures
 
-  pb : p .place-of2 .result .code ≡ varIn (codes (t .vars)) (start .args .b)
-  pb = p .place-of2 .ensures
+  pb : p .place-in2 .result .code ≡ varIn (codes (t .vars)) (start .args .b)
+  pb = p .place-in2 .ensures
 
 -- ---- where neither of them is at *
 
 module _ (q : tie.Else2) where
-  abbrev looked : tie.After-place-of2
+  abbrev looked : tie.After-place-in2
   looked = q .before .before .before .before
 
   na : varIn (codes (t looked .vars)) (start looked .args .a) ≢ dangling
@@ -47,11 +47,11 @@ module _ (q : tie.Else2) where
 
 -- ---- what is to be shown
 
-place-of-requires : tie.Need-place-of-requires
-place-of-requires c κs = omega (arith, formed (c .args .self) (c .pre .0 .formed) .most)
+place-in-requires : tie.Need-place-in-requires
+place-in-requires c κs = omega (arith, formed (c .before .args .self) (c .before .pre .0 .formed) .most)
 
-place-of-requires-2 : tie.Need-place-of-requires-2
-place-of-requires-2 c κs = omega (arith, formed (c .before .args .self) (c .before .pre .0 .formed) .most)
+place-in-requires-2 : tie.Need-place-in-requires-2
+place-in-requires-2 c κs = omega (arith, formed (c .before .before .args .self) (c .before .before .pre .0 .formed) .most)
 
 returns : tie.Need-returns
 returns c =
@@ -101,8 +101,8 @@ pub compare-spec : {M : Type 1} → statement M
 compare-spec =
     tie.close
     (tie.spec
-    place-of-requires
-    place-of-requires-2
+    place-in-requires
+    place-in-requires-2
     returns
     returns-2
     returns-3

@@ -12,11 +12,11 @@ use borrow.Author.Needs.{needs}
 use Rattle.stepper.proofs.Heap64.compare_values.Statement.{statement}
 use Rattle.stepper.proofs.Heap64.compare_values.Tie as tie
 
-place-of-requires : tie.Need-place-of-requires
-place-of-requires c κs = omega (arith, formed (c .args .self) (c .pre .0 .formed) .most)
+place-in-requires : tie.Need-place-in-requires
+place-in-requires c κs = omega (arith, formed (c .before .args .self) (c .before .pre .0 .formed) .most)
 
-place-of-requires-2 : tie.Need-place-of-requires-2
-place-of-requires-2 c κs = omega (arith, formed (c .before .args .self) (c .before .pre .0 .formed) .most)
+place-in-requires-2 : tie.Need-place-in-requires-2
+place-in-requires-2 c κs = omega (arith, formed (c .before .before .args .self) (c .before .before .pre .0 .formed) .most)
 
 value-of-requires : tie.Need-value-of-requires
 value-of-requires c κs = search needs
@@ -30,7 +30,7 @@ codes-meet-requires c κs = search needs
 -- the test of the codes is that of the values
 module _ (c : tie.After-codes-meet) where
   abbrev start : tie.Start
-  start = c .before .before .before .before .before
+  start = c .before .before .before .before .before .before
 
   abbrev t : Heap64
   t = start .args .self
@@ -39,8 +39,8 @@ module _ (c : tie.After-codes-meet) where
   tested =
       c .codes-meet .ensures
       ∙ ap₂ (codesMeet (start .args .equal))
-      (c .before .before .value-of .ensures ∙ ap (codeIn (t .values)) (c .before .before .before .before .place-of .ensures))
-      (c .before .value-of2 .ensures ∙ ap (codeIn (t .values)) (c .before .before .before .place-of2 .ensures))
+      (c .before .before .value-of .ensures ∙ ap (codeIn (t .values)) (c .before .before .before .before .place-in .ensures))
+      (c .before .value-of2 .ensures ∙ ap (codeIn (t .values)) (c .before .before .before .place-in2 .ensures))
 
 returns : tie.Need-returns
 returns c =
@@ -58,8 +58,8 @@ pub compare-values-spec : {M : Type 1} → statement M
 compare-values-spec =
     tie.close
     (tie.spec
-    place-of-requires
-    place-of-requires-2
+    place-in-requires
+    place-in-requires-2
     value-of-requires
     value-of-requires-2
     codes-meet-requires

@@ -11,8 +11,8 @@ use borrow.Author.Needs.{needs}
 use Rattle.stepper.proofs.Heap64.copy_value.Statement.{statement}
 use Rattle.stepper.proofs.Heap64.copy_value.Tie as tie
 
-place-of-requires : tie.Need-place-of-requires
-place-of-requires c κs = omega (arith, formed (c .args .self) (c .pre .0 .formed) .most)
+place-in-requires : tie.Need-place-in-requires
+place-in-requires c κs = omega (arith, formed (c .before .args .self) (c .before .pre .0 .formed) .most)
 
 value-of-requires : tie.Need-value-of-requires
 value-of-requires c κs = search needs
@@ -20,10 +20,10 @@ value-of-requires c κs = search needs
 -- the code of b's value
 module _ (c : tie.After-value-of) where
   abbrev start : tie.Start
-  start = c .before .before
+  start = c .before .before .before
 
   code-is : c .value-of .result ≡ codeIn (start .args .self .values) (varIn (codes (start .args .self .vars)) (start .args .b))
-  code-is = c .value-of .ensures ∙ ap (codeIn (start .args .self .values)) (c .before .place-of .ensures)
+  code-is = c .value-of .ensures ∙ ap (codeIn (start .args .self .values)) (c .before .place-in .ensures)
 
 returns : tie.Need-returns
 returns c =
@@ -55,7 +55,7 @@ pub copy-value-spec : {M : Type 1} → statement M
 copy-value-spec =
     tie.close
     (tie.spec
-    place-of-requires
+    place-in-requires
     value-of-requires
     returns
     sub-read-value

@@ -21,18 +21,18 @@ use Rattle.stepper.proofs.Heap64.free_cell.Tie as tie
 
 -- where a stands at a used cell
 module _ (c : tie.Else1) where
-  abbrev called : tie.After-link-of
+  abbrev called : tie.After-link-in
   called = c .before .before
 
   abbrev start : tie.Start
-  start = called .before .before
+  start = called .before .before .before .before
 
   abbrev t : Heap64
   t = start .args .self
 
   -- the cell's place
   abbrev y : ℕ
-  y = called .before .place-of .result .code
+  y = called .before .place-in .result .code
 
   s : Sized t
   s = start .pre .0 .sized
@@ -41,7 +41,7 @@ module _ (c : tie.Else1) where
   f = formed t (start .pre .0 .formed)
 
   has-link : linkIn (codes (t .links)) y ≢ nowhere
-  has-link z = c .if1 .left (called .link-of .ensures ∙ z)
+  has-link z = c .if1 .left (called .link-in .ensures ∙ z)
 
   at-cell : UsedCell t s f y
   at-cell = linked t s f y has-link
@@ -51,19 +51,19 @@ module _ (c : tie.Else1) where
 
 -- ---- what is to be shown
 
-place-of-requires : tie.Need-place-of-requires
-place-of-requires c κs = omega (arith, formed (c .args .self) (c .pre .0 .formed) .most)
+place-in-requires : tie.Need-place-in-requires
+place-in-requires c κs = omega (arith, formed (c .before .before .args .self) (c .before .before .pre .0 .formed) .most)
 
-link-of-requires : tie.Need-link-of-requires
-link-of-requires c κs = search needs
+link-in-requires : tie.Need-link-in-requires
+link-in-requires c κs = search needs
 
 returns : tie.Need-returns
 returns c =
     let l = c .before .before in
     let p = l .before in
-    let a = p .before .args in
+    let a = p .before .before .before .args in
     λ x. blocked (a .self) x (delete (a .a)) refl
-    (λ d. d (sym (l .link-of .ensures ∙ ap (linkIn (codes (a .self .links))) (p .place-of .ensures)) ∙ c .if1 .taken))
+    (λ d. d (sym (l .link-in .ensures ∙ ap (linkIn (codes (a .self .links))) (p .place-in .ensures)) ∙ c .if1 .taken))
 
 sub-i : tie.Need-sub-i
 sub-i c = omega (arith, at-cell c .is-cell)
@@ -96,14 +96,14 @@ returns-2 c =
     let same = c .dangle-links .ensures ∙ ap (λ (u : Heap64). dangleLinks u (y e)) (c .before .dangle-vars .ensures) in
     λ x. ap (λ (u : Heap64). stays (cut u (y e)) Moved) same
     ∙ moved (t e) x (delete a) (withoutPlace (t e) (y e))
-    (freed (t e) (s e) (f e) x a (y e) (called e .before .place-of .ensures) (has-link e))
+    (freed (t e) (s e) (f e) x a (y e) (called e .before .place-in .ensures) (has-link e))
 
 pub free-cell-spec : {M : Type 1} → statement M
 free-cell-spec =
     tie.close
     (tie.spec
-    place-of-requires
-    link-of-requires
+    place-in-requires
+    link-in-requires
     returns
     sub-i
     cast-i

@@ -15,8 +15,8 @@ use borrow.Author.Needs.{needs}
 use Rattle.stepper.proofs.Heap64.read_other.Statement.{statement}
 use Rattle.stepper.proofs.Heap64.read_other.Tie as tie
 
-place-of-requires : tie.Need-place-of-requires
-place-of-requires c κs = omega (arith, formed (c .args .self) (c .pre .0 .formed) .most)
+place-in-requires : tie.Need-place-in-requires
+place-in-requires c κs = omega (arith, formed (c .before .args .self) (c .before .pre .0 .formed) .most)
 
 value-of-requires : tie.Need-value-of-requires
 value-of-requires c κs = search needs
@@ -30,7 +30,7 @@ codes-differ-requires c κs = search needs
 -- the test of the codes is that of the values
 module _ (c : tie.After-codes-differ) where
   abbrev start : tie.Start
-  start = c .before .before .before
+  start = c .before .before .before .before
 
   abbrev t : Heap64
   t = start .args .self
@@ -38,7 +38,7 @@ module _ (c : tie.After-codes-differ) where
   tested : c .codes-differ .result ≡ codesDiffer (start .args .larger) (codeIn (t .values) (varIn (codes (t .vars)) (start .args .b))) (suc (start .args .value))
   tested =
       c .codes-differ .ensures
-      ∙ ap₂ (codesDiffer (start .args .larger)) (c .before .value-of .ensures ∙ ap (codeIn (t .values)) (c .before .before .place-of .ensures))
+      ∙ ap₂ (codesDiffer (start .args .larger)) (c .before .value-of .ensures ∙ ap (codeIn (t .values)) (c .before .before .place-in .ensures))
       (add-one (start .args .value))
 
 returns : tie.Need-returns
@@ -63,7 +63,7 @@ pub read-other-spec : {M : Type 1} → statement M
 read-other-spec =
     tie.close
     (tie.spec
-    place-of-requires
+    place-in-requires
     value-of-requires
     add-codes-differ
     codes-differ-requires

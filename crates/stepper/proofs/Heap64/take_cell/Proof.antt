@@ -2,7 +2,8 @@
 use Prim.Native.Nat.{_-_}
 use native.Mathlib.Omega.{arith}
 use Rattle.stepper.proofs.Formed.{formed}
-use Rattle.stepper.proofs.Change.{withVar, withCell}
+use Rattle.stepper.specs.InPlace.{withVar}
+use Rattle.stepper.proofs.Change.{withCell}
 use Rattle.stepper.proofs.Perform.{moved, taken, full}
 use Rattle.heap.specs.Operation.{new}
 use Rattle.place.specs.Place.{cellPlace}

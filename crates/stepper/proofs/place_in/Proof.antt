@@ -5,8 +5,8 @@ use native.Mathlib.Omega.{arith}
 use Rattle.heap.proofs.Codes.{operand-slot}
 use Rattle.stepper.proofs.Places.{code-at}
 use borrow.Author.Needs.{needs}
-use Rattle.stepper.proofs.Heap64.place_of.Statement.{statement}
-use Rattle.stepper.proofs.Heap64.place_of.Tie as tie
+use Rattle.stepper.proofs.place_in.Statement.{statement}
+use Rattle.stepper.proofs.place_in.Tie as tie
 
 returns : tie.Need-returns
 returns c = rw (c .if1 .taken) refl
@@ -14,14 +14,14 @@ returns c = rw (c .if1 .taken) refl
 sub-result : tie.Need-sub-result
 sub-result c = search needs
 
-element-copy-out-result : tie.Need-element-copy-out-result
-element-copy-out-result c = search needs
+array-copy-out-result : tie.Need-array-copy-out-result
+array-copy-out-result c = search needs
 
 returns-2 : tie.Need-returns-2
 returns-2 c =
-    let t = c .before .before .args .t1 in
+    let vars = c .before .before .args .t1 in
     let a = c .before .before .args .a in
-    code-at (t .vars) (a - 1) ∙ operand-slot _ a (omega arith)
+    code-at vars (a - 1) ∙ operand-slot _ a (omega arith)
 
-pub place-of-spec : {M : Type 1} → statement M
-place-of-spec = tie.close (tie.spec returns sub-result element-copy-out-result returns-2)
+pub place-in-spec : {M : Type 1} → statement M
+place-in-spec = tie.close (tie.spec returns sub-result array-copy-out-result returns-2)
