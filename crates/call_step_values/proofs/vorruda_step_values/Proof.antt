@@ -5,6 +5,7 @@ use Prim.Native.Nat.{ℕ}
 use lib.ListN.{length}
 use Rattle.heapbytes.specs.HeapBytes.{StepsBytes}
 use Rattle.heapbytes.proofs.RoundTrip.{codes-same}
+use Rattle.heapcodec.proofs.Codec.{values-written}
 use Rattle.stepbytes.proofs.Bytes.{other-count, unread, kept}
 use borrow.Author.Needs.{needs}
 use Rattle.call_step_values.proofs.vorruda_step_values.Statement.{statement}
@@ -17,8 +18,12 @@ abbrev begun : tie.After-step-bytes → tie.Start
 begun c = c .before .before .before .before .before .before .before
 
 -- the step, once the values after it are written
-abbrev made : tie.After-put-values → tie.After-step-bytes
+abbrev made : tie.After-write-values → tie.After-step-bytes
 made c = c .before .before .before .before .before .before
+
+-- there are 64 numbers
+count : (c : tie.After-step-bytes) → length (begun c .args .values .now) ≡ 64
+count c = c .before .before .before .before .if1 .left
 
 -- the step is one on the bytes and numbers that are lent
 stepped : (c : tie.After-step-bytes)
@@ -26,8 +31,7 @@ stepped : (c : tie.After-step-bytes)
     StepsBytes (a .heap .now) (a .values .now) (a .kind) (a .a) (a .b) (a .value) (c .step-bytes .result .number) (c .step-bytes .last .0) (c .step-bytes .result .values)
 stepped c =
     let a = begun c .args in
-    let count : length (a .values .now) ≡ 64 = c .before .before .before .before .if1 .left in
-    let codes-are = c .before .values-from .ensures ∙ codes-same (a .values .now) count in
+    let codes-are = c .before .read-values .ensures ∙ codes-same (a .values .now) (count c) in
     subst (λ (l : List ℕ). StepsBytes (a .heap .now) l (a .kind) (a .a) (a .b) (a .value) (c .step-bytes .result .number) (c .step-bytes .last .0) (c .step-bytes .result .values)) codes-are (c .step-bytes .ensures)
 
 -- ---- what is to be shown
@@ -37,14 +41,14 @@ returns c =
     let a = c .before .before .before .args in
     unread (a .heap .now) (a .values .now) (a .kind) (a .a) (a .b) (a .value) (other-count (a .heap .now) (a .values .now) (c .if1 .taken))
 
-values-from-requires : tie.Need-values-from-requires
-values-from-requires c κs = search needs
+read-values-requires : tie.Need-read-values-requires
+read-values-requires c κs = search needs
 
 step-bytes-requires : tie.Need-step-bytes-requires
 step-bytes-requires c κs = search needs
 
-put-values-requires : tie.Need-put-values-requires
-put-values-requires c κs = search needs
+write-values-requires : tie.Need-write-values-requires
+write-values-requires c κs = search needs
 
 same-length : tie.Need-same-length
 same-length c = search needs
@@ -58,7 +62,7 @@ returns-2 c =
     let p = c .before .before in
     let o = made p in
     let a = begun o .args in
-    subst (StepsBytes (a .heap .now) (a .values .now) (a .kind) (a .a) (a .b) (a .value) (o .step-bytes .result .number) (o .step-bytes .last .0)) (sym (p .put-values .ensures)) (stepped o)
+    subst (StepsBytes (a .heap .now) (a .values .now) (a .kind) (a .a) (a .b) (a .value) (o .step-bytes .result .number) (o .step-bytes .last .0)) (sym (p .write-values .ensures ∙ values-written (o .step-bytes .result .values) (a .values .now) (count o))) (stepped o)
 
 same-length-3 : tie.Need-same-length-3
 same-length-3 c = search needs
@@ -80,9 +84,9 @@ vorruda-step-values-spec =
     tie.close
     (tie.spec
     returns
-    values-from-requires
+    read-values-requires
     step-bytes-requires
-    put-values-requires
+    write-values-requires
     same-length
     same-length-2
     returns-2

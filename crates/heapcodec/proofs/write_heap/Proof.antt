@@ -1,13 +1,14 @@
--- Three loops, one after the other: variables, marks and links stand as the heap has them.
+-- Other than 137 bytes stay. Else three loops, one after the other: variables, marks and links stand as the heap has them.
 use Prim.Native.Nat.{_-_, _≤_}
 use mathlib.Core.Path.{refl, _∙_, sym}
 use native.Mathlib.Omega.{arith}
 use Rattle.lists.proofs.Range.{Filled, fill-none, fill-more, fill-all}
 use Rattle.heapbytes.specs.HeapBytes.{byteOf, heapBytes}
 use Rattle.heapbytes.proofs.Bytes.{count-byte, slot-byte, mark-byte, link-byte}
+use Rattle.heapcodec.proofs.Codec.{heap-left, heap-written}
 use borrow.Author.Needs.{needs}
-use Rattle.stepbytes.proofs.put_heap.Statement.{statement}
-use Rattle.stepbytes.proofs.put_heap.Tie as tie
+use Rattle.heapcodec.proofs.write_heap.Statement.{statement}
+use Rattle.heapcodec.proofs.write_heap.Tie as tie
 
 abbrev Inv-loop : tie.InvT-loop
 Inv-loop bytes₀ heap i₀ bytes i = (1 ≤ i) × (i ≤ 9) × Filled (byteOf heap) 0 137 bytes i
@@ -29,24 +30,27 @@ abbrev μ-loop3 : tie.MeasureT-loop3
 
 -- ---- moments on the way
 
--- the beginning, at a turn of the second loop
-abbrev begun2 : tie.At-loop2 Inv-loop μ-loop Inv-loop2 μ-loop2 Inv-loop3 μ-loop3 → tie.Start Inv-loop μ-loop Inv-loop2 μ-loop2 Inv-loop3 μ-loop3
+-- the beginning, where there are 137 bytes, at a turn of the second loop
+abbrev begun2 : tie.At-loop2 Inv-loop μ-loop Inv-loop2 μ-loop2 Inv-loop3 μ-loop3 → tie.Else1 Inv-loop μ-loop Inv-loop2 μ-loop2 Inv-loop3 μ-loop3
 begun2 c = c .before .before .before
 
 -- the same at a turn of the third
-abbrev begun3 : tie.At-loop3 Inv-loop μ-loop Inv-loop2 μ-loop2 Inv-loop3 μ-loop3 → tie.Start Inv-loop μ-loop Inv-loop2 μ-loop2 Inv-loop3 μ-loop3
+abbrev begun3 : tie.At-loop3 Inv-loop μ-loop Inv-loop2 μ-loop2 Inv-loop3 μ-loop3 → tie.Else1 Inv-loop μ-loop Inv-loop2 μ-loop2 Inv-loop3 μ-loop3
 begun3 c = begun2 (c .before .before)
 
 -- ---- what is to be shown
 
+returns : tie.Need-returns Inv-loop μ-loop Inv-loop2 μ-loop2 Inv-loop3 μ-loop3
+returns c = sym (heap-left (c .before .args .t1) (c .before .args .bytes .now) (c .if1 .taken))
+
 slice-write-bytes : tie.Need-slice-write-bytes Inv-loop μ-loop Inv-loop2 μ-loop2 Inv-loop3 μ-loop3
-slice-write-bytes c = omega (arith, c .pre)
+slice-write-bytes c = omega (arith, c .if1 .left)
 
 loop-holds : tie.Need-loop-holds Inv-loop μ-loop Inv-loop2 μ-loop2 Inv-loop3 μ-loop3
 loop-holds c =
-    let t = c .args .t1 in
-    let bytes = c .args .bytes .now in
-    (omega arith, omega arith, fill-more (byteOf t) 0 137 bytes 0 (t .variables) (fill-none (byteOf t) 0 137 bytes (c .pre)) (omega arith) (count-byte t 0 (omega arith)))
+    let t = c .before .args .t1 in
+    let bytes = c .before .args .bytes .now in
+    (omega arith, omega arith, fill-more (byteOf t) 0 137 bytes 0 (t .variables) (fill-none (byteOf t) 0 137 bytes (c .if1 .left)) (omega arith) (count-byte t 0 (omega arith)))
 
 sub-bytes : tie.Need-sub-bytes Inv-loop μ-loop Inv-loop2 μ-loop2 Inv-loop3 μ-loop3
 sub-bytes c = search needs
@@ -66,7 +70,7 @@ loop-less : tie.Need-loop-less Inv-loop μ-loop Inv-loop2 μ-loop2 Inv-loop3 μ-
 loop-less c = search needs
 
 loop-again : tie.Need-loop-again Inv-loop μ-loop Inv-loop2 μ-loop2 Inv-loop3 μ-loop3
-loop-again c = (omega arith, omega arith, fill-more _ _ _ _ _ _ (c .before .loop .inv .2) (omega arith) (slot-byte (c .before .before .args .t1) (c .before .loop .i) (omega arith) (omega arith)))
+loop-again c = (omega arith, omega arith, fill-more _ _ _ _ _ _ (c .before .loop .inv .2) (omega arith) (slot-byte (c .before .before .before .args .t1) (c .before .loop .i) (omega arith) (omega arith)))
 
 loop2-holds : tie.Need-loop2-holds Inv-loop μ-loop Inv-loop2 μ-loop2 Inv-loop3 μ-loop3
 loop2-holds c = (omega arith, omega arith, c .before .loop .inv .2)
@@ -94,7 +98,7 @@ loop2-less c = search needs
 loop2-again : tie.Need-loop2-again Inv-loop μ-loop Inv-loop2 μ-loop2 Inv-loop3 μ-loop3
 loop2-again c =
     let turn = c .before .before in
-    (omega arith, omega arith, fill-more _ _ _ _ _ _ (turn .loop2 .inv .2) (omega arith) (mark-byte (begun2 turn .args .t1) (turn .loop2 .i) (omega arith) (omega arith) _ refl _ (λ e. rw e refl) (λ e. rw e refl)))
+    (omega arith, omega arith, fill-more _ _ _ _ _ _ (turn .loop2 .inv .2) (omega arith) (mark-byte (begun2 turn .before .args .t1) (turn .loop2 .i) (omega arith) (omega arith) _ refl _ (λ e. rw e refl) (λ e. rw e refl)))
 
 loop3-holds : tie.Need-loop3-holds Inv-loop μ-loop Inv-loop2 μ-loop2 Inv-loop3 μ-loop3
 loop3-holds c = (omega arith, omega arith, c .before .loop2 .inv .2)
@@ -119,17 +123,20 @@ loop3-less c = search needs
 loop3-again : tie.Need-loop3-again Inv-loop μ-loop Inv-loop2 μ-loop2 Inv-loop3 μ-loop3
 loop3-again c =
     let turn = c .before in
-    (omega arith, omega arith, fill-more _ _ _ _ _ _ (turn .loop3 .inv .2) (omega arith) (link-byte (begun3 turn .args .t1) (turn .loop3 .i) (omega arith)))
+    (omega arith, omega arith, fill-more _ _ _ _ _ _ (turn .loop3 .inv .2) (omega arith) (link-byte (begun3 turn .before .args .t1) (turn .loop3 .i) (omega arith)))
 
 same-length : tie.Need-same-length Inv-loop μ-loop Inv-loop2 μ-loop2 Inv-loop3 μ-loop3
-same-length c = c .before .loop3 .inv .2 .size ∙ sym (begun3 (c .before) .pre)
+same-length c = c .before .loop3 .inv .2 .size ∙ sym (begun3 (c .before) .if1 .left)
 
-returns : tie.Need-returns Inv-loop μ-loop Inv-loop2 μ-loop2 Inv-loop3 μ-loop3
+returns-2 : tie.Need-returns-2 Inv-loop μ-loop Inv-loop2 μ-loop2 Inv-loop3 μ-loop3
 unfolding heapBytes
-returns c = fill-all _ _ _ _ _ (c .before .loop3 .inv .2) (omega arith)
+returns-2 c =
+    let b = begun3 (c .before) in
+    let a = b .before .args in
+    fill-all _ _ _ _ _ (c .before .loop3 .inv .2) (omega arith) ∙ sym (heap-written (a .t1) (a .bytes .now) (b .if1 .left))
 
-pub put-heap-spec : {M : Type 1} → statement M
-put-heap-spec =
+pub write-heap-spec : {M : Type 1} → statement M
+write-heap-spec =
     tie.close
     (tie.spec
     Inv-loop
@@ -138,6 +145,7 @@ put-heap-spec =
     μ-loop2
     Inv-loop3
     μ-loop3
+    returns
     slice-write-bytes
     loop-holds
     sub-bytes
@@ -162,4 +170,4 @@ put-heap-spec =
     loop3-less
     loop3-again
     same-length
-    returns)
+    returns-2)

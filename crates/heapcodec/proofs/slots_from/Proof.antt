@@ -1,4 +1,4 @@
--- The loop fills the table of the links.
+-- The loop fills the table of the variables.
 use Prim.Native.Nat.{_+_, _-_}
 use mathlib.Core.Path.{refl}
 use native.Mathlib.Omega.{arith}
@@ -6,14 +6,14 @@ use lib.ListN.{getD}
 use Rattle.lists.proofs.Range.{Filled, fill-none, fill-more, fill-all}
 use Rattle.place.specs.Place.{placeOf}
 use borrow.Author.Needs.{needs}
-use Rattle.stepbytes.proofs.links_from.Statement.{statement}
-use Rattle.stepbytes.proofs.links_from.Tie as tie
+use Rattle.heapcodec.proofs.slots_from.Statement.{statement}
+use Rattle.heapcodec.proofs.slots_from.Tie as tie
 
 abbrev Inv-loop : tie.InvT-loop
-Inv-loop bytes links₀ i₀ links i = Filled (λ i. placeOf (getD bytes (73 + i) 0)) (placeOf 0) 64 links i
+Inv-loop bytes vars₀ i₀ vars i = Filled (λ i. placeOf (getD bytes (1 + i) 0)) (placeOf 0) 8 vars i
 
 abbrev μ-loop : tie.MeasureT-loop
-μ-loop bytes links₀ i₀ links i = 64 - i
+μ-loop bytes vars₀ i₀ vars i = 8 - i
 
 loop-holds : tie.Need-loop-holds Inv-loop μ-loop
 loop-holds c = fill-none _ _ _ _ refl
@@ -24,8 +24,8 @@ add-t6 c = search needs
 shared-slice-read-t8 : tie.Need-shared-slice-read-t8 Inv-loop μ-loop
 shared-slice-read-t8 c = search needs
 
-array-set-from-links : tie.Need-array-set-from-links Inv-loop μ-loop
-array-set-from-links c = search needs
+array-set-from-vars : tie.Need-array-set-from-vars Inv-loop μ-loop
+array-set-from-vars c = search needs
 
 add-i : tie.Need-add-i Inv-loop μ-loop
 add-i c = search needs
@@ -39,8 +39,8 @@ loop-again c = fill-more _ _ _ _ _ _ (c .before .before .loop .inv) (omega arith
 returns : tie.Need-returns Inv-loop μ-loop
 returns c = fill-all _ _ _ _ _ (c .before .loop .inv) (omega arith)
 
-pub links-from-spec : {M : Type 1} → statement M
-links-from-spec =
+pub slots-from-spec : {M : Type 1} → statement M
+slots-from-spec =
     tie.close
     (tie.spec
     Inv-loop
@@ -48,7 +48,7 @@ links-from-spec =
     loop-holds
     add-t6
     shared-slice-read-t8
-    array-set-from-links
+    array-set-from-vars
     add-i
     loop-less
     loop-again

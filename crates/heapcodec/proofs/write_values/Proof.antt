@@ -1,12 +1,14 @@
--- The loop: the first i codes are written.
+-- Other than 64 numbers stay. Else the loop: the first i codes are written.
 use Prim.Native.Nat.{_-_}
 use mathlib.Core.Path.{_≡_, refl, _∙_, sym}
 use native.Mathlib.Omega.{arith}
 use lib.ListN.{length, getD}
-use Rattle.lists.proofs.Range.{Filled, fill-none, fill-more, fill-all, tabled}
+use Rattle.lists.proofs.Range.{Filled, fill-none, fill-more, fill-all}
+use Rattle.heapbytes.proofs.RoundTrip.{codes-same}
+use Rattle.heapcodec.proofs.Codec.{values-left, values-written}
 use borrow.Author.Needs.{needs}
-use Rattle.call_step_values.proofs.put_values.Statement.{statement}
-use Rattle.call_step_values.proofs.put_values.Tie as tie
+use Rattle.heapcodec.proofs.write_values.Statement.{statement}
+use Rattle.heapcodec.proofs.write_values.Tie as tie
 
 abbrev Inv-loop : tie.InvT-loop
 Inv-loop values₀ codes i₀ values i = Filled (λ i. getD codes i 0) 0 64 values i
@@ -14,8 +16,11 @@ Inv-loop values₀ codes i₀ values i = Filled (λ i. getD codes i 0) 0 64 valu
 abbrev μ-loop : tie.MeasureT-loop
 μ-loop values₀ codes i₀ values i = 64 - i
 
+returns : tie.Need-returns Inv-loop μ-loop
+returns c = sym (values-left (c .before .args .t1) (c .before .args .values .now) (c .if1 .taken))
+
 loop-holds : tie.Need-loop-holds Inv-loop μ-loop
-loop-holds c = fill-none _ _ _ _ (c .pre)
+loop-holds c = fill-none _ _ _ _ (c .if1 .left)
 
 mul-values : tie.Need-mul-values Inv-loop μ-loop
 mul-values c = search needs
@@ -39,20 +44,22 @@ loop-again : tie.Need-loop-again Inv-loop μ-loop
 loop-again c = fill-more _ _ _ _ _ _ (c .before .loop .inv) (omega arith) refl
 
 same-length : tie.Need-same-length Inv-loop μ-loop
-same-length c = c .before .loop .inv .size ∙ sym (c .before .before .pre)
+same-length c = c .before .loop .inv .size ∙ sym (c .before .before .if1 .left)
 
-returns : tie.Need-returns Inv-loop μ-loop
-returns c =
-    let codes = c .before .before .args .t1 in
+returns-2 : tie.Need-returns-2 Inv-loop μ-loop
+returns-2 c =
+    let b = c .before .before in
+    let codes = b .before .args .t1 in
     let size : length codes ≡ 64 = search needs in
-    fill-all _ _ _ _ _ (c .before .loop .inv) (omega arith) ∙ sym (tabled (λ i. getD codes i 0) 0 64 codes size (λ i h. refl))
+    fill-all _ _ _ _ _ (c .before .loop .inv) (omega arith) ∙ codes-same codes size ∙ sym (values-written codes (b .before .args .values .now) (b .if1 .left))
 
-pub put-values-spec : {M : Type 1} → statement M
-put-values-spec =
+pub write-values-spec : {M : Type 1} → statement M
+write-values-spec =
     tie.close
     (tie.spec
     Inv-loop
     μ-loop
+    returns
     loop-holds
     mul-values
     array-read-values
@@ -62,4 +69,4 @@ put-values-spec =
     loop-less
     loop-again
     same-length
-    returns)
+    returns-2)

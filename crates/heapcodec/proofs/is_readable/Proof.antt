@@ -7,10 +7,10 @@ use native.Mathlib.Omega.{arith}
 use lib.Dec.{ltb}
 use lib.ListN.{length}
 use Rattle.lists.specs.Test.{allFrom}
-use Rattle.stepbytes.proofs.Bytes.{markFits, mark-larger, mark-smaller, marks-done, other-length, readable-marks}
+use Rattle.heapcodec.proofs.Codec.{markFits, mark-larger, mark-smaller, marks-done, other-length, readable-marks}
 use borrow.Author.Needs.{needs}
-use Rattle.stepbytes.proofs.is_readable.Statement.{statement}
-use Rattle.stepbytes.proofs.is_readable.Tie as tie
+use Rattle.heapcodec.proofs.is_readable.Statement.{statement}
+use Rattle.heapcodec.proofs.is_readable.Tie as tie
 
 abbrev Inv-loop : tie.InvT-loop
 Inv-loop bytes largest₀ i₀ largest i =
