@@ -1,13 +1,23 @@
--- The bytes of a heap, by their places.
+-- Bytes and numbers that are a heap's; the bytes of a heap, by their places.
 use mathlib.Core.Bool.{Bool, true, false}
+use mathlib.Core.List.{List}
 use mathlib.Core.Path.{_≡_, refl}
 use Prim.Native.Nat.{ℕ, _-_, _≤_, _<_}
 use native.Mathlib.Omega.{arith}
-use borrow.Author.Tests.{lt-ltb, le-ltb}
-use lib.ListN.{getD}
+use borrow.Author.Tests.{lt-ltb, le-ltb, eq-eqb, ne-eqb}
+use lib.ListN.{length, getD}
 use Rattle.place.specs.Place.{placeOf}
 use Rattle.stepper.specs.declared.Heap64.{Heap64}
-use Rattle.heapbytes.specs.HeapBytes.{byteOf}
+use Rattle.heapbytes.specs.HeapBytes.{bytesReadable, readable, byteOf}
+
+module _ (bytes values : List ℕ) where
+  pub other-count : (length values ≡ 64 → ⊥) → readable bytes values ≡ false
+  unfolding readable
+  other-count n = simp (ne-eqb (length values) 64 n)
+
+  pub with-values : length values ≡ 64 → bytesReadable bytes ≡ readable bytes values
+  unfolding readable
+  with-values c = simp (eq-eqb (length values) 64 c)
 
 module _ (t : Heap64) (i : ℕ) where
   pub count-byte : i < 1 → t .variables ≡ byteOf t i

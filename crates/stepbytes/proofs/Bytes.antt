@@ -5,8 +5,6 @@ use mathlib.Core.Logic.{⊎-elim}
 use mathlib.Core.Path.{_≡_, refl, subst}
 use Prim.Native.Nat.{ℕ}
 use native.Mathlib.Omega.{arith}
-use borrow.Author.Tests.{eq-eqb, ne-eqb}
-use lib.ListN.{length}
 use denote.Enum.Declared.{tagOf}
 use types.Run.{OneOf}
 use Rattle.stepper.proofs.Outcome.{the-type}
@@ -15,20 +13,7 @@ use Rattle.stepper.specs.declared.Heap64.{Heap64}
 use Rattle.stepper.specs.declared.Outcome.{Outcome}
 use Rattle.stepper.specs.declared.Outcome.the-variants.{Moved, Blocked, Refused}
 use Rattle.stepper.specs.declared.Stepped.{Stepped}
-use Rattle.heapbytes.specs.HeapBytes.{bytesReadable, readable, heapFrom, heapBytes, bytesAfter, valuesAfter, StepsBytes}
-
--- ---- bytes and numbers that are a heap's
-
-module _ (bytes : List ℕ) where
-  pub other-count : (values : List ℕ) → (length values ≡ 64 → ⊥) → readable bytes values ≡ false
-  unfolding readable
-  other-count values n = simp (ne-eqb (length values) 64 n)
-
-  pub with-values : (values : List ℕ) → length values ≡ 64 → bytesReadable bytes ≡ readable bytes values
-  unfolding readable
-  with-values values c = simp (eq-eqb (length values) 64 c)
-
--- ---- the call's promise, by its outcome
+use Rattle.heapbytes.specs.HeapBytes.{readable, heapFrom, heapBytes, bytesAfter, valuesAfter, StepsBytes}
 
 module _ (bytes values : List ℕ) (kind a b value : ℕ) where
   pub unread : readable bytes values ≡ false → StepsBytes bytes values kind a b value 13 bytes values

@@ -57,13 +57,13 @@ module _ (t : Heap64) (s : Sized t) (f : Formed t) (value : ℕ) (lent : value �
       (withValue t (varIn (codes (t .vars)) a - 3) (suc value), written t s f value (read a) a (suc value) refl e e (omega arith) refl)
 
 -- outcomes differ
-refused-stays : (r : StepRefusal) → _≡_ {A = Outcome} (Refused r) Moved → ⊥
+pub refused-stays : (r : StepRefusal) → _≡_ {A = Outcome} (Refused r) Moved → ⊥
 refused-stays r e = let z : _≡_ {A = ℕ} 0 1 = cc in omega arith
 
 refused-free : (r : StepRefusal) → _≡_ {A = Outcome} (Refused r) Blocked → ⊥
 refused-free r e = let z : _≡_ {A = ℕ} 0 1 = cc in omega arith
 
-blocked-stays : _≡_ {A = Outcome} Blocked Moved → ⊥
+pub blocked-stays : _≡_ {A = Outcome} Blocked Moved → ⊥
 blocked-stays e = let z : _≡_ {A = ℕ} 0 1 = cc in omega arith
 
 module _ (t : Heap64) (kind a b value : ℕ) where

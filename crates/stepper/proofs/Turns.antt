@@ -9,21 +9,14 @@ use Rattle.stepper.specs.Turns.{onMoved, Repeats}
 use Rattle.stepper.specs.declared.Heap64.{Heap64}
 use Rattle.stepper.specs.declared.Outcome.{Outcome}
 use Rattle.stepper.specs.declared.Outcome.the-variants.{Moved, Blocked, Refused}
-use Rattle.stepper.specs.declared.StepRefusal.{StepRefusal}
 use Rattle.stepper.specs.declared.Stepped.{Stepped}
-use Rattle.stepper.proofs.Steps.{sized-step, variables-step}
-
-blocked-not : _≡_ {A = Outcome} Blocked Moved → ⊥
-blocked-not e = let z : _≡_ {A = ℕ} 0 1 = cc in omega arith
-
-refused-not : (r : StepRefusal) → _≡_ {A = Outcome} (Refused r) Moved → ⊥
-refused-not r e = let z : _≡_ {A = ℕ} 0 1 = cc in omega arith
+use Rattle.stepper.proofs.Steps.{blocked-stays, refused-stays, sized-step, variables-step}
 
 module _ (P Q : Type 0) where
   on-moved : (o : Outcome) → o ≡ Moved → P → onMoved o P Q
   on-moved Moved e p = p
-  on-moved Blocked e p = absurd (blocked-not e)
-  on-moved (Refused r) e p = absurd (refused-not r e)
+  on-moved Blocked e p = absurd (blocked-stays e)
+  on-moved (Refused r) e p = absurd (refused-stays r e)
 
   on-stuck : (o : Outcome) → o ≢ Moved → Q → onMoved o P Q
   on-stuck Moved n q = absurd (n refl)

@@ -25,7 +25,7 @@ withVar t v p = record { variables = t .variables; vars = set (t .vars) v p; use
 abbrev pub withLink : Heap64 → ℕ → Place → Heap64
 withLink t i p = record { variables = t .variables; vars = t .vars; used = t .used; links = set (t .links) i p; values = t .values }
 
--- what is put in place is inside the table, and is the step
+-- what is put is inside the table, and then the step is done
 abbrev pub Does : Heap64 → Turn → Put → Type 0
 Does t o (Variable v p) = (v < 8) × Steps t (o .kind) (o .a) (o .b) 0 (stays (withVar t v p) Moved)
 Does t o (Follow v i) =
@@ -34,7 +34,7 @@ Does t o (Follow v i) =
 Does t o (Link i p) = (i < 64) × Steps t (o .kind) (o .a) (o .b) 0 (stays (withLink t i p) Moved)
 Does t o Other = Unit {0}
 
--- the operation's kind and operands were looked up in the table of kinds where there are n variables
+-- `named` is what the table of kinds says where there are n variables
 abbrev pub Looked : ℕ → Turn → Type 0
 Looked n o = o .named ≡ allowed n (o .kind) (o .a) (o .b)
 
@@ -42,7 +42,7 @@ Looked n o = o .named ≡ allowed n (o .kind) (o .a) (o .b)
 abbrev pub Tested : Turn → Type 0
 Tested o = (n : ℕ) × (n ≤ 8) × Looked n o
 
--- on every well formed table that has these variables
+-- so it is on every well formed table that has these variables, whatever else is in it
 abbrev pub Foretells : List Place → Turn → Put → Type 0
 Foretells vars o r =
     (n : ℕ) (used : List Bool) (links : List Place) (values : List ℕ)

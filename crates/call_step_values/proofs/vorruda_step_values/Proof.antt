@@ -6,7 +6,8 @@ use lib.ListN.{length}
 use Rattle.heapbytes.specs.HeapBytes.{StepsBytes}
 use Rattle.heapbytes.proofs.RoundTrip.{codes-same}
 use Rattle.heapcodec.proofs.Codec.{values-written}
-use Rattle.stepbytes.proofs.Bytes.{other-count, unread, kept}
+use Rattle.heapbytes.proofs.Bytes.{other-count}
+use Rattle.stepbytes.proofs.Bytes.{unread, kept}
 use borrow.Author.Needs.{needs}
 use Rattle.call_step_values.proofs.vorruda_step_values.Statement.{statement}
 use Rattle.call_step_values.proofs.vorruda_step_values.Tie as tie

@@ -8,7 +8,8 @@ use lib.ListN.{length}
 use Rattle.heapbytes.specs.HeapBytes.{bytesReadable, readable, heapFrom}
 use Rattle.heapcodec.specs.declared.HeapRead.{HeapRead}
 use Rattle.heapcodec.proofs.Codec.{readable-length, tells-readable, heap-read, heap-written}
-use Rattle.stepbytes.proofs.Bytes.{with-values, unread, done, left, went}
+use Rattle.heapbytes.proofs.Bytes.{with-values}
+use Rattle.stepbytes.proofs.Bytes.{unread, done, left, went}
 use borrow.Author.Needs.{needs}
 use Rattle.stepbytes.proofs.step_bytes.Statement.{statement}
 use Rattle.stepbytes.proofs.step_bytes.Tie as tie

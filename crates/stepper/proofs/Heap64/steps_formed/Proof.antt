@@ -12,7 +12,7 @@ use Rattle.stepper.specs.Step.{stays, Steps}
 use Rattle.stepper.specs.Turns.{Repeats, InTurn}
 use Rattle.stepper.specs.declared.Heap64.{Heap64}
 use Rattle.stepper.specs.declared.Outcome.the-variants.{Moved}
-use Rattle.stepper.specs.declared.Put.the-variants.{Variable, Follow, Link}
+use Rattle.stepper.specs.declared.Put.{Put}
 use Rattle.stepper.specs.declared.Stepped.{Stepped}
 use Rattle.stepper.specs.declared.Turn.{Turn}
 use Rattle.stepper.proofs.Formed.{formed}
@@ -85,10 +85,12 @@ module _ (c : tie.After-put-of Inv-loop2 μ-loop2 Inv-loop μ-loop) where
   abbrev n : ℕ
   n = start read .args .self .variables
 
-  does : Does t (o read) (c .put-of .result)
-  does =
+  -- what it is does it
+  does : (r : Put) → c .put-of .result ≡ r → Does t (o read) r
+  does r e =
       let g = in-loop2 .loop2 .inv in
-      c .put-of .ensures (t .variables) (t .used) (t .links) (t .values) (g .ready) (rw (g .variables) (read .turn-of .ensures .looked))
+      subst (Does t (o read)) e
+      (c .put-of .ensures (t .variables) (t .used) (t .links) (t .values) (g .ready) (rw (g .variables) (read .turn-of .ensures .looked)))
 
   -- a step from there
   module _ (s : Stepped) (steps : Steps t (o read .kind) (o read .a) (o read .b) 0 s) where
@@ -100,25 +102,6 @@ module _ (c : tie.After-put-of Inv-loop2 μ-loop2 Inv-loop μ-loop) where
     stop m =
         whole read s
         (ends-here n (o read .kind) (o read .a) (o read .b) left (rest read) (this read) t (in-loop2 .loop2 .inv) (c .before .before .loop2-test .taken) s steps m)
-
--- what is put is known
-variable-put : (c : tie.After-known-told Inv-loop2 μ-loop2 Inv-loop μ-loop)
-    → let v = c .before .j .given .0 in
-    let p = c .before .before .before in
-    Does (t p) (o (read p)) (Variable (v .0) (v .1 .0))
-variable-put c = let p = c .before .before .before in subst (Does (t p) (o (read p))) (c .before .j .given .1) (does p)
-
-link-followed : (c : tie.After-known-told2 Inv-loop2 μ-loop2 Inv-loop μ-loop)
-    → let v = c .before .j2 .given .0 in
-    let p = c .before .before .before in
-    Does (t p) (o (read p)) (Follow (v .0) (v .1 .0))
-link-followed c = let p = c .before .before .before in subst (Does (t p) (o (read p))) (c .before .j2 .given .1) (does p)
-
-link-put : (c : tie.After-known-told3 Inv-loop2 μ-loop2 Inv-loop μ-loop)
-    → let v = c .before .j3 .given .0 in
-    let p = c .before .before .before in
-    Does (t p) (o (read p)) (Link (v .0) (v .1 .0))
-link-put c = let p = c .before .before .before in subst (Does (t p) (o (read p))) (c .before .j3 .given .1) (does p)
 
 -- ---- what is to be shown
 
@@ -174,40 +157,42 @@ enum-known-j : tie.Need-enum-known-j Inv-loop2 μ-loop2 Inv-loop μ-loop
 enum-known-j c = search needs
 
 element-set-from-p : tie.Need-element-set-from-p Inv-loop2 μ-loop2 Inv-loop μ-loop
-element-set-from-p c = variable-put c .0
+element-set-from-p c = let j = c .before in does (j .before .before) _ (j .j .given .1) .0
 
 loop2-less : tie.Need-loop2-less Inv-loop2 μ-loop2 Inv-loop μ-loop
 loop2-less c = search needs
 
 loop2-again : tie.Need-loop2-again Inv-loop2 μ-loop2 Inv-loop μ-loop
-loop2-again c = on (c .before .before .before) _ (variable-put c .1) refl
+loop2-again c = let j = c .before in on (j .before .before) _ (does (j .before .before) _ (j .j .given .1) .1) refl
 
 enum-known-j-2 : tie.Need-enum-known-j-2 Inv-loop2 μ-loop2 Inv-loop μ-loop
 enum-known-j-2 c = search needs
 
 element-copy-out-p : tie.Need-element-copy-out-p Inv-loop2 μ-loop2 Inv-loop μ-loop
-element-copy-out-p c = link-followed c .1
+element-copy-out-p c = let j = c .before in does (j .before .before) _ (j .j2 .given .1) .1
 
 element-set-from-p-2 : tie.Need-element-set-from-p-2 Inv-loop2 μ-loop2 Inv-loop μ-loop
-element-set-from-p-2 c = link-followed (c .before .before .before) .0
+element-set-from-p-2 c = let j = c .before .before .before .before in does (j .before .before) _ (j .j2 .given .1) .0
 
 loop2-less-2 : tie.Need-loop2-less-2 Inv-loop2 μ-loop2 Inv-loop μ-loop
 loop2-less-2 c = search needs
 
 loop2-again-2 : tie.Need-loop2-again-2 Inv-loop2 μ-loop2 Inv-loop μ-loop
-loop2-again-2 c = let k = c .before .before .before in on (k .before .before .before) _ (link-followed k .2 (c .if1 .taken)) refl
+loop2-again-2 c =
+    let j = c .before .before .before .before in
+    on (j .before .before) _ (does (j .before .before) _ (j .j2 .given .1) .2 (c .if1 .taken)) refl
 
 enum-known-j-3 : tie.Need-enum-known-j-3 Inv-loop2 μ-loop2 Inv-loop μ-loop
 enum-known-j-3 c = search needs
 
 element-set-from-p-3 : tie.Need-element-set-from-p-3 Inv-loop2 μ-loop2 Inv-loop μ-loop
-element-set-from-p-3 c = link-put c .0
+element-set-from-p-3 c = let j = c .before in does (j .before .before) _ (j .j3 .given .1) .0
 
 loop2-less-3 : tie.Need-loop2-less-3 Inv-loop2 μ-loop2 Inv-loop μ-loop
 loop2-less-3 c = search needs
 
 loop2-again-3 : tie.Need-loop2-again-3 Inv-loop2 μ-loop2 Inv-loop μ-loop
-loop2-again-3 c = on (c .before .before .before) _ (link-put c .1) refl
+loop2-again-3 c = let j = c .before in on (j .before .before) _ (does (j .before .before) _ (j .j3 .given .1) .1) refl
 
 enum-told : tie.Need-enum-told Inv-loop2 μ-loop2 Inv-loop μ-loop
 enum-told c = search needs
