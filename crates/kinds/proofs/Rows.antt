@@ -1,40 +1,89 @@
 -- The table of kinds, column by column: the columns of the code, and what an allowed operation keeps to.
-use mathlib.Core.Bool.{Bool, true, false, _&&_, cond}
-use mathlib.Core.List.{List, [], _∷_}
+use mathlib.Core.Bool.{Bool, true, false, _&&_, cond, and-false}
+use mathlib.Core.Logic.{_⊎_, inl, inr}
 use mathlib.Core.Option.{Option, none, some}
 use mathlib.Core.Path.{_≡_, refl, sym, ap, subst, _∙_}
-use Prim.Native.Nat.{ℕ, suc, _≤_}
+use Prim.Native.Nat.{ℕ, suc, _≤_, _<_}
 use native.Mathlib.Decide.{decLe}
 use native.Mathlib.Omega.{arith}
-use lib.Dec.{eqb, leb}
-use lib.ListN.{getD}
+use borrow.Author.Tests.{le-leb, lt-leb}
+use lib.Dec.{leb}
 use Rattle.lists.proofs.Range.{same-table}
 use Rattle.heap.specs.Operation.{Op, Kind, kindOf, operation}
 use Rattle.heap.proofs.Rows.{lastKind, is-kind, no-kind, Keeps, in-table}
 use Rattle.kinds.specs.Kinds.{leastA, leastB, mostB, isSome, allowed}
 
--- ---- the columns of the code: 0 for kind 0, then the rows
+-- ---- the columns, by stretches of kinds: from and to
 
--- the column of the most b: 1 where it is V, 0 where it is 0
-abbrev pub takes-b : List ℕ
-takes-b = 0 ∷ 1 ∷ 1 ∷ 1 ∷ 1 ∷ 1 ∷ 0 ∷ 0 ∷ 1 ∷ 1 ∷ 1 ∷ 1 ∷ 1 ∷ 0 ∷ []
+abbrev within : ℕ → ℕ → ℕ → Bool
+within from to k = leb from k && leb k to
 
-pub most-b-column : (n k : ℕ) → k ≤ lastKind → cond (eqb (getD takes-b k 0) 0) 0 n ≡ mostB k n
+inside : (from to k : ℕ) → from ≤ k → k ≤ to → within from to k ≡ true
+inside from to k l h = rw (le-leb from k l, le-leb k to h) refl
+
+below : (from to k : ℕ) → k < from → within from to k ≡ false
+below from to k l = rw (lt-leb from k l) refl
+
+above : (from to k : ℕ) → to < k → within from to k ≡ false
+above from to k l = rw (lt-leb k to l) (and-false (leb from k))
+
+-- a column that is y in two stretches and 0 elsewhere
+module _ (column : ℕ → ℕ) (y a b c d : ℕ) (is : (k : ℕ) → k ≤ lastKind → cond (within a b k) y (cond (within c d k) y 0) ≡ column k)
+    (none-above : (k : ℕ) → lastKind < k → 0 ≡ column k) where
+  pub first-stretch : (k : ℕ) → a ≤ k → k ≤ b → k ≤ lastKind → y ≡ column k
+  first-stretch k l h m = rw (inside a b k l h) refl ∙ is k m
+
+  pub second-stretch : (k : ℕ) → b < k → c ≤ k → k ≤ d → k ≤ lastKind → y ≡ column k
+  second-stretch k f l h m = rw (above a b k f, inside c d k l h) refl ∙ is k m
+
+  pub elsewhere : (k : ℕ) → (k < a) ⊎ (b < k) → (k < c) ⊎ (d < k) → 0 ≡ column k
+  elsewhere k f g = go (decLe k lastKind)
+    where
+      outside : (from to : ℕ) → (k < from) ⊎ (to < k) → within from to k ≡ false
+      outside from to (inl l) = below from to k l
+      outside from to (inr l) = above from to k l
+
+      go : Dec (k ≤ lastKind) → 0 ≡ column k
+      go (yes m) = rw (outside a b f, outside c d g) refl ∙ is k m
+      go (no m) = none-above k (omega arith)
+
+pub least-a-is : (k : ℕ) → k ≤ lastKind → cond (within 3 13 k) 1 (cond (within 14 14 k) 1 0) ≡ leastA k
+unfolding leastA
+least-a-is k h = same-table (λ k. cond (within 3 13 k) 1 (cond (within 14 14 k) 1 0)) leastA (suc lastKind) refl k (omega arith)
+
+pub least-b-is : (k : ℕ) → k ≤ lastKind → cond (within 4 4 k) 1 (cond (within 8 12 k) 1 0) ≡ leastB k
+unfolding leastB
+least-b-is k h = same-table (λ k. cond (within 4 4 k) 1 (cond (within 8 12 k) 1 0)) leastB (suc lastKind) refl k (omega arith)
+
+pub most-b-is : (n k : ℕ) → k ≤ lastKind → cond (within 1 5 k) n (cond (within 8 12 k) n 0) ≡ mostB k n
 unfolding mostB
-most-b-column n k h = same-table (λ k. cond (eqb (getD takes-b k 0) 0) 0 n) (λ k. mostB k n) (suc lastKind) refl k (omega arith)
+most-b-is n k h = same-table (λ k. cond (within 1 5 k) n (cond (within 8 12 k) n 0)) (λ k. mostB k n) (suc lastKind) refl k (omega arith)
+
+module _ (k : ℕ) (h : lastKind < k) where
+  pub least-a-none : 0 ≡ leastA k
+  unfolding leastA
+  least-a-none = rw (no-kind k (λ l m. omega arith)) refl
+
+  pub least-b-none : 0 ≡ leastB k
+  unfolding leastB
+  least-b-none = rw (no-kind k (λ l m. omega arith)) refl
+
+  pub most-b-none : (n : ℕ) → 0 ≡ mostB k n
+  unfolding mostB
+  most-b-none n = rw (no-kind k (λ l m. omega arith)) refl
 
 -- no b is above V
 pub most-bound : (k n : ℕ) → mostB k n ≤ n
-unfolding mostB
 most-bound k n = go (decLe k lastKind)
   where
-    none-or-all : (t : Bool) → cond t 0 n ≤ n
-    none-or-all true = omega arith
-    none-or-all false = omega arith
+    none-or-all : (s t : Bool) → cond s n (cond t n 0) ≤ n
+    none-or-all true t = omega arith
+    none-or-all false true = omega arith
+    none-or-all false false = omega arith
 
     go : Dec (k ≤ lastKind) → mostB k n ≤ n
-    go (yes h) = rw (← most-b-column n k h) (none-or-all (eqb (getD takes-b k 0) 0))
-    go (no h) = rw (no-kind k (λ l m. h m)) (omega arith)
+    go (yes h) = rw (← most-b-is n k h) (none-or-all (within 1 5 k) (within 8 12 k))
+    go (no h) = rw (← most-b-none k (omega arith) n) (omega arith)
 
 -- ---- the test of a kind and two operands
 

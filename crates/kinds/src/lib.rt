@@ -30,46 +30,38 @@ pub const SMALLER: u8 = 12;
 
 pub const READ: u8 = 13;
 
-// The columns of the table, by kind: the least a, the least b, and 1 where b may be a variable. There is no kind 0.
 const LAST_KIND: usize = 13;
 
-const LEAST_A: [usize; 14] = [0, 0, 0, 1, 1, 1, 1, 1, 1, 1, 1, 1, 1, 1];
-
-const LEAST_B: [usize; 14] = [0, 0, 0, 0, 1, 0, 0, 0, 1, 1, 1, 1, 1, 0];
-
-const TAKES_B: [usize; 14] = [0, 1, 1, 1, 1, 1, 0, 0, 1, 1, 1, 1, 1, 0];
+// The columns of the table, by kind. They are matches and no arrays: an array of constants is built anew at each use.
 
 // The least a of a kind; 0 for a number that is no kind.
 pub fn least_a(kind: usize) -> usize
     ensures { λ r. ⌜ r ≡ leastA kind ⌝ }
 {
-    if LAST_KIND < kind {
-        return 0;
+    match kind {
+        3..=13 => 1,
+        _ => 0,
     }
-    LEAST_A[kind]
 }
 
 // The least b.
 pub fn least_b(kind: usize) -> usize
     ensures { λ r. ⌜ r ≡ leastB kind ⌝ }
 {
-    if LAST_KIND < kind {
-        return 0;
+    match kind {
+        4 | 8..=12 => 1,
+        _ => 0,
     }
-    LEAST_B[kind]
 }
 
 // The most b where there are so many variables.
 pub fn most_b(kind: usize, variables: usize) -> usize
     ensures { λ r. ⌜ r ≡ mostB kind variables ⌝ }
 {
-    if LAST_KIND < kind {
-        return 0;
+    match kind {
+        1..=5 | 8..=12 => variables,
+        _ => 0,
     }
-    if TAKES_B[kind] == 0 {
-        return 0;
-    }
-    variables
 }
 
 // Whether a kind and two operands keep to the table.

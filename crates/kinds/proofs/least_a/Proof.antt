@@ -1,29 +1,21 @@
--- The column of the code is that of the table.
-use mathlib.Core.List.{[], _∷_}
-use mathlib.Core.Path.{refl}
-use Prim.Native.Nat.{suc}
+-- The stretches of the code are those of the table.
+use mathlib.Core.Logic.{inl}
+use Prim.Native.Nat.{_<_}
 use native.Mathlib.Omega.{arith}
-use lib.ListN.{getD}
-use Rattle.lists.proofs.Range.{same-table}
-use Rattle.heap.proofs.Rows.{lastKind, no-kind}
 use Rattle.kinds.specs.Kinds.{leastA}
+use Rattle.kinds.proofs.Rows.{first-stretch, elsewhere, least-a-is, least-a-none}
 use borrow.Author.Needs.{needs}
 use Rattle.kinds.proofs.least_a.Statement.{statement}
 use Rattle.kinds.proofs.least_a.Tie as tie
 
 returns : tie.Need-returns
-unfolding leastA
-returns c = rw (no-kind (c .before .args .kind) (λ l h. omega arith)) refl
-
-mul-result : tie.Need-mul-result
-mul-result c = search needs
-
-array-read-result : tie.Need-array-read-result
-array-read-result c = search needs
+returns c = first-stretch leastA 1 3 13 14 14 least-a-is least-a-none (c .before .before .args .kind) (omega arith) (omega arith) (omega arith)
 
 returns-2 : tie.Need-returns-2
-unfolding leastA
-returns-2 c = same-table (λ k. getD (0 ∷ 0 ∷ 0 ∷ 1 ∷ 1 ∷ 1 ∷ 1 ∷ 1 ∷ 1 ∷ 1 ∷ 1 ∷ 1 ∷ 1 ∷ 1 ∷ []) k 0) leastA (suc lastKind) refl (c .before .args .kind) (omega arith)
+returns-2 c = elsewhere leastA 1 3 13 14 14 least-a-is least-a-none (c .before .args .kind) (inl (omega arith)) (inl (omega arith))
+
+returns-3 : tie.Need-returns-3
+returns-3 c = let k = c .before .before .args .kind in let h : 13 < k = omega arith in least-a-none k h
 
 pub least-a-spec : {M : Type 1} → statement M
-least-a-spec = tie.close (tie.spec returns mul-result array-read-result returns-2)
+least-a-spec = tie.close (tie.spec returns returns-2 returns-3)
