@@ -1,7 +1,7 @@
 -- The answers of count, insert and remove: ready or not, by the cells met, and by the turns.
-use mathlib.Core.Bool.{Bool, true, false, _&&_, cond}
+use mathlib.Core.Bool.{Bool, true, false, cond, true≢false}
 use mathlib.Core.List.{List, [], _∷_}
-use mathlib.Core.Logic.{_≢_, _⊎_, inl, inr, ite, ⊎-elim}
+use mathlib.Core.Logic.{ite}
 use mathlib.Core.Option.{Option, none, some}
 use mathlib.Core.Path.{_≡_, refl, sym, ap, _∙_, subst}
 use Prim.Native.Nat.{ℕ, zero, suc, _-_, _≤_, _<_}
@@ -11,18 +11,18 @@ use lib.Dec.{leb, ltb}
 use lib.ListN.{length}
 use Rattle.lists.proofs.Test.{and-left, and-right}
 use Rattle.heap.specs.Heap.{Heap, update}
-use Rattle.heap.specs.Operation.{Op, equal, new, Enabled, enabled?, operation}
-use Rattle.heap.specs.Place.{nowhere, null, dangling, cell}
-use Rattle.stepper.specs.Step.{stays, lowestUnused, choice, tableAfter, perform, stepOf, Steps}
-use Rattle.stepper.specs.Table.{heapOf, tableOf, wellFormed}
+use Rattle.heap.specs.Operation.{equal, new, Enabled, enabled?, operation}
+use Rattle.heap.specs.Place.{nowhere, cell}
+use Rattle.stepper.specs.Step.{stays, lowestUnused, tableAfter, perform, stepOf, Steps}
+use Rattle.stepper.specs.Table.{heapOf, wellFormed}
 use Rattle.stepper.specs.Turns.{onMoved, InTurn, StepsInTurn}
 use Rattle.stepper.specs.declared.Heap64.{Heap64}
 use Rattle.stepper.specs.declared.Outcome.{Outcome}
 use Rattle.stepper.specs.declared.Outcome.the-variants.{Moved, Blocked, Refused}
 use Rattle.stepper.specs.declared.StepRefusal.the-variants as step-refusal
 use Rattle.stepper.specs.declared.Stepped.{Stepped}
-use Rattle.blocklist.specs.BlockList.{Lists, putIn, takenOut, cellAt, counted, inserted, removed}
-use Rattle.blocklist.specs.Answers.{ready, blocks, onBlocks, withList, lengthTold, countOf, handsBack, done, insertOf, removeAt, removeOf, Met, Counts, Inserts, Removes}
+use Rattle.blocklist.specs.BlockList.{Lists, cellAt, counted, inserted, removed}
+use Rattle.blocklist.specs.Answers.{ready, blocks, withList, lengthTold, countOf, handsBack, done, insertOf, removeAt, removeOf, Met, Counts, Inserts, Removes}
 use Rattle.blocklist.specs.Parts.{refusedAs, editOf, editedAs, EditedBy, times, once, restTurns, insertTurns, firstTurns, afterTurns}
 use Rattle.blocklist.specs.Sentences.{OnlyRests, PutsIn, TakesOut}
 use Rattle.blocklist.specs.declared.Counted.{Counted}
@@ -34,13 +34,10 @@ use Rattle.blocklist.specs.declared.ListRefusal.{ListRefusal}
 use Rattle.blocklist.specs.declared.ListRefusal.the-variants.{IllFormed, NoList, PastList, Full}
 use Rattle.blocklist.proofs.Chains.{cells-lists, cells-length}
 use Rattle.blocklist.proofs.Meaning.{only-rests, puts-in, takes-out}
-use Rattle.blocklist.proofs.Moving.{Stands, by-name, spotOf, spot-is, heapAt, put, At, Done, turn-is, taken}
+use Rattle.blocklist.proofs.Moving.{by-name, spotOf, spot-is, heapAt, At, Done, turn-is, taken}
 use Rattle.blocklist.proofs.Walking.{rested}
 use Rattle.blocklist.proofs.Inserting as inserting
 use Rattle.blocklist.proofs.Removing as removing
-
-apart : _≡_ {A = Bool} true false → ⊥
-apart e = let z : _≡_ {A = ℕ} 0 1 = cc in omega arith
 
 not-done : (r : ListRefusal) → _≡_ {A = Edit} (edit.Refused r) edit.Done → ⊥
 not-done r e = let z : _≡_ {A = ℕ} 0 1 = cc in omega arith
@@ -77,7 +74,7 @@ module _ (t : Heap64) (kind b : ℕ) (turns : List ℕ) (s : Stepped) (few : leb
 
       go : (w : Bool) → wellFormed t ≡ w → (f : Bool) → leb 3 (t .variables) ≡ f → editOf (s .outcome) ≡ edit.Refused IllFormed
       go false w f z = ap (λ (q : Stepped). editOf (q .outcome)) (p .ill-formed w)
-      go true w true z = absurd (apart (sym (rw (w, z) refl) ∙ e))
+      go true w true z = absurd (true≢false (sym (rw (w, z) refl) ∙ e))
       go true w false z =
           let (u, st, on) = subst (λ (P : Type 0). P) (turn-is 1 kind 3 b turns k (omega arith) l t s) (p .in-turn w) in
           let is = refused u st w z in
@@ -210,10 +207,20 @@ module _ (t : Heap64) (m : Met t) where
       refused-by (Removes t n) NoList (remove-unready n) (λ a. remove-back n NoList (no-list t (handsBack t) _ a (none-found t r e .0)))
 
   -- an edit whose steps are all done
-  edited-done : (turns : List ℕ) (r : Edited) (k : Heap) (s : Stepped) → r ≡ editedAs t (s .heap) (editOf (s .outcome)) → Done (t .variables) s k → r ≡ done t k
-  edited-done turns r k s e d =
+  record MadeOf (r : Edited) (k : Heap) : Type 0 where
+    is : r ≡ done t k
+    heap : heapOf (r .heap) ≡ k
+    formed : wellFormed (r .heap) ≡ true
+
+  made : (r : Edited) (k : Heap) (s : Stepped) → r ≡ editedAs t (s .heap) (editOf (s .outcome)) → Done (t .variables) s k → MadeOf r k
+  made r k s e d =
+      let after : r ≡ record { heap = s .heap; edit = edit.Done } = e ∙ ap (λ (o : Outcome). editedAs t (s .heap) (editOf o)) (d .moved) in
       let table-is = d .table in
-      e ∙ ap (λ (o : Outcome). editedAs t (s .heap) (editOf o)) (d .moved) ∙ (λ i. record { heap = table-is i; edit = edit.Done })
+      record {
+        is = after ∙ (λ i. record { heap = table-is i; edit = edit.Done });
+        heap = ap (λ (q : Edited). heapOf (q .heap)) after ∙ d .stands .heap;
+        formed = subst (λ (q : Edited). wellFormed (q .heap) ≡ true) (sym after) (d .stands .formed);
+      }
 
   -- and one that is refused
   edited-back : (r : Edited) (s : Stepped) (f : ListRefusal) → r ≡ editedAs t (s .heap) (editOf (s .outcome)) → editOf (s .outcome) ≡ edit.Refused f → r ≡ handsBack t f
@@ -286,14 +293,12 @@ module _ (t : Heap64) (m : Met t) where
               let back : r ≡ handsBack t IllFormed = edited-back r (e .0) IllFormed (e .2) (unready t 3 1 turns (e .0) few-3 (omega arith) (omega arith) a (e .1)) in
               subst (Removes t n) (sym back) (remove-unready n a)
           go true a =
-              let d = does a in
-              let is : r ≡ done t (removed i xs h) = edited-done (once 3 3 1 ∷ turns) r (removed i xs h) (e .0) (e .2) d in
-              let heap-is : heapOf (r .heap) ≡ removed i xs h = ap (λ (q : Edited). heapOf (q .heap)) (is ∙ (λ j. record { heap = sym (d .table) j; edit = edit.Done })) ∙ d .stands .heap in
+              let d = made r (removed i xs h) (e .0) (e .2) (does a) in
               record {
-                result = is ∙ ap (λ (o : Bool). cond o (done t (removed i xs h)) (handsBack t PastList)) (sym inside) ∙ ap (λ (k : ℕ). removeAt t k xs) (sym n-is) ∙ removed-in a;
-                formed = λ f. subst (λ (q : Edited). wellFormed (q .heap) ≡ true) (sym (is ∙ (λ j. record { heap = sym (d .table) j; edit = edit.Done }))) (d .stands .formed);
+                result = d .is ∙ ap (λ (o : Bool). cond o (done t (removed i xs h)) (handsBack t PastList)) (sym inside) ∙ ap (λ (k : ℕ). removeAt t k xs) (sym n-is) ∙ removed-in a;
+                formed = λ f. d .formed;
                 met = m;
-                removes = λ z. (xs, i, n-is, l .found, heap-is, subst (TakesOut i (cellAt i xs) xs h) (sym heap-is) (takes-out h refl refl xs (l .lists) i (let k = l .count in omega arith)));
+                removes = λ z. (xs, i, n-is, l .found, d .heap, subst (TakesOut i (cellAt i xs) xs h) (sym (d .heap)) (takes-out h refl refl xs (l .lists) i (let k = l .count in omega arith)));
               }
 
     first-out : (ys : List ℕ) → Lists (h .link) (h .var 1) ys → 0 < length ys → ready t ≡ true → (s : Stepped) → StepsInTurn t firstTurns s → Done (t .variables) s (removed 0 ys h)
@@ -377,14 +382,12 @@ module _ (t : Heap64) (m : Met t) where
               let back : r ≡ handsBack t Full = edited-back r s Full (e .2) (full a z) in
               subst (Inserts t n) (sym back) (insert-back n Full (with-room b a true z))
           go true a false z =
-              let d = put-in a z in
-              let is : r ≡ done t (inserted n (cell x) xs h) = edited-done (insertTurns n) r (inserted n (cell x) xs h) s (e .2) d in
-              let heap-is : heapOf (r .heap) ≡ inserted n (cell x) xs h = ap (λ (q : Edited). heapOf (q .heap)) (is ∙ (λ j. record { heap = sym (d .table) j; edit = edit.Done })) ∙ d .stands .heap in
+              let d = made r (inserted n (cell x) xs h) s (e .2) (put-in a z) in
               record {
-                result = is ∙ with-room b a false z;
-                formed = λ f. subst (λ (q : Edited). wellFormed (q .heap) ≡ true) (sym (is ∙ (λ j. record { heap = sym (d .table) j; edit = edit.Done }))) (d .stands .formed);
+                result = d .is ∙ with-room b a false z;
+                formed = λ f. d .formed;
                 met = m;
-                inserts = λ w. (xs, l .found, heap-is, subst (PutsIn n (cell x) xs h) (sym heap-is) (puts-in h refl refl xs (l .lists) n (cell x) (λ i. omega arith) (free a z)));
+                inserts = λ w. (xs, l .found, d .heap, subst (PutsIn n (cell x) xs h) (sym (d .heap)) (puts-in h refl refl xs (l .lists) n (cell x) (λ i. omega arith) (free a z)));
               }
 
 -- ---- the test of a table: 3 = 3 is refused exactly if it is not ready

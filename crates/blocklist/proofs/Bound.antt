@@ -7,7 +7,6 @@ use Prim.Native.Nat.{ℕ, zero, suc, _≤_, _<_}
 use native.Mathlib.Decide.{ℕ-discrete, decLt}
 use native.Mathlib.Omega.{arith}
 use lib.ListN.{length, length-map}
-use Rattle.lists.specs.List.{_∈_}
 use Rattle.lists.proofs.List.{pigeonhole}
 use Rattle.heap.specs.Follow.{follow}
 use Rattle.heap.specs.Place.{null}

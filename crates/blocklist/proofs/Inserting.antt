@@ -14,7 +14,7 @@ use Rattle.stepper.specs.declared.Stepped.{Stepped}
 use Rattle.blocklist.specs.BlockList.{Lists, headOf, chained, three, putIn, cellAt}
 use Rattle.blocklist.specs.Parts.{times, once, restTurns}
 use Rattle.blocklist.proofs.Chains.{update-same, update-other, by-update, cell-in, lists-head, lists-drop, cell-next, lists-somewhere, lists-proper, lists-linked, lists-chained, lists-agree, put-after}
-use Rattle.blocklist.proofs.Moving.{Spot, heap-path, At, Done, assigned, loaded, stored}
+use Rattle.blocklist.proofs.Moving.{heap-path, At, Done, assigned, loaded, stored}
 use Rattle.blocklist.proofs.Walking.{rested, walked}
 
 -- x is free, and xs are the cells met from a

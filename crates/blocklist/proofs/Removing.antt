@@ -1,5 +1,5 @@
 -- The turns of a remove: the list with a cell taken out.
-use mathlib.Core.List.{List, [], _∷_, List·Memᴰ·head, List·Memᴰ·tail}
+use mathlib.Core.List.{List, _∷_, List·Memᴰ·head, List·Memᴰ·tail}
 use mathlib.Core.Logic.{_≢_}
 use mathlib.Core.Option.{Option, none}
 use mathlib.Core.Path.{_≡_, refl, sym, ap, _∙_, subst}
@@ -16,8 +16,8 @@ use Rattle.stepper.specs.declared.Stepped.{Stepped}
 use Rattle.blocklist.specs.BlockList.{Lists, headOf, chained, three, takenOut, cellAt}
 use Rattle.blocklist.specs.Parts.{times, once, restTurns}
 use Rattle.blocklist.proofs.Chains.{update-same, update-other, dangled-other, cutOff, cell-in, cells-differ, lists-head, lists-drop, cell-next, lists-somewhere, lists-proper, lists-not-null, lists-distinct, lists-unique, take-first, take-after}
-use Rattle.blocklist.proofs.Moving.{Spot, heap-path, heapAt, put, cut, At, After, Done, finished, assigned, loaded, stored, deleted}
-use Rattle.blocklist.proofs.Walking.{cleared, rested, walked}
+use Rattle.blocklist.proofs.Moving.{Spot, heap-path, At, Done, assigned, loaded, stored, deleted}
+use Rattle.blocklist.proofs.Walking.{rested, walked}
 
 -- y and ys are the cells met from the head
 module _ (link : ℕ → ℕ) (low : link nowhere ≡ nowhere) (loose : link dangling ≡ nowhere) (y : ℕ) (ys : List ℕ) (l : Lists link y (y ∷ ys)) where

@@ -1,6 +1,5 @@
 -- A walk along a list, and the end of the turns.
 use mathlib.Core.List.{List, [], _∷_}
-use mathlib.Core.Logic.{_≢_}
 use mathlib.Core.Path.{_≡_, refl, sym, ap, _∙_, subst}
 use Prim.Native.Nat.{ℕ, zero, suc, _≤_}
 use native.Mathlib.Omega.{arith}
@@ -10,7 +9,7 @@ use Rattle.stepper.specs.declared.Stepped.{Stepped}
 use Rattle.blocklist.specs.BlockList.{Lists, cellAt}
 use Rattle.blocklist.specs.Parts.{times, once, restTurns}
 use Rattle.blocklist.proofs.Chains.{lists-head, lists-somewhere, lists-proper}
-use Rattle.blocklist.proofs.Moving.{Stands, Spot, heapAt, put, At, After, Done, finished, turn-is, assigned, loaded-on}
+use Rattle.blocklist.proofs.Moving.{Spot, heapAt, put, At, After, Done, finished, turn-is, assigned, loaded-on}
 
 module _ {n : ℕ} (enough : 3 ≤ n) {r : Stepped} where
   -- v := null

@@ -1,5 +1,5 @@
 -- The promises of the calls, from those of the list.
-use mathlib.Core.Bool.{Bool, true, false, cond}
+use mathlib.Core.Bool.{Bool, true, false, true≢false}
 use mathlib.Core.List.{List}
 use mathlib.Core.Path.{_≡_, refl, sym, ap, _∙_, subst}
 use Prim.Native.Nat.{ℕ}
@@ -7,10 +7,9 @@ use native.Mathlib.Decide.{ℕ-discrete}
 use native.Mathlib.Omega.{arith}
 use lib.ListN.{length}
 use Rattle.stepper.specs.declared.Heap64.{Heap64}
-use Rattle.heapbytes.specs.HeapBytes.{bytesReadable, readable, codesFrom, heapFrom, heapBytes}
+use Rattle.heapbytes.specs.HeapBytes.{bytesReadable, readable, codesFrom, heapFrom}
 use Rattle.heapbytes.proofs.Bytes.{other-count, with-values}
 use Rattle.heapbytes.proofs.RoundTrip.{codes-same}
-use Rattle.heapcodec.specs.Codec.{readHeap, heapWritten, valuesWritten}
 use Rattle.heapcodec.specs.declared.HeapRead.{HeapRead}
 use Rattle.heapcodec.proofs.Codec.{heap-read, readable-length, heap-written, values-written}
 use Rattle.blocklist.specs.Answers.{refusalNumber, Counts}
@@ -22,9 +21,6 @@ use Rattle.blocklist.specs.declared.Length.the-variants as length-is
 use Rattle.blocklist.specs.declared.ListRefusal.{ListRefusal}
 use Rattle.list_calls.specs.ListBytes.{bytesAfter, valuesAfter, EditsBytes, CountsBytes, HeapLent, bytesWritten, numbersWritten, PutBack}
 
-apart : _≡_ {A = Bool} true false → ⊥
-apart e = let z : _≡_ {A = ℕ} 0 1 = cc in omega arith
-
 module _ (bytes values : List ℕ) where
   -- readable ones have their lengths
   values-length : readable bytes values ≡ true → length values ≡ 64
@@ -32,7 +28,7 @@ module _ (bytes values : List ℕ) where
     where
       go : Dec (length values ≡ 64) → length values ≡ 64
       go (yes c) = c
-      go (no n) = absurd (apart (sym e ∙ other-count bytes values n))
+      go (no n) = absurd (true≢false (sym e ∙ other-count bytes values n))
 
   bytes-fit : readable bytes values ≡ true → bytesReadable bytes ≡ true
   bytes-fit e = with-values bytes values (values-length e) ∙ e
@@ -55,13 +51,13 @@ module _ (bytes values : List ℕ) where
 
   module _ (Edits : Heap64 → Edited → Type 0) where
     pub edits-13 : readable bytes values ≡ false → EditsBytes Edits bytes values 13 bytes values
-    edits-13 e = record { unreadable = λ z. (refl, refl, refl); edits = λ z. absurd (apart (sym z ∙ e)) }
+    edits-13 e = record { unreadable = λ z. (refl, refl, refl); edits = λ z. absurd (true≢false (sym z ∙ e)) }
 
     pub edits-done : readable bytes values ≡ true → (r : HeapRead) → HeapLent bytes values r → (d : Edited) → Edits (r .heap) d
         → (number : ℕ) (bytes′ values′ : List ℕ) → PutBack d bytes values number bytes′ values′ → EditsBytes Edits bytes values number bytes′ values′
     edits-done e r l d promised number bytes′ values′ p =
         record {
-          unreadable = λ z. absurd (apart (sym e ∙ z));
+          unreadable = λ z. absurd (true≢false (sym e ∙ z));
           edits = λ z. (
             d,
             subst (λ (t : Heap64). Edits t d) (heap-is r l e) promised,
@@ -72,7 +68,7 @@ module _ (bytes values : List ℕ) where
         }
 
   pub counts-13 : readable bytes values ≡ false → CountsBytes bytes values 13 0 bytes values
-  counts-13 e = record { unreadable = λ z. (refl, refl, refl, refl); counts = λ z. absurd (apart (sym z ∙ e)) }
+  counts-13 e = record { unreadable = λ z. (refl, refl, refl, refl); counts = λ z. absurd (true≢false (sym z ∙ e)) }
 
   module _ (e : readable bytes values ≡ true) (r : HeapRead) (l : HeapLent bytes values r) (c : Counted) (promised : Counts (r .heap) c) where
     promised-so : Counts (heapFrom bytes values) c
@@ -82,7 +78,7 @@ module _ (bytes values : List ℕ) where
         → PutBack (record { heap = c .heap; edit = edit.Done }) bytes values number bytes′ values′ → CountsBytes bytes values number n bytes′ values′
     counts-done n is number bytes′ values′ p =
         record {
-          unreadable = λ z. absurd (apart (sym e ∙ z));
+          unreadable = λ z. absurd (true≢false (sym e ∙ z));
           counts = λ z. (
             c,
             promised-so,
@@ -96,6 +92,6 @@ module _ (bytes values : List ℕ) where
     pub counts-refused : (f : ListRefusal) → c .length ≡ length-is.Refused f → CountsBytes bytes values (refusalNumber f) 0 bytes values
     counts-refused f is =
         record {
-          unreadable = λ z. absurd (apart (sym e ∙ z));
+          unreadable = λ z. absurd (true≢false (sym e ∙ z));
           counts = λ z. (c, promised-so, rw is refl, rw is refl, rw is refl, rw is refl);
         }

@@ -1,5 +1,5 @@
 -- Not ready, no list, or counted.
-use mathlib.Core.Path.{_≡_, sym, _∙_}
+use mathlib.Core.Path.{sym, _∙_}
 use lib.ListN.{length, length-map}
 use Rattle.blocklist.specs.Answers.{Met}
 use Rattle.blocklist.proofs.Answering.{count-unready, count-refused, count-done}

@@ -1,5 +1,5 @@
 -- What the steps come to.
-use mathlib.Core.Path.{_≡_, sym, ap, _∙_}
+use mathlib.Core.Path.{sym, ap, _∙_}
 use Rattle.blocklist.specs.Parts.{editedAs}
 use borrow.Author.Needs.{needs}
 use Rattle.blocklist.proofs.edit_by.Statement.{statement}

@@ -1,5 +1,5 @@
 -- By the outcome.
-use mathlib.Core.Path.{_≡_, sym, ap, _∙_}
+use mathlib.Core.Path.{sym, ap, _∙_}
 use Rattle.stepper.specs.declared.Outcome.the-variants.{Refused}
 use Rattle.blocklist.specs.Parts.{editOf}
 use borrow.Author.Needs.{needs}

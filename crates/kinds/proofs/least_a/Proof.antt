@@ -4,7 +4,6 @@ use Prim.Native.Nat.{_<_}
 use native.Mathlib.Omega.{arith}
 use Rattle.kinds.specs.Kinds.{leastA}
 use Rattle.kinds.proofs.Rows.{first-stretch, elsewhere, least-a-is, least-a-none}
-use borrow.Author.Needs.{needs}
 use Rattle.kinds.proofs.least_a.Statement.{statement}
 use Rattle.kinds.proofs.least_a.Tie as tie
 

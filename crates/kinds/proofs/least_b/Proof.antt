@@ -5,7 +5,6 @@ use native.Mathlib.Decide.{decLt}
 use native.Mathlib.Omega.{arith}
 use Rattle.kinds.specs.Kinds.{leastB}
 use Rattle.kinds.proofs.Rows.{first-stretch, second-stretch, elsewhere, least-b-is, least-b-none}
-use borrow.Author.Needs.{needs}
 use Rattle.kinds.proofs.least_b.Statement.{statement}
 use Rattle.kinds.proofs.least_b.Tie as tie
 

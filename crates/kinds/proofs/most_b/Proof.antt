@@ -3,7 +3,6 @@ use mathlib.Core.Logic.{inl, inr}
 use native.Mathlib.Omega.{arith}
 use Rattle.kinds.specs.Kinds.{mostB}
 use Rattle.kinds.proofs.Rows.{first-stretch, second-stretch, elsewhere, most-b-is, most-b-none}
-use borrow.Author.Needs.{needs}
 use Rattle.kinds.proofs.most_b.Statement.{statement}
 use Rattle.kinds.proofs.most_b.Tie as tie
 

@@ -1,5 +1,5 @@
 -- Written, or not.
-use mathlib.Core.Path.{_≡_, sym, ap, _∙_}
+use mathlib.Core.Path.{sym, ap, _∙_}
 use Rattle.blocklist.specs.declared.Edit.{Edit}
 use Rattle.list_calls.specs.ListBytes.{editNumber, bytesWritten, numbersWritten}
 use borrow.Author.Needs.{needs}

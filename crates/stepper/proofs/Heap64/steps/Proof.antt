@@ -1,5 +1,5 @@
 -- Ill formed, or steps in turn on a well formed heap.
-use mathlib.Core.Bool.{Bool, true, false}
+use mathlib.Core.Bool.{true, false, true≢false}
 use mathlib.Core.Path.{_≡_, refl, sym, _∙_}
 use Prim.Native.Nat.{ℕ}
 use native.Mathlib.Omega.{arith}
@@ -8,9 +8,6 @@ use Rattle.stepper.specs.Table.{wellFormed}
 use borrow.Author.Needs.{needs}
 use Rattle.stepper.proofs.Heap64.steps.Statement.{statement}
 use Rattle.stepper.proofs.Heap64.steps.Tie as tie
-
-apart : _≡_ {A = Bool} true false → ⊥
-apart e = let z : _≡_ {A = ℕ} 0 1 = cc in omega arith
 
 is-formed : (c : tie.Else1) → wellFormed (c .before .before .before .args .self) ≡ true
 is-formed c = let w = c .before .is-well-formed in sym (w .ensures .0) ∙ not-false (w .result) (c .if1 .left)
@@ -23,7 +20,7 @@ returns c =
     let w = c .before .is-well-formed in
     record {
       ill-formed = λ h. refl;
-      in-turn = λ h. absurd (apart (sym h ∙ sym (w .ensures .0) ∙ not-true (w .result) (c .if1 .taken)));
+      in-turn = λ h. absurd (true≢false (sym h ∙ sym (w .ensures .0) ∙ not-true (w .result) (c .if1 .taken)));
     }
 
 steps-formed-requires : tie.Need-steps-formed-requires
@@ -32,7 +29,7 @@ steps-formed-requires c κs = record { sized = c .before .is-well-formed .ensure
 returns-2 : tie.Need-returns-2
 returns-2 c =
     record {
-      ill-formed = λ h. absurd (apart (sym (is-formed (c .before)) ∙ h));
+      ill-formed = λ h. absurd (true≢false (sym (is-formed (c .before)) ∙ h));
       in-turn = λ h. c .steps-formed .ensures;
     }
 

@@ -1,5 +1,4 @@
 -- The code in the list of the table, or 0 where the place is no cell of it.
-use Prim.Native.Nat.{_-_}
 use mathlib.Core.Path.{_≡_}
 use native.Mathlib.Omega.{arith}
 use lib.ListN.{length}
