@@ -1,4 +1,4 @@
-//! Tells the linker where the proved library is. `make lib` writes it to target/staticlib;
+//! Tells the linker where the proved libraries are. `make lib` writes them to target/staticlib;
 //! VORRUDA_LIB_DIR names another folder.
 
 use std::env;
@@ -8,10 +8,9 @@ fn main() {
     let folder = env::var_os("VORRUDA_LIB_DIR").map_or_else(usual_folder, PathBuf::from);
     println!("cargo:rerun-if-env-changed=VORRUDA_LIB_DIR");
     println!("cargo:rerun-if-changed=build.rs");
-    println!(
-        "cargo:rerun-if-changed={}",
-        folder.join("libvorruda.a").display()
-    );
+    for library in ["libvorruda.a", "libvorruda_list.a"] {
+        println!("cargo:rerun-if-changed={}", folder.join(library).display());
+    }
     println!("cargo:rustc-link-search=native={}", folder.display());
 }
 

@@ -1,7 +1,15 @@
 #!/usr/bin/env bash
-# Builds and runs the host program in C.
+# Builds and runs the examples in C, each with its own library, and sees that both headers may be included together, from C++ too.
 set -euo pipefail
 cd "$(dirname "$0")/.."
 mkdir -p build
-gcc -std=c11 -Wall -Wextra -Werror -O2 -Iinclude examples/host.c target/staticlib/libvorruda.a -o build/host
+flags=(-Wall -Wextra -Werror -O2 -Iinclude)
+gcc -std=c11 "${flags[@]}" examples/host.c target/staticlib/libvorruda.a -o build/host
+gcc -std=c11 "${flags[@]}" examples/block_list.c target/staticlib/libvorruda_list.a -o build/block_list
 build/host
+build/block_list
+printf '#include "vorruda.h"\n#include "vorruda_list.h"\nint main(void) { return 0; }\n' > build/both.c
+gcc -std=c11 "${flags[@]}" build/both.c -o build/both
+if command -v g++ > /dev/null; then
+    g++ -std=c++11 "${flags[@]}" -x c++ build/both.c -o build/both
+fi

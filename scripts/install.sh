@@ -1,5 +1,5 @@
 #!/usr/bin/env bash
-# Puts header, static library and a pkg-config file below PREFIX; DESTDIR, if set, stands before every path that is written.
+# Puts the headers, the static libraries and a pkg-config file for each below PREFIX; DESTDIR, if set, stands before every path that is written.
 set -euo pipefail
 cd "$(dirname "$0")/.."
 prefix=${PREFIX:-/usr/local}
@@ -10,19 +10,25 @@ esac
 into=${DESTDIR:-}$prefix
 version=$(sed -n 's/^version = "\(.*\)"$/\1/p' host/Cargo.toml)
 
-install -d "$into/include" "$into/lib/pkgconfig"
-install -m 644 include/vorruda.h "$into/include/vorruda.h"
-install -m 644 target/staticlib/libvorruda.a "$into/lib/libvorruda.a"
-cat > "$into/lib/pkgconfig/vorruda.pc" << END
+# install_library NAME DESCRIPTION
+install_library() {
+    install -m 644 "include/$1.h" "$into/include/$1.h"
+    install -m 644 "target/staticlib/lib$1.a" "$into/lib/lib$1.a"
+    cat > "$into/lib/pkgconfig/$1.pc" << END
 prefix=$prefix
 includedir=\${prefix}/include
 libdir=\${prefix}/lib
 
-Name: vorruda
-Description: Proved checker of certificates for linked-list routines
+Name: $1
+Description: $2
 Version: $version
 Cflags: -I\${includedir}
-Libs: -L\${libdir} -lvorruda
+Libs: -L\${libdir} -l$1
 END
-chmod 644 "$into/lib/pkgconfig/vorruda.pc"
-echo "installed include/vorruda.h, lib/libvorruda.a and lib/pkgconfig/vorruda.pc below $into"
+    chmod 644 "$into/lib/pkgconfig/$1.pc"
+    echo "installed include/$1.h, lib/lib$1.a and lib/pkgconfig/$1.pc below $into"
+}
+
+install -d "$into/include" "$into/lib/pkgconfig"
+install_library vorruda "Proved checker of certificates for linked-list routines"
+install_library vorruda_list "Proved list of pattern blocks for a loom box"

@@ -1,5 +1,5 @@
 #!/usr/bin/env bash
-# Installs below build/installed, with and without DESTDIR, and builds and runs the host in C with what pkg-config says.
+# Installs below build/installed, with and without DESTDIR, and builds and runs both examples in C with what pkg-config says.
 set -euo pipefail
 cd "$(dirname "$0")/.."
 rm -rf build/installed
@@ -10,11 +10,18 @@ cd build/installed
 (cd usr && find . -type f | sort) > files
 (cd staged/usr && find . -type f | sort) | cmp - files
 grep -q '^prefix=/usr$' staged/usr/lib/pkgconfig/vorruda.pc
+grep -q '^prefix=/usr$' staged/usr/lib/pkgconfig/vorruda_list.pc
 if ! command -v pkg-config > /dev/null; then
     echo "pkg-config is not installed: the installed library is not tried"
     exit 0
 fi
 export PKG_CONFIG_PATH=$PWD/usr/lib/pkgconfig
-read -r -a flags <<< "$(pkg-config --cflags --libs vorruda)"
-gcc -std=c11 -Wall -Wextra -Werror -O2 ../../examples/host.c "${flags[@]}" -o host
-./host | tail -n 1 | grep -q '^As expected\.$'
+# built EXAMPLE LIBRARY
+built() {
+    local flags
+    read -r -a flags <<< "$(pkg-config --cflags --libs "$2")"
+    gcc -std=c11 -Wall -Wextra -Werror -O2 "../../examples/$1.c" "${flags[@]}" -o "$1"
+    "./$1" | tail -n 1 | grep -q '^As expected\.$'
+}
+built host vorruda
+built block_list vorruda_list

@@ -8,7 +8,7 @@ tool=host/target/release/$name
 log=build/tools.log
 
 mkdir -p build
-if [ ! -e "$tool" ] || [ -n "$(find host/src host/Cargo.toml target/staticlib/libvorruda.a -newer "$tool" -print -quit)" ]; then
+if [ ! -e "$tool" ] || [ -n "$(find host/src host/Cargo.toml target/staticlib/libvorruda.a target/staticlib/libvorruda_list.a -newer "$tool" -print -quit)" ]; then
     echo "building $tool" >&2
 fi
 if ! cargo build --offline --release --quiet --manifest-path host/Cargo.toml --bin "$name" > "$log" 2>&1; then

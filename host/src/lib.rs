@@ -1,5 +1,6 @@
 //! Tools around the proved checker. Nothing here has to be trusted: the proofs are about the
-//! library that [`library`] links, and [`reference`] is written apart from it, to compare.
+//! libraries that [`library`] and [`list_library`] link, and [`reference`] is written apart from
+//! them, to compare.
 
 pub mod baseline;
 pub mod bench;
@@ -12,6 +13,7 @@ pub mod extremes;
 pub mod facts_text;
 pub mod judge;
 pub mod library;
+pub mod list_library;
 pub mod listings;
 pub mod pairs;
 pub mod random;

@@ -87,7 +87,8 @@ fn lent<T>(slice: &[T]) -> *const T {
     }
 }
 
-fn lent_mut<T>(slice: &mut [T]) -> *mut T {
+/// The pointer that a call in C gets for a slice that it may change.
+pub(crate) fn lent_mut<T>(slice: &mut [T]) -> *mut T {
     match slice {
         [] => ptr::null_mut(),
         _ => slice.as_mut_ptr(),

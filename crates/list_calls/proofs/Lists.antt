@@ -1,10 +1,9 @@
 -- The promises of the calls, from those of the list.
-use mathlib.Core.Bool.{Bool, true, false, true≢false}
+use mathlib.Core.Bool.{true, false, true≢false}
 use mathlib.Core.List.{List}
 use mathlib.Core.Path.{_≡_, refl, sym, ap, _∙_, subst}
 use Prim.Native.Nat.{ℕ}
 use native.Mathlib.Decide.{ℕ-discrete}
-use native.Mathlib.Omega.{arith}
 use lib.ListN.{length}
 use Rattle.stepper.specs.declared.Heap64.{Heap64}
 use Rattle.heapbytes.specs.HeapBytes.{bytesReadable, readable, codesFrom, heapFrom}

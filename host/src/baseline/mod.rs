@@ -2,6 +2,7 @@
 //! allocated for a cover, no predecessor made that would be dropped. Also the search tool's engine.
 //! [`quicker`] is the checker again, in fewer instructions.
 
+pub mod block_list;
 pub mod checker;
 pub mod embedding;
 mod job;

@@ -7,10 +7,10 @@ use crate::reference::operation::{
 };
 use crate::reference::stepper::{CELLS, HEAP_BYTES, LARGEST_VALUE, LINKS, MARKS, SLOTS};
 
-type Heap = [u8; HEAP_BYTES];
+pub(super) type Heap = [u8; HEAP_BYTES];
 
 /// The codes of the cells' values: 0 for none, v + 1 for v.
-type Values = [u32; CELLS];
+pub(super) type Values = [u32; CELLS];
 
 /// One step on the bytes of a heap without values, with the answer for a host in C.
 #[inline(never)]
@@ -36,16 +36,9 @@ pub fn step_values(
     (kind, a, b): (u32, u32, u32),
     value: u16,
 ) -> u32 {
-    let lent = (
-        <&mut Heap>::try_from(bytes),
-        <&mut Values>::try_from(values),
-    );
-    let (Ok(heap), Ok(values)) = lent else {
+    let Some((heap, values)) = well_formed(bytes, values) else {
         return 13;
     };
-    if !is_well_formed(heap) || !values_fit(heap, values) {
-        return 13;
-    }
     let Some(operation) = operation(kind.into(), a.into(), b.into(), heap[0].into()) else {
         return 14;
     };
@@ -101,6 +94,17 @@ fn apply_to_values(heap: &Heap, values: &mut Values, operation: Operation, value
 /// The number of the cell that a variable stands at.
 fn cell_at(heap: &Heap, variable: usize) -> Option<usize> {
     heap[variable].checked_sub(CELL).map(usize::from)
+}
+
+/// What is lent, where it is a heap with values.
+#[inline(always)]
+pub(super) fn well_formed<'a>(
+    bytes: &'a mut [u8],
+    values: &'a mut [u32],
+) -> Option<(&'a mut Heap, &'a mut Values)> {
+    let heap = <&mut Heap>::try_from(bytes).ok()?;
+    let values = <&mut Values>::try_from(values).ok()?;
+    (is_well_formed(heap) && values_fit(heap, values)).then_some((heap, values))
 }
 
 /// Whether unused cells have no value, and used ones none that is too large.

@@ -9,7 +9,7 @@ use std::path::Path;
 use std::process::{Command, Stdio};
 
 use super::suite::{read_pairs, Suite};
-use super::{calls, check_quickly, Cost, Work};
+use super::{block_lists, calls, check_quickly, Cost, Work};
 
 /// The argument with which the process does the measured work.
 pub const ARGUMENT: &str = "measured";
@@ -25,13 +25,17 @@ fn vorruda_measured(work: &dyn Fn()) {
     black_box(());
 }
 
-/// What is counted in a run: an empty work, then each pair in turn, then the other calls.
+/// What is counted in a run: an empty work, then each pair in turn, then the block list's calls, then
+/// the other calls.
 pub fn run(folder: &Path) -> Result<(), String> {
     let pairs = read_pairs(&folder.join(PAIRS)).map_err(|error| error.to_string())?;
     vorruda_measured(&|| ());
     for pair in &pairs {
         measure(&Work::of_pair(pair));
         measure_call(&|| check_quickly(pair));
+    }
+    for case in block_lists::cases() {
+        case.counted().iter().for_each(|call| measure_call(call));
     }
     for (_, work) in calls::works() {
         measure(&work);
@@ -50,8 +54,15 @@ fn measure_call(call: &dyn Fn()) {
     vorruda_measured(call);
 }
 
-/// Counts the instructions of each pair of the suite, and gives those of the other calls.
-pub fn count(suite: &mut Suite, folder: &Path) -> Result<Vec<Cost>, String> {
+const TOO_LITTLE: &str = "callgrind counted too little";
+
+/// Counts the instructions of each pair of the suite and of the block list's calls, and gives those of
+/// the other calls.
+pub fn count(
+    suite: &mut Suite,
+    lists: &mut [block_lists::Case],
+    folder: &Path,
+) -> Result<Vec<Cost>, String> {
     suite
         .write(&folder.join(PAIRS))
         .map_err(|error| error.to_string())?;
@@ -59,8 +70,12 @@ pub fn count(suite: &mut Suite, folder: &Path) -> Result<Vec<Cost>, String> {
     let (empty, counts) = counts.split_first().ok_or("callgrind counted nothing")?;
     let mut counts = counts.iter().map(|count| count - empty);
     for case in suite.cases() {
-        case.instructions = cost(&mut counts).ok_or("callgrind counted too little")?;
-        case.quicker = counts.next().ok_or("callgrind counted too little")?;
+        case.instructions = cost(&mut counts).ok_or(TOO_LITTLE)?;
+        case.quicker = counts.next().ok_or(TOO_LITTLE)?;
+    }
+    for case in lists {
+        let of_case: Vec<f64> = counts.by_ref().take(4).collect();
+        case.set_counts(of_case.try_into().map_err(|_| TOO_LITTLE)?);
     }
     Ok(std::iter::from_fn(|| cost(&mut counts)).collect())
 }

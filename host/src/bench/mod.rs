@@ -1,5 +1,6 @@
 //! The benchmark: the proved calls against the baseline, on the same input.
 
+pub mod block_lists;
 pub mod broken;
 pub mod calls;
 pub mod growth;

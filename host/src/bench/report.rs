@@ -1,7 +1,7 @@
 //! The tables, in markdown.
 
 use super::suite::{Case, Suite};
-use super::{calls, time, Cost, Work};
+use super::{block_lists, calls, time, Cost, Work};
 use crate::baseline::checker::check;
 use crate::text::thousands;
 use crate::verdict::Verdict;
@@ -11,7 +11,7 @@ const SHOWN: usize = 8;
 const LONG: f64 = 1_000.0;
 
 /// Measures the time where it is shown, and prints all tables.
-pub fn print(suite: &mut Suite, calls: &[Cost]) {
+pub fn print(suite: &mut Suite, lists: &[block_lists::Case], calls: &[Cost]) {
     summary(suite);
     println!("\n### The corpus without values\n");
     with_time(&suite.corpus, true);
@@ -35,6 +35,8 @@ pub fn print(suite: &mut Suite, calls: &[Cost]) {
     largest(&suite.random);
     println!("\n### Against the quicker baseline, in instructions\n");
     quicker(suite);
+    println!("\n### The block list\n");
+    block_list(lists);
     println!("\n### The other calls\n");
     other_calls(calls);
 }
@@ -188,6 +190,33 @@ fn row_with_quicker(name: &str, cases: &[Case]) {
         instructions(all),
         thousands(quicker as u64),
         all.proved / quicker,
+    );
+}
+
+/// Call by call, each with its sum behind it; last against the baseline that goes through steps.
+fn block_list(cases: &[block_lists::Case]) {
+    heading(
+        "| call | instructions | baseline | ratio | ratio of time | baseline by steps | ratio |",
+    );
+    for of_call in cases.chunk_by(|x, y| x.call.name() == y.call.name()) {
+        let times: Vec<Cost> = of_call.iter().map(block_lists::Case::time).collect();
+        for (case, &time) in of_call.iter().zip(&times) {
+            row_with_steps(&case.name(), std::slice::from_ref(case), time);
+        }
+        let name = format!("**{} in all**", of_call[0].call.name());
+        row_with_steps(&name, of_call, times.into_iter().sum());
+    }
+}
+
+fn row_with_steps(name: &str, cases: &[block_lists::Case], time: Cost) {
+    let all: Cost = cases.iter().map(|case| case.instructions).sum();
+    let by_steps: f64 = cases.iter().map(|case| case.through_steps).sum();
+    println!(
+        "| {name} | {} | {:.2} | {} | {:.2} |",
+        instructions(all),
+        time.ratio(),
+        thousands(by_steps as u64),
+        all.proved / by_steps,
     );
 }
 

@@ -8,7 +8,7 @@ use std::path::Path;
 use std::process::ExitCode;
 
 use vorruda_host::bench::suite::Suite;
-use vorruda_host::bench::{instructions, report};
+use vorruda_host::bench::{block_lists, instructions, report};
 
 fn main() -> ExitCode {
     let arguments: Vec<String> = env::args().skip(1).collect();
@@ -30,7 +30,8 @@ fn main() -> ExitCode {
 
 fn bench(folder: &Path) -> Result<(), String> {
     let mut suite = Suite::new()?;
-    let calls = instructions::count(&mut suite, folder)?;
-    report::print(&mut suite, &calls);
+    let mut lists = block_lists::cases();
+    let calls = instructions::count(&mut suite, &mut lists, folder)?;
+    report::print(&mut suite, &lists, &calls);
     Ok(())
 }

@@ -1,4 +1,4 @@
-//! Compares the proved library with the implementation written apart, prints how many cases of each
+//! Compares the proved libraries with the implementation written apart, prints how many cases of each
 //! sort were compared, and fails where one differs or a sort has none.
 //!
 //! `compare [PAIRS [SEED]]`: how many random pairs of a job and a certificate, and from which seed.
@@ -8,7 +8,8 @@ use std::process::ExitCode;
 
 use vorruda_host::compare::listings::Translate;
 use vorruda_host::compare::verdicts::Checker;
-use vorruda_host::compare::{listings, lists, numbers, ready, steps, verdicts, Tally};
+use vorruda_host::compare::{block_lists, listings, lists, numbers, ready, steps, verdicts, Tally};
+use vorruda_host::list_library::{self, Calls};
 use vorruda_host::{baseline, check, library};
 
 /// The checkers that are compared with the reference.
@@ -31,6 +32,16 @@ const CHECKERS: [Checker; 3] = [
 const TRANSLATORS: [(&str, Translate); 2] = [
     ("listings", library::translate),
     ("the baseline's listings", baseline::listing::translate),
+];
+
+/// The block lists that are compared with it.
+const BLOCK_LISTS: [(&str, Calls); 3] = [
+    ("the block list", list_library::CALLS),
+    ("the baseline's block list", baseline::block_list::CALLS),
+    (
+        "the baseline's block list through steps",
+        baseline::block_list::through_steps::CALLS,
+    ),
 ];
 
 const PAIRS: u64 = 100_000;
@@ -57,8 +68,9 @@ fn tallies() -> Result<Vec<Tally>, String> {
     ];
     let verdicts = verdicts::compare(&CHECKERS, verdicts::pairs(seed, pairs)?);
     let listings = listings::compare(&TRANSLATORS, seed);
-    let all = calls.into_iter().chain(steps::compare()).chain(listings);
-    Ok(all.chain(verdicts).collect())
+    let all = calls.into_iter().chain(steps::compare());
+    let all = all.chain(block_lists::compare(&BLOCK_LISTS));
+    Ok(all.chain(listings).chain(verdicts).collect())
 }
 
 fn argument(index: usize, usual: u64) -> Result<u64, String> {

@@ -1,5 +1,5 @@
-//! Calls the proved library with buffers that end where their allocation ends, so that valgrind sees
-//! a byte read or written beside them, and compares its answers with the reference.
+//! Calls the proved libraries with buffers that end where their allocation ends, so that valgrind sees
+//! a byte read or written beside them, and compares their answers with the reference.
 //!
 //! `memcheck [PAIRS [SEED]]`: how many random pairs, as many with a cover that breaks rules, as many
 //! with deletes, and as many of version 2 if the library takes them; and from which seed.
@@ -8,21 +8,22 @@ use std::env;
 use std::process::ExitCode;
 
 use vorruda_host::compare::ready::forbid_in_library;
-use vorruda_host::library;
 use vorruda_host::listings::{edges, Listings};
 use vorruda_host::pairs::{broken_pairs, delete_pairs, Pair, Pairs, ValuedPairs};
 use vorruda_host::random::Random;
+use vorruda_host::reference::block_list::{self, answer, chained};
 use vorruda_host::reference::heap::Heap;
 use vorruda_host::reference::listing::{translate, MARKS};
 use vorruda_host::reference::ready::{forbid, Set};
 use vorruda_host::reference::version::Version;
 use vorruda_host::reference::{checker, number, stepper};
-use vorruda_host::sweep;
+use vorruda_host::{library, list_library, sweep};
 
 const PAIRS: usize = 300;
 const SEED: u64 = 0x0012_5eed;
 const LISTS: usize = 300;
 const STEPS: usize = 1_000;
+const LIST_CALLS: usize = 500;
 const LISTINGS: usize = 1_000;
 
 /// One in so many of the listings at the limits is tried.
@@ -47,11 +48,13 @@ fn main() -> ExitCode {
     let mut random = Random::new(seed);
     (0..LISTS).for_each(|_| numbers(&mut random));
     steps(&mut random);
+    list_calls(&mut random);
     let at_limits = edges().into_iter().step_by(EVERY);
     let listings = at_limits.chain(Listings::new(seed).take(LISTINGS));
     let listings = listings.enumerate().map(listing).count();
     println!(
-        "{checked} pairs, {LISTS} lists, {STEPS} steps, {listings} listings: as the reference"
+        "{checked} pairs, {LISTS} lists, {STEPS} steps, {LIST_CALLS} calls of the block list, \
+         {listings} listings: as the reference"
     );
     ExitCode::SUCCESS
 }
@@ -152,4 +155,44 @@ fn steps(random: &mut Random) {
         library::step_values(&mut heap, &mut values, (kind, a, b), value);
         assert_eq!((&heap, &values), (&expected.0, &expected.1));
     }
+}
+
+/// A list that grows and shrinks, with a damaged or shortened heap now and then.
+fn list_calls(random: &mut Random) {
+    let mut heap = exact(&stepper::bytes_of(&chained(Heap::empty(5), &[])));
+    let mut values = exact(&stepper::NO_VALUES);
+    for _ in 0..LIST_CALLS {
+        if random.once_in(10) {
+            let mut damaged = exact(&heap[random.below(3)..]);
+            damaged[random.below(134)] = random.below(256) as u8;
+            list_call(random, &mut damaged, &mut values.clone());
+            let mut short = exact(&values[random.below(64)..]);
+            list_call(random, &mut heap.clone(), &mut short);
+        }
+        list_call(random, &mut heap, &mut values);
+    }
+}
+
+/// Two inserts for each remove and each count, most of them within the list.
+fn list_call(random: &mut Random, heap: &mut [u8], values: &mut [u32]) {
+    let (bytes, numbers) = (exact(heap), exact(values));
+    let n = random.below(70) as u32 / (1 + random.below(9) as u32);
+    let (after, number) = match random.below(4) {
+        0 => {
+            let mut out = exact(&[0; 2][..random.below(3)]);
+            let counted = block_list::count(heap, values);
+            let number = list_library::count(heap, values, &mut out);
+            (counted.map(|(heap, _)| heap), number)
+        }
+        1 => (
+            block_list::remove(heap, values, n),
+            list_library::remove(heap, values, n),
+        ),
+        _ => (
+            block_list::insert(heap, values, n),
+            list_library::insert(heap, values, n),
+        ),
+    };
+    let left = (number, heap.to_vec(), values.to_vec());
+    assert_eq!(left, answer(&bytes, &numbers, &after));
 }

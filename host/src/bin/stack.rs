@@ -1,17 +1,22 @@
 //! Measures the stack that a call takes: of the checker over the corpus, the costliest pairs, every
 //! kind of operation and random pairs; of the translation over listings at all limits and random
-//! ones. Fails where the header promises less.
+//! ones; of the block list's calls over lists of every length and a ring. Fails where the header
+//! promises less.
 
 use std::fs;
 use std::path::Path;
 use std::process::ExitCode;
 
+use vorruda_host::bench::block_lists::list_of;
 use vorruda_host::bench::suite::Suite;
-use vorruda_host::library;
+use vorruda_host::list_library::Edit;
 use vorruda_host::listings::{edges, Listings};
 use vorruda_host::pairs::Pair;
+use vorruda_host::reference::heap::{Heap, Place};
 use vorruda_host::reference::listing::MARKS;
+use vorruda_host::reference::stepper::{bytes_of, values_of, CELLS};
 use vorruda_host::stack::depth;
+use vorruda_host::{library, list_library};
 
 /// How many random listings are measured.
 const LISTINGS: usize = 500;
@@ -35,24 +40,36 @@ fn main() -> ExitCode {
     }
 }
 
-/// The most that the calls took, each with what the header promises.
-fn measured() -> Result<[(&'static str, usize, usize); 2], String> {
+const HEADER: &str = "vorruda.h";
+const LIST_HEADER: &str = "vorruda_list.h";
+
+/// The most that the calls took, each with what its header promises.
+fn measured() -> Result<[(&'static str, usize, usize); 3], String> {
     let mut suite = Suite::new()?;
     let of_checker = suite.cases().map(|case| of_pair(&case.pair)).max();
     let listings = edges()
         .into_iter()
         .chain(Listings::new(SEED).take(LISTINGS));
     let of_translation = listings.map(|text| of_listing(&text)).max();
+    let mut ring = list_of(CELLS);
+    ring.links.insert(0, Place::Cell(0));
+    let of_lists = (0..=CELLS).map(list_of).chain([ring]);
+    let of_lists = of_lists.map(|heap| of_list(&heap)).max();
     Ok([
         (
             "the checker",
             of_checker.ok_or("there is no pair")?,
-            promised("vorruda_verdict(")?,
+            promised(HEADER, "vorruda_verdict(")?,
         ),
         (
             "the translation",
             of_translation.ok_or("there is no listing")?,
-            promised("vorruda_translate(")?,
+            promised(HEADER, "vorruda_translate(")?,
+        ),
+        (
+            "the block list",
+            of_lists.ok_or("there is no list")?,
+            promised(LIST_HEADER, "vorruda_list_count(")?,
         ),
     ])
 }
@@ -75,10 +92,25 @@ fn of_pair(Pair { job, certificate }: &Pair) -> usize {
     checked.max(judged)
 }
 
-/// The bytes of the last "less than N KiB of stack" ahead of a declaration in the header.
-fn promised(declaration: &str) -> Result<usize, String> {
-    let header = Path::new(env!("CARGO_MANIFEST_DIR")).join("../include/vorruda.h");
-    let text = fs::read_to_string(&header).map_err(|error| format!("the header: {error}"))?;
+/// What the deepest of the three calls takes, the edits at the end of the list.
+fn of_list(heap: &Heap) -> usize {
+    let n = heap.links.len() as u32;
+    let by = |call: Edit| {
+        let (mut bytes, mut values) = (bytes_of(heap), values_of(heap));
+        depth(|| {
+            call(&mut bytes, &mut values, n);
+        })
+    };
+    let counted = by(|bytes, values, _| list_library::count(bytes, values, &mut [0]));
+    let edited = by(list_library::insert).max(by(list_library::remove));
+    counted.max(edited)
+}
+
+/// The bytes of the last "less than N KiB of stack" ahead of a declaration in a header.
+fn promised(header: &str, declaration: &str) -> Result<usize, String> {
+    let folder = Path::new(env!("CARGO_MANIFEST_DIR")).join("../include");
+    let text = fs::read_to_string(folder.join(header));
+    let text = text.map_err(|error| format!("{header}: {error}"))?;
     let figure = text
         .split_once(declaration)
         .and_then(|(before, _)| before.rsplit_once(" KiB of stack"))
@@ -86,5 +118,5 @@ fn promised(declaration: &str) -> Result<usize, String> {
         .and_then(|(_, figure)| figure.parse::<usize>().ok());
     figure
         .map(|kib| kib * 1024)
-        .ok_or_else(|| format!("the header names no stack ahead of {declaration}"))
+        .ok_or_else(|| format!("{header} names no stack ahead of {declaration}"))
 }

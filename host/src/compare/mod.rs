@@ -1,5 +1,6 @@
 //! The proved library against the reference, on many inputs.
 
+pub mod block_lists;
 pub mod listings;
 pub mod lists;
 pub mod numbers;

@@ -30,13 +30,13 @@ struct Stepper {
 
 /// What is lent to a step.
 #[derive(Clone, Debug, PartialEq, Eq)]
-struct Lent {
-    heap: Vec<u8>,
-    values: Vec<u32>,
+pub(super) struct Lent {
+    pub heap: Vec<u8>,
+    pub values: Vec<u32>,
 }
 
 impl Lent {
-    fn of(heap: &Heap) -> Lent {
+    pub fn of(heap: &Heap) -> Lent {
         Lent {
             heap: stepper::bytes_of(heap).to_vec(),
             values: stepper::values_of(heap).to_vec(),
@@ -47,7 +47,7 @@ impl Lent {
 /// A kind and its operands.
 type Numbers = (u32, u32, u32);
 
-const WELL_FORMED: &str = "13 on a well formed heap";
+pub(super) const WELL_FORMED: &str = "13 on a well formed heap";
 
 /// A tally of the outcomes that a call can have.
 fn tally(title: &'static str, with_values: bool) -> Tally {
@@ -236,7 +236,7 @@ fn random_heap(random: &mut Random) -> [u8; HEAP_BYTES] {
 }
 
 /// A value: mostly small, so that two are often equal, now and then at the upper end.
-fn random_value(random: &mut Random) -> u32 {
+pub(super) fn random_value(random: &mut Random) -> u32 {
     match random.below(8) {
         0 => LARGEST_VALUE - random.below(2) as u32,
         _ => random.below(4) as u32,
@@ -244,7 +244,7 @@ fn random_value(random: &mut Random) -> u32 {
 }
 
 /// A well formed heap, most of its cells with values.
-fn random_lent(random: &mut Random) -> Lent {
+pub(super) fn random_lent(random: &mut Random) -> Lent {
     let heap = random_heap(random).to_vec();
     let used = heap[MARKS].iter().map(|&mark| mark == 1);
     let values = used.map(|used| match used && !random.once_in(4) {
@@ -256,9 +256,9 @@ fn random_lent(random: &mut Random) -> Lent {
 }
 
 /// A way of making a well formed heap ill formed by its values, with its name.
-type ValueDamage = (&'static str, fn(&mut Lent, &mut Random));
+pub(super) type ValueDamage = (&'static str, fn(&mut Lent, &mut Random));
 
-const VALUE_DAMAGES: &[ValueDamage] = &[
+pub(super) const VALUE_DAMAGES: &[ValueDamage] = &[
     ("13 value above 65,535", |lent, random| {
         let cell = use_a_cell(&mut lent.heap, random);
         lent.values[cell] = random.pick(&[65_537, 65_538, 1 << 17, 1 << 31, u32::MAX]);
@@ -276,9 +276,9 @@ const VALUE_DAMAGES: &[ValueDamage] = &[
 ];
 
 /// A way of making a well formed heap ill formed, with its name.
-type Damage = (&'static str, fn(&mut Vec<u8>, &mut Random));
+pub(super) type Damage = (&'static str, fn(&mut Vec<u8>, &mut Random));
 
-const DAMAGES: &[Damage] = &[
+pub(super) const DAMAGES: &[Damage] = &[
     ("13 no variables", |heap, _| {
         heap[0] = 0;
         heap[VARIABLES].fill(0);

@@ -144,7 +144,7 @@ impl Heap {
     }
 
     /// The heap without a cell: its value goes with it, and what stood at it dangles.
-    fn without(&self, cell: usize) -> Heap {
+    pub fn without(&self, cell: usize) -> Heap {
         let mut heap = self.clone();
         heap.links.remove(&cell);
         heap.values.remove(&cell);

@@ -1,5 +1,6 @@
 //! The rules as plainly as they can be written down, apart from the proved code. Speed is no aim.
 
+pub mod block_list;
 pub mod certificate;
 pub mod checker;
 pub mod cover;

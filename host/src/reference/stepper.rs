@@ -53,8 +53,7 @@ pub fn step_values(
     let Some(operation) = operation(kind, a, b, heap.variables.len() as u64) else {
         return Step::OutsideTable;
     };
-    let unused = (0..CELLS).find(|cell| !heap.links.contains_key(cell));
-    let choice = match (kind, unused) {
+    let choice = match (kind, lowest_unused(&heap)) {
         (NEW, None) => return Step::Full,
         (NEW, Some(cell)) => cell,
         _ => value.into(),
@@ -63,6 +62,11 @@ pub fn step_values(
         Some(after) => Step::Moved(after),
         None => Step::Blocked,
     }
+}
+
+/// The cell that new takes, nothing where all are used.
+pub fn lowest_unused(heap: &Heap) -> Option<usize> {
+    (0..CELLS).find(|cell| !heap.links.contains_key(cell))
 }
 
 /// The heap that 137 bytes and 64 numbers stand for, nothing where they are ill formed.

@@ -1,8 +1,6 @@
 -- Ill formed, or steps in turn on a well formed heap.
-use mathlib.Core.Bool.{true, false, true≢false}
+use mathlib.Core.Bool.{true, true≢false}
 use mathlib.Core.Path.{_≡_, refl, sym, _∙_}
-use Prim.Native.Nat.{ℕ}
-use native.Mathlib.Omega.{arith}
 use borrow.Author.Tests.{not-true, not-false}
 use Rattle.stepper.specs.Table.{wellFormed}
 use borrow.Author.Needs.{needs}
