@@ -26,7 +26,8 @@ use Rattle.shape.specs.Placing.{setVarIn, fresh, grow}
 use Rattle.shape.specs.Shape.{Shape, varAt, linkAt, size, shapeGraph, heapGraph, SatisfiesOne}
 use Rattle.facts.proofs.Meets.{meets-kept}
 use Rattle.shape.proofs.Laws.{shape-proper, link-map, link-unlinked, length-snoc, var-set-same, var-set-other}
-use Rattle.run.proofs.WellFormed.{WellFormed, heap-proper, after-formed}
+use Rattle.run.specs.WellFormed.{WellFormed}
+use Rattle.run.proofs.WellFormed.{heap-proper, after-formed}
 use Rattle.backward.specs.Predecessors.{forget, forgetLinks, stood, varsBefore, withVars, before}
 use Rattle.backward.proofs.Both.{value-kept}
 
@@ -71,7 +72,7 @@ chosen-at case [] i z = sym (z i)
 chosen-at case (p ∷ ps) zero z = refl
 chosen-at case (p ∷ ps) (suc i) z = chosen-at (λ i. case (suc i)) ps i (λ i. z (suc i))
 
-pub step-delete : (h : Heap) (s : Shape) (f : ℕ → ℕ) → WellFormed h → Closed (shapeGraph s) → (a : ℕ) → a ≢ 0 → a ≤ length (s .vars)
+pub step-delete : (h : Heap) (s : Shape) (f : ℕ → ℕ) → WellFormed (length (s .vars)) h → Closed (shapeGraph s) → (a : ℕ) → a ≢ 0 → a ≤ length (s .vars)
     → IsCell h (h .var a) → Embeds (shapeGraph s) (heapGraph (after (delete a) 0 h)) f → SatisfiesOne h (before (delete a) s)
 step-delete h s f w cl a nz la l0 e = (t, listed, (f₁, record { images = e₁ .images; vars = vars; paths = e₁ .paths; facts = e₁ .facts }))
   where
@@ -88,7 +89,7 @@ step-delete h s f w cl a nz la l0 e = (t, listed, (f₁, record { images = e₁ 
     h′ : Heap
     h′ = after (delete a) 0 h
 
-    w′ : WellFormed h′
+    w′ : WellFormed (length (s .vars)) h′
     w′ = after-formed (length (s .vars)) (delete a) 0 h (nz, la) w l0
 
     wp : Proper (heapGraph h′)

@@ -23,7 +23,8 @@ use Rattle.shape.specs.Shape.{Shape, varAt, size, shapeGraph, heapGraph, Satisf
 use Rattle.facts.proofs.Meets.{heap-facts, meets-kept}
 use Rattle.heap.proofs.Codes.{CellOf}
 use Rattle.shape.proofs.Placing.{placing}
-use Rattle.run.proofs.WellFormed.{WellFormed, heap-proper}
+use Rattle.run.specs.WellFormed.{WellFormed}
+use Rattle.run.proofs.WellFormed.{heap-proper}
 use Rattle.backward.specs.Predecessors.{learn, without, forgetFacts, hadValue, isCell, placeCells, beforeCopy, beforeCompared, before}
 use Rattle.backward.proofs.Both.{place-both, retained}
 use Rattle.backward.proofs.Settle.{settled, told, settled-listed, settled-embeds, settled-closed, told-embeds, told-closed}
@@ -68,7 +69,7 @@ among h change list t m (p, n, e) = (p, mem-concatMap change p m n, e)
 
 -- ---- kinds 8 and 9
 
-pub step-test : (k : ℕ) (h : Heap) (s : Shape) (f : ℕ → ℕ) → WellFormed h → Closed (shapeGraph s) → (a b : ℕ) → a ≤ length (s .vars) → b ≤ length (s .vars)
+pub step-test : (k : ℕ) (h : Heap) (s : Shape) (f : ℕ → ℕ) → WellFormed (length (s .vars)) h → Closed (shapeGraph s) → (a b : ℕ) → a ≤ length (s .vars) → b ≤ length (s .vars)
     → IsCell h (h .var a) → IsCell h (h .var b) → Meets (h .value) k (h .var a) (h .var b) → Embeds (shapeGraph s) (heapGraph h) f
     → SatisfiesOne h (concatMap (λ t. learn k (varAt t a) (varAt t b) t) (placeCells a b s))
 step-test k h s f w cl a b la lb ka kb i e =
@@ -216,7 +217,7 @@ module _ (h : Heap) (o : Option ℕ) (s : Shape) (a b : ℕ) (r : CellsPlaced (w
       had : c ≡ d → h .value (r .map c) ≡ some m
       had z = ap (h .value) (sym (r .at-a) ∙ one-place z) ∙ i
 
-module _ (h : Heap) (s : Shape) (f : ℕ → ℕ) (w : WellFormed h) (cl : Closed (shapeGraph s)) (a b : ℕ) (la : a ≤ length (s .vars))
+module _ (h : Heap) (s : Shape) (f : ℕ → ℕ) (w : WellFormed (length (s .vars)) h) (cl : Closed (shapeGraph s)) (a b : ℕ) (la : a ≤ length (s .vars))
     (lb : b ≤ length (s .vars)) (ka : IsCell h (h .var a)) (kb : IsCell h (h .var b)) where
   placed : (o : Option ℕ) → Embeds (shapeGraph s) (heapGraph (write h (h .var a) o)) f → CellsPlaced (write h (h .var a) o) s a b
   placed o e = place-cells (write h (h .var a) o) s f (heap-proper (write h (h .var a) o) (w .low)) cl e a b la lb ka kb
@@ -246,7 +247,7 @@ module _ (h : Heap) (s : Shape) (f : ℕ → ℕ) (w : WellFormed h) (cl : Close
 
 -- ---- kind 13
 
-pub step-read : (h : Heap) (s : Shape) (f : ℕ → ℕ) (x : ℕ) → WellFormed h → Closed (shapeGraph s) → (a : ℕ) → a ≤ length (s .vars) → IsCell h (h .var a)
+pub step-read : (h : Heap) (s : Shape) (f : ℕ → ℕ) (x : ℕ) → WellFormed (length (s .vars)) h → Closed (shapeGraph s) → (a : ℕ) → a ≤ length (s .vars) → IsCell h (h .var a)
     → Embeds (shapeGraph s) (heapGraph (write h (h .var a) (some x))) f → SatisfiesOne h (before (read a) s)
 step-read h s f x w cl a la ka e =
     let h′ = write h (h .var a) (some x) in

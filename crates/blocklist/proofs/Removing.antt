@@ -7,8 +7,7 @@ use Prim.Native.Nat.{ℕ, suc, _≤_, _<_}
 use native.Mathlib.Decide.{ℕ-discrete}
 use native.Mathlib.Omega.{arith}
 use lib.ListN.{length, drop, length-drop}
-use Rattle.lists.specs.List.{_∈_}
-use Rattle.lists.proofs.List.{Distinct}
+use Rattle.lists.specs.List.{_∈_, Distinct}
 use Rattle.heap.specs.Heap.{update}
 use Rattle.heap.specs.Operation.{dangled}
 use Rattle.heap.specs.Place.{nowhere, null, dangling}

@@ -9,9 +9,9 @@ use native.Mathlib.Omega.{arith}
 use borrow.Author.Tests.{eq-eqb}
 use lib.Dec.{eqb}
 use lib.ListN.{length, getD, length-append}
-use Rattle.lists.specs.List.{_∈_, Every, concatMap, keep}
+use Rattle.lists.specs.List.{_∈_, Every, Distinct, concatMap, keep}
 use Rattle.lists.specs.Range.{range}
-use Rattle.lists.proofs.List.{Distinct, distinct-append, distinct-length, kept-length, mem-concatMap, mem-keep, mem-below, range-append, concatMap-append, element-mem}
+use Rattle.lists.proofs.List.{distinct-append, distinct-length, kept-length, mem-concatMap, mem-keep, mem-below, range-append, concatMap-append, element-mem}
 use Rattle.lists.proofs.Reflect.{r-eq, r-not, cond-cases}
 use Rattle.heap.specs.Place.{nowhere, cell}
 use Rattle.graph.specs.Graph.{Graph, Embeds}

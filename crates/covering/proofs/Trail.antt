@@ -7,8 +7,8 @@ use Prim.Native.Nat.{ℕ, zero, suc, _+_, _≤_, _<_}
 use native.Mathlib.Omega.{arith}
 use lib.Dec.{ltb}
 use lib.ListN.{length, length-append, List·getD-eq-default}
-use Rattle.lists.specs.List.{_∈_, disjoint}
-use Rattle.lists.proofs.List.{every-cons, every-snoc, Distinct, distinct-snoc, pigeonhole}
+use Rattle.lists.specs.List.{_∈_, Distinct, disjoint}
+use Rattle.lists.proofs.List.{every-cons, every-snoc, distinct-snoc, pigeonhole}
 use Rattle.lists.proofs.Reflect.{is-false, passes, fails, r-lt, r-disjoint}
 use Rattle.heap.specs.Codes.{linkIn}
 use Rattle.heap.specs.Place.{nowhere, cell}

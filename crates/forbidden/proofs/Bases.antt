@@ -18,7 +18,8 @@ use Rattle.heap.proofs.Codes.{CellOf, by-number}
 use Rattle.facts.specs.Facts.{Follows}
 use Rattle.facts.proofs.Closing.{none-follows}
 use Rattle.shape.proofs.Laws.{shape-proper}
-use Rattle.run.proofs.WellFormed.{WellFormed, heap-proper}
+use Rattle.run.specs.WellFormed.{WellFormed}
+use Rattle.run.proofs.WellFormed.{heap-proper}
 use Rattle.forbidden.specs.Meets.{Meets}
 use Rattle.forbidden.specs.Sets.{only, standingAt, ending, looping, notList}
 use Rattle.forbidden.proofs.Only.{only-at, only-place}
@@ -69,7 +70,7 @@ six-base n x =
 
 -- ---- a heap that satisfies a base, with the links of its cells or with loose cells too
 
-module _ (h : Heap) (w : WellFormed h) (n x : ℕ) (x≢0 : x ≢ 0) (x≤n : x ≤ n) (bad : ℕ) (s : Shape) (b : Base n x bad s) (links : List ℕ)
+module _ (h : Heap) (n : ℕ) (w : WellFormed n h) (x : ℕ) (x≢0 : x ≢ 0) (x≤n : x ≤ n) (bad : ℕ) (s : Shape) (b : Base n x bad s) (links : List ℕ)
     (longer : size s ≤ length links) (same : (c : ℕ) → linkIn links c ≡ linkAt s c) where
   g : Graph
   g = shapeGraph (record { vars = s .vars; links = links; facts = s .facts })

@@ -3,15 +3,15 @@ use mathlib.Core.List.{List, [], _∷_, _++_, append-assoc, List·Memᴰ·head, 
 use mathlib.Core.Logic.{_≢_}
 use mathlib.Core.Path.{_≡_, refl, sym, ap, _∙_, subst}
 use Prim.Native.Nat.{ℕ, _≤_}
-use Rattle.lists.specs.List.{_∈_}
-use Rattle.lists.proofs.List.{every-none, cut, Distinct}
+use Rattle.lists.specs.List.{_∈_, Distinct}
+use Rattle.lists.proofs.List.{every-none, cut}
 use Rattle.heap.specs.Heap.{Heap, IsCell}
 use Rattle.heap.specs.Place.{cell}
 use Rattle.graph.specs.Graph.{Chain}
 use Rattle.graph.proofs.Chain.{chain-left, chain-right}
 use Rattle.graph.proofs.Follow.{Visits, visits-chain}
 use Rattle.shape.specs.Shape.{Shape, Satisfies}
-use Rattle.run.proofs.WellFormed.{WellFormed}
+use Rattle.run.specs.WellFormed.{WellFormed}
 use Rattle.forbidden.specs.Sets.{only, standingAt, linked, ending, looping}
 use Rattle.forbidden.proofs.Only.{only-vars}
 use Rattle.shape.proofs.Segments.{Segment, flat, image, Leads, segments-embed}
@@ -21,7 +21,7 @@ abbrev pub Fits : Heap → List ℕ → List Shape → Type 0
 Fits h none list = (s : Shape) × (s ∈ list) × Satisfies h (record { vars = s .vars; links = s .links ++ none; facts = s .facts })
 
 -- `loose` are the segments of the loose cells. For one loose cell and for none this is said once.
-module _ (h : Heap) (w : WellFormed h) (n x : ℕ) (x≢0 : x ≢ 0) (x≤n : x ≤ n) (loose : List Segment) (none : List ℕ)
+module _ (h : Heap) (n : ℕ) (w : WellFormed n h) (x : ℕ) (x≢0 : x ≢ 0) (x≤n : x ≤ n) (loose : List Segment) (none : List ℕ)
     (unlinked : (f : ℕ → ℕ) → Leads (h .link) f none loose) where
   -- x stands at p, and the cells have these segments
   fits : (p : ℕ) (links : List ℕ) (ss : List Segment) → h .var x ≡ image ss p → Distinct (flat ss) → ((c : ℕ) → c ∈ flat ss → IsCell h c)

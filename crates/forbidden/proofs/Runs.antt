@@ -12,24 +12,25 @@ use Rattle.heap.specs.Place.{nowhere, null, dangling, cell}
 use Rattle.shape.specs.Shape.{Shape, SatisfiesOne, Satisfies}
 use Rattle.run.specs.Run.{Transition, Located, Job, Entry, Config, run, Safe}
 use Rattle.run.proofs.Runs.{run-formed}
-use Rattle.run.proofs.WellFormed.{WellFormed, not-dangling}
+use Rattle.run.specs.WellFormed.{WellFormed}
+use Rattle.run.proofs.WellFormed.{not-dangling}
 use Rattle.forbidden.specs.Guarantees.{Means, ListAt, NoneLostAt, StepsAtCells}
 use Rattle.forbidden.specs.Meets.{Meets}
 use Rattle.forbidden.specs.Sets.{standingAt, notList, lostBlock, atState, stepsThrough, badStep, badStepsOf, badSteps, alsoForbid, Forbids}
 use Rattle.forbidden.proofs.Standing.{stands}
 use Rattle.forbidden.proofs.Theorems.{four-or-met, six-or-met, not-list, lost-block}
 
--- THE SETS mean what document 02 says, in every heap that is well formed
-pub means : (h : Heap) → WellFormed h → (n x : ℕ) → x ≢ 0 → x ≤ n → Means h n x
-means h w n x x≢0 x≤n =
+-- THE SETS mean what document 02 says, in every heap that is well formed, of any size
+pub means : (h : Heap) (n : ℕ) → WellFormed n h → (x : ℕ) → x ≢ 0 → x ≤ n → Means h n x
+means h n w x x≢0 x≤n =
     record {
-      not-list = not-list h w n x x≢0 x≤n;
-      lost-block = lost-block h w n x x≢0 x≤n;
+      not-list = not-list h n w x x≢0 x≤n;
+      lost-block = lost-block h n w x x≢0 x≤n;
       bad-step = (λ (s, m, z). out s m z, into);
     }
   where
     at : (p : ℕ) → nowhere < p → p < cell 0 → Satisfies h (standingAt n x p) ↔ (h .var x ≡ p)
-    at p a b = stands h w n x p x≢0 x≤n a b
+    at p a b = stands h n w x p x≢0 x≤n a b
 
     out : (s : Shape) → s ∈ badStep n x → Satisfies h s → (h .var x ≡ null) ⊎ (h .var x ≡ dangling)
     out s (List·Memᴰ·head e) z = inl (at null (omega arith) (omega arith) .0 (subst (Satisfies h) e z))
@@ -53,7 +54,7 @@ through-range n (delete a) k v m = absurd (List·Memᴰ·not-nil m)
 module _ (j : Job) (allowed : (t : Transition) → t ∈ j .transitions → Allowed (j .variables) (t .op)) where
   -- so on every run
   pub means-on-runs : (x : ℕ) → x ≢ 0 → x ≤ j .variables → (es : List Entry) (c : Config) → c ∈ run j es → Means (c .heap) (j .variables) x
-  means-on-runs x x≢0 x≤n es c m = means (c .heap) (run-formed j allowed es c m) (j .variables) x x≢0 x≤n
+  means-on-runs x x≢0 x≤n es c m = means (c .heap) (j .variables) (run-formed j allowed es c m) x x≢0 x≤n
 
   module _ (safe : Safe j) where
     none : (q : ℕ) (list : List Shape) → Forbids j (atState q list) → (es : List Entry) (c : Config) → c ∈ run j es → c .state ≡ q
@@ -65,7 +66,7 @@ module _ (j : Job) (allowed : (t : Transition) → t ∈ j .transitions → Allo
     module _ (x q : ℕ) (x≢0 : x ≢ 0) (x≤n : x ≤ j .variables) where
       -- where "not a proper list" is forbidden, # is met from x
       pub list-at : Forbids j (atState q (notList (j .variables) x)) → ListAt j x q
-      list-at f es c m there = go (four-or-met (c .heap) (run-formed j allowed es c m) (j .variables) x x≢0 x≤n)
+      list-at f es c m there = go (four-or-met (c .heap) (j .variables) (run-formed j allowed es c m) x x≢0 x≤n)
         where
           go : SatisfiesOne (c .heap) (notList (j .variables) x) ⊎ Meets (c .heap) x null → Meets (c .heap) x null
           go (inl z) = absurd (none q (notList (j .variables) x) f es c m there z)
@@ -73,7 +74,7 @@ module _ (j : Job) (allowed : (t : Transition) → t ∈ j .transitions → Allo
 
       -- where "lost block" is forbidden, every cell is met from x
       pub none-lost-at : Forbids j (atState q (lostBlock (j .variables) x)) → NoneLostAt j x q
-      none-lost-at f es c m there p k = go (six-or-met (c .heap) (run-formed j allowed es c m) (j .variables) x x≢0 x≤n p k)
+      none-lost-at f es c m there p k = go (six-or-met (c .heap) (j .variables) (run-formed j allowed es c m) x x≢0 x≤n p k)
         where
           go : SatisfiesOne (c .heap) (lostBlock (j .variables) x) ⊎ Meets (c .heap) x p → Meets (c .heap) x p
           go (inl z) = absurd (none q (lostBlock (j .variables) x) f es c m there z)
@@ -82,7 +83,7 @@ module _ (j : Job) (allowed : (t : Transition) → t ∈ j .transitions → Allo
     -- where "step through null" and "step through dangling" are forbidden, a step finds a cell
     pub steps-at-cells : Forbids j (badSteps (j .variables) (j .transitions)) → StepsAtCells j
     steps-at-cells f es c m t k from v i =
-        not-dangling (c .heap) (run-formed j allowed es c m) v (λ e. off (inr e)) (λ e. off (inl e))
+        not-dangling (c .heap) (run-formed j allowed es c m) v (through-range (j .variables) (t .op) (allowed t k) v i .1) (λ e. off (inr e)) (λ e. off (inl e))
       where
         here : Forbids j (atState (t .from) (badStep (j .variables) v))
         here bad l =

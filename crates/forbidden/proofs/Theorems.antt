@@ -4,15 +4,15 @@ use mathlib.Core.Logic.{_≢_, _↔_, _⊎_, inl, inr}
 use mathlib.Core.Path.{refl, sym, _∙_, subst}
 use Prim.Native.Nat.{ℕ, _≤_}
 use native.Mathlib.Omega.{arith}
-use Rattle.lists.specs.List.{_∈_}
-use Rattle.lists.proofs.List.{mem?, Distinct, distinct-snoc}
+use Rattle.lists.specs.List.{_∈_, Distinct}
+use Rattle.lists.proofs.List.{mem?, distinct-snoc}
 use Rattle.heap.specs.Heap.{Heap, IsCell}
 use Rattle.heap.specs.Place.{nowhere, null, dangling, cell}
 use Rattle.graph.proofs.Follow.{visits-end, visits-met}
 use Rattle.shape.specs.Placing.{grow}
 use Rattle.shape.specs.Shape.{Shape, size, Satisfies, SatisfiesOne}
 use Rattle.shape.proofs.Laws.{length-snoc, link-unlinked}
-use Rattle.run.proofs.WellFormed.{WellFormed}
+use Rattle.run.specs.WellFormed.{WellFormed}
 use Rattle.forbidden.specs.Meets.{Meets}
 use Rattle.forbidden.specs.Sets.{ending, looping, notList, lostBlock}
 use Rattle.forbidden.proofs.Bases.{Base, four-base, six-base, base-unmet}
@@ -20,7 +20,7 @@ use Rattle.forbidden.proofs.Fits.{Fits, ended, looped}
 use Rattle.shape.proofs.Segments.{Segment, flat, Leads}
 use Rattle.forbidden.proofs.Walk.{Last, at-null, at-dangling, back, back-before, Walk, walk-from}
 
-module _ (h : Heap) (w : WellFormed h) (n x : ℕ) (x≢0 : x ≢ 0) (x≤n : x ≤ n) where
+module _ (h : Heap) (n : ℕ) (w : WellFormed n h) (x : ℕ) (x≢0 : x ≢ 0) (x≤n : x ≤ n) where
   -- ---- from what is met to the shape
 
   -- the walk from x shows which shape fits: one of the four, or x leads to #
@@ -32,12 +32,12 @@ module _ (h : Heap) (w : WellFormed h) (n x : ℕ) (x≢0 : x ≢ 0) (x≤n : x 
         go : Last (r .end) (r .met) [] → Fits h none (notList n x) ⊎ (Meets h x null × Fits h none (ending n x null))
         go (at-null e) =
             let t = rw e at (r .visits) in
-            inr (visits-end (h .link) (h .var x) (r .met) null t, ended h w n x x≢0 x≤n loose none unlinked null (λ ss. refl) (r .met) t d k)
+            inr (visits-end (h .link) (h .var x) (r .met) null t, ended h n w x x≢0 x≤n loose none unlinked null (λ ss. refl) (r .met) t d k)
         go (at-dangling e) =
-            let (s, m, q) = ended h w n x x≢0 x≤n loose none unlinked dangling (λ ss. refl) (r .met) (rw e at (r .visits)) d k in
+            let (s, m, q) = ended h n w x x≢0 x≤n loose none unlinked dangling (λ ss. refl) (r .met) (rw e at (r .visits)) d k in
             inl (s, Memᴰ·append-left (looping n x) m, q)
         go (back m) =
-            let (s, m, q) = looped h w n x x≢0 x≤n loose none unlinked (r .met) (r .end) m (r .visits) d k in
+            let (s, m, q) = looped h n w x x≢0 x≤n loose none unlinked (r .met) (r .end) m (r .visits) d k in
             inl (s, Memᴰ·append-right (ending n x dangling) m, q)
         go (back-before m) = absurd (List·Memᴰ·not-nil m)
 
@@ -45,7 +45,7 @@ module _ (h : Heap) (w : WellFormed h) (n x : ℕ) (x≢0 : x ≢ 0) (x≤n : x 
   four-or-met = go (by-walk [] [] (λ f. tt) r (rw (append-nil (r .met)) (r .distinct)) (rw (append-nil (r .met)) (r .cells)))
     where
       r : Walk h (h .var x) []
-      r = walk-from h w x
+      r = walk-from h n w x x≤n
 
       go : Fits h [] (notList n x) ⊎ (Meets h x null × Fits h [] (ending n x null)) → SatisfiesOne h (notList n x) ⊎ Meets h x null
       go (inl (s, m, q)) = inl (s, m, subst (λ (l : List ℕ). Satisfies h (record { vars = s .vars; links = l; facts = s .facts })) (append-nil (s .links)) q)
@@ -55,7 +55,7 @@ module _ (h : Heap) (w : WellFormed h) (n x : ℕ) (x≢0 : x ≢ 0) (x≤n : x 
   six-or-met c k = go (mem? c (r .met))
     where
       r : Walk h (h .var x) []
-      r = walk-from h w x
+      r = walk-from h n w x x≤n
 
       loose : List Segment
       loose = record { first = c; rest = [] } ∷ []
@@ -82,7 +82,7 @@ module _ (h : Heap) (w : WellFormed h) (n x : ℕ) (x≢0 : x ≢ 0) (x≤n : x 
 
   four-unmet : SatisfiesOne h (notList n x) → ¬ Meets h x null
   four-unmet (s, m, (f, e)) = λ (k, z).
-      base-unmet h w n x x≢0 x≤n null s (four-base n x null (omega arith) (omega arith) s m) (s .links) (omega arith) (λ c. refl) f e
+      base-unmet h n w x x≢0 x≤n null s (four-base n x null (omega arith) (omega arith) s m) (s .links) (omega arith) (λ c. refl) f e
       (λ a b. absurd (a refl)) (k, z ∙ sym (e .images .null-fixed))
 
   -- the loose cell is the last
@@ -91,7 +91,7 @@ module _ (h : Heap) (w : WellFormed h) (n x : ℕ) (x≢0 : x ≢ 0) (x≤n : x 
       let k = length-snoc (s .links) nowhere in (
         f (cell (size s)),
         e .images .cells (cell (size s)) (omega arith, omega arith),
-        base-unmet h w n x x≢0 x≤n (cell (size s)) s
+        base-unmet h n w x x≢0 x≤n (cell (size s)) s
             (record { place = b .place; only-x = b .only-x; inside = λ r m. let i = b .inside r m in omega arith; small = b .small; no-facts = b .no-facts })
             (s .links ++ (nowhere ∷ [])) (omega arith) (link-unlinked (s .links)) f e (λ _ _. (omega arith, omega arith)),
       )

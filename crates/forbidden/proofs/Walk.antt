@@ -2,18 +2,19 @@
 use mathlib.Core.List.{List, [], _∷_, List·Memᴰ·head, List·Memᴰ·tail, List·Memᴰ·not-nil}
 use mathlib.Core.Logic.{_≢_}
 use mathlib.Core.Path.{_≡_, refl}
-use Prim.Native.Nat.{ℕ, zero, suc, _+_}
+use Prim.Native.Nat.{ℕ, zero, suc, _+_, _≤_}
 use native.Mathlib.Decide.{ℕ-discrete}
 use native.Mathlib.Omega.{arith}
 use lib.ListN.{length}
-use Rattle.lists.specs.List.{_∈_}
-use Rattle.lists.proofs.List.{mem?, every-cons, Distinct, pigeonhole}
+use Rattle.lists.specs.List.{_∈_, Distinct}
+use Rattle.lists.proofs.List.{mem?, every-cons, pigeonhole}
 use Rattle.heap.specs.Heap.{Heap, IsCell}
 use Rattle.heap.specs.Place.{nowhere, null, dangling}
 use Rattle.graph.proofs.Follow.{Visits}
 use Rattle.graph.proofs.Proper.{IsPlace}
 use Rattle.shape.specs.Shape.{heapGraph}
-use Rattle.run.proofs.WellFormed.{WellFormed}
+use Rattle.run.specs.WellFormed.{WellFormed}
+use Rattle.run.proofs.WellFormed.{somewhere, var-place, link-place}
 
 -- where a walk stops that met the cells `met`, after those of `seen`
 pub data Last (end : ℕ) (met seen : List ℕ) : Type 0 where
@@ -31,7 +32,7 @@ pub record Walk (h : Heap) (p : ℕ) (seen : List ℕ) : Type 0 where
   pub apart : (c : ℕ) → c ∈ met → ¬ (c ∈ seen)
   pub last : Last end met seen
 
-module _ (h : Heap) (w : WellFormed h) where
+module _ (h : Heap) (n : ℕ) (w : WellFormed n h) where
   -- the walk stops at once
   stop : (p : ℕ) (seen : List ℕ) → Last p [] seen → Walk h p seen
   stop p seen l =
@@ -81,9 +82,9 @@ module _ (h : Heap) (w : WellFormed h) where
       go (no a) (no b) (yes m) r = stop p seen (back-before m)
       go (no a) (no b) (no o) r =
           let c : IsCell h p = s a b in
-          step p seen c o (r (p ∷ seen) (h .link p) c (w .closed .link-place p c) (o, d) (every-cons (IsCell h) c k) (omega arith))
+          step p seen c o (r (p ∷ seen) (h .link p) c (link-place h w p c) (o, d) (every-cons (IsCell h) c k) (omega arith))
 
-  pub walk-from : (x : ℕ) → Walk h (h .var x) []
-  walk-from x =
-      walk (suc (w .finite .0)) [] (h .var x) (w .somewhere x) (w .closed .var-place x (w .somewhere x)) tt
+  pub walk-from : (x : ℕ) → x ≤ n → Walk h (h .var x) []
+  walk-from x x≤n =
+      walk (suc (w .finite .0)) [] (h .var x) (somewhere h w x x≤n) (var-place h w x x≤n) tt
       (λ c m. absurd (List·Memᴰ·not-nil m)) (omega arith)

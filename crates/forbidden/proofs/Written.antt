@@ -28,7 +28,7 @@ use Rattle.format.proofs.Guarantee.{safe-bytes, one-job}
 use Rattle.format.proofs.Sequence.{reads-decode}
 use Rattle.format.proofs.Written.{written-job}
 use Rattle.forbidden.specs.Sets.{notList, lostBlock, atState, badStep, badStepsOf, stepsThrough, alsoForbid}
-use Rattle.forbidden.specs.Written.{ReadySet, not-list, lost-block, bad-steps, shapesOf, Guarantees, isInside, withSet, written, refused, rewriteFile, rewriteRead, rewrite, rewriteResult, outputAfter, Ready, Rewrites}
+use Rattle.forbidden.specs.Written.{ReadySet, not-list, lost-block, bad-steps, shapesOf, Guarantees, isInside, Inside, withSet, written, refused, rewriteFile, rewriteRead, rewrite, rewriteResult, outputAfter, Ready, Rewrites}
 use Rattle.forbidden.proofs.InRange.{Plain, not-list-in-range, lost-in-range, standing-in-range}
 use Rattle.forbidden.proofs.Runs.{through-range, list-at, none-lost-at, steps-at-cells, also-forbids, still-safe}
 
@@ -40,12 +40,6 @@ read-is job f next e =
     record { in-range = ok; reads = reads-decode job (jobNumbers f) next g whole }
 
 -- ---- the set in a job
-
--- the set asks for one of n variables and one of so many states
-abbrev pub Inside : ReadySet → ℕ → ℕ → Type 0
-Inside (not-list x q) n states = ((1 ≤ x) × (x < suc n)) × (q < states)
-Inside (lost-block x q) n states = ((1 ≤ x) × (x < suc n)) × (q < states)
-Inside bad-steps n states = Unit {0}
 
 pub r-inside : (set : ReadySet) (n states : ℕ) → Reflect (Inside set n states) (isInside set n states)
 r-inside (not-list x q) n states = r-and (r-and (r-le 1 x) (r-lt x (suc n))) (r-lt q states)

@@ -3,7 +3,7 @@
 use mathlib.Core.Bool.{Bool, true, _&&_, cond, not}
 use mathlib.Core.List.{List, [], _∷_, _++_}
 use mathlib.Core.Path.{_≡_}
-use Prim.Native.Nat.{ℕ, suc}
+use Prim.Native.Nat.{ℕ, suc, _≤_, _<_}
 use lib.Dec.{ltb}
 use lib.ListN.{length, drop}
 use Rattle.number.specs.CallResult.{CallResult}
@@ -41,6 +41,12 @@ abbrev pub isInside : ReadySet → ℕ → ℕ → Bool
 isInside (not-list x q) n states = within 1 (suc n) x && ltb q states
 isInside (lost-block x q) n states = within 1 (suc n) x && ltb q states
 isInside bad-steps n states = true
+
+-- the same as a claim (`r-inside`): a variable from 1 to n and a state below `states` are asked for
+abbrev pub Inside : ReadySet → ℕ → ℕ → Type 0
+Inside (not-list x q) n states = ((1 ≤ x) × (x < suc n)) × (q < states)
+Inside (lost-block x q) n states = ((1 ≤ x) × (x < suc n)) × (q < states)
+Inside bad-steps n states = Unit {0}
 
 -- the job with the set after its own
 abbrev pub withSet : ReadySet → JobFile → JobFile

@@ -21,9 +21,9 @@ use Rattle.format.specs.JobBytes.{IsJob}
 use Rattle.format.specs.JobNumbers.{locatedNumbers, jobNumbers}
 use Rattle.format.specs.Parser.{jobBuffer, within}
 use Rattle.format.proofs.Guarantee.{job-bytes}
-use Rattle.forbidden.specs.Written.{ReadySet, shapesOf, isInside, withSet, Rewritten, written, refused, rewriteFile, rewriteRead, rewrite}
+use Rattle.forbidden.specs.Written.{ReadySet, shapesOf, isInside, Inside, withSet, Rewritten, written, refused, rewriteFile, rewriteRead, rewrite}
 use Rattle.forbidden.proofs.Runs.{through-range}
-use Rattle.forbidden.proofs.Written.{read-is, Inside, r-inside}
+use Rattle.forbidden.proofs.Written.{read-is, r-inside}
 use Rattle.layout.specs.Entries.{versionOf}
 use Rattle.layout.specs.Transitions.{transitionAt}
 use Rattle.reader.specs.Job.{JobRead}

@@ -19,8 +19,8 @@ use Rattle.shape.specs.Shape.{size}
 use Rattle.run.specs.Run.{Transition, Located}
 use Rattle.format.specs.JobBytes.{LocatedInRange, JobInRange}
 use Rattle.format.specs.JobNumbers.{JobFile, opNumbers, transitionNumbers, factsNumbers, locatedNumbers, jobNumbers}
-use Rattle.forbidden.specs.Written.{ReadySet, shapesOf, withSet}
-use Rattle.forbidden.proofs.Written.{Inside, set-in-range}
+use Rattle.forbidden.specs.Written.{ReadySet, shapesOf, withSet, Inside}
+use Rattle.forbidden.proofs.Written.{set-in-range}
 use Rattle.forbidding.proofs.Shapes.{set-plain}
 use Rattle.format.proofs.Written.{at-most-append, at-most-all, located-at-most, transition-at-most}
 

@@ -9,8 +9,7 @@ use native.Mathlib.Decide.{decLt}
 use native.Mathlib.Nat.{zero-add}
 use native.Mathlib.Omega.{arith}
 use lib.ListN.{length, getD, List·getD-eq-default}
-use Rattle.lists.specs.List.{_∈_}
-use Rattle.lists.proofs.List.{Distinct}
+use Rattle.lists.specs.List.{_∈_, Distinct}
 use Rattle.lists.proofs.Range.{length-from, getD-from}
 use Rattle.heap.specs.Heap.{Heap, empty}
 use Rattle.run.proofs.Runs.{all-kept}

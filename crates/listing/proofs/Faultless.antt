@@ -7,8 +7,8 @@ use Prim.Native.Nat.{ℕ, zero, suc, _+_, _≤_, _<_}
 use native.Mathlib.Omega.{arith}
 use lib.Dec.{eqb, ltb, T}
 use lib.ListN.{length}
-use Rattle.lists.specs.List.{_∈_, Every}
-use Rattle.lists.proofs.List.{every-none, every-cons, every-head, every-tail, Distinct}
+use Rattle.lists.specs.List.{_∈_, Every, Distinct}
+use Rattle.lists.proofs.List.{every-none, every-cons, every-head, every-tail}
 use Rattle.lists.proofs.Reflect.{r-eq, r-lt, r-absent, r-not, is-false, fails}
 use Rattle.lines.specs.declared.Line.{Line}
 use Rattle.lines.specs.declared.Line.the-variants.{Perform, While, If, End, Mark, Other}

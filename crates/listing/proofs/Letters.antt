@@ -7,8 +7,8 @@ use Prim.Native.Nat.{ℕ, zero, suc, _≤_, _<_}
 use native.Mathlib.Omega.{arith}
 use lib.Dec.{eqb, T}
 use lib.ListN.{length, getD}
-use Rattle.lists.specs.List.{_∈_, Every, absent}
-use Rattle.lists.proofs.List.{every-none, every-cons, every-one, every-append, every-snoc, every-head, every-tail, every-left, every-right, Distinct, distinct-snoc, getD-mem}
+use Rattle.lists.specs.List.{_∈_, Every, Distinct, absent}
+use Rattle.lists.proofs.List.{every-none, every-cons, every-one, every-append, every-snoc, every-head, every-tail, every-left, every-right, distinct-snoc, getD-mem}
 use Rattle.lists.proofs.Reflect.{r-eq, r-absent, is-true, is-false}
 use Rattle.heap.specs.Operation.{Op, equal, different, assign, load, store, new, delete, equalValue, belowValue, copy, larger, smaller, read, Allowed}
 use Rattle.format.specs.JobBytes.{Between}

@@ -9,9 +9,8 @@ use native.Mathlib.Omega.{arith}
 use lib.Dec.{eqb}
 use lib.ListN.{length, length-set, length-replicate, getD, getD-replicate, set, replicate}
 use lib.Seq.{getD-set-same, getD-set-other}
-use Rattle.lists.specs.List.{_∈_, Every, concatMap}
+use Rattle.lists.specs.List.{_∈_, Every, Distinct, concatMap}
 use Rattle.lists.specs.Range.{range}
-use Rattle.lists.proofs.List.{Distinct}
 use Rattle.lists.proofs.Range.{tabled}
 use Rattle.number.specs.NumberList.{encode}
 use Rattle.number.specs.Range.{AtMost}

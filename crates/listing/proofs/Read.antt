@@ -5,8 +5,8 @@ use mathlib.Core.Path.{_≡_, refl, sym, ap, ap₂, subst, _∙_}
 use Prim.Native.Nat.{ℕ, suc, _+_, _≤_}
 use native.Mathlib.Omega.{arith}
 use lib.ListN.{length, length-append}
-use Rattle.lists.specs.List.{Every}
-use Rattle.lists.proofs.List.{every-none, every-cons, every-head, every-tail, Distinct}
+use Rattle.lists.specs.List.{Every, Distinct}
+use Rattle.lists.proofs.List.{every-none, every-cons, every-head, every-tail}
 use Rattle.format.specs.JobBytes.{Between}
 use Rattle.lines.specs.declared.Line.{Line}
 use Rattle.lines.specs.declared.Line.the-variants.{Perform, While, If, End, Mark, Other}

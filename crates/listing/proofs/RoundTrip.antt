@@ -6,8 +6,7 @@ use mathlib.Core.Path.{_≡_, refl, sym, ap, ap₂, subst, _∙_}
 use Prim.Native.Nat.{ℕ, _≤_}
 use native.Mathlib.Omega.{arith}
 use lib.ListN.{length}
-use Rattle.lists.specs.List.{Every}
-use Rattle.lists.proofs.List.{Distinct}
+use Rattle.lists.specs.List.{Every, Distinct}
 use Rattle.lines.specs.declared.Line.{Line}
 use Rattle.listing.specs.Limits.{depthIn, WithinLimits}
 use Rattle.listing.specs.Listing.{Block}

@@ -4,8 +4,7 @@ use mathlib.Core.List.{[]}
 use mathlib.Core.Path.{_≡_}
 use Prim.Native.Nat.{ℕ, suc, _≤_, max}
 use lib.ListN.{length}
-use Rattle.lists.specs.List.{Every}
-use Rattle.lists.proofs.List.{Distinct}
+use Rattle.lists.specs.List.{Every, Distinct}
 use Rattle.heap.specs.Operation.{Op, Allowed}
 use Rattle.format.specs.JobBytes.{Between}
 use Rattle.listing.specs.Listing.{Statement, perform, mark, while, if, Block, done, _⨾_, marksIn}

@@ -6,8 +6,8 @@ use mathlib.Core.Path.{_≡_, refl, sym, ap, _∙_}
 use Prim.Native.Nat.{ℕ, zero, suc, _<_}
 use native.Mathlib.Omega.{arith}
 use lib.ListN.{length, getD}
-use Rattle.lists.specs.List.{_∈_, Every}
-use Rattle.lists.proofs.List.{Distinct, distinct-apart, distinct-right}
+use Rattle.lists.specs.List.{_∈_, Every, Distinct}
+use Rattle.lists.proofs.List.{distinct-apart, distinct-right}
 use Rattle.heap.specs.Heap.{Heap, IsCell}
 use Rattle.heap.specs.Place.{nowhere, null, dangling, cell}
 use Rattle.heap.specs.Value.{Meets}

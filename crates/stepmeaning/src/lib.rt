@@ -1,0 +1,1 @@
+// What the ready shapes mean in the heaps of the stepper and for the block list: theorems alone, in proofs/.
