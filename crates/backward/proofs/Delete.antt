@@ -20,7 +20,7 @@ use Rattle.graph.proofs.Chain.{chain-step, chain-agree}
 use Rattle.graph.proofs.Extend.{extend-unlinked}
 use Rattle.graph.proofs.Paths.{path-linked, place-off-path}
 use Rattle.graph.proofs.Proper.{Proper, IsPlace, Closed, dangling-place, distinct-places}
-use Rattle.graph.proofs.Update.{update-same, update-other, update-cases}
+use Rattle.heap.proofs.Update.{update-same, update-other, update-cases}
 use Rattle.facts.specs.Facts.{Follows}
 use Rattle.shape.specs.Placing.{setVarIn, fresh, grow}
 use Rattle.shape.specs.Shape.{Shape, varAt, linkAt, size, shapeGraph, heapGraph, SatisfiesOne}

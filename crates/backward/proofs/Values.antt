@@ -16,7 +16,7 @@ use Rattle.heap.specs.Place.{dangling}
 use Rattle.heap.specs.Value.{below, equals, HasValue, Meets}
 use Rattle.graph.specs.Graph.{Embeds}
 use Rattle.graph.proofs.Proper.{Proper, Closed, cell-of}
-use Rattle.graph.proofs.Update.{update-same, update-other, update-cases}
+use Rattle.heap.proofs.Update.{update-same, update-other, update-cases}
 use Rattle.facts.specs.Facts.{Fact, given}
 use Rattle.shape.specs.Placing.{place}
 use Rattle.shape.specs.Shape.{Shape, varAt, size, shapeGraph, heapGraph, Satisfies, SatisfiesOne}

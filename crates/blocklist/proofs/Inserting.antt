@@ -10,11 +10,12 @@ use lib.ListN.{length, drop}
 use Rattle.lists.specs.List.{_∈_}
 use Rattle.heap.specs.Heap.{update}
 use Rattle.heap.specs.Place.{nowhere, null, dangling}
+use Rattle.heap.proofs.Update.{update-same, update-other, by-update, heap-path}
 use Rattle.stepper.specs.declared.Stepped.{Stepped}
 use Rattle.blocklist.specs.BlockList.{Lists, headOf, chained, three, putIn, cellAt}
 use Rattle.blocklist.specs.Parts.{times, once, restTurns}
-use Rattle.blocklist.proofs.Chains.{update-same, update-other, by-update, cell-in, lists-head, lists-drop, cell-next, lists-somewhere, lists-proper, lists-linked, lists-chained, lists-agree, put-after}
-use Rattle.blocklist.proofs.Moving.{heap-path, At, Done, assigned, loaded, stored}
+use Rattle.blocklist.proofs.Chains.{cell-in, lists-head, lists-drop, cell-next, lists-somewhere, lists-proper, lists-linked, lists-chained, lists-agree, put-after}
+use Rattle.blocklist.proofs.Moving.{At, Done, assigned, loaded, stored}
 use Rattle.blocklist.proofs.Walking.{rested, walked}
 
 -- x is free, and xs are the cells met from a

@@ -10,9 +10,10 @@ use Rattle.lists.specs.List.{_∈_}
 use Rattle.heap.specs.Heap.{Heap}
 use Rattle.heap.specs.Operation.{dangled}
 use Rattle.heap.specs.Place.{nowhere, null, dangling}
+use Rattle.heap.proofs.Update.{update-same, update-other}
 use Rattle.blocklist.specs.BlockList.{Lists, three, putIn, takenOut, cellAt, counted, inserted, removed}
 use Rattle.blocklist.specs.Sentences.{OnlyRests, PutsIn, TakesOut}
-use Rattle.blocklist.proofs.Chains.{update-same, update-other, cell-in, lists-distinct, lists-not-null, lists-linked, chained-other, chained-lists, cutOff, distinct-put, put-not, in-taken, distinct-taken, taken-gone}
+use Rattle.blocklist.proofs.Chains.{cell-in, lists-distinct, lists-not-null, lists-linked, chained-other, chained-lists, cutOff, distinct-put, put-not, in-taken, distinct-taken, taken-gone}
 
 -- operands above 3 are not among the three
 beyond : (f : ℕ → ℕ) (a b c v : ℕ) → 3 < v → three f a b c v ≡ f v

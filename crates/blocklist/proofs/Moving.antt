@@ -11,6 +11,7 @@ use lib.Dec.{leb}
 use Rattle.heap.specs.Heap.{Heap, update}
 use Rattle.heap.specs.Operation.{Op, assign, load, store, new, delete, Enabled, enabled?, after, operation, dangled}
 use Rattle.heap.specs.Place.{nowhere, dangling, cell}
+use Rattle.heap.proofs.Update.{update-same, update-other, heap-path}
 use Rattle.stepper.specs.Step.{stays, lowestUnused, allocates, choice, perform, stepOf, Steps}
 use Rattle.stepper.specs.Table.{heapOf, tableOf, wellFormed}
 use Rattle.stepper.specs.Turns.{onMoved, Repeats, InTurn}
@@ -20,7 +21,7 @@ use Rattle.stepper.specs.declared.Outcome.the-variants.{Moved, Blocked, Refused
 use Rattle.stepper.specs.declared.Stepped.{Stepped}
 use Rattle.blocklist.specs.BlockList.{three}
 use Rattle.blocklist.specs.Parts.{times, once}
-use Rattle.blocklist.proofs.Chains.{update-same, update-other, cutOff}
+use Rattle.blocklist.proofs.Chains.{cutOff}
 
 -- the table is well formed, has n variables and stands for the heap h
 pub record Stands (n : ℕ) (t : Heap64) (h : Heap) : Type 0 where
@@ -143,9 +144,6 @@ module _ (f : ℕ → ℕ) (a b c x : ℕ) where
   put-3 (suc (suc zero)) = update-other (three f a b c) 3 x 2 (omega arith)
   put-3 (suc (suc (suc zero))) = update-same (three f a b c) 3 x 3 refl
   put-3 (suc (suc (suc (suc v)))) = update-other (three f a b c) 3 x (suc (suc (suc (suc v)))) (omega arith)
-
-pub heap-path : {h k : Heap} → ((p : ℕ) → h .link p ≡ k .link p) → ((v : ℕ) → h .var v ≡ k .var v) → ((p : ℕ) → h .value p ≡ k .value p) → h ≡ k
-heap-path a b c = λ i. record { link = λ p. a p i; var = λ v. b v i; value = λ p. c p i }
 
 -- a variable of the three, moved
 put-is : (x : Spot) (v p : ℕ) → 1 ≤ v → v ≤ 3 → record { link = x .link; var = update (operand x) v p; value = x .values } ≡ heapAt (put v p x)

@@ -11,11 +11,12 @@ use Rattle.lists.specs.List.{_∈_, Distinct}
 use Rattle.heap.specs.Heap.{update}
 use Rattle.heap.specs.Operation.{dangled}
 use Rattle.heap.specs.Place.{nowhere, null, dangling}
+use Rattle.heap.proofs.Update.{update-same, update-other, dangled-other, heap-path}
 use Rattle.stepper.specs.declared.Stepped.{Stepped}
 use Rattle.blocklist.specs.BlockList.{Lists, headOf, chained, three, takenOut, cellAt}
 use Rattle.blocklist.specs.Parts.{times, once, restTurns}
-use Rattle.blocklist.proofs.Chains.{update-same, update-other, dangled-other, cutOff, cell-in, cells-differ, lists-head, lists-drop, cell-next, lists-somewhere, lists-proper, lists-not-null, lists-distinct, lists-unique, take-first, take-after}
-use Rattle.blocklist.proofs.Moving.{Spot, heap-path, At, Done, assigned, loaded, stored, deleted}
+use Rattle.blocklist.proofs.Chains.{cutOff, cell-in, cells-differ, lists-head, lists-drop, cell-next, lists-somewhere, lists-proper, lists-not-null, lists-distinct, lists-unique, take-first, take-after}
+use Rattle.blocklist.proofs.Moving.{Spot, At, Done, assigned, loaded, stored, deleted}
 use Rattle.blocklist.proofs.Walking.{rested, walked}
 
 -- y and ys are the cells met from the head

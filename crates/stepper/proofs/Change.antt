@@ -11,7 +11,7 @@ use borrow.Author.Tests.{le-leb, lt-ltb, le-ltb, eq-eqb, ne-eqb}
 use lib.ListN.{length, getD, set, length-set, length-map, List·getD-map}
 use lib.Seq.{getD-set-same, getD-set-other}
 use Rattle.heap.specs.Codes.{varIn, linkIn}
-use Rattle.heap.specs.Heap.{Heap, update}
+use Rattle.heap.specs.Heap.{update}
 use Rattle.heap.specs.Operation.{dangled, write}
 use Rattle.heap.specs.Place.{nowhere, dangling, cell}
 use Rattle.place.specs.Place.{placeOf, codes}
@@ -21,9 +21,7 @@ use Rattle.stepper.specs.Table.{heapOf, Sized, valueOf, codeIn, mostCode
 use Rattle.stepper.specs.declared.Heap64.{Heap64}
 use Rattle.stepper.proofs.Formed.{Formed, var-stands, slot-empty, link-stands, link-empty, code-most, code-unused}
 use Rattle.heap.proofs.Codes.{by-code}
-
-pub heap-path : {h k : Heap} → ((p : ℕ) → h .link p ≡ k .link p) → ((v : ℕ) → h .var v ≡ k .var v) → ((p : ℕ) → h .value p ≡ k .value p) → h ≡ k
-heap-path a b c = λ i. record { link = λ p. a p i; var = λ v. b v i; value = λ p. c p i }
+use Rattle.heap.proofs.Update.{by-update, heap-path}
 
 -- ---- lists of codes
 
@@ -31,13 +29,6 @@ codes-set : (l : List Place) (i : ℕ) (p : Place) → codes (set l i p) ≡ set
 codes-set [] i p = refl
 codes-set (x ∷ l) zero p = refl
 codes-set (x ∷ l) (suc i) p = ap (λ r. x .code ∷ r) (codes-set l i p)
-
-by-update : {A : Type 0} (f : ℕ → A) (k : ℕ) (y : A) (n : ℕ) (z : A) → (n ≡ k → z ≡ y) → (n ≢ k → z ≡ f n) → z ≡ update f k y n
-by-update f k y n z same other = go (ℕ-discrete n k)
-  where
-    go : Dec (n ≡ k) → z ≡ update f k y n
-    go (yes e) = same e ∙ sym (if-pos (ℕ-discrete n k) e y (f n))
-    go (no e) = other e ∙ sym (if-neg (ℕ-discrete n k) e y (f n))
 
 var-set : (l : List ℕ) (v p : ℕ) → v < length l → (u : ℕ) → varIn (set l v p) u ≡ update (varIn l) (suc v) p u
 var-set l v p h zero = by-update (varIn l) (suc v) p zero _ (λ e. absurd (omega arith)) (λ n. refl)
