@@ -62,7 +62,7 @@ extern "C" {
 #define VORRUDA_PAST_LIST 28 /* n is more than there are blocks, or 0 in a remove */
 #define VORRUDA_HEAP_FULL 15 /* an insert with all 64 cells used */
 
-/* A call needs less than 3 KiB of stack. */
+/* A call needs less than 8 KiB of stack. */
 
 /* Inserts a block after the n-th, in front for 0. It is the lowest unused cell and has no value; the
  * other blocks keep their order and their values.
