@@ -1,6 +1,6 @@
 -- The links followed for a cover that holds: the lengths of its paths, one choice of them, at most one for each linked cell.
 use mathlib.Core.Bool.{Bool, true, false, not, cond}
-use mathlib.Core.List.{List, [], _∷_, _++_, List·Memᴰ·head, List·Memᴰ·tail, List·Memᴰ·not-nil, List·Memᴰ·append-cases}
+use mathlib.Core.List.{List, [], _∷_, _++_, map, List·Memᴰ·head, List·Memᴰ·not-nil, List·Memᴰ·append-cases}
 use mathlib.Core.Logic.{_≢_, _⊎_, inl, inr}
 use mathlib.Core.Path.{_≡_, refl, ap, ap₂, _∙_}
 use Prim.Native.Nat.{ℕ, zero, suc, _+_, _*_, _≤_, _<_}
@@ -9,9 +9,9 @@ use native.Mathlib.Omega.{arith}
 use borrow.Author.Tests.{eq-eqb}
 use lib.Dec.{eqb}
 use lib.ListN.{length, getD, length-append}
-use Rattle.lists.specs.List.{_∈_, Every, Distinct, concatMap, keep}
+use Rattle.lists.specs.List.{_∈_, Every, Distinct, concatMap, keep, sum}
 use Rattle.lists.specs.Range.{range}
-use Rattle.lists.proofs.List.{distinct-append, distinct-length, kept-length, mem-concatMap, mem-keep, mem-below, range-append, concatMap-append, element-mem}
+use Rattle.lists.proofs.List.{every-tail, distinct-append, distinct-length, kept-length, mem-concatMap, mem-keep, mem-below, range-append, concatMap-append, element-mem}
 use Rattle.lists.proofs.Reflect.{r-eq, r-not, cond-cases}
 use Rattle.heap.specs.Place.{nowhere, cell}
 use Rattle.graph.specs.Graph.{Graph, Embeds}
@@ -45,6 +45,9 @@ pub lengths-unique : (m : Shape) (h : Graph) (f : ℕ → ℕ) → Proper h → 
 lengths-unique m h f w cl e e′ = lengths-same m (mids e) (mids e′) (λ i. path-unique (shapeGraph m) h f w cl e e′ (cell i)) (size m)
 
 -- ---- each link followed is that of another cell
+
+linked-few : (s : Shape) → length (linkedCells s) ≤ size s
+linked-few s = kept-length (λ i. not (eqb (linkAt s (cell i)) nowhere)) cell 0 (size s)
 
 module _ (m p : Shape) (f : ℕ → ℕ) (cl : Closed (shapeGraph m)) (e : Embeds (shapeGraph m) (shapeGraph p) f) where
   abbrev g : Graph
@@ -126,7 +129,7 @@ module _ (m p : Shape) (f : ℕ → ℕ) (cl : Closed (shapeGraph m)) (e : Embed
 
   -- "so at most 14"
   pub lengths-most : size p ≤ 14 → pathLengths m (mids e) ≤ 14
-  lengths-most r = omega (arith, lengths-bound, kept-length (λ i. not (eqb (linkAt p (cell i)) nowhere)) cell 0 (size p))
+  lengths-most r = omega (arith, lengths-bound, linked-few p)
 
 -- ---- each linked cell of the member has a path of at least one link
 
@@ -167,15 +170,19 @@ links-exact m p l cl number e =
 
 -- ---- all covers
 
--- at most 14 for each
-pub links-most : (ms : List Located) (cs : List Cover) (os : List Located) (k : AllHold ms cs os)
-    → Every (λ m. Closed (shapeGraph (m .shape))) ms → Every (λ o. size (o .shape) ≤ 14) os → linksOf ms cs os k ≤ 14 * length cs
-links-most ms [] [] k cl r = omega arith
-links-most ms [] (o ∷ os) k cl r = absurd k
-links-most ms (c ∷ cs) [] k cl r = absurd k
-links-most ms (c ∷ cs) (o ∷ os) (k, ks) cl r =
+-- at most as many as the covered shapes have linked cells, added up
+pub links-bound : (ms : List Located) (cs : List Cover) (os : List Located) (k : AllHold ms cs os)
+    → Every (λ m. Closed (shapeGraph (m .shape))) ms → linksOf ms cs os k ≤ sum (map (λ o. length (linkedCells (o .shape))) os)
+links-bound ms [] [] k cl = omega arith
+links-bound ms [] (o ∷ os) k cl = absurd k
+links-bound ms (c ∷ cs) [] k cl = absurd k
+links-bound ms (c ∷ cs) (o ∷ os) (k, ks) cl =
     let one =
-    lengths-most (k .member .shape) (o .shape) (imageMap (c .images)) (cl (k .member) (element-mem ms (c .member) (k .member) (k .numbered))) (k .embeds)
-    (r o (List·Memᴰ·head refl)) in
-    let rest = links-most ms cs os ks cl (λ q i. r q (List·Memᴰ·tail i)) in
+    lengths-bound (k .member .shape) (o .shape) (imageMap (c .images)) (cl (k .member) (element-mem ms (c .member) (k .member) (k .numbered))) (k .embeds) in
+    let rest = links-bound ms cs os ks cl in
     omega arith
+
+-- which are at most 14 for each
+pub linked-most : (os : List Located) → Every (λ o. size (o .shape) ≤ 14) os → sum (map (λ o. length (linkedCells (o .shape))) os) ≤ 14 * length os
+linked-most [] r = omega arith
+linked-most (o ∷ os) r = omega (arith, linked-few (o .shape), r o (List·Memᴰ·head refl), linked-most os (every-tail r))

@@ -89,6 +89,7 @@ fn is_bare(cert: &[u8], start: usize, variables: usize, count: usize) -> bool
 // A quick test of the cover at a place by a member that lists no fact. Such a cover, its number of one byte or two and at most 12 images, has at most 14 bytes:
 // where fewer are left it goes to the exact test, so that images need no test for the end. An entry of 9 variables and 12 cells has 23 bytes, and one for the number
 // of facts. The member's number is read here: a call would cost each cover.
+// Which covers it leaves is the program's choice. Of one that is left it tells nothing, 0 and 0; of any other what `exact_cover` tells, whatever the facts.
 pub fn quick_cover(
     cert: &[u8],
     starts: &[u16],
@@ -97,7 +98,8 @@ pub fn quick_cover(
     state: u8,
     s: &[u8; 28],
 ) -> QuickCover
-    ensures { λ r. ⌜ ((among : ℕ → ℕ → ℕ → Bool) → r .next ≢ 0 → readCoverBy (certificateBuffer (now (cert .entry))) among (membersFrom (now (cert .entry)) variables (now (starts .entry))) (record { state = state; shape = shapeIn variables (now (s .entry)) }) at ≡ parsed (r .links) (r .next)) ⌝ }
+    ensures given { λ r. ⌜ ((among : ℕ → ℕ → ℕ → Bool) → r .next ≢ 0 → readCoverBy (certificateBuffer (now (cert .entry))) among (membersFrom (now (cert .entry)) variables (now (starts .entry))) (record { state = state; shape = shapeIn variables (now (s .entry)) }) at ≡ parsed (r .links) (r .next)) ⌝ }
+    ensures left { λ r. ⌜ (r .next ≡ 0 → r .links ≡ 0) ⌝ }
 {
     if cert.len() < 14 {
         return LEFT;

@@ -1,14 +1,15 @@
 -- How many links are counted at most, so that the sum fits a type of 32 bits: 14 for each cover, and no more covers than bytes.
-use mathlib.Core.List.{List, [], _∷_}
+use mathlib.Core.List.{List, [], _∷_, map}
 use mathlib.Core.Path.{_≡_, refl, ap}
 use Prim.Native.Nat.{ℕ, _*_, _≤_}
 use native.Mathlib.Omega.{arith}
 use lib.ListN.{length, length-append}
-use Rattle.lists.specs.List.{concatMap}
+use Rattle.lists.specs.List.{concatMap, sum}
 use Rattle.run.specs.Run.{Located}
 use Rattle.shape.proofs.InRange.{in-range-closed}
 use Rattle.cover.specs.Cover.{Cover, owed, AllHold}
-use Rattle.cover.proofs.Links.{links-most}
+use Rattle.cover.specs.Lengths.{linkedCells}
+use Rattle.cover.proofs.Links.{links-bound, linked-most}
 use Rattle.format.specs.Verdict.{Counts}
 use Rattle.format.specs.Numbers.{coverNumbers, memberNumbers, certificateNumbers}
 use Rattle.format.specs.Conditions.{Conditions}
@@ -34,14 +35,19 @@ module _ (job certificate : List ℕ) (counts : Counts) (c : Conditions job cert
   covers-are : counts .covers ≡ length (c .covers)
   covers-are = let e = hold-length (c .members) (c .covers) os (c .hold) in omega (arith, ap (λ k. k .covers) (c .counts-due))
 
+  -- "at most the number of cells of the covered shape that have a link": over all covers
+  pub links-linked : counts .links ≤ sum (map (λ o. length (linkedCells (o .shape))) os)
+  links-linked =
+      let vars = c .file .job .variables in
+      let most =
+      links-bound (c .members) (c .covers) os (c .hold) (λ m i. in-range-closed vars 12 (m .shape) (c .members-range .members m i .shape)) in
+      omega (arith, most, ap (λ k. k .links) (c .counts-due))
+
   -- "so at most 14", for each cover
   pub links-at-most : counts .links ≤ 14 * counts .covers
   links-at-most =
-      let vars = c .file .job .variables in
-      let most =
-      links-most (c .members) (c .covers) os (c .hold) (λ m i. in-range-closed vars 12 (m .shape) (c .members-range .members m i .shape))
-      (λ o i. owed-range (c .file) (c .members) (c .job-is .in-range) (c .members-range) o i .cells) in
-      omega (arith, most, covers-are, ap (λ k. k .links) (c .counts-due))
+      let most = linked-most os (λ o i. owed-range (c .file) (c .members) (c .job-is .in-range) (c .members-range) o i .cells) in
+      omega (arith, links-linked, most, ap (λ k. k .covers) (c .counts-due))
 
   -- each number has a byte at least
   pub covers-at-most : counts .covers ≤ length certificate

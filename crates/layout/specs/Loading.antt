@@ -8,7 +8,7 @@ use lib.Seq.{paste}
 use Rattle.heap.specs.Place.{null}
 use Rattle.factrows.specs.Listed.{closed}
 use Rattle.factrows.specs.Rows.{noFacts}
-use Rattle.layout.specs.Entries.{versionOf, factBytes, linksEnd, linksInside, isWhole}
+use Rattle.layout.specs.Entries.{versionOf, factsFirst, factBytes, linksEnd, linksInside, entryEnd, isWhole}
 
 -- The most codes that an entry in range has, 8 of variables ahead of its first link and 12 of links from it on, are inside the buffer.
 unfoldable pub mostInside : List ℕ → ℕ → ℕ → Bool
@@ -34,6 +34,15 @@ loadedShape bytes variables at s =
 unfoldable pub entryFacts : List ℕ → ℕ → ℕ → List ℕ
 entryFacts bytes variables at =
     cond (isWhole bytes variables at && eqb (versionOf bytes) 2) (factBytes bytes (linksEnd bytes variables at)) []
+
+-- Where they stand, from one place up to another: from their first byte up to the entry's end, also where it lists none; from 0 up to 0 in version 1, and where
+-- the entry is not whole.
+unfoldable pub spanFirst : List ℕ → ℕ → ℕ → ℕ
+spanFirst bytes variables at =
+    cond (isWhole bytes variables at && eqb (versionOf bytes) 2) (factsFirst bytes (linksEnd bytes variables at)) 0
+
+unfoldable pub spanEnd : List ℕ → ℕ → ℕ → ℕ
+spanEnd bytes variables at = cond (isWhole bytes variables at && eqb (versionOf bytes) 2) (entryEnd bytes variables at) 0
 
 -- The rows of its facts, closed, whatever they held.
 abbrev pub loadedFacts : List ℕ → ℕ → ℕ → List ℕ

@@ -10,7 +10,7 @@ ghost use lib.ListN.{length, getD, take, drop};
 ghost use lib.Seq.{paste};
 ghost use Rattle.layout.specs.Entries.{versionOf, factCount, factsFirst, factsEnd, linksInside, entryEnd, isWhole};
 ghost use Rattle.layout.specs.ShapeArray.{linksIn};
-ghost use Rattle.layout.specs.Loading.{mostInside, loadedCodes, loadedShape, entryFacts, loadedFacts};
+ghost use Rattle.layout.specs.Loading.{mostInside, loadedCodes, loadedShape, entryFacts, spanFirst, spanEnd, loadedFacts};
 
 // The version of a file, its first byte; 0 where it has none.
 pub fn version_of(bytes: &[u8]) -> u8
@@ -180,9 +180,10 @@ pub struct Span {
     pub end: usize,
 }
 
-// The bytes of the facts of the entry at a place; none in version 1, and where the entry is not whole.
+// The bytes of the facts of the entry at a place: from the first of them up to the entry's end, also where it lists none; from 0 up to 0 in version 1, and where the
+// entry is not whole.
 pub fn fact_span(bytes: &[u8], at: usize, variables: usize) -> Span
-    ensures { λ r. ⌜ (r .first ≤ r .end) × (r .end ≤ length (now (bytes .entry))) × (take (r .end - r .first) (drop (r .first) (now (bytes .entry))) ≡ entryFacts (now (bytes .entry)) variables at) ⌝ }
+    ensures { λ r. ⌜ (r .first ≤ r .end) × (r .end ≤ length (now (bytes .entry))) × (take (r .end - r .first) (drop (r .first) (now (bytes .entry))) ≡ entryFacts (now (bytes .entry)) variables at) × (r .first ≡ spanFirst (now (bytes .entry)) variables at) × (r .end ≡ spanEnd (now (bytes .entry)) variables at) ⌝ }
 {
     let end = entry_end(bytes, at, variables);
     if end == 0 {

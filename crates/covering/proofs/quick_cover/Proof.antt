@@ -1,4 +1,4 @@
--- Where 0 is given, nothing is to be shown. Else the member stands whole, and its number and images are read and embed it.
+-- Where the cover is left, no link is told. Else the member stands whole, and its number and images are read and embed it.
 use Prim.Native.Nat.{_+_, _≤_, _<_}
 use mathlib.Core.Logic.{⊎-elim}
 use mathlib.Core.Path.{_≡_, refl, sym}
@@ -46,6 +46,9 @@ number-read c =
 number-ends : (c : tie.Joined3) → c .if3 .first ≤ begun (c .before) .args .at + 2
 number-ends c = ⊎-elim (λ (_, _, _, _, _, _, first-is). omega arith) (λ (_, _, first-is). omega arith) (c .if3 .came)
 
+number-begins : (c : tie.Joined3) → 1 ≤ c .if3 .first
+number-begins c = ⊎-elim (λ (_, _, _, _, _, _, first-is). omega arith) (λ (_, _, first-is). omega arith) (c .if3 .came)
+
 -- the member lists no fact, and stands whole
 bare : (c : tie.Else11)
     → let j = numbered c in
@@ -61,13 +64,13 @@ stands c =
 -- ---- what is to be shown
 
 returns : tie.Need-returns
-returns c = λ _ o. absurd (o refl)
+returns c = (λ _ o. absurd (o refl), λ _. refl)
 
 sub-if2 : tie.Need-sub-if2
 sub-if2 c = search needs
 
 returns-2 : tie.Need-returns-2
-returns-2 c = λ _ o. absurd (o refl)
+returns-2 c = (λ _ o. absurd (o refl), λ _. refl)
 
 shared-slice-read-wide : tie.Need-shared-slice-read-wide
 shared-slice-read-wide c = search needs
@@ -88,10 +91,10 @@ wide-requires-2 : tie.Need-wide-requires-2
 wide-requires-2 c κs = search needs
 
 returns-3 : tie.Need-returns-3
-returns-3 c = λ _ o. absurd (o refl)
+returns-3 c = (λ _ o. absurd (o refl), λ _. refl)
 
 returns-4 : tie.Need-returns-4
-returns-4 c = λ _ o. absurd (o refl)
+returns-4 c = (λ _ o. absurd (o refl), λ _. refl)
 
 mul-m : tie.Need-mul-m
 mul-m c = search needs
@@ -103,7 +106,7 @@ add-first-2 : tie.Need-add-first-2
 add-first-2 c = search needs
 
 returns-5 : tie.Need-returns-5
-returns-5 c = λ _ o. absurd (o refl)
+returns-5 c = (λ _ o. absurd (o refl), λ _. refl)
 
 mul-start : tie.Need-mul-start
 mul-start c = search needs
@@ -115,19 +118,19 @@ cast-start : tie.Need-cast-start
 cast-start c = omega (arith, c .shared-slice-known5 .given (c .before .before .before .if3 .m))
 
 returns-6 : tie.Need-returns-6
-returns-6 c = λ _ o. absurd (o refl)
+returns-6 c = (λ _ o. absurd (o refl), λ _. refl)
 
 add-if8 : tie.Need-add-if8
 add-if8 c = omega (arith, c .before .shared-slice-known5 .given (c .before .before .before .before .if3 .m))
 
 returns-7 : tie.Need-returns-7
-returns-7 c = λ _ o. absurd (o refl)
+returns-7 c = (λ _ o. absurd (o refl), λ _. refl)
 
 shared-slice-read-if9 : tie.Need-shared-slice-read-if9
 shared-slice-read-if9 c = search needs
 
 returns-8 : tie.Need-returns-8
-returns-8 c = λ _ o. absurd (o refl)
+returns-8 c = (λ _ o. absurd (o refl), λ _. refl)
 
 add-wide-2 : tie.Need-add-wide-2
 add-wide-2 c = search needs
@@ -139,13 +142,13 @@ wide-requires-3 : tie.Need-wide-requires-3
 wide-requires-3 c κs = search needs
 
 returns-9 : tie.Need-returns-9
-returns-9 c = λ _ o. absurd (o refl)
+returns-9 c = (λ _ o. absurd (o refl), λ _. refl)
 
 is-bare-requires : tie.Need-is-bare-requires
 is-bare-requires c κs = (omega arith, c .before .wide3 .ensures .0, omega arith, omega arith)
 
 returns-10 : tie.Need-returns-10
-returns-10 c = λ _ o. absurd (o refl)
+returns-10 c = (λ _ o. absurd (o refl), λ _. refl)
 
 images-embed-requires : tie.Need-images-embed-requires
 images-embed-requires c κs =
@@ -153,21 +156,24 @@ images-embed-requires c κs =
     (stands c, bare-facts _ _ _ (bare c), sized c .wide3 .ensures .0, omega arith)
 
 returns-11 : tie.Need-returns-11
-returns-11 c = λ _ o. absurd (o refl)
+returns-11 c = (λ _ o. absurd (o refl), λ _. refl)
 
 add-t13 : tie.Need-add-t13
 add-t13 c = let k = number-ends (numbered (c .before .before .before .before)) in search needs
 
 returns-12 : tie.Need-returns-12
-returns-12 c = λ among _.
+returns-12 c =
     let i = c .before .before .before in
     let b = i .before in
     let w = sized b in
     let j = numbered b in
     let o = begun (j .before) in
-    let byte : o .args .state < 256 = omega (arith, o .fits .state) in
-    quick-embedding _ _ (o .args .starts .now) _ _ byte _ _ _ (number-read j) (omega (arith, named w .if6 .left)) (stands b)
-    (sym (w .before .before .if9 .left)) _ (w .wide3 .ensures .0) _ (i .images-embed .ensures (not-false _ (c .before .if12 .left))) among
+    let byte : o .args .state < 256 = omega (arith, o .fits .state) in (
+      λ among _.
+          quick-embedding _ _ (o .args .starts .now) _ _ byte _ _ _ (number-read j) (omega (arith, named w .if6 .left)) (stands b)
+          (sym (w .before .before .if9 .left)) _ (w .wide3 .ensures .0) _ (i .images-embed .ensures (not-false _ (c .before .if12 .left))) among,
+      λ z. absurd (omega (arith, number-begins j)),
+    )
 
 pub quick-cover-spec : {M : Type 1} → statement M
 quick-cover-spec =

@@ -1,9 +1,9 @@
--- None where the entry is not whole, or of version 1; else from where they begin to the entry's end.
-use mathlib.Core.Path.{_∙_, sym}
+-- From 0 up to 0 where the entry is not whole, or of version 1; else from where they begin to the entry's end.
+use mathlib.Core.Path.{_≡_, _∙_, sym}
 use native.Mathlib.Omega.{arith}
-use Rattle.layout.specs.Entries.{Whole}
+use Rattle.layout.specs.Entries.{versionOf, Whole}
 use Rattle.layout.proofs.Whole.{end-told, end-some, end-whole}
-use Rattle.layout.proofs.Facts.{facts-none, facts-lost, facts-end, facts-told}
+use Rattle.layout.proofs.Facts.{facts-none, facts-lost, span-none, span-lost, facts-end, facts-told, span-told}
 use borrow.Author.Needs.{needs}
 use Rattle.layout.proofs.fact_span.Statement.{statement}
 use Rattle.layout.proofs.fact_span.Tie as tie
@@ -24,7 +24,10 @@ entry-end-requires c κs = search needs
 returns : tie.Need-returns
 returns c =
     let a = c .before .before .before .args in
-    (omega arith, omega arith, sym (facts-lost (a .bytes .now) (a .variables) (a .at) (λ w. end-some (a .bytes .now) (a .variables) (a .at) (c .before .entry-end .result) (c .before .entry-end .ensures) w (c .if1 .taken))))
+    let lost : ¬ Whole (a .bytes .now) (a .variables) (a .at) =
+    λ w. end-some (a .bytes .now) (a .variables) (a .at) (c .before .entry-end .result) (c .before .entry-end .ensures) w (c .if1 .taken) in
+    let places = span-lost (a .bytes .now) (a .variables) (a .at) lost in
+    (omega arith, omega arith, sym (facts-lost (a .bytes .now) (a .variables) (a .at) lost), places .0, places .1)
 
 version-of-requires : tie.Need-version-of-requires
 version-of-requires c κs = search needs
@@ -32,7 +35,9 @@ version-of-requires c κs = search needs
 returns-2 : tie.Need-returns-2
 returns-2 c =
     let a = begun (c .before .before) .args in
-    (omega arith, omega arith, sym (facts-none (a .bytes .now) (a .variables) (a .at) (λ e. c .if2 .taken (c .before .version-of .ensures ∙ e))))
+    let other : ¬ (versionOf (a .bytes .now) ≡ 2) = λ e. c .if2 .taken (c .before .version-of .ensures ∙ e) in
+    let places = span-none (a .bytes .now) (a .variables) (a .at) other in
+    (omega arith, omega arith, sym (facts-none (a .bytes .now) (a .variables) (a .at) other), places .0, places .1)
 
 -- the entry is whole
 stands : (c : tie.Else2) → let a = begun (c .before .before) .args in Whole (a .bytes .now) (a .variables) (a .at)
@@ -70,7 +75,13 @@ returns-3 c =
     let second = sym (e .before .version-of .ensures) ∙ e .if2 .left in
     let first = rw (c .before .wide .ensures .0) at (c .facts-first .ensures .0) in
     let end = e .before .before .before .entry-end .ensures ∙ sym (end-told (a .bytes .now) (a .variables) (a .at) w) in
-    (omega (arith, first, end, facts-end (a .bytes .now) (a .variables) (a .at) second), omega (arith, end, w .facts-inside), facts-told (a .bytes .now) (a .variables) (a .at) second _ _ first end w)
+    let places = span-told (a .bytes .now) (a .variables) (a .at) second _ _ first end w in (
+      omega (arith, first, end, facts-end (a .bytes .now) (a .variables) (a .at) second),
+      omega (arith, end, w .facts-inside),
+      facts-told (a .bytes .now) (a .variables) (a .at) second _ _ first end w,
+      places .0,
+      places .1,
+    )
 
 pub fact-span-spec : {M : Type 1} → statement M
 fact-span-spec =

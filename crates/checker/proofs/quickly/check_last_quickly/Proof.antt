@@ -155,7 +155,7 @@ quickly c =
     rw (gives q)
     (one-taken (a .cert .now) (members s) (a .by .from) (rowed (a .facts .now) (shapeIn (a .variables) (q .before .before .undo-choice .last .1 .1 .1 .0)))
     (l .loop .t) (q .quick-cover .result .links) (q .quick-cover .result .next)
-    (sym (q .quick-cover .ensures (rowsTest (a .facts .now)) (c .before .before .if3 .left))) (l .loop .inv .progress .within) (small c))
+    (sym (q .quick-cover .ensures .0 (rowsTest (a .facts .now)) (c .before .before .if3 .left))) (l .loop .inv .progress .within) (small c))
 
 -- ---- what is to be shown
 
