@@ -19,6 +19,7 @@ use reader::Header;
 use transitions::Transition;
 use transitions::index_transitions;
 use transitions::transition_named;
+use verdict::Refusal;
 ghost use mathlib.Core.Bool.{true, _||_, _&&_};
 ghost use mathlib.Core.List.{map};
 ghost use mathlib.Core.Path.{_≡_};
@@ -208,10 +209,10 @@ pub(crate) fn check_owed(job: &[u8], h: Header, cert: &[u8], starts: &[u16], at:
 {
     // neither is ever so: said for the compiler, so that tests of it in the loops go
     if 8 < h.variables {
-        return Checked::Upto(Position { at, counted: 0 });
+        return Checked::Refused(Refusal::JobRange, 0);
     }
     if h.variables == 0 {
-        return Checked::Upto(Position { at, counted: 0 });
+        return Checked::Refused(Refusal::JobRange, 0);
     }
     let mut index = [0u16; 320];
     index_transitions(job, h.transitions_at, h.transitions, &mut index);

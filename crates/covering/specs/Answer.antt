@@ -12,6 +12,7 @@ use Rattle.layout.specs.ShapeArray.{shapeIn}
 use Rattle.coverreader.specs.declared.CoverRead.{CoverRead}
 use Rattle.coverreader.specs.declared.CoverRead.the-variants.{Taken, Refused as NotRead}
 use Rattle.verdict.specs.declared.Broken.{Broken}
+use Rattle.verdict.specs.declared.Refusal.the-variants.{CertificateLeft}
 use Rattle.format.specs.Parser.{Parsed, parsed, fault}
 use Rattle.verdict.specs.Verdict.{reasonOf}
 use Rattle.coverreader.specs.Images.{ImageCodes}
@@ -39,7 +40,7 @@ coverAnswerOf (Refused r place) = fault (reasonOf r) place
 
 -- the answer on a cover that is not read
 abbrev pub withoutMember : CoverRead → CoverAnswer
-withoutMember (Taken m next) = CoverHolds next 0
+withoutMember (Taken m next) = Refused CertificateLeft next
 withoutMember (NotRead r place) = Refused r place
 
 -- a member stands whole at a place, and its cells have images in the shape in an array

@@ -30,12 +30,12 @@ pub enum CoverAnswer {
     Refused(Refusal, usize),
 }
 
-// The refusal of a cover that is not read; one that is read holds with no link followed.
+// The refusal of a cover that is not read. It is not asked of one that is read, and would refuse what follows it.
 fn refused(read: CoverRead) -> CoverAnswer
     ensures { λ r. ⌜ r ≡ withoutMember read ⌝ }
 {
     match read {
-        CoverRead::Taken(_, next) => CoverAnswer::Holds(next, 0),
+        CoverRead::Taken(_, next) => CoverAnswer::Refused(Refusal::CertificateLeft, next),
         CoverRead::Refused(refusal, place) => CoverAnswer::Refused(refusal, place),
     }
 }

@@ -109,11 +109,11 @@ fn broken_path(
     ensures { λ r. ⌜ ((missing : Option ℕ) → brokenOf r ≡ lastAnswer (locatedAt (now (cert .entry)) variables start .shape) (shapeIn variables (now (s .entry))) (imagesIn (getD (now (cert .entry)) (start + 1) 0) (now (images .entry))) (getD (now (cert .entry)) (start + 1) 0) missing) ⌝ }
 {
     let cells = wide(cert[start + 1]);
-    let missing = link_misses(cert, start + 2 + variables, cells, images, marks, s);
-    if missing < cells {
+    let missed = link_misses(cert, start + 2 + variables, cells, images, marks, s);
+    if missed < cells {
         return Broken {
             rule: LINK_MISSES,
-            name: missing as u8,
+            name: missed as u8,
         };
     }
     Broken {

@@ -56,7 +56,7 @@ pub fn has_fact(rows: &[u16; 28], kind: usize, p: usize, q: usize) -> bool
 }
 
 // Drops all facts.
-pub fn clear(rows: &mut [u16; 28])
+fn clear(rows: &mut [u16; 28])
     ensures { λ r. ⌜ now (rows .exit) ≡ noFacts ⌝ }
 {
     *rows = [0; 28];

@@ -26,8 +26,6 @@ pub const COPY: u8 = 10;
 
 pub const LARGER: u8 = 11;
 
-pub const SMALLER: u8 = 12;
-
 pub const READ: u8 = 13;
 
 const LAST_KIND: usize = 13;

@@ -25,7 +25,7 @@ pub struct Operation {
 }
 
 // The operand that bytes begin with and how many bytes it has.
-pub struct Operand {
+pub(crate) struct Operand {
     pub value: u8,
     pub length: usize,
 }

@@ -133,10 +133,10 @@ fn fill(numbers: &[u64], bytes: &mut [u8])
     ensures { λ r. ⌜ now (bytes .exit) ≡ encode (now (numbers .entry)) ++ drop (length (encode (now (numbers .entry)))) (now (bytes .entry)) ⌝ }
 {
     let mut at = 0;
-    let mut i = 0;
-    while i < numbers.len() {
-        at = put_number(bytes, at, numbers[i]);
-        i += 1;
+    let mut written = 0;
+    while written < numbers.len() {
+        at = put_number(bytes, at, numbers[written]);
+        written += 1;
     }
 }
 

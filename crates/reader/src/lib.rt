@@ -33,13 +33,13 @@ mod factlist;
 mod start;
 
 // Which buffer is read: it decides the refusals.
-pub enum Input {
+pub(crate) enum Input {
     Job,
     Certificate,
 }
 
 // A number in its range and the place after it, or a refusal with its place.
-pub enum Ranged {
+pub(crate) enum Ranged {
     Value(usize, usize),
     Refused(Refusal, usize),
 }

@@ -31,11 +31,11 @@ put-number-requires c κs =
     let o = c .before .before .before in
     let s = begun o in
     let ns = s .args .numbers .now in
-    let i = o .loop .i in
+    let i = o .loop .written in
     (omega (arith, length-left ns i (omega arith)), small ns i (s .pre .0) (omega arith))
 
-add-i : tie.Need-add-i Inv-loop μ-loop
-add-i c = search needs
+add-written : tie.Need-add-written Inv-loop μ-loop
+add-written c = search needs
 
 loop-less : tie.Need-loop-less Inv-loop μ-loop
 loop-less c = search needs
@@ -63,7 +63,7 @@ fill-spec =
     mul-put-number
     shared-slice-read-put-number
     put-number-requires
-    add-i
+    add-written
     loop-less
     loop-again
     same-length
