@@ -7,6 +7,7 @@ mkdir -p build
 rt ci | tee build/ci.log
 rt fmt --check
 scripts/list_rests.sh
+scripts/pages.sh
 
 scripts/lib.sh
 scripts/example.sh

@@ -87,7 +87,7 @@ fn of_pair(Pair { job, certificate }: &Pair) -> usize {
         library::check(job, certificate);
     });
     let judged = depth(|| {
-        library::verdict(job, certificate, &mut [0; 3]);
+        library::verdict(job, certificate, &mut [0; 4]);
     });
     checked.max(judged)
 }
