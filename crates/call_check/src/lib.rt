@@ -1,6 +1,6 @@
 // The calls for C of the checker: include/vorruda.h declares them.
-use lending::lend;
-use verdict::Verdict;
+use telling::tell;
+use telling::verdict_number;
 ghost use mathlib.Core.Logic.{_↔_};
 ghost use mathlib.Core.Path.{_≡_};
 ghost use Rattle.format.specs.Conditions.{Conditions, Acceptable};
@@ -18,11 +18,7 @@ pub extern "C" fn vorruda_check(job: &[u8], cert: &[u8]) -> u32
     ensures accepted { λ r. ⌜ (r ≡ 0) ↔ Acceptable (now (job .entry)) (now (cert .entry)) ⌝ }
     ensures safe { λ r. ⌜ (r ≡ 0 → SafeBytes (now (job .entry))) ⌝ }
 {
-    let judged = checker::check(job, cert);
-    match judged {
-        Verdict::Accepted(_) => 0,
-        Verdict::Refused(refusal, _) => verdict::refusal_number(refusal),
-    }
+    verdict_number(checker::check(job, cert))
 }
 
 // The same, with the four counts, or the place, the broken rule, its name (0 and 0 but for refusal 9) and 0, in an array that the host lends.
@@ -36,23 +32,5 @@ pub extern "C" fn vorruda_verdict(job: &[u8], cert: &[u8], out: &mut [u64]) -> u
     ensures accepted { λ r. ⌜ (r ≡ 0) ↔ Acceptable (now (job .entry)) (now (cert .entry)) ⌝ }
     ensures safe { λ r. ⌜ (r ≡ 0 → SafeBytes (now (job .entry))) ⌝ }
 {
-    match checker::check(job, cert) {
-        Verdict::Accepted(counts) => {
-            let values = [
-                counts.bads as u64,
-                counts.members as u64,
-                counts.covers as u64,
-                counts.links as u64,
-            ];
-            lend(&values, out);
-            0
-        }
-        Verdict::Refused(refusal, place) => {
-            let rule = verdict::rule_number(refusal) as u64;
-            let name = verdict::rule_name(refusal) as u64;
-            let values = [place as u64, rule, name, 0];
-            lend(&values, out);
-            verdict::refusal_number(refusal)
-        }
-    }
+    tell(checker::check(job, cert), out)
 }

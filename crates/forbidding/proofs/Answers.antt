@@ -29,14 +29,14 @@ use Rattle.layout.specs.Transitions.{transitionAt}
 use Rattle.reader.specs.Job.{JobRead}
 use Rattle.reader.specs.declared.Header.{Header}
 use Rattle.forbidding.specs.Answers.{setOf, cellsOf, countBytes, setBytes, countPlace, withCount, PointIn}
-use Rattle.forbidding.specs.Put.{Put}
+use Rattle.putting.specs.Put.{Put}
 use Rattle.forbidding.specs.Steps.{StepsIn}
 use Rattle.layout.proofs.Entries.{entries-number}
 use Rattle.reader.specs.Transitions.{transitionsIn}
 use Rattle.forbidding.specs.declared.Asked.{Asked}
 use Rattle.forbidding.specs.declared.Asked.the-variants.{NotList, LostBlock, BadSteps}
 use Rattle.forbidding.proofs.JobBytes.{place-inside, with-bytes}
-use Rattle.forbidding.proofs.Putting.{put-more, put-set}
+use Rattle.putting.proofs.Putting.{put-more, put-set}
 use Rattle.forbidding.proofs.Shapes.{set-length}
 
 -- ---- one of n variables, and a state below S

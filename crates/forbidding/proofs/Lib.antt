@@ -1,4 +1,3 @@
-pub mod Putting
 pub mod Shapes
 pub mod Stepping
 pub mod JobBytes

@@ -18,8 +18,8 @@ use Rattle.forbidden.specs.Sets.{only, ending, notList, lostBlock, atState, bad
 use Rattle.forbidden.proofs.Only.{only-length}
 use Rattle.forbidden.specs.Written.{ReadySet, not-list, lost-block, bad-steps, shapesOf}
 use Rattle.forbidding.specs.Answers.{cellsOf, countBytes}
-use Rattle.forbidding.specs.Put.{Put}
-use Rattle.forbidding.proofs.Putting.{put-more}
+use Rattle.putting.specs.Put.{Put}
+use Rattle.putting.proofs.Putting.{put-more}
 
 take-nowhere : (v n : ℕ) → v ≤ n → take v (replicate n nowhere) ≡ replicate v nowhere
 take-nowhere zero n h = refl

@@ -22,11 +22,11 @@ use Rattle.layout.specs.Transitions.{opOf, transitionAt, transitionsFrom}
 use Rattle.transitions.specs.Transitions.{transitionBytes}
 use Rattle.transitions.specs.declared.Transition.{Transition as Bytes}
 use Rattle.forbidding.specs.Answers.{countBytes}
-use Rattle.forbidding.specs.Put.{Put}
+use Rattle.putting.specs.Put.{Put}
 use Rattle.forbidding.specs.Steps.{throughOf, StepIn}
 use Rattle.forbidding.specs.declared.steps.Through.{Through}
 use Rattle.forbidding.specs.declared.steps.Through.the-variants.{Variable, Nothing}
-use Rattle.forbidding.proofs.Putting.{put-none, put-more}
+use Rattle.putting.proofs.Putting.{put-none, put-more}
 use Rattle.forbidding.proofs.Shapes.{step-length}
 
 -- ---- which variable an operation steps through, by its kind

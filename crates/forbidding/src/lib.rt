@@ -1,12 +1,12 @@
 // Writes a job again with a ready set of forbidden shapes after its own.
 use crate::put::Point;
 use crate::put::count_bytes;
-use crate::put::put_all;
 use crate::put::put_lost_block;
 use crate::put::put_not_list;
 use crate::steps::count_steps;
 use crate::steps::put_steps;
 use layout::version_of;
+use putting::put_all;
 use reader::Header;
 use reader::JobAnswer;
 use reader::read_job;
@@ -22,7 +22,7 @@ ghost use Rattle.format.specs.Parser.{within};
 ghost use Rattle.reader.specs.Job.{JobRead};
 ghost use Rattle.reader.specs.Transitions.{transitionsIn};
 ghost use Rattle.forbidding.specs.Answers.{setOf, answerResult, cellsOf, setBytes, countPlace, withCount};
-ghost use Rattle.forbidding.specs.Put.{Put};
+ghost use Rattle.putting.specs.Put.{Put};
 
 mod put;
 mod steps;

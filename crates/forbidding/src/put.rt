@@ -1,4 +1,5 @@
 // Forbidden shapes as bytes: each of their numbers is one byte. Codes of places: 0 nowhere, 1 #, 2 *, 3 cell 0, 4 cell 1.
+use putting::put_all;
 ghost use mathlib.Core.List.{[], map};
 ghost use mathlib.Core.Path.{_≡_};
 ghost use Prim.Native.Nat.{_+_, _*_, _≤_};
@@ -8,7 +9,7 @@ ghost use Rattle.forbidden.specs.Sets.{only, notList, lostBlock, badStep, atSta
 ghost use Rattle.shape.specs.Placing.{grow};
 ghost use Rattle.format.specs.JobNumbers.{locatedNumbers};
 ghost use Rattle.forbidding.specs.Answers.{countBytes, PointIn};
-ghost use Rattle.forbidding.specs.Put.{Put};
+ghost use Rattle.putting.specs.Put.{Put};
 
 // A variable, of so many, at a state, in a job of a version.
 pub struct Point {
@@ -16,19 +17,6 @@ pub struct Point {
     pub variables: usize,
     pub variable: usize,
     pub state: usize,
-}
-
-// Copies codes to a place of the output; gives the place after them.
-pub(crate) fn put_all(bytes: &mut [u8], at: usize, codes: &[u8]) -> usize
-    requires { ⌜ at + length (now codes) ≤ length (now bytes) ⌝ }
-    ensures { λ r. ⌜ Put at (now (bytes .entry)) (now (codes .entry)) r (now (bytes .exit)) ⌝ }
-{
-    let mut i = 0;
-    while i < codes.len() {
-        bytes[at + i] = codes[i];
-        i += 1;
-    }
-    at + codes.len()
 }
 
 // How many bytes the number of facts of a shape has, which is 0: one in version 2, else none.

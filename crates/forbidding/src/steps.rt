@@ -12,7 +12,7 @@ ghost use Rattle.forbidden.specs.Sets.{stepsThrough, badStepsOf, badSteps};
 ghost use Rattle.format.specs.JobNumbers.{locatedNumbers};
 ghost use Rattle.layout.specs.Entries.{versionOf};
 ghost use Rattle.layout.specs.Transitions.{opOf, transitionAt, transitionsFrom};
-ghost use Rattle.forbidding.specs.Put.{Put};
+ghost use Rattle.putting.specs.Put.{Put};
 ghost use Rattle.forbidding.specs.Steps.{throughOf, StepIn, StepsIn};
 
 // The variable that an operation steps through, if it does.

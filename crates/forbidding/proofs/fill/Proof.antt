@@ -3,6 +3,7 @@ use mathlib.Core.Path.{_∙_}
 use native.Mathlib.Omega.{arith}
 use lib.ListN.{length-set}
 use Rattle.number.specs.Range.{AtMost}
+use Rattle.putting.specs.Put.{Put}
 use Rattle.forbidding.proofs.Answers.{count-inside, put-job}
 use Rattle.forbidding.proofs.JobBytes.{bytes-at-most}
 use borrow.Author.Needs.{needs}
@@ -23,6 +24,10 @@ copied c = c .before .before .before
 bytes : (c : tie.After-put-all) → AtMost 255 (begun c .args .job .now)
 bytes c = bytes-at-most (begun c .args .job .now) (λ i. omega (arith, c .before .before .before .shared-slice-known .given i))
 
+-- the copy
+copy : (c : tie.After-put-all) → Put 0 (begun c .args .bytes .now) (begun c .args .job .now) (c .put-all .result) (c .put-all .last .0)
+copy c = c .put-all .ensures .room (omega (arith, begun c .pre .3))
+
 -- ---- what is to be shown
 
 put-all-requires : tie.Need-put-all-requires
@@ -38,14 +43,14 @@ slice-write-bytes : tie.Need-slice-write-bytes
 slice-write-bytes c =
     let o = copied c in
     let s = begun o in
-    let p = o .put-all .ensures in
+    let p = copy o in
     omega (arith, count-inside (s .args .job .now) (s .args .h) (s .pre .0) (bytes o), c .count-place .ensures, p .same, p .inside, p .next-is)
 
 put-set-requires : tie.Need-put-set-requires
 put-set-requires c κs =
     let o = copied (c .before) in
     let s = begun o in
-    let p = o .put-all .ensures in (
+    let p = copy o in (
       s .pre .0,
       s .pre .1,
       omega (arith, length-set (o .put-all .last .0) (c .before .count-place .result) (s .args .count), p .same, p .next-is, s .pre .3),
@@ -55,14 +60,14 @@ same-length : tie.Need-same-length
 same-length c =
     let p = c .before .before .before .before in
     let o = copied p in
-    c .before .before .put-set .ensures .same ∙ length-set (o .put-all .last .0) (p .count-place .result) (begun o .args .count) ∙ o .put-all .ensures .same
+    c .before .before .put-set .ensures .same ∙ length-set (o .put-all .last .0) (p .count-place .result) (begun o .args .count) ∙ copy o .same
 
 returns : tie.Need-returns
 returns c =
     let p = c .before .before .before .before in
     let o = copied p in
     let s = begun o in
-    put-job (s .args .job .now) (s .args .h) (s .pre .0) (p .count-place .result) (s .args .count) _ (bytes o) (p .count-place .ensures) (o .put-all .ensures) (c .before .before .put-set .ensures)
+    put-job (s .args .job .now) (s .args .h) (s .pre .0) (p .count-place .result) (s .args .count) _ (bytes o) (p .count-place .ensures) (copy o) (c .before .before .put-set .ensures)
 
 pub fill-spec : {M : Type 1} → statement M
 fill-spec =

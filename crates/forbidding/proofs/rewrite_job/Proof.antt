@@ -47,7 +47,7 @@ returns-3 c =
     let job = a .job .now in
     let e = fitting-job job (setOf (a .asked)) (length (a .bytes .now)) (omega arith) (o .before .if2 .left) in
     let lost = subst (JobAnswered job) (c .before .answer .given .1) (o .read-job .ensures) in
-    rewrites-none job (setOf (a .asked)) _ _ _ (numbered (c .before .answer .given .0 .0)) (e ∙ ap (rewriteRead (setOf (a .asked)) (length (a .bytes .now))) lost)
+    rewrites-none job (setOf (a .asked)) _ _ _ (numbered (c .before .answer .given .0 .0) .0) (e ∙ ap (rewriteRead (setOf (a .asked)) (length (a .bytes .now))) lost)
 
 same-length : tie.Need-same-length
 same-length c = search needs

@@ -1,5 +1,5 @@
 -- Two shapes without cells, one put after the other.
-use Rattle.forbidding.proofs.Putting.{put-more, put-end}
+use Rattle.putting.proofs.Putting.{put-more, put-end}
 use borrow.Author.Needs.{needs}
 use Rattle.forbidding.proofs.put.put_bad_step.Statement.{statement}
 use Rattle.forbidding.proofs.put.put_bad_step.Tie as tie

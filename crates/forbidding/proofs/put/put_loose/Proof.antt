@@ -1,6 +1,6 @@
 -- Four shapes of "lost block", one put after the other: each is one of "not a proper list" with a cell more.
 use native.Mathlib.Omega.{arith}
-use Rattle.forbidding.proofs.Putting.{put-more, put-end}
+use Rattle.putting.proofs.Putting.{put-more, put-end}
 use borrow.Author.Needs.{needs}
 use Rattle.forbidding.proofs.put.put_loose.Statement.{statement}
 use Rattle.forbidding.proofs.put.put_loose.Tie as tie

@@ -1,5 +1,5 @@
 -- The four shapes with a loose cell, and then two more.
-use Rattle.forbidding.proofs.Putting.{put-more, put-end}
+use Rattle.putting.proofs.Putting.{put-more, put-end}
 use Rattle.forbidding.proofs.Shapes.{put-lost}
 use borrow.Author.Needs.{needs}
 use Rattle.forbidding.proofs.put.put_lost_block.Statement.{statement}

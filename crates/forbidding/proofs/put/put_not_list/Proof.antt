@@ -1,5 +1,5 @@
 -- The four shapes of "not a proper list", one put after the other.
-use Rattle.forbidding.proofs.Putting.{put-more, put-end}
+use Rattle.putting.proofs.Putting.{put-more, put-end}
 use borrow.Author.Needs.{needs}
 use Rattle.forbidding.proofs.put.put_not_list.Statement.{statement}
 use Rattle.forbidding.proofs.put.put_not_list.Tie as tie

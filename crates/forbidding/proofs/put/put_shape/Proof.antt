@@ -69,10 +69,10 @@ slice-aggregate-put-all-2 : tie.Need-slice-aggregate-put-all-2
 slice-aggregate-put-all-2 c = places (begun (counted (c .before .before .before .before)))
 
 put-all-requires-2 : tie.Need-put-all-requires-2
-put-all-requires-2 c κs = omega (arith, places (begun (counted (c .before .before .before .before))))
+put-all-requires-2 c κs = search needs
 
 put-all-requires-3 : tie.Need-put-all-requires-3
-put-all-requires-3 c κs = omega (arith, places (begun (counted (headed (c .before .before .before)))))
+put-all-requires-3 c κs = search needs
 
 array-share-prefix-none : tie.Need-array-share-prefix-none
 array-share-prefix-none c = omega (arith, counted (headed (placed (c .before .before .before))) .count-bytes .ensures .1)
@@ -81,9 +81,7 @@ slice-aggregate-put-all-3 : tie.Need-slice-aggregate-put-all-3
 slice-aggregate-put-all-3 c = facts (counted (headed (placed (c .before .before .before .before))))
 
 put-all-requires-4 : tie.Need-put-all-requires-4
-put-all-requires-4 c κs =
-    let o = counted (headed (placed (c .before .before .before .before))) in
-    omega (arith, places (begun o), facts o, o .count-bytes .ensures .0)
+put-all-requires-4 c κs = search needs
 
 same-length : tie.Need-same-length
 same-length c = search needs
@@ -97,10 +95,14 @@ returns c =
     let o = counted g in
     let s = begun o in
     let p = s .args .p in
-    let count = o .count-bytes in (
-      omega (arith, places s, facts o, count .ensures .0),
+    let count = o .count-bytes in
+    let head = g .put-all .ensures .room (omega (arith, s .pre .1)) in
+    let vars = f .put-all2 .ensures .room (omega (arith, s .pre .1, head .next-is, head .same, places s)) in
+    let links = e .put-all3 .ensures .room (omega (arith, s .pre .1, head .next-is, head .same, places s, vars .next-is, vars .same)) in
+    let none = d .put-all4 .ensures .room (omega (arith, s .pre .1, head .next-is, head .same, places s, vars .next-is, vars .same, links .next-is, links .same, facts o, count .ensures .0)) in (
+      omega (arith, head .next-is, places s, vars .next-is, links .next-is, none .next-is, facts o, count .ensures .0),
       put-parts (p .version) (p .state) (p .variables) (p .variable) (s .args .place) (s .args .links .now) (count .result) (count .ensures .0) (s .pre .0 .some)
-          (s .pre .0 .variable) (s .pre .0 .most) (g .put-all .ensures) (f .put-all2 .ensures) (e .put-all3 .ensures) (d .put-all4 .ensures),
+          (s .pre .0 .variable) (s .pre .0 .most) head vars links none,
     )
 
 pub put-shape-spec : {M : Type 1} → statement M

@@ -6,7 +6,7 @@ use native.Mathlib.Numerals.{add-one}
 use native.Mathlib.Omega.{arith}
 use lib.ListN.{length, getD, set, take, drop, length-append, length-set, take-append-drop}
 use lib.Seq.{length-take-le, take-at, take-length, drop-drop, drop-append-add, set-append-left, paste, paste-zero, paste-suc}
-use Rattle.forbidding.specs.Put.{Put}
+use Rattle.putting.specs.Put.{Put, PutIfRoom}
 
 pub put-none : (at : ℕ) (out : List ℕ) → at ≤ length out → Put at out [] at out
 put-none at out h =
@@ -17,7 +17,17 @@ put-none at out h =
       bytes = sym (ap (λ (l : List ℕ). l ++ drop at out) (append-nil (take at out)) ∙ take-append-drop at out);
     }
 
--- two runs of bytes, one after the other
+-- ---- the two answers
+
+pub no-room : {at : ℕ} {out xs : List ℕ} → length out < at + length xs → PutIfRoom at out xs at out
+no-room h = record { room = λ r. absurd (omega arith); short = λ s. (refl, refl) }
+
+pub had-room : {at next : ℕ} {before xs after : List ℕ} → Put at before xs next after → PutIfRoom at before xs next after
+had-room p = record { room = λ r. p; short = λ s. absurd (omega (arith, p .next-is, p .inside)) }
+
+-- ---- one after the other
+
+-- two runs of bytes
 pub put-more : {at m n : ℕ} {before xs middle ys after : List ℕ} → Put at before xs m middle → Put m middle ys n after → Put at before (xs ++ ys) n after
 put-more {at} {m} {n} {before} {xs} {middle} {ys} {after} p q =
     record {
@@ -61,6 +71,10 @@ put-set {n} {before} {xs} {after} p i v h =
 -- from the first byte on, they are the output's first bytes
 pub put-first : {n : ℕ} {before xs after : List ℕ} → Put 0 before xs n after → after ≡ xs ++ drop (length xs) before
 put-first {n} {before} {xs} p = let e : n ≡ length xs = omega (arith, p .next-is) in p .bytes ∙ ap (λ (k : ℕ). xs ++ drop k before) e
+
+-- and they can be taken from it
+pub put-taken : {n : ℕ} {before xs after : List ℕ} → Put 0 before xs n after → take n after ≡ xs
+put-taken {n} {before} {xs} p = ap (take n) (put-first p) ∙ take-at xs (drop (length xs) before) n (omega (arith, p .next-is))
 
 -- ---- the loop that copies: i bytes are copied
 

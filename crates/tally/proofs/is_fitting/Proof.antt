@@ -1,0 +1,77 @@
+-- By the first number that is full.
+use native.Mathlib.Omega.{arith}
+use Rattle.tally.proofs.Taking.{countsOf, full-verdicts, full-accepted, full-members, last-covers, last-count}
+use Rattle.verdict.specs.Verdict.{reasonOf, verdictOf}
+use Rattle.verdict.proofs.Numbers.{numbered}
+use borrow.Author.Needs.{needs}
+use Rattle.tally.proofs.is_fitting.Statement.{statement}
+use Rattle.tally.proofs.is_fitting.Tie as tie
+
+returns : tie.Need-returns
+returns c = full-verdicts (verdictOf (c .before .before .args .v)) (c .before .before .args .t) (omega arith)
+
+enum-known-v : tie.Need-enum-known-v
+enum-known-v c = search needs
+
+returns-2 : tie.Need-returns-2
+returns-2 c =
+    let a = c .before .before .before .before .before .before .before .args in
+    rw (c .before .before .before .v .given .1) (full-accepted (a .t) (countsOf (c .before .before .before .v .given .0 .0)) (omega arith) (omega arith))
+
+sub-if3 : tie.Need-sub-if3
+sub-if3 c = search needs
+
+returns-3 : tie.Need-returns-3
+returns-3 c =
+    let a = c .before .before .before .before .before .before .before .before .before .before .args in
+    rw (c .before .before .before .before .before .before .v .given .1) (full-members (a .t) (countsOf (c .before .before .before .before .before .before .v .given .0 .0)) (omega arith) (omega arith) (omega arith))
+
+sub-result : tie.Need-sub-result
+sub-result c = search needs
+
+enum-known-v-2 : tie.Need-enum-known-v-2
+enum-known-v-2 c = search needs
+
+refusal-number-requires : tie.Need-refusal-number-requires
+refusal-number-requires c κs = search needs
+
+sub-at : tie.Need-sub-at
+sub-at c = omega (arith, c .refusal-number .ensures, numbered (c .before .before .v2 .given .0 .0) .0)
+
+cast-at : tie.Need-cast-at
+cast-at c = search needs
+
+mul-result : tie.Need-mul-result
+mul-result c = search needs
+
+array-read-result : tie.Need-array-read-result
+array-read-result c = omega (arith, c .before .refusal-number .ensures, numbered (c .before .before .before .v2 .given .0 .0) .1)
+
+returns-4 : tie.Need-returns-4
+returns-4 c =
+    let a = c .before .before .before .before .before .before .before .before .before .before .before .before .args in
+    rw (c .before .before .before .before .before .before .before .before .v .given .1) (last-covers (a .t) (countsOf (c .before .before .before .before .before .before .before .before .v .given .0 .0)) (omega arith) (omega arith) (omega arith) (omega arith))
+
+returns-5 : tie.Need-returns-5
+returns-5 c =
+    let a = c .before .before .before .before .before .before .before .args in
+    rw (c .before .before .before .v2 .given .1, c .before .refusal-number .ensures) (last-count (a .t) (reasonOf (c .before .before .before .v2 .given .0 .0)) (c .before .before .before .v2 .given .0 .1 .0) (omega arith))
+
+pub is-fitting-spec : {M : Type 1} → statement M
+is-fitting-spec =
+    tie.close
+    (tie.spec
+    returns
+    enum-known-v
+    returns-2
+    sub-if3
+    returns-3
+    sub-result
+    enum-known-v-2
+    refusal-number-requires
+    sub-at
+    cast-at
+    mul-result
+    array-read-result
+    returns-4
+    returns-5)

@@ -1,0 +1,3 @@
+pub mod Numbers
+pub mod Release
+pub mod Tally
