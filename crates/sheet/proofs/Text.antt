@@ -9,14 +9,14 @@ use lib.ListN.{length, drop}
 use Rattle.number.specs.CallResult.{lent}
 use Rattle.putting.specs.Digits.{digits}
 use Rattle.putting.specs.Put.{Put}
-use Rattle.putting.proofs.Decimal.{twenty-digits}
+use Rattle.putting.proofs.Decimal.{few-digits}
 use Rattle.putting.proofs.Putting.{put-more, put-first}
 use Rattle.sheet.specs.Lowest.{gcd}
 use Rattle.sheet.specs.Sheet.{noneText, shareText, coversText, fractionText, sheetText, reported}
 
--- a part of a number of 64 bits has 20 digits at most
-pub part-digits : (n g : ℕ) → n < 18446744073709551616 → length (digits (n / g)) ≤ 20
-part-digits n g h = twenty-digits (n / g) (omega (arith, div-le-self n g))
+-- a part of a number of 32 bits has ten digits at most
+pub part-digits : (n g : ℕ) → n < 4294967296 → length (digits (n / g)) ≤ 10
+part-digits n g h = few-digits 9 (n / g) (omega (arith, div-le-self n g))
 
 module _ (n d : ℕ) where
   pub text-none : d ≡ 0 → fractionText n d ≡ noneText

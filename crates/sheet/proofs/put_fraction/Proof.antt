@@ -1,5 +1,6 @@
 -- "none", or the digits of both and a byte between.
 use Prim.Native.Nat.{_<_}
+use native.Mathlib.Nat.{div-le-self}
 use native.Mathlib.Omega.{arith}
 use Rattle.putting.proofs.Putting.{put-more}
 use Rattle.sheet.proofs.Divisors.{gcd-some}
@@ -53,6 +54,9 @@ greatest-requires c κs = search needs
 div-put-number : tie.Need-div-put-number
 div-put-number c = some (c .before)
 
+cast-put-number : tie.Need-cast-put-number
+cast-put-number c = let g = c .before in omega (arith, div-le-self (begun g .args .n) (g .greatest .result))
+
 put-number-requires : tie.Need-put-number-requires
 put-number-requires c κs = search needs
 
@@ -64,6 +68,11 @@ put-all-requires-2 c κs = search needs
 
 div-put-number-2 : tie.Need-div-put-number-2
 div-put-number-2 c = some (divided (above (c .before .before .before)))
+
+cast-put-number-2 : tie.Need-cast-put-number-2
+cast-put-number-2 c =
+    let g = divided (above (c .before .before .before)) in
+    omega (arith, div-le-self (begun g .args .d) (g .greatest .result))
 
 put-number-requires-2 : tie.Need-put-number-requires-2
 put-number-requires-2 c κs = search needs
@@ -97,10 +106,12 @@ put-fraction-spec =
     returns
     greatest-requires
     div-put-number
+    cast-put-number
     put-number-requires
     slice-aggregate-put-all-2
     put-all-requires-2
     div-put-number-2
+    cast-put-number-2
     put-number-requires-2
     same-length-2
     returns-2)

@@ -31,7 +31,7 @@ abbrev mean : tie.After-put-fraction2 → tie.After-put-all2
 mean c = c .before .before .before
 
 -- the first word is put
-word-put : (c : tie.After-put-all) → Put 0 (replicate 96 0) shareText (c .put-all .result) (c .put-all .last .0)
+word-put : (c : tie.After-put-all) → Put 0 (replicate 56 0) shareText (c .put-all .result) (c .put-all .last .0)
 word-put c = c .put-all .ensures .room (omega arith)
 
 -- and the second
@@ -46,7 +46,7 @@ abbrev text : tie.Start → List ℕ
 text s = sheetText (s .args .verdicts) (s .args .accepted) (s .args .covers)
 
 -- the whole sheet is put
-sheet-put : (c : tie.After-put-fraction2) → Put 0 (replicate 96 0) (text (begun (worded (shared (mean c))))) (c .put-fraction2 .result) (c .put-fraction2 .last .0)
+sheet-put : (c : tie.After-put-fraction2) → Put 0 (replicate 56 0) (text (begun (worded (shared (mean c))))) (c .put-fraction2 .result) (c .put-fraction2 .last .0)
 sheet-put c =
     let d = mean c in
     let e = shared d in
@@ -95,7 +95,8 @@ returns c =
     let d = c .before .before in
     let s = begun (worded (shared (mean d))) in
     let long : d .put-fraction2 .result ≡ length (text s) = omega (arith, sheet-put d .next-is) in
-    rw long (report-short (text s) (s .args .text .now) (omega arith))
+    let answer = report-short (text s) (s .args .text .now) (omega arith) in
+    (rw long (answer .0), answer .1, omega (arith, sheet-put d .inside))
 
 array-share-prefix-sheet : tie.Need-array-share-prefix-sheet
 array-share-prefix-sheet c = search needs
@@ -118,7 +119,8 @@ returns-2 c =
     let p = sheet-put d in
     let long : d .put-fraction2 .result ≡ length (text s) = omega (arith, p .next-is) in
     let copied = rw (put-taken p) at (c .before .before .put-all3 .ensures) in
-    rw long (report-done (text s) (s .args .text .now) (omega arith) (put-first (copied .room (omega arith))))
+    let answer = report-done (text s) (s .args .text .now) (omega arith) (put-first (copied .room (omega arith))) in
+    (rw long (answer .0), answer .1, omega (arith, p .inside))
 
 pub report-spec : {M : Type 1} → statement M
 report-spec =
