@@ -1,13 +1,18 @@
-/* A host of the proved library: writes and reads numbers, keeps a short list on the heap and checks
- * certificates, and has the usual forbidden shapes added to a job.
+/* A host of the proved library: writes and reads numbers, keeps a short list on the heap, checks
+ * certificates and reports on them, and has the usual forbidden shapes added to a job.
  *
  *   gcc -std=c11 -Wall -Wextra -Werror -Iinclude examples/host.c target/staticlib/libvorruda.a
  *
  * or, where the library is installed,
  *
  *   gcc -std=c11 -Wall -Wextra -Werror examples/host.c $(pkg-config --cflags --libs vorruda)
+ *
+ * Given files, a job and its certificate in turn, it judges these pairs instead, and reports on them:
+ *
+ *   host JOB CERT JOB CERT ...
  */
 #include <stdio.h>
+#include <stdlib.h>
 #include <string.h>
 
 #include "vorruda.h"
@@ -113,14 +118,17 @@ static void refused_steps(void)
 /* State 0, new(head), state 1; forbidden there: head at null. */
 static const uint8_t job[] = {1, 1, 2, 0, 1, 0, VORRUDA_NEW, 1, 0, 1, 1, 1, 0, VORRUDA_NULL};
 
-/* The certificate's member is the forbidden shape itself. */
+/* The member of the first certificate is the forbidden shape itself. That of the second is head at *,
+ * which doesn't cover head at null. */
+static const uint8_t holds[] = {1, 1, 1, 0, VORRUDA_NULL, 0};
+static const uint8_t covers_nothing[] = {1, 1, 1, 0, VORRUDA_DANGLING, 0};
+
 static void certificate_that_holds(void)
 {
-    const uint8_t cert[] = {1, 1, 1, 0, VORRUDA_NULL, 0};
     uint64_t out[4] = {0, 0, 0, 0};
 
-    expect("check: accepted", vorruda_check(job, sizeof job, cert, sizeof cert), 0);
-    expect("verdict: accepted", vorruda_verdict(job, sizeof job, cert, sizeof cert, out, 4), 0);
+    expect("check: accepted", vorruda_check(job, sizeof job, holds, sizeof holds), 0);
+    expect("verdict: accepted", vorruda_verdict(job, sizeof job, holds, sizeof holds, out, 4), 0);
     expect("forbidden shapes", out[0], 1);
     expect("members", out[1], 1);
     expect("covers", out[2], 1);
@@ -145,14 +153,12 @@ static void links_followed(void)
     expect("and nothing is written", out[0], 7);
 }
 
-/* Here it is the shape with head at *, which doesn't cover head at null. */
 static void cover_that_does_not_hold(void)
 {
-    const uint8_t cert[] = {1, 1, 1, 0, VORRUDA_DANGLING, 0};
     uint64_t out[4] = {0, 0, 0, 0};
     uint32_t answer;
 
-    answer = vorruda_verdict(job, sizeof job, cert, sizeof cert, out, 4);
+    answer = vorruda_verdict(job, sizeof job, covers_nothing, sizeof covers_nothing, out, 4);
     expect("head at *, which covers nothing: refused", answer, VORRUDA_COVER);
     expect("at place", out[0], 5);
     expect("a variable stands elsewhere: rule", out[1], VORRUDA_RULE_VARIABLE);
@@ -178,6 +184,53 @@ static void other_refusals(void)
     refused("head := null, so from any heap: refused", assigned, anything, sizeof anything,
             VORRUDA_START_MEMBER, 5);
     refused("no certificate: refused", job, NULL, 0, VORRUDA_CERT_LENGTH, 0);
+}
+
+static uint32_t tally[VORRUDA_TALLY_NUMBERS];
+
+/* Takes the verdict on a certificate of the job into the first numbers of the tally. */
+static void take_in(const char *what, size_t numbers, const uint8_t *cert, size_t cert_len,
+                    uint32_t wanted)
+{
+    uint64_t out[4] = {0, 0, 0, 0};
+    uint32_t answer;
+
+    answer = vorruda_tally_verdict(job, sizeof job, cert, cert_len, tally, numbers, out, 4);
+    expect(what, answer, wanted);
+}
+
+/* Prints the tally's report, which no room of this size is too short for. */
+static void report(const char *wanted)
+{
+    char text[VORRUDA_REPORT_BYTES + 1] = "";
+    uint64_t out[2] = {0, 0};
+    uint32_t answer;
+
+    answer = vorruda_tally_report(tally, VORRUDA_TALLY_NUMBERS, (uint8_t *)text,
+                                  VORRUDA_REPORT_BYTES, out, 2);
+    expect(text, answer, 0);
+    expect("bytes filled", out[0], strlen(wanted));
+    expect("as wanted", strcmp(text, wanted) == 0, 1);
+}
+
+static void release_sheet(void)
+{
+    const size_t all = VORRUDA_TALLY_NUMBERS;
+
+    report("share none covers none");
+    take_in("one that holds: accepted", all, holds, sizeof holds, 0);
+    take_in("one that doesn't: refused", all, covers_nothing, sizeof covers_nothing, VORRUDA_COVER);
+    report("share 1/2 covers 1/1");
+    take_in("the same again: refused", all, covers_nothing, sizeof covers_nothing, VORRUDA_COVER);
+    take_in("no certificate: refused", all, NULL, 0, VORRUDA_CERT_LENGTH);
+    report("share 1/4 covers 1/1");
+    expect("covers that didn't hold", tally[VORRUDA_TALLY_REFUSAL(VORRUDA_COVER)], 2);
+
+    take_in("room for 34 numbers: refused", all - 1, holds, sizeof holds, VORRUDA_NO_ROOM);
+    tally[VORRUDA_TALLY_COVERS] = UINT32_MAX;
+    take_in("a cover too many: refused", all, holds, sizeof holds, VORRUDA_TALLY_FULL);
+    expect("verdicts, as before", tally[VORRUDA_TALLY_VERDICTS], 4);
+    expect("accepted, as before", tally[VORRUDA_TALLY_ACCEPTED], 1);
 }
 
 /* The job again, with "head is not a proper list" forbidden at state 1. */
@@ -223,8 +276,58 @@ static void listing(void)
     expect("at line", out[0], 2);
 }
 
-int main(void)
+/* A byte more than a file may have, so that a longer one is refused. */
+enum { ROOM = 65537 };
+
+static size_t read_file(const char *name, uint8_t *bytes)
 {
+    FILE *file = fopen(name, "rb");
+    size_t len;
+
+    if (file == NULL) {
+        perror(name);
+        exit(2);
+    }
+    len = fread(bytes, 1, ROOM, file);
+    fclose(file);
+    return len;
+}
+
+/* Judges pairs of files, prints each verdict and at last the report. */
+static void judge_files(char **names, int count)
+{
+    static uint8_t job_bytes[ROOM], cert[ROOM];
+    uint8_t text[VORRUDA_REPORT_BYTES];
+    uint64_t out[4] = {0, 0, 0, 0};
+
+    for (int i = 0; i + 1 < count; i += 2) {
+        const size_t job_len = read_file(names[i], job_bytes);
+        const size_t cert_len = read_file(names[i + 1], cert);
+        const uint32_t answer = vorruda_tally_verdict(job_bytes, job_len, cert, cert_len, tally,
+                                                      VORRUDA_TALLY_NUMBERS, out, 4);
+        if (answer == VORRUDA_TALLY_FULL) {
+            printf("%s: not taken in, the tally is full\n", names[i + 1]);
+        } else if (answer == 0) {
+            printf("%s: accepted members %u covers %u\n", names[i + 1], (unsigned)out[1],
+                   (unsigned)out[2]);
+        } else {
+            printf("%s: refused %u at %u\n", names[i + 1], (unsigned)answer, (unsigned)out[0]);
+        }
+    }
+    vorruda_tally_report(tally, VORRUDA_TALLY_NUMBERS, text, sizeof text, out, 2);
+    printf("%.*s\n", (int)out[0], (const char *)text);
+}
+
+int main(int argc, char **argv)
+{
+    if (argc % 2 == 0) {
+        fprintf(stderr, "usage: %s [JOB CERT ...]\n", argv[0]);
+        return 2;
+    }
+    if (argc > 1) {
+        judge_files(argv + 1, argc - 1);
+        return 0;
+    }
     puts("Numbers as bytes");
     numbers_as_bytes();
     puts("A list of pattern blocks");
@@ -236,6 +339,8 @@ int main(void)
     links_followed();
     cover_that_does_not_hold();
     other_refusals();
+    puts("A release sheet");
+    release_sheet();
     puts("Forbidden shapes, ready cut");
     ready_shapes();
     puts("Listings");

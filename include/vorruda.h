@@ -174,6 +174,64 @@ uint32_t vorruda_check(const uint8_t *job, size_t job_len, const uint8_t *cert, 
 uint32_t vorruda_verdict(const uint8_t *job, size_t job_len, const uint8_t *cert, size_t cert_len,
                          uint64_t *out, size_t out_len);
 
+/* ---- Tally ------------------------------------------------------------------------------------
+ *
+ * One tally takes in the verdicts of a release as they fall. It is 35 numbers that the host lends;
+ * all zero is one that has begun, and any 35 numbers are a tally:
+ *
+ *   tally[0]           verdicts taken in
+ *   tally[1]           accepted ones
+ *   tally[2]           the sum of their members
+ *   tally[3]           the sum of their covers
+ *   tally[3 + k]       how many were refused with number k, 1 to 31
+ *
+ * In a tally that began with zeros, the accepted and the refused together are the verdicts, and the
+ * order in which these fell doesn't matter if none got VORRUDA_TALLY_FULL. */
+
+#define VORRUDA_TALLY_NUMBERS    35
+#define VORRUDA_TALLY_VERDICTS   0
+#define VORRUDA_TALLY_ACCEPTED   1
+#define VORRUDA_TALLY_MEMBERS    2
+#define VORRUDA_TALLY_COVERS     3
+#define VORRUDA_TALLY_REFUSAL(k) (3 + (k))
+
+#define VORRUDA_TALLY_FULL 23 /* a count or a sum would pass 4,294,967,295 */
+
+/* Judges a pair as vorruda_verdict does, and takes the verdict in: one verdict more, and one accepted
+ * with its members and covers added, or one more with the refusal's number.
+ *   0, VORRUDA_JOB_LENGTH to VORRUDA_CERT_LEFT, VORRUDA_VERSIONS_DIFFER: the verdict, with the four
+ *      values of vorruda_verdict. The first 35 numbers are the tally after it; none beyond is touched.
+ *   VORRUDA_NO_ROOM: `tally_len` is below 35. Nothing is judged; out[0] is 35, out[1], out[2] and
+ *      out[3] are 0.
+ *   VORRUDA_TALLY_FULL: a number that the verdict would change would pass its limit. out[0] is the
+ *      verdict's number, 0 where the pair is accepted; out[1], out[2] and out[3] are 0.
+ * For VORRUDA_NO_ROOM and VORRUDA_TALLY_FULL no number of `tally` is changed. out has four entries;
+ * where it is too short, the verdict is taken in all the same.
+ * The call needs less than 4 KiB of stack. */
+uint32_t vorruda_tally_verdict(const uint8_t *job, size_t job_len,
+                               const uint8_t *cert, size_t cert_len,
+                               uint32_t *tally, size_t tally_len,
+                               uint64_t *out, size_t out_len);
+
+#define VORRUDA_REPORT_BYTES 56 /* no report is longer */
+
+/* Reports a tally, which is only read: the share of accepted verdicts, and the mean of the covers of
+ * an accepted certificate, as fractions in lowest terms,
+ *
+ *   share 1/2 covers 1/1
+ *
+ * without a line end and without a 0 behind it. A fraction that is zero is 0/1; one that would be
+ * divided by 0 is the word none: `share none covers none` ahead of the first verdict, `share 0/1
+ * covers none` where none was accepted.
+ *   0: out[0] is how many bytes were filled, from the first of `text`, none beyond is touched; out[1]
+ *      is 0.
+ *   VORRUDA_NO_ROOM: out[0] is 35 and out[1] is 1 where `tally_len` is below 35, which is tried first;
+ *      out[0] is the length needed and out[1] is 0 where `text` is too short.
+ * Where it isn't 0, no byte of `text` is touched. out has two entries.
+ * The call needs less than 4 KiB of stack. */
+uint32_t vorruda_tally_report(const uint32_t *tally, size_t tally_len,
+                              uint8_t *text, size_t len, uint64_t *out, size_t out_len);
+
 /* ---- Forbidden shapes, ready cut --------------------------------------------------------------
  *
  * Each call writes a job again with the usual forbidden shapes after its own. What then holds, if

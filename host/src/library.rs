@@ -40,6 +40,24 @@ extern "C" {
         out: *mut u64,
         out_len: usize,
     ) -> u32;
+    fn vorruda_tally_verdict(
+        job: *const u8,
+        job_len: usize,
+        cert: *const u8,
+        cert_len: usize,
+        tally: *mut u32,
+        tally_len: usize,
+        out: *mut u64,
+        out_len: usize,
+    ) -> u32;
+    fn vorruda_tally_report(
+        tally: *const u32,
+        tally_len: usize,
+        text: *mut u8,
+        len: usize,
+        out: *mut u64,
+        out_len: usize,
+    ) -> u32;
     fn vorruda_forbid_not_list(
         job: *const u8,
         job_len: usize,
@@ -154,6 +172,53 @@ pub fn verdict(job: &[u8], certificate: &[u8], out: &mut [u64]) -> u32 {
             job.len(),
             lent(certificate),
             certificate.len(),
+            lent_mut(out),
+            out.len(),
+        )
+    }
+}
+
+/// A verdict that is taken in: job, certificate, tally and out.
+pub type TallyVerdict = fn(&[u8], &[u8], &mut [u32], &mut [u64]) -> u32;
+
+/// The two calls of the tally, of this library or another. A report has tally, text and out.
+#[derive(Clone, Copy)]
+pub struct TallyCalls {
+    pub verdict: TallyVerdict,
+    pub report: fn(&[u32], &mut [u8], &mut [u64]) -> u32,
+}
+
+pub const TALLY_CALLS: TallyCalls = TallyCalls {
+    verdict: tally_verdict,
+    report: tally_report,
+};
+
+/// Judges a pair and takes the verdict into a tally.
+pub fn tally_verdict(job: &[u8], certificate: &[u8], tally: &mut [u32], out: &mut [u64]) -> u32 {
+    // SAFETY: each pointer goes with the length of the slice that it came from.
+    unsafe {
+        vorruda_tally_verdict(
+            lent(job),
+            job.len(),
+            lent(certificate),
+            certificate.len(),
+            lent_mut(tally),
+            tally.len(),
+            lent_mut(out),
+            out.len(),
+        )
+    }
+}
+
+/// Reports a tally as text.
+pub fn tally_report(tally: &[u32], text: &mut [u8], out: &mut [u64]) -> u32 {
+    // SAFETY: each pointer goes with the length of the slice that it came from.
+    unsafe {
+        vorruda_tally_report(
+            lent(tally),
+            tally.len(),
+            lent_mut(text),
+            text.len(),
             lent_mut(out),
             out.len(),
         )

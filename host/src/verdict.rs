@@ -117,6 +117,17 @@ impl Verdict {
             Verdict::Refused(refusal) => refusal.number,
         }
     }
+
+    /// The four values that are told beside the number.
+    pub fn told(&self) -> [u64; 4] {
+        match self {
+            Verdict::Accepted(counts) => [counts.bads, counts.members, counts.covers, counts.links],
+            Verdict::Refused(refusal) => {
+                let [rule, name] = refusal.broken.map_or([0, 0], Broken::numbers);
+                [refusal.place as u64, rule, name, 0]
+            }
+        }
+    }
 }
 
 impl From<Result<Counts, Refusal>> for Verdict {

@@ -14,4 +14,5 @@ pub mod quicker;
 mod reader;
 pub mod shape;
 pub mod stepper;
+pub mod tally;
 pub mod values;

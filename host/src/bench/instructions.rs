@@ -8,14 +8,15 @@ use std::io;
 use std::path::Path;
 use std::process::{Command, Stdio};
 
-use super::suite::{read_pairs, Suite};
-use super::{block_lists, calls, check_quickly, Cost, Work};
+use super::suite::{read_pairs, write_pairs, Suite};
+use super::{block_lists, calls, check_quickly, tallies, Cost, Work};
 
 /// The argument with which the process does the measured work.
 pub const ARGUMENT: &str = "measured";
 
-/// The file with the suite's pairs.
+/// The file with the suite's pairs, and the one with those of the corpus alone.
 const PAIRS: &str = "pairs.bin";
+const CORPUS: &str = "corpus.bin";
 
 /// Callgrind finds it by this name.
 #[no_mangle]
@@ -25,10 +26,11 @@ fn vorruda_measured(work: &dyn Fn()) {
     black_box(());
 }
 
-/// What is counted in a run: an empty work, then each pair in turn, then the block list's calls, then
-/// the other calls.
+/// What is counted in a run: an empty work, then each pair in turn, then the calls of the block list and
+/// of the tally, then the other calls.
 pub fn run(folder: &Path) -> Result<(), String> {
-    let pairs = read_pairs(&folder.join(PAIRS)).map_err(|error| error.to_string())?;
+    let read = |file| read_pairs(&folder.join(file)).map_err(|error| error.to_string());
+    let (pairs, corpus) = (read(PAIRS)?, read(CORPUS)?);
     vorruda_measured(&|| ());
     for pair in &pairs {
         measure(&Work::of_pair(pair));
@@ -36,6 +38,9 @@ pub fn run(folder: &Path) -> Result<(), String> {
     }
     for case in block_lists::cases() {
         case.counted().iter().for_each(|call| measure_call(call));
+    }
+    for case in tallies::Cases::new(corpus).all() {
+        measure(&case.work);
     }
     for (_, work) in calls::works() {
         measure(&work);
@@ -56,16 +61,17 @@ fn measure_call(call: &dyn Fn()) {
 
 const TOO_LITTLE: &str = "callgrind counted too little";
 
-/// Counts the instructions of each pair of the suite and of the block list's calls, and gives those of
-/// the other calls.
+/// Counts the instructions of each pair of the suite and of the calls of the block list and of the
+/// tally, and gives those of the other calls.
 pub fn count(
     suite: &mut Suite,
     lists: &mut [block_lists::Case],
+    tallies: &mut tallies::Cases,
     folder: &Path,
 ) -> Result<Vec<Cost>, String> {
-    suite
-        .write(&folder.join(PAIRS))
-        .map_err(|error| error.to_string())?;
+    let pairs = suite.cases().map(|case| &case.pair);
+    write_pairs(&folder.join(PAIRS), pairs).map_err(|error| error.to_string())?;
+    write_pairs(&folder.join(CORPUS), &suite.corpus_pairs()).map_err(|error| error.to_string())?;
     let counts = callgrind(folder)?;
     let (empty, counts) = counts.split_first().ok_or("callgrind counted nothing")?;
     let mut counts = counts.iter().map(|count| count - empty);
@@ -76,6 +82,9 @@ pub fn count(
     for case in lists {
         let of_case: Vec<f64> = counts.by_ref().take(4).collect();
         case.set_counts(of_case.try_into().map_err(|_| TOO_LITTLE)?);
+    }
+    for case in tallies.all() {
+        case.instructions = cost(&mut counts).ok_or(TOO_LITTLE)?;
     }
     Ok(std::iter::from_fn(|| cost(&mut counts)).collect())
 }

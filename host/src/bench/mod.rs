@@ -8,6 +8,7 @@ pub mod instructions;
 pub mod refused;
 pub mod report;
 pub mod suite;
+pub mod tallies;
 pub mod time;
 
 use std::hint::black_box;

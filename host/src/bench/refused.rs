@@ -16,16 +16,20 @@ const SKIP: Operation = Operation {
     b: 0,
 };
 
+/// The names of two pairs that are measured with a tally too.
+pub const SMALLEST: &str = "the smallest pair, accepted";
+pub const FIRST_COVER: &str = "the first cover";
+
 pub fn pairs() -> Vec<(&'static str, Pair)> {
     vec![
-        ("the smallest pair, accepted", of(&JOB, &CERTIFICATE)),
+        (SMALLEST, of(&JOB, &CERTIFICATE)),
         ("no job", of(&[], &CERTIFICATE)),
         ("no certificate", of(&JOB, &[])),
         ("the job too long", of(&[1; MOST_BYTES + 1], &CERTIFICATE)),
         ("the job's first number", of(&[3], &CERTIFICATE)),
         ("the job's last number", of(&JOB[..13], &CERTIFICATE)),
         ("the certificate's first number", of(&JOB, &[3])),
-        ("the first cover", of(&JOB, &[1, 1, 1, 0, 2, 0])),
+        (FIRST_COVER, of(&JOB, &[1, 1, 1, 0, 2, 0])),
         ("a large job's last number", large_job_cut()),
         ("the first number after a large job", after_large_job()),
         ("the last of 512 members", start_member()),

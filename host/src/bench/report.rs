@@ -1,7 +1,7 @@
 //! The tables, in markdown.
 
 use super::suite::{Case, Suite};
-use super::{block_lists, calls, time, Cost, Work};
+use super::{block_lists, calls, tallies, time, Cost, Work};
 use crate::baseline::checker::check;
 use crate::text::thousands;
 use crate::verdict::Verdict;
@@ -11,7 +11,12 @@ const SHOWN: usize = 8;
 const LONG: f64 = 1_000.0;
 
 /// Measures the time where it is shown, and prints all tables.
-pub fn print(suite: &mut Suite, lists: &[block_lists::Case], calls: &[Cost]) {
+pub fn print(
+    suite: &mut Suite,
+    lists: &[block_lists::Case],
+    tallies: &tallies::Cases,
+    calls: &[Cost],
+) {
     summary(suite);
     println!("\n### The corpus without values\n");
     with_time(&suite.corpus, true);
@@ -37,6 +42,8 @@ pub fn print(suite: &mut Suite, lists: &[block_lists::Case], calls: &[Cost]) {
     quicker(suite);
     println!("\n### The block list\n");
     block_list(lists);
+    println!("\n### The tally\n");
+    tally(tallies);
     println!("\n### The other calls\n");
     other_calls(calls);
 }
@@ -217,6 +224,28 @@ fn row_with_steps(name: &str, cases: &[block_lists::Case], time: Cost) {
         time.ratio(),
         thousands(by_steps as u64),
         all.proved / by_steps,
+    );
+}
+
+/// Verdicts with a tally and without, what a tally adds to one, and the reports.
+fn tally(cases: &tallies::Cases) {
+    heading("| calls | instructions | baseline | ratio | ratio of time |");
+    for verdicts in &cases.verdicts {
+        row_of_tally(&verdicts.taken_in);
+        row_of_tally(&verdicts.alone);
+        let added = instructions(verdicts.added());
+        println!("| **added to a verdict** | {added} | |");
+    }
+    cases.reports.iter().for_each(row_of_tally);
+}
+
+fn row_of_tally(case: &tallies::Case) {
+    let time = time::measure(&case.work);
+    println!(
+        "| {} | {} | {:.2} |",
+        case.name,
+        instructions(case.instructions),
+        time.ratio(),
     );
 }
 

@@ -82,16 +82,10 @@ impl Suite {
         groups.into_iter().flatten()
     }
 
-    /// Writes the pairs one after the other, each buffer behind its length.
-    pub fn write(&mut self, file: &Path) -> io::Result<()> {
-        let mut bytes = Vec::new();
-        for case in self.cases() {
-            for buffer in [&case.pair.job, &case.pair.certificate] {
-                bytes.extend(buffer.len().to_le_bytes());
-                bytes.extend(buffer);
-            }
-        }
-        fs::write(file, bytes)
+    /// The pairs of the corpus, without values and with them.
+    pub fn corpus_pairs(&self) -> Vec<Pair> {
+        let cases = self.corpus.iter().chain(&self.corpus_with_values);
+        cases.map(|case| case.pair.clone()).collect()
     }
 }
 
@@ -115,6 +109,18 @@ fn named<N: Into<String>>(pairs: impl IntoIterator<Item = (N, Pair)>) -> Vec<Cas
 fn numbered(pairs: impl IntoIterator<Item = Pair>) -> Vec<Case> {
     let pairs = pairs.into_iter().enumerate();
     named(pairs.map(|(number, pair)| (format!("number {number}"), pair)))
+}
+
+/// Writes pairs one after the other, each buffer behind its length.
+pub fn write_pairs<'a>(file: &Path, pairs: impl IntoIterator<Item = &'a Pair>) -> io::Result<()> {
+    let mut bytes = Vec::new();
+    for pair in pairs {
+        for buffer in [&pair.job, &pair.certificate] {
+            bytes.extend(buffer.len().to_le_bytes());
+            bytes.extend(buffer);
+        }
+    }
+    fs::write(file, bytes)
 }
 
 /// Reads pairs that were written.

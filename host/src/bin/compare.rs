@@ -8,7 +8,10 @@ use std::process::ExitCode;
 
 use vorruda_host::compare::listings::Translate;
 use vorruda_host::compare::verdicts::Checker;
-use vorruda_host::compare::{block_lists, listings, lists, numbers, ready, steps, verdicts, Tally};
+use vorruda_host::compare::{
+    block_lists, listings, lists, numbers, ready, steps, tallies, verdicts, Tally,
+};
+use vorruda_host::library::TallyCalls;
 use vorruda_host::list_library::{self, Calls};
 use vorruda_host::{baseline, check, library};
 
@@ -44,6 +47,12 @@ const BLOCK_LISTS: [(&str, Calls); 3] = [
     ),
 ];
 
+/// The tallies that are compared with it.
+const TALLIES: [(&str, TallyCalls); 2] = [
+    ("the tally", library::TALLY_CALLS),
+    ("the baseline's tally", baseline::tally::CALLS),
+];
+
 const PAIRS: u64 = 100_000;
 const SEED: u64 = 0x0009_5eed;
 
@@ -70,6 +79,7 @@ fn tallies() -> Result<Vec<Tally>, String> {
     let listings = listings::compare(&TRANSLATORS, seed);
     let all = calls.into_iter().chain(steps::compare());
     let all = all.chain(block_lists::compare(&BLOCK_LISTS));
+    let all = all.chain(tallies::compare(&TALLIES, seed));
     Ok(all.chain(listings).chain(verdicts).collect())
 }
 

@@ -15,8 +15,10 @@ use vorruda_host::reference::block_list::{self, answer, chained};
 use vorruda_host::reference::heap::Heap;
 use vorruda_host::reference::listing::{translate, MARKS};
 use vorruda_host::reference::ready::{forbid, Set};
+use vorruda_host::reference::tally::{self, NUMBERS};
 use vorruda_host::reference::version::Version;
 use vorruda_host::reference::{checker, number, stepper};
+use vorruda_host::verdict::Verdict;
 use vorruda_host::{library, list_library, sweep};
 
 const PAIRS: usize = 300;
@@ -53,7 +55,7 @@ fn main() -> ExitCode {
     let listings = at_limits.chain(Listings::new(seed).take(LISTINGS));
     let listings = listings.enumerate().map(listing).count();
     println!(
-        "{checked} pairs, {LISTS} lists, {STEPS} steps, {LIST_CALLS} calls of the block list, \
+        "{checked} pairs, each also with a tally, {LISTS} lists, {STEPS} steps, {LIST_CALLS} calls of the block list, \
          {listings} listings: as the reference"
     );
     ExitCode::SUCCESS
@@ -66,14 +68,37 @@ fn exact<T: Copy>(slice: &[T]) -> Box<[T]> {
 
 fn check((turn, Pair { job, certificate }): (usize, Pair)) {
     let (job, certificate) = (exact(&job), exact(&certificate));
-    let expected = checker::check(&job, &certificate).number();
+    let verdict = checker::check(&job, &certificate);
+    let expected = verdict.number();
     let mut out = exact(&[0; 4][..turn % 5]);
     assert_eq!(library::check(&job, &certificate), expected);
     assert_eq!(library::verdict(&job, &certificate, &mut out), expected);
+    take_in(&job, &certificate, &verdict, turn);
     let (variable, state) = (turn as u32 % 4, turn as u32 % 3);
     ready(&job, Set::NotList { variable, state }, turn);
     ready(&job, Set::LostBlock { variable, state }, turn);
     ready(&job, Set::BadSteps, turn);
+}
+
+/// The verdict taken into a tally that is short, exact, longer or full, and its report, in room that is
+/// too little, just enough or more.
+fn take_in(job: &[u8], certificate: &[u8], verdict: &Verdict, turn: usize) {
+    let length = [0, NUMBERS - 1, NUMBERS, NUMBERS, NUMBERS + 1][turn % 5];
+    let number = [0, 1, turn as u32, u32::MAX - 1, u32::MAX][turn / 5 % 5];
+    let before = exact(&vec![number; length]);
+    let mut after = before.clone();
+    let mut out = exact(&[0; 5][..turn % 6]);
+    let number = library::tally_verdict(job, certificate, &mut after, &mut out);
+    let taken = tally::take_in(&before, verdict);
+    let (expected, _, left) = tally::answer(&before, verdict, &taken);
+    assert_eq!((number, after.to_vec()), (expected, left));
+    let room = tally::report(&after, usize::MAX).map_or(1, |text| text.len());
+    let room = exact(&vec![0; room + turn % 3 - 1]);
+    let mut text = room.clone();
+    let mut out = exact(&[0; 3][..turn % 4]);
+    let number = library::tally_report(&after, &mut text, &mut out);
+    let (expected, _, left) = tally::report_answer(&tally::report(&after, room.len()), &room);
+    assert_eq!((number, text.to_vec()), (expected, left));
 }
 
 /// A ready set, in room that is too little, just enough or more.

@@ -1,7 +1,7 @@
-//! Measures the stack that a call takes: of the checker over the corpus, the costliest pairs, every
-//! kind of operation and random pairs; of the translation over listings at all limits and random
-//! ones; of the block list's calls over lists of every length and a ring. Fails where the header
-//! promises less.
+//! Measures the stack that a call takes: of the checker, alone and with a tally, over the corpus, the
+//! costliest pairs, every kind of operation and random pairs; of a tally's report; of the translation
+//! over listings at all limits and random ones; of the block list's calls over lists of every length
+//! and a ring. Fails where the header promises less.
 
 use std::fs;
 use std::path::Path;
@@ -9,12 +9,14 @@ use std::process::ExitCode;
 
 use vorruda_host::bench::block_lists::list_of;
 use vorruda_host::bench::suite::Suite;
+use vorruda_host::bench::tallies::{tally_of, LONGEST};
 use vorruda_host::list_library::Edit;
 use vorruda_host::listings::{edges, Listings};
 use vorruda_host::pairs::Pair;
 use vorruda_host::reference::heap::{Heap, Place};
 use vorruda_host::reference::listing::MARKS;
 use vorruda_host::reference::stepper::{bytes_of, values_of, CELLS};
+use vorruda_host::reference::tally::NUMBERS;
 use vorruda_host::stack::depth;
 use vorruda_host::{library, list_library};
 
@@ -44,9 +46,10 @@ const HEADER: &str = "vorruda.h";
 const LIST_HEADER: &str = "vorruda_list.h";
 
 /// The most that the calls took, each with what its header promises.
-fn measured() -> Result<[(&'static str, usize, usize); 3], String> {
+fn measured() -> Result<[(&'static str, usize, usize); 5], String> {
     let mut suite = Suite::new()?;
     let of_checker = suite.cases().map(|case| of_pair(&case.pair)).max();
+    let of_tally = suite.cases().map(|case| of_taking_in(&case.pair)).max();
     let listings = edges()
         .into_iter()
         .chain(Listings::new(SEED).take(LISTINGS));
@@ -60,6 +63,16 @@ fn measured() -> Result<[(&'static str, usize, usize); 3], String> {
             "the checker",
             of_checker.ok_or("there is no pair")?,
             promised(HEADER, "vorruda_verdict(")?,
+        ),
+        (
+            "the tally",
+            of_tally.ok_or("there is no pair")?,
+            promised(HEADER, "vorruda_tally_verdict(")?,
+        ),
+        (
+            "a tally's report",
+            of_report(&tally_of(LONGEST)),
+            promised(HEADER, "vorruda_tally_report(")?,
         ),
         (
             "the translation",
@@ -90,6 +103,20 @@ fn of_pair(Pair { job, certificate }: &Pair) -> usize {
         library::verdict(job, certificate, &mut [0; 4]);
     });
     checked.max(judged)
+}
+
+fn of_taking_in(Pair { job, certificate }: &Pair) -> usize {
+    let mut tally = [0; NUMBERS];
+    depth(|| {
+        library::tally_verdict(job, certificate, &mut tally, &mut [0; 4]);
+    })
+}
+
+fn of_report(tally: &[u32]) -> usize {
+    let mut text = [0; 64];
+    depth(|| {
+        library::tally_report(tally, &mut text, &mut [0; 2]);
+    })
 }
 
 /// What the deepest of the three calls takes, the edits at the end of the list.

@@ -6,6 +6,7 @@ pub mod lists;
 pub mod numbers;
 pub mod ready;
 pub mod steps;
+pub mod tallies;
 pub mod verdicts;
 
 use std::collections::BTreeMap;

@@ -142,14 +142,7 @@ fn answers(job: &[u8], certificate: &[u8], out_len: usize) -> Answers {
 fn expected_answers(verdict: &Verdict, out_len: usize) -> Answers {
     let mut out = [UNTOUCHED; 5];
     if out_len >= 4 {
-        let results = match verdict {
-            Verdict::Accepted(counts) => [counts.bads, counts.members, counts.covers, counts.links],
-            Verdict::Refused(refusal) => {
-                let [rule, name] = refusal.broken.map_or([0, 0], Broken::numbers);
-                [refusal.place as u64, rule, name, 0]
-            }
-        };
-        out[..4].copy_from_slice(&results);
+        out[..4].copy_from_slice(&verdict.told());
     }
     (verdict.number(), verdict.number(), out)
 }

@@ -17,5 +17,6 @@ pub mod ready;
 pub mod refused;
 pub mod shape;
 pub mod stepper;
+pub mod tally;
 mod value_predecessor;
 pub mod version;
