@@ -16,7 +16,7 @@ use Rattle.lines.specs.declared.Line.the-variants.{Perform, Mark}
 use Rattle.lines.specs.declared.Operation.{Operation}
 use Rattle.listing.specs.LineByLine.{Open, Position, reached, refused, numbered, arrowNumbers, skipNumbers, testNumbers, oppositeNumbers, marked, opened, closed, limited, advance}
 use Rattle.translating.specs.Reading.{namesAfter, Numbers, Adds, Leads, Steps, Begins, Closes}
-use Rattle.translating.specs.Work.{Work, openOf, transitionsIn, positionOf, Within}
+use Rattle.translating.specs.Work.{Work, openOf, transitionsIn, positionOf, WorkWithin}
 use Rattle.translating.specs.declared.names.Numbered.{Numbered}
 use Rattle.translating.specs.declared.steps.Begun.the-variants as begun
 use Rattle.translating.specs.declared.steps.Led.the-variants as led
@@ -63,7 +63,7 @@ after p met = record { at = p .at; passed = suc (p .passed); count = suc (p .cou
 module _ (p : Progress) (job letters : List ℕ) (passed : p .passed ≤ 63) (count : p .count ≤ 2 * p .passed) where
   -- the new progress keeps to its bounds
   within-after : (met : ℕ) (job′ letters′ states′ : List ℕ) → met ≤ 8 → p .passed ≤ 62 → length job′ ≡ 635 → length letters′ ≡ 8 → length states′ ≡ 64
-      → Within (after p met) (record { job = job′; letters = letters′; states = states′ })
+      → WorkWithin (after p met) (record { job = job′; letters = letters′; states = states′ })
   within-after met job′ letters′ states′ few room j l s = record { passed = omega arith; count = omega arith; met = few; job = j; letters = l; states = s }
 
   -- an operation whose operands are numbered, by which a line leads on: `o` on the line, `by` in the transition
@@ -206,7 +206,7 @@ module _ (p : Progress) (job letters : List ℕ) (passed : p .passed ≤ 63) (co
 
 -- ---- an `end`
 
-module _ (p : Progress) (w : Work) (o : declared.Open) (bounds : Within p w) where
+module _ (p : Progress) (w : Work) (o : declared.Open) (bounds : WorkWithin p w) where
   pub close-full : 62 < p .passed → (inner opens : List Open)
       → limited (closed (openOf o) opens (positionOf p w inner)) ≡ refused 19 (suc (p .passed))
   close-full h inner os = limited-states (closed (openOf o) os (positionOf p w inner)) (omega arith)

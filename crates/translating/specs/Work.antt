@@ -42,7 +42,7 @@ positionOf p w opens =
     }
 
 -- a line brings one state, at most two transitions and, while it is not refused, no ninth name
-pub record Within (p : Progress) (w : Work) : Type 0 where
+pub record WorkWithin (p : Progress) (w : Work) : Type 0 where
   pub passed : p .passed ≤ 63
   pub count : p .count ≤ 2 * p .passed
   pub met : p .met ≤ 8
