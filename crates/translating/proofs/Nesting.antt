@@ -10,7 +10,7 @@ use Rattle.lines.specs.Line.{lineOf}
 use Rattle.lines.specs.declared.Line.{Line}
 use Rattle.lines.specs.declared.Line.the-variants.{Perform, While, If, End, Mark, Other}
 use Rattle.lines.proofs.ReadsText.{reads-text}
-use Rattle.listing.specs.LineByLine.{Open, Position, Outcome, reached, refused, advance, onward, goOn}
+use Rattle.listing.specs.LineByLine.{Open, LinePosition, Outcome, reached, refused, advance, onward, goOn}
 use Rattle.listing.specs.Text.{linesOf}
 use Rattle.translating.specs.Reading.{Begins, MarkIn, Closes, Comes, Further, restFrom, BlockRead, StatementRead}
 use Rattle.translating.specs.Work.{Work, faultNumber, openOf, positionOf, WorkWithin}
@@ -29,14 +29,14 @@ use Rattle.translating.proofs.Cutting.{Cut, cut-line, cut-last, cut-ove
 
 -- ---- one line of the definitions
 
-go-line : (l : Line) (ls : List Line) (s : Position) → goOn (l ∷ ls) s ≡ onward (advance l s) (goOn ls)
+go-line : (l : Line) (ls : List Line) (s : LinePosition) → goOn (l ∷ ls) s ≡ onward (advance l s) (goOn ls)
 unfolding goOn
 go-line l ls s = refl
 
-go-on : (l : Line) (ls : List Line) (s s′ : Position) → advance l s ≡ reached s′ → goOn (l ∷ ls) s ≡ goOn ls s′
+go-on : (l : Line) (ls : List Line) (s s′ : LinePosition) → advance l s ≡ reached s′ → goOn (l ∷ ls) s ≡ goOn ls s′
 go-on l ls s s′ e = go-line l ls s ∙ ap (λ o. onward o (goOn ls)) e
 
-go-refused : (l : Line) (ls : List Line) (s : Position) (number line : ℕ) → advance l s ≡ refused number line → goOn (l ∷ ls) s ≡ refused number line
+go-refused : (l : Line) (ls : List Line) (s : LinePosition) (number line : ℕ) → advance l s ≡ refused number line → goOn (l ∷ ls) s ≡ refused number line
 go-refused l ls s number line e = go-line l ls s ∙ ap (λ o. onward o (goOn ls)) e
 
 -- an `end` is missing

@@ -14,7 +14,7 @@ use lib.Seq.{length-take-le}
 use Rattle.lines.specs.Line.{opens}
 use Rattle.lines.specs.declared.Line.the-variants.{Perform, Mark}
 use Rattle.lines.specs.declared.Operation.{Operation}
-use Rattle.listing.specs.LineByLine.{Open, Position, reached, refused, numbered, arrowNumbers, skipNumbers, testNumbers, oppositeNumbers, marked, opened, closed, limited, advance}
+use Rattle.listing.specs.LineByLine.{Open, LinePosition, reached, refused, numbered, arrowNumbers, skipNumbers, testNumbers, oppositeNumbers, marked, opened, closed, limited, advance}
 use Rattle.translating.specs.Reading.{namesAfter, Numbers, Adds, Leads, Steps, Begins, Closes}
 use Rattle.translating.specs.Work.{Work, openOf, transitionsIn, positionOf, WorkWithin}
 use Rattle.translating.specs.declared.names.Numbered.{Numbered}
@@ -29,17 +29,17 @@ or-true : (b : Bool) → b || true ≡ true
 or-true true = refl
 or-true false = refl
 
-limited-on : (s : Position) → length (s .names) ≤ 8 → s .passed ≤ 63 → limited s ≡ reached s
+limited-on : (s : LinePosition) → length (s .names) ≤ 8 → s .passed ≤ 63 → limited s ≡ reached s
 limited-on s n p = rw (le-ltb 8 (length (s .names)) n, le-ltb 64 (suc (s .passed)) (omega arith)) refl
 
-limited-names : (s : Position) → 8 < length (s .names) → limited s ≡ refused 19 (s .passed)
+limited-names : (s : LinePosition) → 8 < length (s .names) → limited s ≡ refused 19 (s .passed)
 limited-names s h = rw (lt-ltb 8 (length (s .names)) h) refl
 
-limited-states : (s : Position) → 63 < s .passed → limited s ≡ refused 19 (s .passed)
+limited-states : (s : LinePosition) → 63 < s .passed → limited s ≡ refused 19 (s .passed)
 limited-states s h = rw (lt-ltb 64 (suc (s .passed)) (omega arith), or-true (ltb 8 (length (s .names)))) refl
 
 -- `while` and `if` alike
-opens-line : (loops : Bool) (t : Operation) (s : Position)
+opens-line : (loops : Bool) (t : Operation) (s : LinePosition)
     → advance (opens loops t) s ≡ cond (leb 16 (length (s .opens))) (refused 18 (suc (s .passed))) (limited (opened loops t s))
 opens-line true t s = refl
 opens-line false t s = refl
@@ -79,7 +79,7 @@ module _ (p : Progress) (job letters : List ℕ) (passed : p .passed ≤ 63) (co
       abbrev w′ : List ℕ → Work
       w′ job′ = record { job = job′; letters = letters′; states = states }
 
-      abbrev led-to : List Open → Position
+      abbrev led-to : List Open → LinePosition
       led-to os =
           record {
             passed = suc (p .passed);
