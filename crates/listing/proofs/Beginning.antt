@@ -10,7 +10,7 @@ use lib.Seq.{drop-drop}
 use Rattle.lists.specs.List.{concatMap}
 use Rattle.lists.proofs.Reflect.{r-lt}
 use Rattle.number.specs.Number.{bytesOf, numberAt}
-use Rattle.number.specs.NumberList.{Listed, numbers, refused, before, followed, decodeFrom}
+use Rattle.number.specs.NumberList.{DecodedList, numbers, refused, withNumber, followed, decodeFrom}
 use Rattle.number.specs.Range.{AtMost}
 use Rattle.number.specs.declared.Read.the-variants.{Number}
 use Rattle.number.proofs.RoundTrip.{reads, decode-more}
@@ -49,7 +49,7 @@ begins-at (n ∷ ns) (suc turns) at s rest ms h e d =
     (sym (decode-more turns s at inside ∙ ap (followed (decodeFrom turns s)) (one-byte s at n (ns ++ rest) (h .0) e)) ∙ d)
     (λ ks. begins-at ns turns (at + 1) s rest ks (h .1) (sym (drop-drop 1 at s) ∙ ap (drop 1) e))
   where
-    go : (l : Listed) → decodeFrom turns s (at + 1) ≡ l → before n l ≡ numbers ms
+    go : (l : DecodedList) → decodeFrom turns s (at + 1) ≡ l → withNumber n l ≡ numbers ms
         → ((ks : List ℕ) → decodeFrom turns s (at + 1) ≡ numbers ks → (more : List ℕ) × (ks ≡ ns ++ more)) → (more : List ℕ) × (ms ≡ n ∷ (ns ++ more))
     go (numbers ks) w v later =
         let (more, x) = later ks w in
