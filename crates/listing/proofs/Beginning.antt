@@ -21,7 +21,6 @@ use Rattle.forbidden.specs.Written.{refused}
 use Rattle.listing.specs.LineByLine.{arrowNumbers}
 use Rattle.listing.specs.Reading.{refused, read, opOf}
 use Rattle.listing.specs.Text.{operationFor}
-use Rattle.listing.proofs.Emitted.{op-numbers}
 use Rattle.listing.proofs.Operations.{op-of-for}
 
 -- ---- bytes below 128 are read as themselves
@@ -63,8 +62,7 @@ one-transition : (t u : Transition) (xs ys : List ℕ) → transitionNumbers t +
 one-transition t u xs ys e =
     let f = operationFor (t .op) in
     let g = operationFor (u .op) in
-    let w : arrowNumbers (t .from) f (t .to) ++ xs ≡ arrowNumbers (u .from) g (u .to) ++ ys =
-    ap (λ l. l ++ xs) (op-numbers (t .op) (t .from) (t .to)) ∙ e ∙ ap (λ l. l ++ ys) (sym (op-numbers (u .op) (u .from) (u .to))) in
+    let w : arrowNumbers (t .from) f (t .to) ++ xs ≡ arrowNumbers (u .from) g (u .to) ++ ys = e in
     let p : t .from ≡ u .from = cc in
     let k : f .kind ≡ g .kind = cc in
     let a : f .a ≡ g .a = cc in
