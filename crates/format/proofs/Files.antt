@@ -12,7 +12,7 @@ use lib.ListN.{length}
 use Rattle.lists.specs.List.{concatMap}
 use Rattle.lists.proofs.List.{every-none, every-cons}
 use Rattle.lists.proofs.Reflect.{Reflect, r-eq, r-lt, r-le, r-and, r-either, cond-cases, cond-true}
-use Rattle.heap.specs.Operation.{Kind, kindOf, allowsA, allowsB, OpNumbers}
+use Rattle.heap.specs.Operation.{Kind, kindOf, allowsA, allowsB}
 use Rattle.heap.specs.Place.{cell}
 use Rattle.heap.proofs.Rows.{in-table, table-named, op-numbers}
 use Rattle.facts.specs.Facts.{Fact, FactOf, FactsOf}
@@ -285,7 +285,7 @@ module _ (version : ℕ) (s : Buffer) (variables : ℕ) where
         let (kind, a, b, (early, named)) = ok .op in
         let i = in-table variables kind a b (t .op) named in
         let g′ : Reads (s .bytes) at (t .from ∷ kind ∷ a ∷ b ∷ t .to ∷ []) next =
-        subst (λ (n : OpNumbers). Reads (s .bytes) at (t .from ∷ n .kind ∷ n .a ∷ n .b ∷ t .to ∷ []) next) (op-numbers variables kind a b (t .op) named) g in
+        subst (λ (n : ℕ × ℕ × ℕ). Reads (s .bytes) at (t .from ∷ n .0 ∷ n .1 ∷ n .2 ∷ t .to ∷ []) next) (op-numbers variables kind a b (t .op) named) g in
         let (p₁, g₁, r₁) = reads-first g′ in
         let (p₂, g₂, r₂) = reads-first r₁ in
         let (p₃, g₃, r₃) = reads-first r₂ in

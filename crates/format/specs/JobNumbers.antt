@@ -18,9 +18,8 @@ pub record JobFile : Type 0 where
   pub states : ℕ
   pub job : Job
 
--- kind, a and b
 abbrev pub opNumbers : Op → List ℕ
-opNumbers o = let n = numbersOf o in n .kind ∷ n .a ∷ n .b ∷ []
+opNumbers o = let (kind, a, b) = numbersOf o in kind ∷ a ∷ b ∷ []
 
 abbrev pub transitionNumbers : Transition → List ℕ
 transitionNumbers t = t .from ∷ opNumbers (t .op) ++ (t .to ∷ [])

@@ -30,7 +30,7 @@ textOf = concatMap (λ l. lineText l ++ (10 ∷ []))
 
 -- kind and operands of an operation, and of a test, for which `any` has kind 0
 abbrev pub operationFor : Op → Operation
-operationFor o = let n = numbersOf o in record { kind = n .kind; a = n .a; b = n .b }
+operationFor o = let (kind, a, b) = numbersOf o in record { kind = kind; a = a; b = b }
 
 abbrev pub operationForTest : Test → Operation
 operationForTest (same a b) = record { kind = 1; a = a; b = b }

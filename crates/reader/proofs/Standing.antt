@@ -8,7 +8,7 @@ use native.Mathlib.Omega.{arith}
 use lib.ListN.{length, getD, take, drop}
 use Rattle.lists.specs.Range.{range}
 use Rattle.lists.proofs.Reflect.{r-le, r-and}
-use Rattle.heap.specs.Operation.{kindOf, OpNumbers}
+use Rattle.heap.specs.Operation.{kindOf}
 use Rattle.heap.specs.Place.{cell}
 use Rattle.heap.proofs.Rows.{in-table, op-numbers}
 use Rattle.shape.specs.Shape.{InRange}
@@ -215,7 +215,7 @@ module _ (s : Buffer) (variables states : ℕ) (few : states ≤ 64) where
         let (kind, a, b, (_, named)) = ok .op in
         let row = in-table variables kind a b (t .op) named in
         let r′ : Reads (s .bytes) at (t .from ∷ kind ∷ a ∷ b ∷ t .to ∷ []) next =
-        subst (λ (n : OpNumbers). Reads (s .bytes) at (t .from ∷ n .kind ∷ n .a ∷ n .b ∷ t .to ∷ []) next) (op-numbers variables kind a b (t .op) named) r in
+        subst (λ (n : ℕ × ℕ × ℕ). Reads (s .bytes) at (t .from ∷ n .0 ∷ n .1 ∷ n .2 ∷ t .to ∷ []) next) (op-numbers variables kind a b (t .op) named) r in
         let (p₁, g₁, r₁) = reads-first r′ in
         let (p₂, g₂, r₂) = reads-first r₁ in
         let (p₃, g₃, r₃) = reads-first r₂ in
