@@ -15,7 +15,7 @@ use Rattle.lines.specs.Line.{opens}
 use Rattle.lines.specs.declared.Line.the-variants.{Perform, Mark}
 use Rattle.lines.specs.declared.Operation.{Operation}
 use Rattle.listing.specs.LineByLine.{Open, LinePosition, reached, refused, numbered, arrowNumbers, skipNumbers, testNumbers, oppositeNumbers, marked, opened, closed, limited, advance}
-use Rattle.translating.specs.Reading.{namesAfter, Numbers, Adds, Leads, Steps, Begins, Closes}
+use Rattle.translating.specs.Reading.{namesAfter, Numbers, Adds, Leads, LineSteps, Begins, Closes}
 use Rattle.translating.specs.Work.{Work, openOf, transitionsIn, positionOf, WorkWithin}
 use Rattle.translating.specs.declared.names.Numbered.{Numbered}
 use Rattle.translating.specs.declared.steps.Begun.the-variants as begun
@@ -45,7 +45,7 @@ opens-line true t s = refl
 opens-line false t s = refl
 
 pub open-deep : (loops : Bool) (t : Operation) (p : Progress) (depth : ℕ) (w : Work) → 16 ≤ depth
-    → Steps depth (opens loops t) p w (λ os. refused 18 (p .passed + 1))
+    → LineSteps depth (opens loops t) p w (λ os. refused 18 (p .passed + 1))
 open-deep loops t p depth w h os e = opens-line loops t (positionOf p w os) ∙ rw (le-leb 16 (length os) (omega arith), add-one (p .passed)) refl
 
 -- inside a list any default will do
@@ -134,7 +134,7 @@ module _ (p : Progress) (job letters : List ℕ) (passed : p .passed ≤ 63) (co
             λ os e. limited-to states size (λ y. y) job′ few room added os,
           )
 
-      pub perform-full : (depth : ℕ) → (n .met ≤ 8 → 62 < p .passed) → Steps depth (Perform o) p w₀ (λ os. refused 19 (p .passed + 1))
+      pub perform-full : (depth : ℕ) → (n .met ≤ 8 → 62 < p .passed) → LineSteps depth (Perform o) p w₀ (λ os. refused 19 (p .passed + 1))
       perform-full depth full os e = rw (add-one (p .passed)) (limited-full states size (λ y. y) full os)
 
       -- `while T` and `if T`
@@ -160,7 +160,7 @@ module _ (p : Progress) (job letters : List ℕ) (passed : p .passed ≤ 63) (co
                   ∙ ap (λ t. reached (positionOf (after p (n .met)) (w₁ job′) (inner t ∷ os))) test),
             )
 
-        pub open-full : (n .met ≤ 8 → 62 < p .passed) → Steps depth (opens loops o) p w₀ (λ os. refused 19 (p .passed + 1))
+        pub open-full : (n .met ≤ 8 → 62 < p .passed) → LineSteps depth (opens loops o) p w₀ (λ os. refused 19 (p .passed + 1))
         open-full full os e =
             opens-line loops o (positionOf p w₀ os)
             ∙ rw (lt-leb 16 (length os) (omega arith), add-one (p .passed)) (limited-full states size testNumbers full (inner numbered-test ∷ os))
@@ -171,7 +171,7 @@ module _ (p : Progress) (job letters : List ℕ) (passed : p .passed ≤ 63) (co
     abbrev w₂ : Work
     w₂ = record { job = job; letters = letters; states = states }
 
-    pub mark-again : (depth : ℕ) → (getD states k 0 ≡ 64 → ⊥) → Steps depth (Mark k) p w₂ (λ os. refused 17 (p .passed + 1))
+    pub mark-again : (depth : ℕ) → (getD states k 0 ≡ 64 → ⊥) → LineSteps depth (Mark k) p w₂ (λ os. refused 17 (p .passed + 1))
     mark-again depth taken os e =
         rw (ne-eqb (getD states k 64) 64 (λ z. taken (getD-any states k 0 64 (omega arith) ∙ z)), add-one (p .passed)) refl
 
@@ -201,7 +201,7 @@ module _ (p : Progress) (job letters : List ℕ) (passed : p .passed ≤ 63) (co
                 }))),
           )
 
-      pub mark-full : (depth : ℕ) → (p .met ≤ 8 → 62 < p .passed) → Steps depth (Mark k) p w₂ (λ os. refused 19 (p .passed + 1))
+      pub mark-full : (depth : ℕ) → (p .met ≤ 8 → 62 < p .passed) → LineSteps depth (Mark k) p w₂ (λ os. refused 19 (p .passed + 1))
       mark-full depth full os e = rw (is-free, add-one (p .passed)) (limited-states (marked k (positionOf p w₂ os)) (omega (arith, full met)))
 
 -- ---- an `end`

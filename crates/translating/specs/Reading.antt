@@ -53,19 +53,19 @@ Leads p met o before (led.On q) after =
 Leads p met o before led.Full after = (met ≤ 8 → 62 < p .passed)
 
 -- the line does this to every position with so many open
-abbrev pub Steps : ℕ → Line → Progress → Work → (List Open → Outcome) → Type 0
-Steps depth line p w to = (opens : List Open) → length opens ≡ depth → advance line (positionOf p w opens) ≡ to opens
+abbrev pub LineSteps : ℕ → Line → Progress → Work → (List Open → Outcome) → Type 0
+LineSteps depth line p w to = (opens : List Open) → length opens ≡ depth → advance line (positionOf p w opens) ≡ to opens
 
 -- reading goes on within bounds, from the same place in the text
 abbrev pub Kept : Progress → Progress → Work → Type 0
 Kept p q w = WorkWithin q w × (q .at ≡ p .at)
 
 abbrev pub Begins : ℕ → Line → Progress → Work → Begun → Work → Type 0
-Begins depth line p w (begun.On q) w′ = Kept p q w′ × Steps depth line p w (λ os. reached (positionOf q w′ os))
+Begins depth line p w (begun.On q) w′ = Kept p q w′ × LineSteps depth line p w (λ os. reached (positionOf q w′ os))
 Begins depth line p w (begun.Opened q o) w′ =
-    Kept p q w′ × (depth < 16) × (o .state < 64) × Steps depth line p w (λ os. reached (positionOf q w′ (openOf o ∷ os)))
+    Kept p q w′ × (depth < 16) × (o .state < 64) × LineSteps depth line p w (λ os. reached (positionOf q w′ (openOf o ∷ os)))
 Begins depth line p w begun.Ended w′ = (line ≡ End) × (w′ ≡ w)
-Begins depth line p w (begun.Refused why n) w′ = Steps depth line p w (λ os. refused (faultNumber why) n)
+Begins depth line p w (begun.Refused why n) w′ = LineSteps depth line p w (λ os. refused (faultNumber why) n)
 
 -- `mark k` has a k that the array of states has room for
 abbrev pub MarkIn : Line → Type 0
