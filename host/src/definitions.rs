@@ -128,7 +128,7 @@ fn declaring(folder: &str, name: &str) -> String {
 fn declarations(text: &str) -> Module {
     let declared = |part: &str| {
         let lines: Vec<&str> = part.lines().filter(|line| is_said(line)).collect();
-        let head = lines.first()?;
+        let head = lines.first()?.replacen("pub(crate) ", "pub ", 1);
         let name = ["pub struct ", "pub enum "].iter();
         let name = name.filter_map(|kind| head.strip_prefix(kind)).next()?;
         Some(Block {

@@ -22,7 +22,7 @@ use Rattle.stepper.specs.declared.Outcome.the-variants.{Moved, Blocked, Refused
 use Rattle.stepper.specs.declared.StepRefusal.the-variants as step-refusal
 use Rattle.stepper.specs.declared.Stepped.{Stepped}
 use Rattle.blocklist.specs.BlockList.{Lists, cellAt, counted, inserted, removed}
-use Rattle.blocklist.specs.Answers.{ready, blocks, withList, lengthTold, countOf, handsBack, done, insertOf, removeAt, removeOf, Met, Counts, Inserts, Removes}
+use Rattle.blocklist.specs.Answers.{ready, blocks, withList, lengthTold, countOf, handsBack, done, insertOf, removeNth, removeOf, MetFromHead, Counts, Inserts, Removes}
 use Rattle.blocklist.specs.Parts.{refusedAs, editOf, editedAs, EditedBy, times, once, restTurns, insertTurns, firstTurns, afterTurns}
 use Rattle.blocklist.specs.Sentences.{OnlyRests, PutsIn, TakesOut}
 use Rattle.blocklist.specs.declared.Counted.{Counted}
@@ -119,7 +119,7 @@ module _ {A : Type 0} (t : Heap64) (refused : ListRefusal → A) (f : List ℕ �
   by-list : ready t ≡ true → (xs : List ℕ) → blocks t ≡ some xs → f xs ≡ withList t refused f
   by-list e xs k = rw (e, k) refl
 
-module _ (t : Heap64) (m : Met t) where
+module _ (t : Heap64) (m : MetFromHead t) where
   abbrev h : Heap
   h = heapOf t
 
@@ -260,15 +260,15 @@ module _ (t : Heap64) (m : Met t) where
 
     -- ---- remove: 0 or past the list, or done
 
-    removed-in : ready t ≡ true → removeAt t n xs ≡ removeOf t n
+    removed-in : ready t ≡ true → removeNth t n xs ≡ removeOf t n
     unfolding removeOf
-    removed-in a = by-list t (handsBack t) (removeAt t n) a xs (l .found)
+    removed-in a = by-list t (handsBack t) (removeNth t n) a xs (l .found)
 
     pub remove-zero : n ≡ 0 → Removes t n (refusedAs t PastList)
     remove-zero z =
-        refused-by (Removes t n) PastList (remove-unready n) (λ a. remove-back n PastList (ap (λ (k : ℕ). removeAt t k xs) (sym z) ∙ removed-in a))
+        refused-by (Removes t n) PastList (remove-unready n) (λ a. remove-back n PastList (ap (λ (k : ℕ). removeNth t k xs) (sym z) ∙ removed-in a))
 
-    past-out : (k : ℕ) → c < k → handsBack t PastList ≡ removeAt t k xs
+    past-out : (k : ℕ) → c < k → handsBack t PastList ≡ removeNth t k xs
     past-out zero b = absurd (omega arith)
     past-out (suc i) b =
         let over : ltb i (length xs) ≡ false = let k = l .count in le-ltb i (length xs) (omega arith) in
@@ -295,7 +295,7 @@ module _ (t : Heap64) (m : Met t) where
           go true a =
               let d = made r (removed i xs h) (e .0) (e .2) (does a) in
               record {
-                result = d .is ∙ ap (λ (o : Bool). cond o (done t (removed i xs h)) (handsBack t PastList)) (sym inside) ∙ ap (λ (k : ℕ). removeAt t k xs) (sym n-is) ∙ removed-in a;
+                result = d .is ∙ ap (λ (o : Bool). cond o (done t (removed i xs h)) (handsBack t PastList)) (sym inside) ∙ ap (λ (k : ℕ). removeNth t k xs) (sym n-is) ∙ removed-in a;
                 formed = λ f. d .formed;
                 met = m;
                 removes = λ z. (xs, i, n-is, l .found, d .heap, subst (TakesOut i (cellAt i xs) xs h) (sym (d .heap)) (takes-out h refl refl xs (l .lists) i (let k = l .count in omega arith)));

@@ -16,7 +16,7 @@ use Rattle.place.specs.declared.Place.{Place}
 use Rattle.stepper.specs.Table.{heapOf}
 use Rattle.stepper.specs.declared.Heap64.{Heap64}
 use Rattle.blocklist.specs.BlockList.{Lists}
-use Rattle.blocklist.specs.Answers.{blocks, Met}
+use Rattle.blocklist.specs.Answers.{blocks, MetFromHead}
 use Rattle.blocklist.proofs.Chains.{cells-lists, lists-cells, lists-distinct, lists-linked}
 
 -- # is met exactly if there is a list
@@ -68,5 +68,5 @@ module _ (t : Heap64) (sized : length (t .links) ≡ 64) where
       go none e n = e
       go (some xs) e n = absurd (n (length xs) (lists-met link (heapOf t .var 1) xs (cells-exactly xs .0 e)))
 
-  pub met : Met t
+  pub met : MetFromHead t
   met = record { cells = cells-exactly; none-met = none-exactly }

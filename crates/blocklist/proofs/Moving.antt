@@ -24,14 +24,14 @@ use Rattle.blocklist.specs.Parts.{times, once}
 use Rattle.blocklist.proofs.Chains.{cutOff}
 
 -- the table is well formed, has n variables and stands for the heap h
-pub record Stands (n : ℕ) (t : Heap64) (h : Heap) : Type 0 where
+pub record TableIs (n : ℕ) (t : Heap64) (h : Heap) : Type 0 where
   pub formed : wellFormed t ≡ true
   pub variables : t .variables ≡ n
   pub heap : heapOf t ≡ h
 
 -- ---- a step that moves, on a table that stands for a heap
 
-module _ (n : ℕ) (t : Heap64) (h : Heap) (s : Stands n t h) (kind a b : ℕ) (o : Op) (named : operation n kind a b ≡ some o) where
+module _ (n : ℕ) (t : Heap64) (h : Heap) (s : TableIs n t h) (kind a b : ℕ) (o : Op) (named : operation n kind a b ≡ some o) where
   pub by-name : stepOf t kind a b 0 ≡ perform t 0 o
   unfolding stepOf
   by-name = rw (s .formed, s .variables, named) refl
@@ -49,7 +49,7 @@ module _ (n : ℕ) (t : Heap64) (h : Heap) (s : Stands n t h) (kind a b : ℕ) (
     pub moved-table : r .heap ≡ tableOf n (after o (choice t 0 o) h)
     moved-table = ap (λ (q : Stepped). q .heap) moves
 
-    pub moved-stands : Stands n (r .heap) (after o (choice t 0 o) h)
+    pub moved-stands : TableIs n (r .heap) (after o (choice t 0 o) h)
     unfolding tableOf
     moved-stands =
         record {
@@ -181,7 +181,7 @@ spot-is h = heap-path (λ p. refl) go (λ p. refl)
 
 pub record At (n : ℕ) (turns : List ℕ) (r : Stepped) (x : Spot) : Type 0 where
   pub table : Heap64
-  pub stands : Stands n table (heapAt x)
+  pub stands : TableIs n table (heapAt x)
   pub left : InTurn turns table r
 
 -- the same after a step: the table is the heap's
@@ -192,7 +192,7 @@ pub record After (n : ℕ) (turns : List ℕ) (r : Stepped) (x : Spot) : Type 0 
 -- all is done
 pub record Done (n : ℕ) (r : Stepped) (h : Heap) : Type 0 where
   pub moved : r .outcome ≡ Moved
-  pub stands : Stands n (r .heap) h
+  pub stands : TableIs n (r .heap) h
   pub table : r .heap ≡ tableOf n h
 
 pub finished : {n : ℕ} {r : Stepped} {x : Spot} → After n [] r x → Done n r (heapAt x)
@@ -200,7 +200,7 @@ finished {n} {r} {x} q =
     let e = q .at .left in
     record {
       moved = ap (λ (u : Stepped). u .outcome) e;
-      stands = subst (λ (u : Stepped). Stands n (u .heap) (heapAt x)) (sym e) (q .at .stands);
+      stands = subst (λ (u : Stepped). TableIs n (u .heap) (heapAt x)) (sym e) (q .at .stands);
       table = ap (λ (u : Stepped). u .heap) e ∙ q .is;
     }
 
@@ -236,7 +236,7 @@ module _ {n : ℕ} (enough : 3 ≤ n) {turns : List ℕ} {r : Stepped} where
             at =
                 record {
                   table = s .heap;
-                  stands = subst (Stands n (s .heap)) same (moved-stands n t (heapAt x) (q .stands) kind a b o named room e s p);
+                  stands = subst (TableIs n (s .heap)) same (moved-stands n t (heapAt x) (q .stands) kind a b o named room e s p);
                   left = subst (λ (P : Type 0). P) (sym (turn-is k kind a b turns k1 k2 k3 (s .heap) r)) on;
                 };
             is = moved-table n t (heapAt x) (q .stands) kind a b o named room e s p ∙ ap (tableOf n) same;

@@ -71,17 +71,17 @@ insertOf t n =
     (cond (leb 64 x) (handsBack t Full) (done t (inserted n (cell x) xs (heapOf t)))))
 
 -- "28 for n past the list or 0 in a remove"
-abbrev pub removeAt : Heap64 → ℕ → List ℕ → Edited
-removeAt t zero xs = handsBack t PastList
-removeAt t (suc i) xs = cond (ltb i (length xs)) (done t (removed i xs (heapOf t))) (handsBack t PastList)
+abbrev pub removeNth : Heap64 → ℕ → List ℕ → Edited
+removeNth t zero xs = handsBack t PastList
+removeNth t (suc i) xs = cond (ltb i (length xs)) (done t (removed i xs (heapOf t))) (handsBack t PastList)
 
 unfoldable pub removeOf : Heap64 → ℕ → Edited
-removeOf t n = withList t (handsBack t) (removeAt t n)
+removeOf t n = withList t (handsBack t) (removeNth t n)
 
 -- ---- what the three promise
 
 -- "29 where # isn't met from the head": the cells told are those met and then #, however many there are, and there are none just if # is not met
-pub record Met (t : Heap64) : Type 0 where
+pub record MetFromHead (t : Heap64) : Type 0 where
   pub cells : (xs : List ℕ) → (blocks t ≡ some xs) ↔ Lists (heapOf t .link) (heapOf t .var 1) xs
   pub none-met : (blocks t ≡ none) ↔ ((k : ℕ) → follow (heapOf t .link) k (heapOf t .var 1) ≢ null)
 
@@ -90,14 +90,14 @@ pub record Met (t : Heap64) : Type 0 where
 pub record Counts (t : Heap64) (r : Counted) : Type 0 where
   pub result : r ≡ countOf t
   pub formed : wellFormed t ≡ true → wellFormed (r .heap) ≡ true
-  pub met : Met t
+  pub met : MetFromHead t
   pub counts : (n : ℕ) → r .length ≡ length-is.Cells n
       → (xs : List ℕ) × (blocks t ≡ some xs) × (length xs ≡ n) × (heapOf (r .heap) ≡ counted (heapOf t)) × OnlyRests (heapOf t) (heapOf (r .heap))
 
 pub record Inserts (t : Heap64) (n : ℕ) (r : Edited) : Type 0 where
   pub result : r ≡ insertOf t n
   pub formed : wellFormed t ≡ true → wellFormed (r .heap) ≡ true
-  pub met : Met t
+  pub met : MetFromHead t
   pub inserts : let x = cell (lowestUnused (t .used)) in
       r .edit ≡ edit.Done
       → (xs : List ℕ) × (blocks t ≡ some xs) × (heapOf (r .heap) ≡ inserted n x xs (heapOf t)) × PutsIn n x xs (heapOf t) (heapOf (r .heap))
@@ -105,7 +105,7 @@ pub record Inserts (t : Heap64) (n : ℕ) (r : Edited) : Type 0 where
 pub record Removes (t : Heap64) (n : ℕ) (r : Edited) : Type 0 where
   pub result : r ≡ removeOf t n
   pub formed : wellFormed t ≡ true → wellFormed (r .heap) ≡ true
-  pub met : Met t
+  pub met : MetFromHead t
   pub removes : r .edit ≡ edit.Done
       → (xs : List ℕ) × (i : ℕ) × (n ≡ suc i) × (blocks t ≡ some xs) × (heapOf (r .heap) ≡ removed i xs (heapOf t))
       × TakesOut i (cellAt i xs) xs (heapOf t) (heapOf (r .heap))

@@ -20,8 +20,8 @@ pub record OnlyRests (h k : Heap) : Type 0 where
 
 -- the cell x, which was free, is put in at n among the cells xs
 pub record PutsIn (n x : ℕ) (xs : List ℕ) (h k : Heap) : Type 0 where
-  -- "After an insert the cells from the head are the old ones with one put in at n"
   pub was-free : h .link x ≡ nowhere
+  -- "After an insert the cells from the head are the old ones with one put in at n"
   pub cells : Lists (k .link) (k .var 1) (putIn n x xs)
   -- "the old cells that stay keep their values", and the new one has none
   pub values : (p : ℕ) → p ≢ x → k .value p ≡ h .value p
@@ -34,8 +34,8 @@ pub record PutsIn (n x : ℕ) (xs : List ℕ) (h k : Heap) : Type 0 where
 
 -- the cell x, numbered i from 0 among the cells xs, is taken out
 pub record TakesOut (i x : ℕ) (xs : List ℕ) (h k : Heap) : Type 0 where
-  -- "after a remove, with the n-th gone, its cell free again and the rest in their order"
   pub was-in : x ∈ xs
+  -- "after a remove, with the n-th gone, its cell free again and the rest in their order"
   pub cells : Lists (k .link) (k .var 1) (takenOut i xs)
   pub free : k .link x ≡ nowhere
   pub no-value : k .value x ≡ none

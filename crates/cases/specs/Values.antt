@@ -11,18 +11,18 @@ use Rattle.format.specs.Verdict.{verdict, accepted, refused}
 use Rattle.cases.specs.Rows.{J, predecessorsOf}
 
 -- cell i is below cell j; equal to it
-abbrev pub lower : ℕ → ℕ → Fact
-lower i j = record { kind = 0; left = cell i; right = cell j }
+abbrev pub cellBelow : ℕ → ℕ → Fact
+cellBelow i j = record { kind = 0; left = cell i; right = cell j }
 
-abbrev pub same : ℕ → ℕ → Fact
-same i j = record { kind = 1; left = cell i; right = cell j }
+abbrev pub cellEqual : ℕ → ℕ → Fact
+cellEqual i j = record { kind = 1; left = cell i; right = cell j }
 
 abbrev pub valued : List ℕ → List ℕ → List Fact → Shape
 valued vars links facts = record { vars = vars; links = links; facts = facts }
 
 -- "closed under the usual laws of order and equality": 0 below 1 and 1 equal to 2, so 0 below 2
 abbrev pub Exchanged : Type 0
-Exchanged = follows? 3 (lower 0 1 ∷ same 1 2 ∷ []) 0 (cell 0) (cell 2) ≡ true
+Exchanged = follows? 3 (cellBelow 0 1 ∷ cellEqual 1 2 ∷ []) 0 (cell 0) (cell 2) ≡ true
 
 -- "a predecessor that then puts a cell below itself is dropped": kind 9 with both operands at one cell, and with one variable, nowhere
 abbrev pub BelowItself : Type 0
@@ -32,29 +32,29 @@ abbrev pub OneBelow : Type 0
 OneBelow = predecessorsOf 9 1 1 (valued (0 ∷ []) [] []) ≡ []
 
 -- a test adds its fact, and all that follows
-abbrev pub Tested : Type 0
-Tested =
-    predecessorsOf 9 1 2 (valued (3 ∷ 4 ∷ []) (0 ∷ 0 ∷ []) []) ≡ valued (3 ∷ 4 ∷ []) (0 ∷ 0 ∷ []) (lower 0 1 ∷ same 0 0 ∷ same 1 1 ∷ []) ∷ []
+abbrev pub TestAddsFact : Type 0
+TestAddsFact =
+    predecessorsOf 9 1 2 (valued (3 ∷ 4 ∷ []) (0 ∷ 0 ∷ []) []) ≡ valued (3 ∷ 4 ∷ []) (0 ∷ 0 ∷ []) (cellBelow 0 1 ∷ cellEqual 0 0 ∷ cellEqual 1 1 ∷ []) ∷ []
 
 -- "dropped, before any fact goes": what was copied from cell 1 to cell 0 can't be below it
 abbrev pub CopiedBelow : Type 0
-CopiedBelow = predecessorsOf 10 1 2 (valued (3 ∷ 4 ∷ []) (0 ∷ 0 ∷ []) (lower 0 1 ∷ [])) ≡ []
+CopiedBelow = predecessorsOf 10 1 2 (valued (3 ∷ 4 ∷ []) (0 ∷ 0 ∷ []) (cellBelow 0 1 ∷ [])) ≡ []
 
 -- "the written cell's facts go": of a copy there is left that the other cell had a value; of a smaller value too
 abbrev pub Copied : Type 0
-Copied = predecessorsOf 10 1 2 (valued (3 ∷ 4 ∷ []) (0 ∷ 0 ∷ []) (same 0 1 ∷ [])) ≡ valued (3 ∷ 4 ∷ []) (0 ∷ 0 ∷ []) (same 1 1 ∷ []) ∷ []
+Copied = predecessorsOf 10 1 2 (valued (3 ∷ 4 ∷ []) (0 ∷ 0 ∷ []) (cellEqual 0 1 ∷ [])) ≡ valued (3 ∷ 4 ∷ []) (0 ∷ 0 ∷ []) (cellEqual 1 1 ∷ []) ∷ []
 
 abbrev pub Smaller : Type 0
-Smaller = predecessorsOf 12 1 2 (valued (3 ∷ 4 ∷ []) (0 ∷ 0 ∷ []) []) ≡ valued (3 ∷ 4 ∷ []) (0 ∷ 0 ∷ []) (same 1 1 ∷ []) ∷ []
+Smaller = predecessorsOf 12 1 2 (valued (3 ∷ 4 ∷ []) (0 ∷ 0 ∷ []) []) ≡ valued (3 ∷ 4 ∷ []) (0 ∷ 0 ∷ []) (cellEqual 1 1 ∷ []) ∷ []
 
 -- "larger and smaller add no other fact and put the one that it had a value in place of that cell's facts", where both name one cell
 abbrev pub LargerOfOne : Type 0
 LargerOfOne =
-    predecessorsOf 11 1 1 (valued (3 ∷ []) (0 ∷ 0 ∷ []) (lower 0 1 ∷ [])) ≡ valued (3 ∷ []) (0 ∷ 0 ∷ []) (same 0 0 ∷ same 1 1 ∷ []) ∷ []
+    predecessorsOf 11 1 1 (valued (3 ∷ []) (0 ∷ 0 ∷ []) (cellBelow 0 1 ∷ [])) ≡ valued (3 ∷ []) (0 ∷ 0 ∷ []) (cellEqual 0 0 ∷ cellEqual 1 1 ∷ []) ∷ []
 
 -- "A cell with any fact can't come from new"
 abbrev pub NewWithFact : Type 0
-NewWithFact = predecessorsOf 6 1 0 (valued (3 ∷ []) (0 ∷ []) (same 0 0 ∷ [])) ≡ []
+NewWithFact = predecessorsOf 6 1 0 (valued (3 ∷ []) (0 ∷ []) (cellEqual 0 0 ∷ [])) ≡ []
 
 -- "A job and a certificate of different versions get 20"
 abbrev pub Versions : Type 0
@@ -74,4 +74,4 @@ Unordered = verdict valuedJob (2 ∷ 1 ∷ 1 ∷ 1 ∷ 3 ∷ 0 ∷ 2 ∷ 1 ∷ 0
 
 abbrev pub valueRows : List (Type 0)
 valueRows =
-    Exchanged ∷ BelowItself ∷ OneBelow ∷ Tested ∷ CopiedBelow ∷ Copied ∷ Smaller ∷ LargerOfOne ∷ NewWithFact ∷ Versions ∷ Accepted ∷ Unordered ∷ []
+    Exchanged ∷ BelowItself ∷ OneBelow ∷ TestAddsFact ∷ CopiedBelow ∷ Copied ∷ Smaller ∷ LargerOfOne ∷ NewWithFact ∷ Versions ∷ Accepted ∷ Unordered ∷ []

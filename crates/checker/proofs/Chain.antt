@@ -7,7 +7,7 @@ use lib.ListN.{getD}
 use Rattle.run.specs.Run.{Located}
 use Rattle.format.specs.Certificate.{readCover}
 use Rattle.format.specs.Parser.{certificateBuffer}
-use Rattle.transitions.specs.Index.{nextInto, Follows}
+use Rattle.transitions.specs.Index.{nextInto, Chained}
 use Rattle.checker.proofs.Into.{before, owedFrom, FirstInto, none-into, some-into}
 use Rattle.reader.specs.declared.Header.{Header}
 use Rattle.verdict.specs.declared.Refusal.{Refusal}
@@ -71,7 +71,7 @@ module _ {job : List ℕ} {h : Header} {cert : List ℕ} {ms : List Located} {m 
       pub chain-halt : {r : Refusal} {place : ℕ} → g ≡ Refused r place → ChecksAll cert ms (owedBy job h m) from g
       chain-halt e = halt (coversOf cert ms here) (coversOf cert ms rest) left taken e
 
-      pub chain-more : (index : List ℕ) → Follows (toState job h) (h .transitions) 0 index → {u : Position} → g ≡ Upto u
+      pub chain-more : (index : List ℕ) → Chained (toState job h) (h .transitions) 0 index → {u : Position} → g ≡ Upto u
           → Chain job h cert ms m from (getD index (63 + k) 0) u
       chain-more index follows e =
           rw (← slot)
@@ -82,7 +82,7 @@ module _ {job : List ℕ} {h : Header} {cert : List ℕ} {ms : List Located} {m 
             progress = advance (coversOf cert ms here) (coversOf cert ms rest) left taken e;
           }
 
-    pub chain-less : (index : List ℕ) → Follows (toState job h) (h .transitions) 0 index → leftFrom (h .transitions) (getD index (63 + k) 0) < leftFrom (h .transitions) k
+    pub chain-less : (index : List ℕ) → Chained (toState job h) (h .transitions) 0 index → leftFrom (h .transitions) (getD index (63 + k) 0) < leftFrom (h .transitions) k
     chain-less index follows =
         rw (left-from (h .transitions) k some, ← slot) (by-next (getD index (64 + (k - 1)) 0) (follows (k - 1) (omega arith) chain-below))
       where

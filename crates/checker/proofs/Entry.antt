@@ -14,8 +14,8 @@ use Rattle.backward.specs.Predecessors.{withFacts, settle, before, predecessors
 use Rattle.cover.specs.Cover.{predecessorsBy}
 use Rattle.factrows.specs.Listed.{listed}
 use Rattle.factrows.specs.Rows.{isConsistent}
-use Rattle.factrows.specs.Standing.{Stands}
-use Rattle.factrows.proofs.Standing.{stands-closed}
+use Rattle.factrows.specs.RowsOf.{RowsOf}
+use Rattle.factrows.proofs.RowsOf.{stands-closed}
 use Rattle.heap.specs.Operation.{Op}
 use Rattle.layout.specs.Entries.{versionOf, factBytes, factsFrom, linksEnd, locatedAt, EntryInRange}
 use Rattle.layout.specs.Loading.{loadedShape, entryFacts, loadedFacts}
@@ -44,7 +44,7 @@ module _ (bytes : List ℕ) (variables at : ℕ) (entry : EntryInRange bytes var
   facts-fourteen t m = let (k, p, q) = entry .range .facts t m in (k, (p .0, omega (arith, p .1, entry .range .cells)), (q .0, omega (arith, q .1, entry .range .cells)))
 
   module _ (s rows : List ℕ) (s-is : s ≡ loadedShape bytes variables at (replicate 28 0)) (rows-is : rows ≡ loadedFacts bytes variables at) where
-    stands : Stands rows (shape .facts)
+    stands : RowsOf rows (shape .facts)
     stands = rw (rows-is, facts-listed) (stands-closed (entryFacts bytes variables at) (rw facts-listed at facts-fourteen))
 
     bare : withFacts shape [] ≡ shapeIn variables s

@@ -5,6 +5,6 @@ pub mod Cases
 pub mod Reading
 pub mod Adding
 pub mod Cells
-pub mod Standing
+pub mod RowsOf
 pub mod Predecessors
 pub mod Covers

@@ -21,15 +21,15 @@ use Rattle.backward.proofs.ClosedFacts.{ClosedFacts, mem-without}
 use Rattle.backward.proofs.Remove.{raise, raise-lower, lower-raise, lower-least}
 use Rattle.backward.proofs.Tests.{Unspoken, r-unspoken, without-mem}
 use Rattle.factrows.specs.Rows.{FactsIn, hasFact, isConsistent, withFact, clashing, withoutCell, lowered}
-use Rattle.factrows.specs.Standing.{Stands}
+use Rattle.factrows.specs.RowsOf.{RowsOf}
 use Rattle.factrows.proofs.Adding.{clash-reflects}
 use Rattle.factrows.proofs.Cells.{without-facts, lowered-facts}
 use Rattle.factrows.proofs.Reading.{r-fact, consistent-reflects}
-use Rattle.factrows.proofs.Standing.{number, number-cell, cell-number, stands-of, stands-laws, listed-in, factOn, stands-more, stands-close, stands-consistent}
+use Rattle.factrows.proofs.RowsOf.{number, number-cell, cell-number, stands-of, stands-laws, listed-in, factOn, stands-more, stands-close, stands-consistent}
 
 -- ---- closed and learnt
 
-module _ (l : List ℕ) (s : Shape) (r : Stands l (s .facts)) (h : FactsOf (size s) (s .facts)) where
+module _ (l : List ℕ) (s : Shape) (r : RowsOf l (s .facts)) (h : FactsOf (size s) (s .facts)) where
   -- `settle` keeps the shape exactly if the rows are consistent; they stand for its closed facts by `stands-close`
   pub settle-rows : settle s ≡ keep (isConsistent l) (withFacts s (close (size s) (s .facts)))
   settle-rows = ap (λ (b : Bool). keep b (withFacts s (close (size s) (s .facts)))) (sym (stands-consistent l (s .facts) r (size s) h))
@@ -38,7 +38,7 @@ module _ (l : List ℕ) (s : Shape) (r : Stands l (s .facts)) (h : FactsOf (size
     more-cells : FactsOf (size s) (factOn k c d ∷ s .facts)
     more-cells = every-cons (FactOf (size s)) (hk, (omega arith, omega arith), (omega arith, omega arith)) h
 
-    more-stands : Stands (withFact l k c d) (factOn k c d ∷ s .facts)
+    more-stands : RowsOf (withFact l k c d) (factOn k c d ∷ s .facts)
     more-stands = stands-more l (s .facts) r k c d hk (omega arith) (omega arith)
 
     -- `learn` keeps the shape exactly if the new fact does not clash
@@ -51,13 +51,13 @@ module _ (l : List ℕ) (s : Shape) (r : Stands l (s .facts)) (h : FactsOf (size
             (consistent-reflects (withFact l k c d)) (λ i. i) (λ i. i)
 
     -- and the rows with the fact stand for the facts of what it keeps
-    pub learn-stands : Stands (withFact l k c d) (close (size s) (factOn k c d ∷ s .facts))
+    pub learn-stands : RowsOf (withFact l k c d) (close (size s) (factOn k c d ∷ s .facts))
     learn-stands = stands-close (withFact l k c d) (factOn k c d ∷ s .facts) more-stands (size s) more-cells few
 
 -- ---- a cell without facts
 
 -- `unspoken`: the cell equals itself in the rows exactly if some fact is about it
-pub unspoken-rows : (l : List ℕ) (facts : List Fact) → Stands l facts → (c : ℕ) → unspoken (cell c) facts ≡ not (hasFact l equals c c)
+pub unspoken-rows : (l : List ℕ) (facts : List Fact) → RowsOf l facts → (c : ℕ) → unspoken (cell c) facts ≡ not (hasFact l equals c c)
 unspoken-rows l facts s c = same-test (r-unspoken (cell c) facts) (r-not (r-fact l equals c c)) out back
   where
     out : Unspoken (cell c) facts → ¬ FactsIn l equals c c
@@ -75,9 +75,9 @@ unspoken-rows l facts s c = same-test (r-unspoken (cell c) facts) (r-not (r-fact
 
 -- ---- the facts of a cell dropped, or the one that it had a value in their place
 
-module _ (l : List ℕ) (facts : List Fact) (s : Stands l facts) (c : ℕ) (hc : c < 14) where
+module _ (l : List ℕ) (facts : List Fact) (s : RowsOf l facts) (c : ℕ) (hc : c < 14) where
   -- `forgetFacts`
-  pub forget-stands : ClosedFacts facts → Stands (withoutCell c l) (without (cell c) facts)
+  pub forget-stands : ClosedFacts facts → RowsOf (withoutCell c l) (without (cell c) facts)
   forget-stands all = stands-of (withoutCell c l) (without (cell c) facts) (λ t m. s .cells t (without-mem (cell c) facts t m .0)) laws each sound
     where
       laws : Laws (FactsIn (withoutCell c l))
@@ -95,7 +95,7 @@ module _ (l : List ℕ) (facts : List Fact) (s : Stands l facts) (c : ℕ) (hc :
           given (mem-without (cell c) facts (factOn k p q) (all k (cell p) (cell q) (s .sound k p q g)) (λ e. a (omega arith)) (λ e. b (omega arith)))
 
   -- `hadValue`
-  pub had-stands : ClosedFacts facts → Stands (withFact (withoutCell c l) equals c c) (factOn equals c c ∷ without (cell c) facts)
+  pub had-stands : ClosedFacts facts → RowsOf (withFact (withoutCell c l) equals c c) (factOn equals c c ∷ without (cell c) facts)
   had-stands all = stands-more (withoutCell c l) (without (cell c) facts) (forget-stands all) equals c c (omega arith) hc hc
 
   -- ---- a cell taken out, of which there are no facts
@@ -115,7 +115,7 @@ module _ (l : List ℕ) (facts : List Fact) (s : Stands l facts) (c : ℕ) (hc :
   lower-most p b = cond-cases (λ (q : ℕ). q < cell 14) (r-lt (cell c) p) (λ a. omega arith) (λ a. b)
 
   -- `removeCell`
-  pub remove-stands : Unspoken (cell c) facts → Stands (lowered c l) (map (lowerFact (cell c)) facts)
+  pub remove-stands : Unspoken (cell c) facts → RowsOf (lowered c l) (map (lowerFact (cell c)) facts)
   remove-stands none = stands-of (lowered c l) (map (lowerFact (cell c)) facts) cells laws each sound
     where
       cells : FactsOf 14 (map (lowerFact (cell c)) facts)

@@ -20,7 +20,7 @@ use Rattle.facts.proofs.Closing.{none-follows}
 use Rattle.shape.proofs.Laws.{shape-proper}
 use Rattle.run.specs.WellFormed.{WellFormed}
 use Rattle.run.proofs.WellFormed.{heap-proper}
-use Rattle.forbidden.specs.Meets.{Meets}
+use Rattle.forbidden.specs.MetFrom.{MetFrom}
 use Rattle.forbidden.specs.Sets.{only, standingAt, ending, looping, notList}
 use Rattle.forbidden.proofs.Only.{only-at, only-place}
 use Rattle.graph.proofs.Unmet.{unmet}
@@ -102,7 +102,7 @@ module _ (h : Heap) (n : ℕ) (w : WellFormed n h) (x : ℕ) (x≢0 : x ≢ 0) (
   steps r k c = let i : R (linkAt s r) = linked-inside r (c .0, k .1) in rw (same r) (omega arith, i)
 
   pub base-unmet : (f : ℕ → ℕ) → Embeds (shapeGraph (record { vars = s .vars; links = links; facts = s .facts })) (heapGraph h) f
-      → IsPlace (shapeGraph (record { vars = s .vars; links = links; facts = s .facts })) bad → ¬ Meets h x (f bad)
+      → IsPlace (shapeGraph (record { vars = s .vars; links = links; facts = s .facts })) bad → ¬ MetFrom h x (f bad)
   unfolding R g
   base-unmet f e p (k, z) =
       unmet g (heapGraph h) f (heap-proper h (w .low)) closed e R places steps bad p (λ r. r .2 refl) (b .place) start k

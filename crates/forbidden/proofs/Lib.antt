@@ -1,4 +1,4 @@
-pub mod Meets
+pub mod MetFrom
 pub mod Walk
 pub mod Only
 pub mod Fits

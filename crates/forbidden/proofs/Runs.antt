@@ -15,7 +15,7 @@ use Rattle.run.proofs.Runs.{run-formed}
 use Rattle.run.specs.WellFormed.{WellFormed}
 use Rattle.run.proofs.WellFormed.{not-dangling}
 use Rattle.forbidden.specs.Guarantees.{Means, ListAt, NoneLostAt, StepsAtCells}
-use Rattle.forbidden.specs.Meets.{Meets}
+use Rattle.forbidden.specs.MetFrom.{MetFrom}
 use Rattle.forbidden.specs.Sets.{standingAt, notList, lostBlock, atState, stepsThrough, badStep, badStepsOf, badSteps, alsoForbid, Forbids}
 use Rattle.forbidden.proofs.Standing.{stands}
 use Rattle.forbidden.proofs.Theorems.{four-or-met, six-or-met, not-list, lost-block}
@@ -68,7 +68,7 @@ module _ (j : Job) (allowed : (t : Transition) → t ∈ j .transitions → Allo
       pub list-at : Forbids j (atState q (notList (j .variables) x)) → ListAt j x q
       list-at f es c m there = go (four-or-met (c .heap) (j .variables) (run-formed j allowed es c m) x x≢0 x≤n)
         where
-          go : SatisfiesOne (c .heap) (notList (j .variables) x) ⊎ Meets (c .heap) x null → Meets (c .heap) x null
+          go : SatisfiesOne (c .heap) (notList (j .variables) x) ⊎ MetFrom (c .heap) x null → MetFrom (c .heap) x null
           go (inl z) = absurd (none q (notList (j .variables) x) f es c m there z)
           go (inr z) = z
 
@@ -76,7 +76,7 @@ module _ (j : Job) (allowed : (t : Transition) → t ∈ j .transitions → Allo
       pub none-lost-at : Forbids j (atState q (lostBlock (j .variables) x)) → NoneLostAt j x q
       none-lost-at f es c m there p k = go (six-or-met (c .heap) (j .variables) (run-formed j allowed es c m) x x≢0 x≤n p k)
         where
-          go : SatisfiesOne (c .heap) (lostBlock (j .variables) x) ⊎ Meets (c .heap) x p → Meets (c .heap) x p
+          go : SatisfiesOne (c .heap) (lostBlock (j .variables) x) ⊎ MetFrom (c .heap) x p → MetFrom (c .heap) x p
           go (inl z) = absurd (none q (lostBlock (j .variables) x) f es c m there z)
           go (inr z) = z
 

@@ -1,4 +1,4 @@
-pub mod Meets
+pub mod MetFrom
 pub mod Sets
 pub mod Guarantees
 pub mod Written

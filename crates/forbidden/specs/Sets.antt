@@ -1,11 +1,13 @@
 -- The usual forbidden shapes, ready cut. Document 02, wish 1: "'not a proper list' as four shapes (x at *; x's cell linked to *; x's cell linked
 -- to itself; x's cell linked to a cell that links to itself) and 'lost block' as six (one loose cell beside each of those four, beside x at #,
 -- and beside x's cell linked to #)." "x's cell is 0, a loose cell the last."
+use mathlib.Core.Bool.{cond}
 use mathlib.Core.List.{List, [], _∷_, _++_, map}
 use Prim.Native.Nat.{ℕ}
+use lib.Dec.{eqb}
 use lib.ListN.{replicate}
 use Rattle.lists.specs.List.{_∈_, concatMap}
-use Rattle.heap.specs.Operation.{Op, equal, different, assign, load, store, new, delete, equalValue, belowValue, copy, larger, smaller, read}
+use Rattle.heap.specs.Operation.{Op, numbersOf}
 use Rattle.heap.specs.Place.{nowhere, null, dangling, cell}
 use Rattle.shape.specs.Placing.{setVarIn, grow}
 use Rattle.shape.specs.Shape.{Shape}
@@ -47,19 +49,7 @@ atState q list = map (λ s. record { state = q; shape = s }) list
 
 -- the variable through which an operation steps: "for each kind 4 its b, for each kind 5 its a"
 abbrev pub stepsThrough : Op → List ℕ
-stepsThrough (equal a b) = []
-stepsThrough (different a b) = []
-stepsThrough (assign a b) = []
-stepsThrough (load a b) = b ∷ []
-stepsThrough (store a b) = a ∷ []
-stepsThrough (new a) = []
-stepsThrough (delete a) = []
-stepsThrough (equalValue a b) = []
-stepsThrough (belowValue a b) = []
-stepsThrough (copy a b) = []
-stepsThrough (larger a b) = []
-stepsThrough (smaller a b) = []
-stepsThrough (read a) = []
+stepsThrough o = let (kind, a, b) = numbersOf o in cond (eqb kind 4) (b ∷ []) (cond (eqb kind 5) (a ∷ []) [])
 
 -- "at # and then at *"
 abbrev pub badStep : ℕ → ℕ → List Shape

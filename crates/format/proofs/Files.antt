@@ -12,33 +12,19 @@ use lib.ListN.{length}
 use Rattle.lists.specs.List.{concatMap}
 use Rattle.lists.proofs.List.{every-none, every-cons}
 use Rattle.lists.proofs.Reflect.{Reflect, r-eq, r-lt, r-le, r-and, r-either, cond-cases, cond-true}
-use Rattle.heap.specs.Operation.{Op, Kind, kindOf, allowsA, allowsB, operation}
+use Rattle.heap.specs.Operation.{Kind, kindOf, allowsA, allowsB}
 use Rattle.heap.specs.Place.{cell}
-use Rattle.heap.proofs.Rows.{column, most-b-is, Keeps, in-table, table-named}
+use Rattle.heap.proofs.Rows.{in-table, table-named, op-numbers}
 use Rattle.facts.specs.Facts.{Fact, FactOf, FactsOf}
 use Rattle.shape.specs.Shape.{Shape, size, InRange}
 use Rattle.run.specs.Run.{Transition, Located}
 use Rattle.format.specs.Parser.{Reason, parsed, fault, onward, _>>=_, return, many, Buffer, such, readAs, ranged, end}
 use Rattle.format.specs.Job.{rises, risesAfter, factOf, readFact, factsAfter, readFacts, kindIn, readShape, readLocated, readTransition, readJob, readWholeJob}
-use Rattle.format.specs.JobNumbers.{JobFile, opNumbers, transitionNumbers, factNumbers, factsNumbers, shapeNumbers, locatedNumbers, jobNumbers}
+use Rattle.format.specs.JobNumbers.{JobFile, transitionNumbers, factNumbers, factsNumbers, shapeNumbers, locatedNumbers, jobNumbers}
 use Rattle.format.specs.JobBytes.{Rises, RisingAfter, Rising, FactsInRange, LocatedInRange, lastKind, TransitionInRange, JobInRange}
 use Rattle.format.proofs.Sequence.{Reads, done, more, one, reads-none, reads-first, reads-append, reads-split}
 use Rattle.format.proofs.Parsing.{then, require-sound, require-fault, require-complete, require-refuses, read-sound, read-complete}
 use Rattle.format.proofs.Parsing.{Exact, such-exact, ranged-exact, many-exact, codes-exact}
-
--- ---- the numbers of an operation are those that name it
-
-pub op-numbers : (n kind a b : ℕ) (o : Op) → operation n kind a b ≡ some o → opNumbers o ≡ kind ∷ a ∷ b ∷ []
-op-numbers n kind a b o e =
-    let t = in-table n kind a b o e in
-    ap opNumbers (sym (t .named))
-    ∙ column (λ kind row. opNumbers (row .op a b)) (λ kind row. kind ∷ a ∷ cond (eqb (row .most-b 1) 0) 0 b ∷ []) refl kind (t .row) (t .found)
-    ∙ ap (λ (x : ℕ). kind ∷ a ∷ x ∷ []) (second-is (t .row) (t .kept) (eqb (t .row .most-b 1) 0) (most-b-is n kind (t .row) (t .found)))
-  where
-    -- the second number is b, or 0 where the table has no other
-    second-is : (row : Kind) → Keeps n row a b → (none? : Bool) → row .most-b n ≡ cond none? 0 n → cond none? 0 b ≡ b
-    second-is row k true m = let h = k .most-b in omega arith
-    second-is row k false m = refl
 
 -- a kind of this version is one of the table
 pub kind-in : (version kind : ℕ) (row : Kind) → kindIn version kind ≡ some row → (kind ≤ lastKind version) × (kindOf kind ≡ some row)
@@ -285,9 +271,8 @@ module _ (version : ℕ) (s : Buffer) (variables : ℕ) where
         let t-is : record { from = from; op = row .op a b; to = to } ≡ t = cc in
         let next-is : p₅ ≡ next = cc in
         let named = table-named variables kind a b row found ta tb in
-        let numbers : opNumbers (row .op a b) ≡ kind ∷ a ∷ b ∷ [] = op-numbers variables kind a b (row .op a b) named in
         rw (← t-is, ← next-is) (
-          rw numbers
+          rw (op-numbers variables kind a b (row .op a b) named)
               (reads-append g₁
               (more g₂ (reads-append g₃ (reads-append g₄ g₅)))),
           record { from = below; op = (kind, a, b, (early, named)); to = below′ },
@@ -300,7 +285,7 @@ module _ (version : ℕ) (s : Buffer) (variables : ℕ) where
         let (kind, a, b, (early, named)) = ok .op in
         let i = in-table variables kind a b (t .op) named in
         let g′ : Reads (s .bytes) at (t .from ∷ kind ∷ a ∷ b ∷ t .to ∷ []) next =
-        subst (λ (l : List ℕ). Reads (s .bytes) at (t .from ∷ l ++ (t .to ∷ [])) next) (op-numbers variables kind a b (t .op) named) g in
+        subst (λ (n : ℕ × ℕ × ℕ). Reads (s .bytes) at (t .from ∷ n .0 ∷ n .1 ∷ n .2 ∷ t .to ∷ []) next) (op-numbers variables kind a b (t .op) named) g in
         let (p₁, g₁, r₁) = reads-first g′ in
         let (p₂, g₂, r₂) = reads-first r₁ in
         let (p₃, g₃, r₃) = reads-first r₂ in

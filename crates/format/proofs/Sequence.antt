@@ -6,7 +6,7 @@ use native.Mathlib.Omega.{arith}
 use lib.ListN.{length}
 use Rattle.lists.proofs.Reflect.{r-lt, cond-cases}
 use Rattle.number.specs.Number.{numberIn, numberAt}
-use Rattle.number.specs.NumberList.{Listed, numbers, refused, before, followed, decodeFrom, decode}
+use Rattle.number.specs.NumberList.{DecodedList, numbers, refused, withNumber, followed, decodeFrom, decode}
 use Rattle.number.specs.declared.Read.{Read}
 use Rattle.number.specs.declared.Read.the-variants.{Number, Unreadable}
 use Rattle.number.proofs.Reading.{known-number}
@@ -96,7 +96,7 @@ module _ (s : List ℕ) where
   reads-from (suc turns) at (n ∷ ns) next r h t =
       let (mid, g, k) = reads-first r in
       let (some-left, on, _) = number-in at (length s - at) _ _ _ n mid g in
-      decode-more turns s at (omega arith) ∙ ap (followed (decodeFrom turns s)) g ∙ ap (before n) (reads-from turns mid ns next k h (omega arith))
+      decode-more turns s at (omega arith) ∙ ap (followed (decodeFrom turns s)) g ∙ ap (withNumber n) (reads-from turns mid ns next k h (omega arith))
 
   -- what is read to the end is the list of numbers
   pub reads-decode : (ns : List ℕ) (next : ℕ) → Reads s 0 ns next → length s ≤ next → decode s ≡ numbers ns
@@ -116,8 +116,8 @@ module _ (s : List ℕ) where
   decode-from (suc turns) at ns e =
       cond-cases (λ x. x ≡ numbers ns → Done at ns) (r-lt at (length s)) (λ _. by-number (numberAt s at) refl (decode-from turns)) (at-end at ns) e
     where
-      by-rest : (n mid : ℕ) → numberAt s at ≡ Number n mid → (r : Listed) → decodeFrom turns s mid ≡ r
-          → ((ms : List ℕ) → decodeFrom turns s mid ≡ numbers ms → Done mid ms) → before n r ≡ numbers ns → Done at ns
+      by-rest : (n mid : ℕ) → numberAt s at ≡ Number n mid → (r : DecodedList) → decodeFrom turns s mid ≡ r
+          → ((ms : List ℕ) → decodeFrom turns s mid ≡ numbers ms → Done mid ms) → withNumber n r ≡ numbers ns → Done at ns
       by-rest n mid g (refused p) h rest z = let q : _≡_ {A = ℕ} 0 1 = cc in absurd (omega arith)
       by-rest n mid g (numbers ms) h rest z =
           let (next, r, l) = rest ms h in

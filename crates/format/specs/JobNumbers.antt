@@ -7,7 +7,7 @@ use Prim.Native.Nat.{ℕ, _-_}
 use lib.Dec.{eqb}
 use lib.ListN.{length}
 use Rattle.lists.specs.List.{concatMap}
-use Rattle.heap.specs.Operation.{Op, equal, different, assign, load, store, new, delete, equalValue, belowValue, copy, larger, smaller, read}
+use Rattle.heap.specs.Operation.{Op, numbersOf}
 use Rattle.facts.specs.Facts.{Fact}
 use Rattle.shape.specs.Shape.{Shape, size}
 use Rattle.run.specs.Run.{Transition, Located, Job}
@@ -18,21 +18,8 @@ pub record JobFile : Type 0 where
   pub states : ℕ
   pub job : Job
 
--- kind, a and b
 abbrev pub opNumbers : Op → List ℕ
-opNumbers (equal a b) = 1 ∷ a ∷ b ∷ []
-opNumbers (different a b) = 2 ∷ a ∷ b ∷ []
-opNumbers (assign a b) = 3 ∷ a ∷ b ∷ []
-opNumbers (load a b) = 4 ∷ a ∷ b ∷ []
-opNumbers (store a b) = 5 ∷ a ∷ b ∷ []
-opNumbers (new a) = 6 ∷ a ∷ 0 ∷ []
-opNumbers (delete a) = 7 ∷ a ∷ 0 ∷ []
-opNumbers (equalValue a b) = 8 ∷ a ∷ b ∷ []
-opNumbers (belowValue a b) = 9 ∷ a ∷ b ∷ []
-opNumbers (copy a b) = 10 ∷ a ∷ b ∷ []
-opNumbers (larger a b) = 11 ∷ a ∷ b ∷ []
-opNumbers (smaller a b) = 12 ∷ a ∷ b ∷ []
-opNumbers (read a) = 13 ∷ a ∷ 0 ∷ []
+opNumbers o = let (kind, a, b) = numbersOf o in kind ∷ a ∷ b ∷ []
 
 abbrev pub transitionNumbers : Transition → List ℕ
 transitionNumbers t = t .from ∷ opNumbers (t .op) ++ (t .to ∷ [])

@@ -3,14 +3,14 @@
 use mathlib.Core.Bool.{Bool, true, false, _&&_, cond}
 use mathlib.Core.List.{List, [], _∷_}
 use mathlib.Core.Option.{Option, none, some}
-use mathlib.Core.Path.{_≡_, refl, ap, subst, _∙_}
+use mathlib.Core.Path.{_≡_, refl, sym, ap, subst, _∙_}
 use Prim.Native.Nat.{ℕ, zero, suc, _+_, _≤_, _<_}
 use native.Mathlib.Omega.{arith}
 use lib.Dec.{T, eqb}
 use lib.ListN.{length, take}
 use Rattle.lists.proofs.List.{Each, end, _&_, each-at, element-some, element-none}
 use Rattle.lists.proofs.Reflect.{r-le, r-and, is-true, passes}
-use Rattle.heap.specs.Operation.{Op, Kind, kinds, kindOf, allowsA, allowsB, fromRow, operation}
+use Rattle.heap.specs.Operation.{Op, Kind, kinds, kindOf, allowsA, allowsB, fromRow, operation, numbersOf}
 
 -- ---- kinds with a row
 
@@ -111,3 +111,16 @@ in-table n kind a b o = by-found (kindOf kind) refl
 pub table-named : (n kind a b : ℕ) (row : Kind) → kindOf kind ≡ some row → T (allowsA n row a) → T (allowsB n row b)
     → operation n kind a b ≡ some (row .op a b)
 table-named n kind a b row f p q = ap (λ r. fromRow n r a b) f ∙ simp (is-true (allowsA n row a) p, is-true (allowsB n row b) q)
+
+-- the numbers of an operation are those that name it
+pub op-numbers : (n kind a b : ℕ) (o : Op) → operation n kind a b ≡ some o → numbersOf o ≡ (kind, a, b)
+op-numbers n kind a b o e =
+    let t = in-table n kind a b o e in
+    ap numbersOf (sym (t .named))
+    ∙ column (λ kind row. numbersOf (row .op a b)) (λ kind row. (kind, a, cond (eqb (row .most-b 1) 0) 0 b)) refl kind (t .row) (t .found)
+    ∙ ap (λ (x : ℕ). (kind, a, x)) (second-is (t .row) (t .kept) (eqb (t .row .most-b 1) 0) (most-b-is n kind (t .row) (t .found)))
+  where
+    -- the second number is b, or 0 where the table has no other
+    second-is : (row : Kind) → Keeps n row a b → (none? : Bool) → row .most-b n ≡ cond none? 0 n → cond none? 0 b ≡ b
+    second-is row k true m = let h = k .most-b in omega arith
+    second-is row k false m = refl

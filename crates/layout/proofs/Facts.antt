@@ -25,14 +25,14 @@ module _ (bytes : List ℕ) (variables at : ℕ) where
   facts-lost n = rw (sym (not-whole bytes variables at n)) refl
 
   -- where they are said to stand
-  abbrev Stands : ℕ → ℕ → Type 0
-  Stands first end = (first ≡ spanFirst bytes variables at) × (end ≡ spanEnd bytes variables at)
+  abbrev SpanIs : ℕ → ℕ → Type 0
+  SpanIs first end = (first ≡ spanFirst bytes variables at) × (end ≡ spanEnd bytes variables at)
 
-  pub span-none : (versionOf bytes ≡ 2 → ⊥) → Stands 0 0
+  pub span-none : (versionOf bytes ≡ 2 → ⊥) → SpanIs 0 0
   unfolding spanFirst spanEnd
   span-none n = rw (ne-eqb (versionOf bytes) 2 n, and-false (isWhole bytes variables at)) (refl, refl)
 
-  pub span-lost : (Whole bytes variables at → ⊥) → Stands 0 0
+  pub span-lost : (Whole bytes variables at → ⊥) → SpanIs 0 0
   unfolding spanFirst spanEnd
   span-lost n = rw (sym (not-whole bytes variables at n)) (refl, refl)
 
@@ -49,6 +49,6 @@ module _ (bytes : List ℕ) (variables at : ℕ) where
         let count : end - first ≡ 3 * factCount bytes facts-at = omega (arith, f, e, facts-end) in
         rw (is-whole bytes variables at w, eq-eqb (versionOf bytes) 2 second, count, f) refl
 
-    pub span-told : (first end : ℕ) → first ≡ factsFirst bytes facts-at → end ≡ entryEnd bytes variables at → Whole bytes variables at → Stands first end
+    pub span-told : (first end : ℕ) → first ≡ factsFirst bytes facts-at → end ≡ entryEnd bytes variables at → Whole bytes variables at → SpanIs first end
     unfolding spanFirst spanEnd
     span-told first end f e w = rw (is-whole bytes variables at w, eq-eqb (versionOf bytes) 2 second) (f, e)

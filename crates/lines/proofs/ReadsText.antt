@@ -15,7 +15,7 @@ use Rattle.kinds.specs.Kinds.{mostB, allowed}
 use Rattle.lists.proofs.List.{end as no-row, _&_}
 use Rattle.heap.proofs.Rows.{by-kind}
 use Rattle.lines.specs.Words.{null, any, end, while, if, mark, equals, differs, gets, next, nextGets, new, delete, close, starts, isWord}
-use Rattle.lines.specs.Line.{operandText, operationText, decimal, lineText, isOperation, isTest, isLine, letterOf, operandOf, checked, enclosedOf, secondOf, betweenOf, operationOf, opens, opensLine, testOf, digitOf, markFor, markOf, lineOf}
+use Rattle.lines.specs.Line.{operandText, operationText, decimal, lineText, isOperation, isTest, isLine, letterOf, operandOf, checked, enclosedOf, secondOf, betweenOf, operationOf, opens, opensLine, testLine, digitOf, markFor, markOf, lineOf}
 use Rattle.lines.specs.declared.Operand.{Operand}
 use Rattle.lines.specs.declared.Operation.{Operation}
 use Rattle.lines.specs.declared.Line.{Line}
@@ -163,8 +163,8 @@ module _ (loops : Bool) (word : List ℕ) (opens-text : (o : Operation) → line
   opens-told s (Mark k) told = told-other (word ++ s)
   opens-told s Other told = told-other (word ++ s)
 
-  test-told : (s : List ℕ) → Told (word ++ s) (testOf loops s)
-  unfolding testOf
+  test-told : (s : List ℕ) → Told (word ++ s) (testLine loops s)
+  unfolding testLine
   test-told s =
       by-test (Told (word ++ s)) (isWord s any)
       (λ e n. (opens-text _ ∙ ap (λ r. word ++ r) (whole s any e), opens-line _))
@@ -212,9 +212,9 @@ line-told s =
     by-test (Told s) (isWord s end) (λ e n. (whole s end e, refl))
     (λ e₁. by-test (Told s) (starts s mark) (λ e. subst (λ t. Told t (markOf (drop 5 s))) (front s mark e) (mark-told (drop 5 s)))
     (λ e₂. by-test (Told s) (starts s while)
-    (λ e. subst (λ t. Told t (testOf true (drop 6 s))) (front s while e) (test-told true while (λ o. refl) (λ o. refl) (drop 6 s)))
+    (λ e. subst (λ t. Told t (testLine true (drop 6 s))) (front s while e) (test-told true while (λ o. refl) (λ o. refl) (drop 6 s)))
     (λ e₃. by-test (Told s) (starts s if)
-    (λ e. subst (λ t. Told t (testOf false (drop 3 s))) (front s if e) (test-told false if (λ o. refl) (λ o. refl) (drop 3 s)))
+    (λ e. subst (λ t. Told t (testLine false (drop 3 s))) (front s if e) (test-told false if (λ o. refl) (λ o. refl) (drop 3 s)))
     (λ e₄. operation-told s))))
 
 -- bytes that read as a line are its text, and it is a line of the grammar

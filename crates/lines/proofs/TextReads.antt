@@ -16,7 +16,7 @@ use Rattle.lists.proofs.List.{end as no-row, _&_}
 use Rattle.heap.proofs.Rows.{by-kind}
 use Rattle.kinds.proofs.Rows.{known, allowed-row, most-bound}
 use Rattle.lines.specs.Words.{null, any, end, while, if, mark, equals, differs, gets, next, nextGets, new, delete, close, starts, isWord}
-use Rattle.lines.specs.Line.{operandText, operationText, decimal, lineText, isOperation, isTest, isLine, letterOf, operandOf, checked, enclosedOf, secondOf, betweenOf, operationOf, opens, testOf, digitOf, markFor, markOf, lineOf}
+use Rattle.lines.specs.Line.{operandText, operationText, decimal, lineText, isOperation, isTest, isLine, letterOf, operandOf, checked, enclosedOf, secondOf, betweenOf, operationOf, opens, testLine, digitOf, markFor, markOf, lineOf}
 use Rattle.lines.specs.declared.Operation.{Operation}
 use Rattle.lines.specs.declared.Line.{Line}
 use Rattle.lines.specs.declared.Line.the-variants.{Perform, While, If, End, Mark, Other}
@@ -236,8 +236,8 @@ operation-line o ok =
 
 -- ---- T
 
-any-reads : (loops : Bool) → testOf loops any ≡ opens loops (record { kind = 0; a = 0; b = 0 })
-unfolding testOf isWord starts
+any-reads : (loops : Bool) → testLine loops any ≡ opens loops (record { kind = 0; a = 0; b = 0 })
+unfolding testLine isWord starts
 any-reads loops = refl
 
 -- no operation is the word `any`
@@ -246,8 +246,8 @@ unfolding starts
 any-not a t e = no-word a t 97 (drop 1 any) refl e
 
 test-operation : (loops : Bool) (o : Operation) → isOperation o ≡ true → o .kind ≤ 2 → starts (operationText o) any ≡ false
-    → testOf loops (operationText o) ≡ opens loops o
-unfolding testOf
+    → testLine loops (operationText o) ≡ opens loops o
+unfolding testLine
 test-operation loops o ok h e = rw (no-line-word (operationText o) any e, operation-reads o ok, le-leb (o .kind) 2 h) refl
 
 test-any : (a b : ℕ) (k : ℕ) → 1 ≤ k → k ≤ 2 → starts (operationText (record { kind = k; a = a; b = b })) any ≡ false
@@ -258,7 +258,7 @@ test-any a b (suc (suc zero)) l h = any-not a (differs ++ operandText b) refl
 test-any a b (suc (suc (suc k))) l h = absurd (omega arith)
 
 test-reads : (loops : Bool) (kind a b : ℕ) → isTest (record { kind = kind; a = a; b = b }) ≡ true
-    → testOf loops (operationText (record { kind = kind; a = a; b = b })) ≡ opens loops (record { kind = kind; a = a; b = b })
+    → testLine loops (operationText (record { kind = kind; a = a; b = b })) ≡ opens loops (record { kind = kind; a = a; b = b })
 test-reads loops zero a b ok =
     let p = eqb-true a 0 (and-left (eqb a 0) (eqb b 0) ok) in
     let q = eqb-true b 0 (and-right (eqb a 0) (eqb b 0) ok) in
@@ -305,11 +305,11 @@ mark-line : (t : List ℕ) → lineOf (mark ++ t) ≡ markOf t
 unfolding lineOf starts
 mark-line t = rw (no-line-word (mark ++ t) end refl) refl
 
-while-line : (t : List ℕ) → lineOf (while ++ t) ≡ testOf true t
+while-line : (t : List ℕ) → lineOf (while ++ t) ≡ testLine true t
 unfolding lineOf starts
 while-line t = rw (no-line-word (while ++ t) end refl) refl
 
-if-line : (t : List ℕ) → lineOf (if ++ t) ≡ testOf false t
+if-line : (t : List ℕ) → lineOf (if ++ t) ≡ testLine false t
 unfolding lineOf starts
 if-line t = rw (no-line-word (if ++ t) end refl) refl
 

@@ -117,8 +117,8 @@ opensLine loops (Mark k) = Other
 opensLine loops Other = Other
 
 -- after `while ` or `if `
-unfoldable pub testOf : Bool → List ℕ → Line
-testOf loops bytes = cond (isWord bytes any) (opens loops (record { kind = 0; a = 0; b = 0 })) (opensLine loops (operationOf bytes))
+unfoldable pub testLine : Bool → List ℕ → Line
+testLine loops bytes = cond (isWord bytes any) (opens loops (record { kind = 0; a = 0; b = 0 })) (opensLine loops (operationOf bytes))
 
 -- a digit's number; 64, which is no mark, for any other byte
 unfoldable pub digitOf : ℕ → ℕ
@@ -138,4 +138,4 @@ unfoldable pub lineOf : List ℕ → Line
 lineOf bytes =
     cond (isWord bytes end) End
     (cond (starts bytes mark) (markOf (drop 5 bytes))
-    (cond (starts bytes while) (testOf true (drop 6 bytes)) (cond (starts bytes if) (testOf false (drop 3 bytes)) (operationOf bytes))))
+    (cond (starts bytes while) (testLine true (drop 6 bytes)) (cond (starts bytes if) (testLine false (drop 3 bytes)) (operationOf bytes))))

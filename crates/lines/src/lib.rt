@@ -12,7 +12,7 @@ ghost use mathlib.Core.Path.{_≡_};
 ghost use Prim.Native.Nat.{_≤_};
 ghost use lib.ListN.{length};
 ghost use Rattle.lines.specs.Words.{starts, isWord};
-ghost use Rattle.lines.specs.Line.{letterOf, operandOf, checked, enclosedOf, secondOf, betweenOf, operationOf, opens, testOf, digitOf, markFor, markOf, lineOf};
+ghost use Rattle.lines.specs.Line.{letterOf, operandOf, checked, enclosedOf, secondOf, betweenOf, operationOf, opens, testLine, digitOf, markFor, markOf, lineOf};
 
 // The kind of the word `any`, which the table of kinds does not have.
 pub const ANY: u8 = 0;
@@ -188,7 +188,7 @@ fn open(loops: bool, test: Operation) -> Line
 
 // After `while ` or `if `.
 fn read_test(loops: bool, bytes: &[u8]) -> Line
-    ensures { λ r. ⌜ r ≡ testOf loops (now (bytes .entry)) ⌝ }
+    ensures { λ r. ⌜ r ≡ testLine loops (now (bytes .entry)) ⌝ }
 {
     if is_word(bytes, b"any") {
         return open(

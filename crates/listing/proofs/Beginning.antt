@@ -10,7 +10,7 @@ use lib.Seq.{drop-drop}
 use Rattle.lists.specs.List.{concatMap}
 use Rattle.lists.proofs.Reflect.{r-lt}
 use Rattle.number.specs.Number.{bytesOf, numberAt}
-use Rattle.number.specs.NumberList.{Listed, numbers, refused, before, followed, decodeFrom}
+use Rattle.number.specs.NumberList.{DecodedList, numbers, refused, withNumber, followed, decodeFrom}
 use Rattle.number.specs.Range.{AtMost}
 use Rattle.number.specs.declared.Read.the-variants.{Number}
 use Rattle.number.proofs.RoundTrip.{reads, decode-more}
@@ -21,7 +21,6 @@ use Rattle.forbidden.specs.Written.{refused}
 use Rattle.listing.specs.LineByLine.{arrowNumbers}
 use Rattle.listing.specs.Reading.{refused, read, opOf}
 use Rattle.listing.specs.Text.{operationFor}
-use Rattle.listing.proofs.Emitted.{op-numbers}
 use Rattle.listing.proofs.Operations.{op-of-for}
 
 -- ---- bytes below 128 are read as themselves
@@ -49,7 +48,7 @@ begins-at (n ∷ ns) (suc turns) at s rest ms h e d =
     (sym (decode-more turns s at inside ∙ ap (followed (decodeFrom turns s)) (one-byte s at n (ns ++ rest) (h .0) e)) ∙ d)
     (λ ks. begins-at ns turns (at + 1) s rest ks (h .1) (sym (drop-drop 1 at s) ∙ ap (drop 1) e))
   where
-    go : (l : Listed) → decodeFrom turns s (at + 1) ≡ l → before n l ≡ numbers ms
+    go : (l : DecodedList) → decodeFrom turns s (at + 1) ≡ l → withNumber n l ≡ numbers ms
         → ((ks : List ℕ) → decodeFrom turns s (at + 1) ≡ numbers ks → (more : List ℕ) × (ks ≡ ns ++ more)) → (more : List ℕ) × (ms ≡ n ∷ (ns ++ more))
     go (numbers ks) w v later =
         let (more, x) = later ks w in
@@ -63,8 +62,7 @@ one-transition : (t u : Transition) (xs ys : List ℕ) → transitionNumbers t +
 one-transition t u xs ys e =
     let f = operationFor (t .op) in
     let g = operationFor (u .op) in
-    let w : arrowNumbers (t .from) f (t .to) ++ xs ≡ arrowNumbers (u .from) g (u .to) ++ ys =
-    ap (λ l. l ++ xs) (op-numbers (t .op) (t .from) (t .to)) ∙ e ∙ ap (λ l. l ++ ys) (sym (op-numbers (u .op) (u .from) (u .to))) in
+    let w : arrowNumbers (t .from) f (t .to) ++ xs ≡ arrowNumbers (u .from) g (u .to) ++ ys = e in
     let p : t .from ≡ u .from = cc in
     let k : f .kind ≡ g .kind = cc in
     let a : f .a ≡ g .a = cc in

@@ -7,7 +7,7 @@ use native.Mathlib.Omega.{arith}
 use lib.ListN.{length, length-append, set}
 use Rattle.lists.specs.List.{concatMap}
 use Rattle.lists.proofs.List.{concatMap-append}
-use Rattle.heap.specs.Operation.{Op, equal, different, assign, load, store, new, delete, equalValue, belowValue, copy, larger, smaller, read}
+use Rattle.heap.specs.Operation.{Op}
 use Rattle.run.specs.Run.{Transition}
 use Rattle.format.specs.JobNumbers.{transitionNumbers}
 use Rattle.lines.specs.declared.Line.{Line}
@@ -102,21 +102,6 @@ adding-twice os ps p q ts us ms ns e =
 
 -- ---- one line
 
-pub op-numbers : (o : Op) (p q : ℕ) → arrowNumbers p (operationFor o) q ≡ transitionNumbers (arrow p o q)
-op-numbers (equal a b) p q = refl
-op-numbers (different a b) p q = refl
-op-numbers (assign a b) p q = refl
-op-numbers (load a b) p q = refl
-op-numbers (store a b) p q = refl
-op-numbers (new a) p q = refl
-op-numbers (delete a) p q = refl
-op-numbers (equalValue a b) p q = refl
-op-numbers (belowValue a b) p q = refl
-op-numbers (copy a b) p q = refl
-op-numbers (larger a b) p q = refl
-op-numbers (smaller a b) p q = refl
-op-numbers (read a) p q = refl
-
 test-numbers : (t : Test) (p q : ℕ) → arrowNumbers p (testNumbers (operationForTest t)) q ≡ transitionNumbers (arrow p (test t) q)
 test-numbers (same a b) p q = refl
 test-numbers (other a b) p q = refl
@@ -198,7 +183,7 @@ mutual
       → emitAll (linesFor s ++ rest) e
       ≡ emitAll rest (adding (e .opens) (exit s (suc (e .passed))) (steps s (e .passed) (suc (e .passed))) (marked s (e .passed) (suc (e .passed))) e)
   emit-statement (perform o) rest e =
-      ap (emitAll rest) (led-adds (e .opens) (operationFor o) o [] e (op-numbers o (e .passed) (suc (e .passed))))
+      ap (emitAll rest) (led-adds (e .opens) (operationFor o) o [] e refl)
   emit-statement (mark k) rest e =
       ap (emitAll rest) (led-adds (e .opens) skipNumbers skip (record { number = k; state = e .passed } ∷ []) e refl)
   emit-statement (while t b) rest e =

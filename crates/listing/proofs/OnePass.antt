@@ -14,7 +14,7 @@ use Rattle.lists.proofs.List.{every-head, every-tail}
 use Rattle.lists.proofs.Reflect.{r-eq, r-lt, r-le, is-true, is-false}
 use Rattle.lines.specs.declared.Line.{Line}
 use Rattle.lines.specs.declared.Line.the-variants.{Perform, While, If, End, Mark, Other}
-use Rattle.listing.specs.LineByLine.{Open, Position, Outcome, reached, refused, numbered, limited, onward, lastly, goOn}
+use Rattle.listing.specs.LineByLine.{Open, LinePosition, Outcome, reached, refused, numbered, limited, onward, lastly, goOn}
 use Rattle.listing.specs.Names.{meetLine}
 use Rattle.listing.specs.Reading.{Seen, marksMet, isTooDeep, isTooMuch, Fault, fault, firstFault, meetLines}
 use Rattle.listing.proofs.Emitted.{Emitted, emit, emitAll}
@@ -33,7 +33,7 @@ abbrev pub numberedAll : List ℕ → List Line → List Line
 numberedAll names [] = []
 numberedAll names (l ∷ ls) = numberedLine (meetLine names l) l ∷ numberedAll (meetLine names l) ls
 
-abbrev pub position : List ℕ → Emitted → Position
+abbrev pub position : List ℕ → Emitted → LinePosition
 position names e =
     record { passed = e .passed; names = names; opens = e .opens; count = e .count; transitions = e .transitions; marks = e .marks }
 
@@ -48,7 +48,7 @@ pub record Known (e : Emitted) (ks : List ℕ) : Type 0 where
   pub shallow : length (e .opens) ≤ 16
   pub seen : (k : ℕ) → k ≤ 63 → absent k ks ≡ eqb (getD (e .marks) k 64) 64
 
-abbrev pub told : Option Fault → Position → Outcome
+abbrev pub told : Option Fault → LinePosition → Outcome
 told none s = reached s
 told (some f) s = refused (f .number) (f .line)
 
@@ -81,13 +81,13 @@ module _ (ls : List Line) (e : Emitted) (names ks : List ℕ) (l : Line) (d : Em
   abbrev here : ℕ
   here = suc (e .passed)
 
-  abbrev then : Position
+  abbrev then : LinePosition
   then = position (meetLine names l) d
 
   abbrev seen-then : Seen
   seen-then = seenAt d (meetLine names l) (marksMet l ks)
 
-  abbrev final : Position
+  abbrev final : LinePosition
   final = position (meetLines (meetLine names l) ls) (emitAll (numberedAll (meetLine names l) ls) d)
 
   -- what is left of the tests at this line, 19 alone, and 18 and 19

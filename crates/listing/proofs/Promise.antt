@@ -11,7 +11,7 @@ use lib.ListN.{length, getD}
 use Rattle.lists.specs.List.{_∈_, concatMap}
 use Rattle.lists.proofs.Reflect.{passes}
 use Rattle.number.specs.CallResult.{CallResult}
-use Rattle.number.specs.NumberList.{encode, refused, before}
+use Rattle.number.specs.NumberList.{encode, refused}
 use Rattle.number.proofs.Encoding.{encode-append}
 use Rattle.number.proofs.RoundTrip.{reads}
 use Rattle.number.proofs.Writing.{one}

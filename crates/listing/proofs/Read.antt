@@ -132,14 +132,14 @@ pub fits-variables : (l : Listing) → WithinLimits l → Fits (l .statements) (
 fits-variables l ok = fits-more (l .statements) (length (l .names)) (variablesFor (l .names)) (variables-enough (l .names)) (ok .operands)
 
 -- a text that is a listing has no fault
-pub record Listed (text : List ℕ) (l : Listing) : Type 0 where
+pub record LinesRead (text : List ℕ) (l : Listing) : Type 0 where
   pub no-fault : Faultless (linesOf text) nothingSeen
   pub listing-is : l ≡ listingOf (linesOf text)
 
-pub listed-text : (text : List ℕ) (l : Listing) → read text ≡ listed l → Listed text l
+pub listed-text : (text : List ℕ) (l : Listing) → read text ≡ listed l → LinesRead text l
 listed-text text l e = go (firstFault (linesOf text) nothingSeen) refl e
   where
-    go : (f : Option Fault) → firstFault (linesOf text) nothingSeen ≡ f → unless f (listingOf (linesOf text)) ≡ listed l → Listed text l
+    go : (f : Option Fault) → firstFault (linesOf text) nothingSeen ≡ f → unless f (listingOf (linesOf text)) ≡ listed l → LinesRead text l
     go none w v = record { no-fault = faultless (linesOf text) nothingSeen w; listing-is = let q : l ≡ listingOf (linesOf text) = cc in q }
     go (some f) w v = absurd (let q : _≡_ {A = ℕ} 0 1 = cc in omega arith)
 

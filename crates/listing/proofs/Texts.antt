@@ -8,7 +8,7 @@ use Rattle.lists.specs.List.{concatMap}
 use Rattle.number.specs.Number.{bytesOf}
 use Rattle.number.specs.NumberList.{encode}
 use Rattle.kinds.specs.Kinds.{allowed}
-use Rattle.lines.specs.Line.{lineOf, operationOf, betweenOf, secondOf, checked, enclosedOf, testOf, markOf, operandOf, letterOf, markFor, digitOf}
+use Rattle.lines.specs.Line.{lineOf, operationOf, betweenOf, secondOf, checked, enclosedOf, testLine, markOf, operandOf, letterOf, markFor, digitOf}
 use Rattle.lines.specs.Words.{starts, isWord}
 use Rattle.listing.specs.Reading.{firstFault, blocks}
 use Rattle.listing.specs.Text.{linesFrom}
@@ -120,6 +120,6 @@ rows =
 
 -- what the call gives of each is what is given there
 all-rows : map (λ r. translate (r .text) (r .room)) rows ≡ map (λ r. r .given) rows
-unfolding translate firstFault blocks linesFrom lineOf operationOf betweenOf secondOf checked enclosedOf testOf markOf operandOf letterOf markFor digitOf starts isWord allowed encode bytesOf
+unfolding translate firstFault blocks linesFrom lineOf operationOf betweenOf secondOf checked enclosedOf testLine markOf operandOf letterOf markFor digitOf starts isWord allowed encode bytesOf
     ℕ-discrete
 all-rows = refl

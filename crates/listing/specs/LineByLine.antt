@@ -19,7 +19,7 @@ pub record Open : Type 0 where
 
 -- What is known once so many lines are passed, which is the number of the present state too: the letters as first met; what is open, the
 -- innermost first; how many transitions there are, and their numbers, five each; for each mark its state, 64 for none.
-pub record Position : Type 0 where
+pub record LinePosition : Type 0 where
   pub passed : ℕ
   pub names : List ℕ
   pub opens : List Open
@@ -27,12 +27,12 @@ pub record Position : Type 0 where
   pub transitions : List ℕ
   pub marks : List ℕ
 
-abbrev pub begin : Position
+abbrev pub begin : LinePosition
 begin = record { passed = 0; names = []; opens = []; count = 0; transitions = []; marks = replicate 64 64 }
 
 -- where the last line leads, or the refusal's number and line
 pub data Outcome : Type 0 where
-  reached : Position → Outcome
+  reached : LinePosition → Outcome
   refused : ℕ → ℕ → Outcome
 
 -- the operands' numbers
@@ -54,7 +54,7 @@ abbrev pub oppositeNumbers : Operation → Operation
 oppositeNumbers t = cond (eqb (t .kind) 0) skipNumbers (record { kind = cond (eqb (t .kind) 1) 2 1; a = t .a; b = t .b })
 
 -- "An operation leads to a new state."
-abbrev pub operated : Operation → Position → Position
+abbrev pub operated : Operation → LinePosition → LinePosition
 operated o s =
     let names = meet (meet (s .names) (o .a)) (o .b) in
     record {
@@ -67,7 +67,7 @@ operated o s =
     }
 
 -- "A mark's state is the present one; null = null leads on to a new state."
-abbrev pub marked : ℕ → Position → Position
+abbrev pub marked : ℕ → LinePosition → LinePosition
 marked k s =
     record {
       passed = suc (s .passed);
@@ -79,7 +79,7 @@ marked k s =
     }
 
 -- "`while` and `if` lead by T to a new state."
-abbrev pub opened : Bool → Operation → Position → Position
+abbrev pub opened : Bool → Operation → LinePosition → LinePosition
 opened loops t s =
     let names = meet (meet (s .names) (t .a)) (t .b) in
     record {
@@ -93,7 +93,7 @@ opened loops t s =
 
 -- "`end` leads by null = null back to the `while`'s state, and then that state by the opposite of T to a new state; at the end of an `if` both
 -- lead to one new state."
-abbrev pub closed : Open → List Open → Position → Position
+abbrev pub closed : Open → List Open → LinePosition → LinePosition
 closed o os s =
     let new = suc (s .passed) in
     record {
@@ -108,15 +108,15 @@ closed o os s =
     }
 
 -- "more than 8 names or 64 states 19", at the line just passed
-abbrev pub limited : Position → Outcome
+abbrev pub limited : LinePosition → Outcome
 limited s = cond (ltb 8 (length (s .names)) || ltb 64 (suc (s .passed))) (refused 19 (s .passed)) (reached s)
 
 -- one line, 17 before 18 before 19
-abbrev pub ended : List Open → Position → Outcome
+abbrev pub ended : List Open → LinePosition → Outcome
 ended [] s = refused 17 (suc (s .passed))
 ended (o ∷ os) s = limited (closed o os s)
 
-abbrev pub advance : Line → Position → Outcome
+abbrev pub advance : Line → LinePosition → Outcome
 advance (Perform o) s = limited (operated o s)
 advance (While t) s = cond (leb 16 (length (s .opens))) (refused 18 (suc (s .passed))) (limited (opened true t s))
 advance (If t) s = cond (leb 16 (length (s .opens))) (refused 18 (suc (s .passed))) (limited (opened false t s))
@@ -124,23 +124,23 @@ advance End s = ended (s .opens) s
 advance (Mark k) s = cond (eqb (getD (s .marks) k 64) 64) (limited (marked k s)) (refused 17 (suc (s .passed)))
 advance Other s = refused 17 (suc (s .passed))
 
-abbrev pub onward : Outcome → (Position → Outcome) → Outcome
+abbrev pub onward : Outcome → (LinePosition → Outcome) → Outcome
 onward (reached s) rest = rest s
 onward (refused number line) rest = refused number line
 
 -- "one missing (at the line after the last)"
-abbrev pub lastly : List Open → Position → Outcome
+abbrev pub lastly : List Open → LinePosition → Outcome
 lastly [] s = reached s
 lastly (o ∷ os) s = refused 17 (suc (s .passed))
 
-unfoldable pub goOn : List Line → Position → Outcome
+unfoldable pub goOn : List Line → LinePosition → Outcome
 goOn [] s = lastly (s .opens) s
 goOn (l ∷ ls) s = onward (advance l s) (goOn ls)
 
 -- ---- the call, by this pass
 
 -- the bytes ahead of B: all numbers are below 128, so that each is one byte
-abbrev pub bytesAhead : Position → List ℕ
+abbrev pub bytesAhead : LinePosition → List ℕ
 bytesAhead s = 1 ∷ variablesFor (s .names) ∷ suc (s .passed) ∷ 0 ∷ s .count ∷ s .transitions
 
 abbrev pub translateBy : ℕ → Outcome → Translated

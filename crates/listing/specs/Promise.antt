@@ -17,7 +17,7 @@ use Rattle.run.specs.Run.{Located}
 use Rattle.format.specs.Conditions.{Acceptable}
 use Rattle.format.specs.JobBytes.{Between, LocatedInRange, IsJob}
 use Rattle.format.specs.JobNumbers.{JobFile, locatedNumbers}
-use Rattle.forbidden.specs.Meets.{Meets}
+use Rattle.forbidden.specs.MetFrom.{MetFrom}
 use Rattle.forbidden.specs.Sets.{stepsThrough, Forbids}
 use Rattle.forbidden.specs.Written.{ReadySet, not-list, lost-block, bad-steps, shapesOf, isInside, written, rewrite}
 use Rattle.listing.specs.Listing.{perform, Block, _⨾_, Remains, Reaches}
@@ -47,9 +47,9 @@ NeverAtMark l marks bads =
 -- What a ready set says of runs over statements. Asked for at the state of mark k: whenever a run reaches mark k, # is met from x; every cell is met
 -- from x. Without variable or state: before every step through a variable it stands at a cell.
 abbrev pub OnStatements : ReadySet → Listing → List ℕ → Type 0
-OnStatements (not-list x q) l marks = (k : ℕ) (h : Heap) → getD marks k 64 ≡ q → Reaches (l .statements) k h → Meets h x null
+OnStatements (not-list x q) l marks = (k : ℕ) (h : Heap) → getD marks k 64 ≡ q → Reaches (l .statements) k h → MetFrom h x null
 OnStatements (lost-block x q) l marks =
-    (k : ℕ) (h : Heap) → getD marks k 64 ≡ q → Reaches (l .statements) k h → (p : ℕ) → IsCell h p → Meets h x p
+    (k : ℕ) (h : Heap) → getD marks k 64 ≡ q → Reaches (l .statements) k h → (p : ℕ) → IsCell h p → MetFrom h x p
 OnStatements bad-steps l marks =
     (o : Op) (r : Block) (h : Heap) → Remains (l .statements) (perform o ⨾ r) h → (v : ℕ) → v ∈ stepsThrough o → IsCell h (h .var v)
 

@@ -4,7 +4,7 @@ use mathlib.Core.List.{List, [], _∷_, _++_}
 use Prim.Native.Nat.{ℕ}
 use lib.Dec.{eqb}
 use Rattle.lists.specs.List.{concatMap}
-use Rattle.heap.specs.Operation.{Op, equal, different, assign, load, store, new, delete, equalValue, belowValue, copy, larger, smaller, read}
+use Rattle.heap.specs.Operation.{Op, numbersOf}
 use Rattle.lines.specs.Line.{lineText, lineOf}
 use Rattle.lines.specs.declared.Line.{Line}
 use Rattle.lines.specs.declared.Line.the-variants.{Perform, While, If, End, Mark, Other}
@@ -30,19 +30,7 @@ textOf = concatMap (λ l. lineText l ++ (10 ∷ []))
 
 -- kind and operands of an operation, and of a test, for which `any` has kind 0
 abbrev pub operationFor : Op → Operation
-operationFor (equal a b) = record { kind = 1; a = a; b = b }
-operationFor (different a b) = record { kind = 2; a = a; b = b }
-operationFor (assign a b) = record { kind = 3; a = a; b = b }
-operationFor (load a b) = record { kind = 4; a = a; b = b }
-operationFor (store a b) = record { kind = 5; a = a; b = b }
-operationFor (new a) = record { kind = 6; a = a; b = 0 }
-operationFor (delete a) = record { kind = 7; a = a; b = 0 }
-operationFor (equalValue a b) = record { kind = 8; a = a; b = b }
-operationFor (belowValue a b) = record { kind = 9; a = a; b = b }
-operationFor (copy a b) = record { kind = 10; a = a; b = b }
-operationFor (larger a b) = record { kind = 11; a = a; b = b }
-operationFor (smaller a b) = record { kind = 12; a = a; b = b }
-operationFor (read a) = record { kind = 13; a = a; b = 0 }
+operationFor o = let (kind, a, b) = numbersOf o in record { kind = kind; a = a; b = b }
 
 abbrev pub operationForTest : Test → Operation
 operationForTest (same a b) = record { kind = 1; a = a; b = b }

@@ -10,7 +10,7 @@ use borrow.Author.Tests.{lt-ltb, le-ltb}
 use lib.ListN.{length, getD, drop, length-append, length-drop, drop-of-length-le}
 use lib.Seq.{drop-cons, drop-drop, drop-at, getD-drop}
 use Rattle.number.specs.Number.{largest, bytesOf, numberAt}
-use Rattle.number.specs.NumberList.{encode, Listed, numbers, refused, before, followed, decodeFrom, decode}
+use Rattle.number.specs.NumberList.{encode, DecodedList, numbers, refused, withNumber, followed, decodeFrom, decode}
 use Rattle.number.specs.Range.{AtMost, Stands}
 use Rattle.number.specs.declared.Read.{Read}
 use Rattle.number.specs.declared.Read.the-variants.{Number, Unreadable}
@@ -137,7 +137,7 @@ decode-from (suc turns) s at (n ∷ ns) small e h =
     let size = sym (length-drop at s) ∙ ap length e in
     let rest : drop (at + k) s ≡ encode ns = sym (drop-drop k at s) ∙ ap (drop k) e ∙ drop-at (bytesOf n) (encode ns) k refl in
     decode-more turns s at (omega (arith, some-bytes n))
-    ∙ rw (reads s at n (encode ns) (small .0) e) (ap (before n) (decode-from turns s (at + k) ns (small .1) rest (omega (arith, some-bytes n))))
+    ∙ rw (reads s at n (encode ns) (small .0) e) (ap (withNumber n) (decode-from turns s (at + k) ns (small .1) rest (omega (arith, some-bytes n))))
 
 -- every list of numbers up to 65,535 written as bytes reads back as that list
 pub decode-encode : (ns : List ℕ) → AtMost largest ns → decode (encode ns) ≡ numbers ns
@@ -160,7 +160,7 @@ encode-from (suc turns) s at ns limit e = by-end (decLt at (length s)) (encode-f
     Rest : Type 0
     Rest = (next : ℕ) (ms : List ℕ) → AtMost 255 s → decodeFrom turns s next ≡ numbers ms → AtMost largest ms × (encode ms ≡ drop next s)
 
-    listed : (n next : ℕ) → Stands s at n next → (r : Listed) → decodeFrom turns s next ≡ r → before n r ≡ numbers ns → Rest
+    listed : (n next : ℕ) → Stands s at n next → (r : DecodedList) → decodeFrom turns s next ≡ r → withNumber n r ≡ numbers ns → Rest
         → AtMost largest ns × (encode ns ≡ drop at s)
     listed n next st (refused p) d f rest = let z : _≡_ {A = ℕ} 0 1 = cc in absurd (omega arith)
     listed n next st (numbers ms) d f rest =

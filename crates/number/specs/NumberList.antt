@@ -17,26 +17,27 @@ encode [] = []
 encode (n ∷ ns) = bytesOf n ++ encode ns
 
 -- the list that was read, or the place of the number that could not be
-pub data Listed : Type 0 where
-  numbers : List ℕ → Listed
-  refused : ℕ → Listed
+pub data DecodedList : Type 0 where
+  numbers : List ℕ → DecodedList
+  refused : ℕ → DecodedList
 
-abbrev pub before : ℕ → Listed → Listed
-before n (numbers ns) = numbers (n ∷ ns)
-before n (refused at) = refused at
+-- the number ahead of the list, where there is one
+abbrev pub withNumber : ℕ → DecodedList → DecodedList
+withNumber n (numbers ns) = numbers (n ∷ ns)
+withNumber n (refused at) = refused at
 
 -- after one read: the number before what the rest reads as, or the refusal
-abbrev pub followed : (ℕ → Listed) → Read → Listed
-followed rest (Number n next) = before n (rest next)
+abbrev pub followed : (ℕ → DecodedList) → Read → DecodedList
+followed rest (Number n next) = withNumber n (rest next)
 followed rest (Unreadable at) = refused at
 
 -- "Reading a list is reading number after number to the end." A number has at least one byte, so as many turns as there are bytes are
 -- enough.
-unfoldable pub decodeFrom : ℕ → List ℕ → ℕ → Listed
+unfoldable pub decodeFrom : ℕ → List ℕ → ℕ → DecodedList
 decodeFrom zero s at = cond (ltb at (length s)) (refused at) (numbers [])
 decodeFrom (suc turns) s at = cond (ltb at (length s)) (followed (decodeFrom turns s) (numberAt s at)) (numbers [])
 
-abbrev pub decode : List ℕ → Listed
+abbrev pub decode : List ℕ → DecodedList
 decode s = decodeFrom (length s) s 0
 
 -- the index of the first number above 65,535; the list's length if there is none

@@ -4,7 +4,8 @@ ghost use Rattle.heap.specs.Codes.{linkIn};
 ghost use Rattle.lists.specs.List.{absent};
 ghost use Rattle.place.specs.Place.{cellPlace, bothNowhere};
 
-// The codes of places: "Nowhere, # and * are the codes 0, 1 and 2 of a place; cell i is 3 + i."
+// The codes of places: "Nowhere, # and * are the codes 0, 1 and 2 of a place; cell i is 3 + i." They are bytes, as slots of arrays are and as tests need, since
+// structs can't be compared. The places of the same names in `Place` are made of them.
 pub const NOWHERE: u8 = 0;
 
 pub const NULL: u8 = 1;

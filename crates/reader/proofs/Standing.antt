@@ -1,6 +1,6 @@
 -- Where what was read stands in the buffer.
 use mathlib.Core.Bool.{true}
-use mathlib.Core.List.{List, [], _∷_, _++_, map}
+use mathlib.Core.List.{List, [], _∷_, map}
 use mathlib.Core.Path.{_≡_, refl, sym, ap, ap₂, subst, _∙_}
 use Prim.Native.Nat.{ℕ, zero, suc, _+_, _*_, _≤_, _<_}
 use native.Mathlib.Decide.{ℕ-discrete}
@@ -10,7 +10,7 @@ use Rattle.lists.specs.Range.{range}
 use Rattle.lists.proofs.Reflect.{r-le, r-and}
 use Rattle.heap.specs.Operation.{kindOf}
 use Rattle.heap.specs.Place.{cell}
-use Rattle.heap.proofs.Rows.{in-table}
+use Rattle.heap.proofs.Rows.{in-table, op-numbers}
 use Rattle.shape.specs.Shape.{InRange}
 use Rattle.run.specs.Run.{Transition, Located}
 use Rattle.number.specs.Number.{numberAt}
@@ -20,7 +20,7 @@ use Rattle.kinds.proofs.Rows.{known, most-bound}
 use Rattle.format.specs.Certificate.{Member, readMember}
 use Rattle.format.specs.Job.{readFacts, readLocated, readTransition}
 use Rattle.format.specs.Parser.{parsed, many, Buffer, ranged}
-use Rattle.format.proofs.Files.{op-numbers, located-exact, transition-exact}
+use Rattle.format.proofs.Files.{located-exact, transition-exact}
 use Rattle.format.proofs.Parsing.{then, ranged-exact, codes-exact}
 use Rattle.format.proofs.Sequence.{Reads, one, reads-first, reads-one, reads-split, reads-inside}
 use Rattle.layout.specs.Entries.{versionOf, factsFrom, factsEnd, linksEnd, locatedAt, EntryInRange, entryEnd, entriesAt, placesAt, EntriesIn}
@@ -215,7 +215,7 @@ module _ (s : Buffer) (variables states : ℕ) (few : states ≤ 64) where
         let (kind, a, b, (_, named)) = ok .op in
         let row = in-table variables kind a b (t .op) named in
         let r′ : Reads (s .bytes) at (t .from ∷ kind ∷ a ∷ b ∷ t .to ∷ []) next =
-        subst (λ (l : List ℕ). Reads (s .bytes) at (t .from ∷ l ++ (t .to ∷ [])) next) (op-numbers variables kind a b (t .op) named) r in
+        subst (λ (n : ℕ × ℕ × ℕ). Reads (s .bytes) at (t .from ∷ n .0 ∷ n .1 ∷ n .2 ∷ t .to ∷ []) next) (op-numbers variables kind a b (t .op) named) r in
         let (p₁, g₁, r₁) = reads-first r′ in
         let (p₂, g₂, r₂) = reads-first r₁ in
         let (p₃, g₃, r₃) = reads-first r₂ in

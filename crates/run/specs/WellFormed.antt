@@ -8,15 +8,15 @@ use Rattle.heap.specs.Heap.{Heap, IsCell}
 use Rattle.heap.specs.Place.{null, dangling, cell}
 
 -- p is #, * or a cell of the heap
-abbrev pub Stands : Heap → ℕ → Type 0
-Stands h p = (p ≡ null) ⊎ ((p ≡ dangling) ⊎ IsCell h p)
+abbrev pub StandsInHeap : Heap → ℕ → Type 0
+StandsInHeap h p = (p ≡ null) ⊎ ((p ≡ dangling) ⊎ IsCell h p)
 
 -- A heap with n variables: operand 0 is at #, operands up to n and links stand at #, * or a cell, cells have a cell's code, there are finitely
 -- many, and only cells have values. Of a variable above n nothing is asked.
 pub record WellFormed (n : ℕ) (h : Heap) : Type 0 where
   pub null-fixed : h .var 0 ≡ null
-  pub vars : (v : ℕ) → v ≤ n → Stands h (h .var v)
-  pub links : (c : ℕ) → IsCell h c → Stands h (h .link c)
+  pub vars : (v : ℕ) → v ≤ n → StandsInHeap h (h .var v)
+  pub links : (c : ℕ) → IsCell h c → StandsInHeap h (h .link c)
   pub low : (c : ℕ) → IsCell h c → cell 0 ≤ c
   pub finite : (m : ℕ) × ((c : ℕ) → IsCell h c → c < m)
   pub valued : (p m : ℕ) → h .value p ≡ some m → IsCell h p

@@ -29,7 +29,7 @@ use Rattle.shapes.specs.Change.{
   arrayPrepared,
   isBefore,
   arrayBefore,
-  before,
+  beforeByCase,
 }
 use Rattle.shapes.specs.Without.{without}
 use Rattle.shapes.specs.declared.Cases.{Cases}
@@ -41,19 +41,19 @@ use Rattle.shapes.proofs.Slots.{count-operand, array-operand}
 -- ---- one case, by the test r
 
 module _ (variables kind count : ℕ) (s : List ℕ) (k : ℕ) (r : Bool) (r-is : r ≡ isBefore variables kind s k) where
-  pub before-none : r ≡ false → before variables kind count s k ≡ []
-  unfolding before
+  pub before-none : r ≡ false → beforeByCase variables kind count s k ≡ []
+  unfolding beforeByCase
   before-none e = rw (← r-is, e) refl
 
-  pub before-one : r ≡ true → (t : List ℕ) → t ≡ cond r (arrayBefore variables kind count s k) s → before variables kind count s k ≡ shapeIn variables t ∷ []
-  unfolding before
+  pub before-one : r ≡ true → (t : List ℕ) → t ≡ cond r (arrayBefore variables kind count s k) s → beforeByCase variables kind count s k ≡ shapeIn variables t ∷ []
+  unfolding beforeByCase
   before-one e t t-is = rw (t-is, ← r-is, e) refl
 
 -- ---- all cases
 
 -- the shapes before, by these cases of a prepared array
 abbrev pub byCases : ℕ → ℕ → List ℕ → Cases → List Shape
-byCases variables kind s cases = stretch (before variables kind (cases .end) s) (cases .first) (cases .end)
+byCases variables kind s cases = stretch (beforeByCase variables kind (cases .end) s) (cases .first) (cases .end)
 
 module _ (variables : ℕ) (s : List ℕ) (h : ShapeArray variables s) (small : cellCount s ≤ 12) (a : ℕ) (some : 1 ≤ a) (most : a ≤ variables) where
   abbrev shape : Shape
@@ -73,22 +73,22 @@ module _ (variables : ℕ) (s : List ℕ) (h : ShapeArray variables s) (small : 
   unfolding arrayPrepared operandForgotten
   prepared-new = rw (lt-ltb a 11 (omega (arith, h .variables-fit))) refl
 
-  pub without-cell : (count k : ℕ) → k < n → before variables 6 count s₀ k ≡ without (shapeIn variables s₀) k
-  unfolding before isBefore arrayBefore
+  pub without-cell : (count k : ℕ) → k < n → beforeByCase variables 6 count s₀ k ≡ without (shapeIn variables s₀) k
+  unfolding beforeByCase isBefore arrayBefore
   without-cell count k b =
       let inside : k < cellCount s₀ = rw (count-operand s a nowhere) b in
       rw (lt-leb (cellCount s₀) k inside) (by-array variables s₀ (array-operand variables s h a nowhere some most (omega arith)) k inside)
 
-  pub unchanged : (count : ℕ) → before variables 6 count s₀ n ≡ shapeIn variables s₀ ∷ []
-  unfolding before isBefore arrayBefore
+  pub unchanged : (count : ℕ) → beforeByCase variables 6 count s₀ n ≡ shapeIn variables s₀ ∷ []
+  unfolding beforeByCase isBefore arrayBefore
   unchanged count = rw (le-leb (cellCount s₀) n (omega (arith, count-operand s a nowhere))) refl
 
   -- kind 7: the deleted cell is restored in the prepared array
   abbrev s₁ : List ℕ
   s₁ = arrayRestored s a
 
-  by-case : (count k : ℕ) → before variables 7 count s₁ k ≡ shapeIn variables (arrayByCase variables count k s₁) ∷ []
-  unfolding before isBefore arrayBefore
+  by-case : (count k : ℕ) → beforeByCase variables 7 count s₁ k ≡ shapeIn variables (arrayByCase variables count k s₁) ∷ []
+  unfolding beforeByCase isBefore arrayBefore
   by-case count k =
       let r = array-restored variables s h small a some most in
       rw (le-leb variables 9 (r .variables-fit), le-leb (cellCount s₁) 14 (r .cells-fit)) refl
@@ -100,7 +100,7 @@ module _ (variables : ℕ) (s : List ℕ) (h : ShapeArray variables s) (small : 
       let all : count - 0 ≡ count = omega arith in
       let room : Restorable variables a s = record { variables-fit = h .variables-fit; a-fits = omega (arith, h .variables-fit); cell-fits = omega arith; not-null = z; no-cell = b } in
       rw (restorable variables a s room, all, delete-some variables s h small a some most z b)
-      (concatMap-range (before variables 7 count s₁) (λ k. shapeIn variables (arrayByCase variables count k s₁) ∷ []) 0 0 count (λ i _. by-case count (0 + i)))
+      (concatMap-range (beforeByCase variables 7 count s₁) (λ k. shapeIn variables (arrayByCase variables count k s₁) ∷ []) 0 0 count (λ i _. by-case count (0 + i)))
 
   restored-none : (x ≢ null → x ≤ dangling → ⊥) → byCases variables 7 (arrayPrepared variables 7 a s) (casesOfDelete variables a s) ≡ backward.before (delete a) shape
   unfolding arrayPrepared casesOfDelete

@@ -145,5 +145,5 @@ arrayBefore variables kind count s k =
     cond (eqb kind 7) (arrayByCase variables count k s) (cond (leb (cellCount s) k) s (arrayWithout s k))
 
 -- the shapes before, by a case: one or none
-unfoldable pub before : ℕ → ℕ → ℕ → List ℕ → ℕ → List Shape
-before variables kind count s k = keep (isBefore variables kind s k) (shapeIn variables (arrayBefore variables kind count s k))
+unfoldable pub beforeByCase : ℕ → ℕ → ℕ → List ℕ → ℕ → List Shape
+beforeByCase variables kind count s k = keep (isBefore variables kind s k) (shapeIn variables (arrayBefore variables kind count s k))

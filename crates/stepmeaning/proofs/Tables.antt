@@ -11,7 +11,7 @@ use Rattle.heap.specs.Heap.{IsCell}
 use Rattle.heap.specs.Place.{nowhere, cell}
 use Rattle.heap.proofs.Codes.{by-code}
 use Rattle.shape.specs.Shape.{SatisfiesOne}
-use Rattle.run.specs.WellFormed.{Stands, WellFormed}
+use Rattle.run.specs.WellFormed.{StandsInHeap, WellFormed}
 use Rattle.place.specs.Place.{codes}
 use Rattle.place.specs.declared.Place.{Place}
 use Rattle.stepper.specs.Table.{Sized, valueOf, heapOf, standing, wellFormed}
@@ -44,10 +44,10 @@ module _ (t : Heap64) (s : Sized t) (f : Formed t) where
           let z : _≡_ {A = ℕ} 0 1 = cc in
           absurd (omega arith)
 
-  stands : (p : ℕ) → standing (t .used) p ≡ true → Stands (heapOf t) p
+  stands : (p : ℕ) → standing (t .used) p ≡ true → StandsInHeap (heapOf t) p
   unfolding standing
   stands =
-      by-code (λ p. standing (t .used) p ≡ true → Stands (heapOf t) p) (λ e. absurd (stands-somewhere (t .used) nowhere e refl)) (λ e. inl refl)
+      by-code (λ p. standing (t .used) p ≡ true → StandsInHeap (heapOf t) p) (λ e. absurd (stands-somewhere (t .used) nowhere e refl)) (λ e. inl refl)
       (λ e. inr (inl refl)) (λ i e. inr (inr (used-cell i e)))
 
   by-tests : WellFormed (t .variables) (heapOf t)
@@ -56,7 +56,7 @@ module _ (t : Heap64) (s : Sized t) (f : Formed t) where
         null-fixed = refl;
         vars = elim [ zero ↦ λ l. inl refl | suc v ↦ λ l. stands (getD (codes (t .vars)) v nowhere) (var-stands t f v (omega arith)) ];
         links =
-            by-code (λ c. IsCell (heapOf t) c → Stands (heapOf t) (heapOf t .link c)) (λ k. absurd (k refl)) (λ k. absurd (k refl)) (λ k. absurd (k refl))
+            by-code (λ c. IsCell (heapOf t) c → StandsInHeap (heapOf t) (heapOf t .link c)) (λ k. absurd (k refl)) (λ k. absurd (k refl)) (λ k. absurd (k refl))
             (λ i k. let (h, u) = cell-used i k in stands (getD (codes (t .links)) i nowhere) (link-stands t f i h u));
         low =
             by-code (λ c. IsCell (heapOf t) c → cell 0 ≤ c) (λ k. absurd (k refl)) (λ k. absurd (k refl)) (λ k. absurd (k refl)) (λ i k. omega arith);

@@ -39,8 +39,8 @@ abbrev pub Looked : ℕ → Turn → Type 0
 Looked n o = o .named ≡ allowed n (o .kind) (o .a) (o .b)
 
 -- the same, for some number of variables
-abbrev pub Tested : Turn → Type 0
-Tested o = (n : ℕ) × (n ≤ 8) × Looked n o
+abbrev pub LookedUp : Turn → Type 0
+LookedUp o = (n : ℕ) × (n ≤ 8) × Looked n o
 
 -- so it is on every well formed table that has these variables, whatever else is in it
 abbrev pub Foretells : List Place → Turn → Put → Type 0

@@ -6,7 +6,7 @@ use mathlib.Core.Option.{Option, none, some}
 use mathlib.Core.Path.{_≡_}
 use Prim.Native.Nat.{ℕ, suc}
 use lib.Dec.{eqb, leb, ltb}
-use Rattle.heap.specs.Operation.{Op, equal, different, assign, load, store, new, delete, equalValue, belowValue, copy, larger, smaller, read, Enabled, enabled?, after, operation}
+use Rattle.heap.specs.Operation.{Op, equal, different, new, equalValue, belowValue, larger, smaller, Enabled, enabled?, after, operation, numbersOf}
 use Rattle.stepper.specs.Table.{heapOf, tableOf, wellFormed}
 use Rattle.stepper.specs.declared.Heap64.{Heap64}
 use Rattle.stepper.specs.declared.Outcome.{Outcome}
@@ -30,20 +30,9 @@ unfoldable pub lowestUnused : List Bool → ℕ
 lowestUnused [] = 0
 lowestUnused (u ∷ us) = cond u (suc (lowestUnused us)) 0
 
+-- new, which is kind 6
 abbrev pub allocates : Op → Bool
-allocates (equal a b) = false
-allocates (different a b) = false
-allocates (assign a b) = false
-allocates (load a b) = false
-allocates (store a b) = false
-allocates (new a) = true
-allocates (delete a) = false
-allocates (equalValue a b) = false
-allocates (belowValue a b) = false
-allocates (copy a b) = false
-allocates (larger a b) = false
-allocates (smaller a b) = false
-allocates (read a) = false
+allocates o = eqb (numbersOf o .0) 6
 
 -- What an operation leaves open is chosen so: new takes the lowest unused cell; larger, smaller and read write the value that is lent. The
 -- others leave nothing open.

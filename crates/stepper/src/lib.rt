@@ -14,7 +14,7 @@ ghost use Rattle.lists.specs.Test.{allFrom};
 ghost use Rattle.place.specs.Place.{codes};
 ghost use Rattle.stepper.specs.Step.{outcomeCode, lowestUnused, comparison, valueTest, codesMeet, otherValue, codesDiffer, perform, performNamed, Performs, PerformsNamed, Steps};
 ghost use Rattle.stepper.specs.Turns.{InTurn, StepsInTurn};
-ghost use Rattle.stepper.specs.InPlace.{Tested, Foretells, TurnOf};
+ghost use Rattle.stepper.specs.InPlace.{LookedUp, Foretells, TurnOf};
 ghost use Rattle.stepper.specs.Table.{aimed, slotFits, cellFits, valueFits, wellFormed, Sized, FormedTable, codeIn, mostCode, dangleVars, dangleLinks};
 
 // A heap of up to 64 cells: how many variables there are, where each stands, which cells are used, where their links stand, and the codes of
@@ -156,7 +156,7 @@ fn link_in(links: [Place; 64], p: Place) -> Place
 
 // What a step of kinds 3 to 5 puts where, in a well formed heap with these variables.
 fn put_of(vars: [Place; 8], turn: Turn) -> Put
-    requires { ⌜ Tested turn ⌝ }
+    requires { ⌜ LookedUp turn ⌝ }
     ensures { λ r. ⌜ Foretells vars turn r ⌝ }
 {
     if !turn.named {

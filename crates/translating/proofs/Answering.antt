@@ -16,7 +16,7 @@ use Rattle.listing.specs.Written.{inRoom, translateResult, bytesAfter, marksAft
 use Rattle.listing.proofs.Promise.{translates}
 use Rattle.translating.specs.Answer.{answerResult, variablesOf}
 use Rattle.translating.specs.Reading.{BlockRead}
-use Rattle.translating.specs.Work.{Work, faultNumber, transitionsIn, positionOf, Within}
+use Rattle.translating.specs.Work.{Work, faultNumber, transitionsIn, positionOf, WorkWithin}
 use Rattle.translating.specs.declared.Fault.{Fault}
 use Rattle.translating.specs.declared.Fault.the-variants.{Grammar}
 use Rattle.translating.specs.declared.Translation.{Translation}
@@ -64,18 +64,18 @@ module _ (text job letters : List ℕ) (r : Block) (w : Work)
   w₀ = record { job = job; letters = letters; states = replicate 64 64 }
 
   -- the whole text, from the first line
-  over : (p : Progress) → r ≡ block.Over p → Within p w × (goOn (linesOf text) begin ≡ reached (positionOf p w []))
+  over : (p : Progress) → r ≡ block.Over p → WorkWithin p w × (goOn (linesOf text) begin ≡ reached (positionOf p w []))
   unfolding goOn
   over p e = let (bounds, comes) = subst (λ x. BlockRead text 0 start w₀ x w) e read in (bounds, comes [] refl)
 
-  pub over-within : (p : Progress) → r ≡ block.Over p → Within p w
+  pub over-within : (p : Progress) → r ≡ block.Over p → WorkWithin p w
   over-within p e = over p e .0
 
   end-left : (p : Progress) → r ≡ block.Ended p → goOn (linesOf text) begin ≡ refused 17 (suc (p .passed))
   unfolding goOn
   end-left p e = let (further, comes) = subst (λ x. BlockRead text 0 start w₀ x w) e read in comes [] refl
 
-  pub ended-within : (p : Progress) → r ≡ block.Ended p → Within p w
+  pub ended-within : (p : Progress) → r ≡ block.Ended p → WorkWithin p w
   ended-within p e = let (further, comes) = subst (λ x. BlockRead text 0 start w₀ x w) e read in further .within
 
   refused-at : (why : Fault) (n : ℕ) → r ≡ block.Refused why n → goOn (linesOf text) begin ≡ refused (faultNumber why) n

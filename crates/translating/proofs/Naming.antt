@@ -14,7 +14,7 @@ use lib.Seq.{drop-cons, length-take-le, take-suc-set}
 use Rattle.lists.specs.List.{absent}
 use Rattle.lines.specs.declared.Operation.{Operation}
 use Rattle.listing.specs.Names.{meet, indexOf, numberIn}
-use Rattle.translating.specs.Reading.{Meets, namesAfter, Numbers}
+use Rattle.translating.specs.Reading.{LettersMet, namesAfter, Numbers}
 use Rattle.translating.specs.declared.names.Met.{Met}
 
 -- ---- the index of a letter
@@ -91,11 +91,11 @@ module _ (letters : List ℕ) (met : ℕ) (few : met ≤ 8) (size : length lette
   pub names-length : length names ≡ met
   names-length = length-take-le met letters (omega arith)
 
-  pub meets-null : (x : ℕ) → x ≡ 0 → Meets letters met x (record { met = met; number = 0 }) letters
+  pub meets-null : (x : ℕ) → x ≡ 0 → LettersMet letters met x (record { met = met; number = 0 }) letters
   meets-null zero e = record { size = size; count = sym names-length; names = λ h. refl; number = λ h. refl }
   meets-null (suc x) e = absurd (omega arith)
 
-  pub meets-found : (x i : ℕ) → (x ≡ 0 → ⊥) → i ≡ indexOf x names → i < met → Meets letters met x (record { met = met; number = i + 1 }) letters
+  pub meets-found : (x i : ℕ) → (x ≡ 0 → ⊥) → i ≡ indexOf x names → i < met → LettersMet letters met x (record { met = met; number = i + 1 }) letters
   meets-found zero i n e h = absurd (n refl)
   meets-found (suc x) i n e h =
       let there = index-found (suc x) names (omega (arith, names-length)) in
@@ -114,10 +114,10 @@ module _ (letters : List ℕ) (met : ℕ) (few : met ≤ 8) (size : length lette
     longer : met + 1 ≡ length (meet names x)
     longer = sym (ap length new-name ∙ length-append names (x ∷ []) ∙ omega (arith, names-length))
 
-    pub meets-ninth : 8 ≤ met → Meets letters met x (record { met = met + 1; number = i + 1 }) letters
+    pub meets-ninth : 8 ≤ met → LettersMet letters met x (record { met = met + 1; number = i + 1 }) letters
     meets-ninth l = record { size = size; count = longer; names = λ k. absurd (omega arith); number = λ k. absurd (omega arith) }
 
-    pub meets-new : met < 8 → Meets letters met x (record { met = met + 1; number = i + 1 }) (set letters met x)
+    pub meets-new : met < 8 → LettersMet letters met x (record { met = met + 1; number = i + 1 }) (set letters met x)
     meets-new l =
         let after : take (met + 1) (set letters met x) ≡ names ++ (x ∷ []) = rw (add-one met) (take-suc-set letters met x (omega arith)) in
         let last = index-last x names (omega (arith, names-length)) in
@@ -165,7 +165,7 @@ number-kept names y (suc x) h =
 meet-longer : (names : List ℕ) (y : ℕ) → length names ≤ length (meet names y)
 meet-longer names y = let (m, e) = meet-more names y in omega (arith, ap length e, length-append names m)
 
-module _ (letters : List ℕ) (met : ℕ) (o : Operation) (first : Met) (letters₁ : List ℕ) (a : Meets letters met (o .a) first letters₁) where
+module _ (letters : List ℕ) (met : ℕ) (o : Operation) (first : Met) (letters₁ : List ℕ) (a : LettersMet letters met (o .a) first letters₁) where
   pub numbers-over : 8 < first .met → Numbers letters met o (record { met = first .met; operation = o }) letters₁
   numbers-over h =
       record {
@@ -175,7 +175,7 @@ module _ (letters : List ℕ) (met : ℕ) (o : Operation) (first : Met) (letters
         operation = λ k. absurd (omega arith);
       }
 
-  pub numbers-both : first .met ≤ 8 → (second : Met) (letters₂ : List ℕ) → Meets letters₁ (first .met) (o .b) second letters₂
+  pub numbers-both : first .met ≤ 8 → (second : Met) (letters₂ : List ℕ) → LettersMet letters₁ (first .met) (o .b) second letters₂
       → Numbers letters met o (record { met = second .met; operation = record { kind = o .kind; a = first .number; b = second .number } }) letters₂
   numbers-both h second letters₂ b =
       let before = a .names h in

@@ -10,10 +10,10 @@ use Rattle.lines.specs.Line.{lineOf}
 use Rattle.lines.specs.declared.Line.{Line}
 use Rattle.lines.specs.declared.Line.the-variants.{Perform, While, If, End, Mark, Other}
 use Rattle.lines.proofs.ReadsText.{reads-text}
-use Rattle.listing.specs.LineByLine.{Open, Position, Outcome, reached, refused, advance, onward, goOn}
+use Rattle.listing.specs.LineByLine.{Open, LinePosition, Outcome, reached, refused, advance, onward, goOn}
 use Rattle.listing.specs.Text.{linesOf}
 use Rattle.translating.specs.Reading.{Begins, MarkIn, Closes, Comes, Further, restFrom, BlockRead, StatementRead}
-use Rattle.translating.specs.Work.{Work, faultNumber, openOf, positionOf, Within}
+use Rattle.translating.specs.Work.{Work, faultNumber, openOf, positionOf, WorkWithin}
 use Rattle.translating.specs.declared.Fault.{Fault}
 use Rattle.translating.specs.declared.blocks.Block.{Block}
 use Rattle.translating.specs.declared.blocks.Block.the-variants as block
@@ -29,14 +29,14 @@ use Rattle.translating.proofs.Cutting.{Cut, cut-line, cut-last, cut-ove
 
 -- ---- one line of the definitions
 
-go-line : (l : Line) (ls : List Line) (s : Position) → goOn (l ∷ ls) s ≡ onward (advance l s) (goOn ls)
+go-line : (l : Line) (ls : List Line) (s : LinePosition) → goOn (l ∷ ls) s ≡ onward (advance l s) (goOn ls)
 unfolding goOn
 go-line l ls s = refl
 
-go-on : (l : Line) (ls : List Line) (s s′ : Position) → advance l s ≡ reached s′ → goOn (l ∷ ls) s ≡ goOn ls s′
+go-on : (l : Line) (ls : List Line) (s s′ : LinePosition) → advance l s ≡ reached s′ → goOn (l ∷ ls) s ≡ goOn ls s′
 go-on l ls s s′ e = go-line l ls s ∙ ap (λ o. onward o (goOn ls)) e
 
-go-refused : (l : Line) (ls : List Line) (s : Position) (number line : ℕ) → advance l s ≡ refused number line → goOn (l ∷ ls) s ≡ refused number line
+go-refused : (l : Line) (ls : List Line) (s : LinePosition) (number line : ℕ) → advance l s ≡ refused number line → goOn (l ∷ ls) s ≡ refused number line
 go-refused l ls s number line e = go-line l ls s ∙ ap (λ o. onward o (goOn ls)) e
 
 -- an `end` is missing
@@ -54,7 +54,7 @@ mark-in s (Mark k) e = leb-true k 63 (reads-text s (Mark k) (sym e) (λ z. let y
 mark-in s Other e = tt
 
 -- the place in the text has no part in the bounds
-pub moved : (p : Progress) (w : Work) (at : ℕ) → Within p w → Within (record { at = at; passed = p .passed; count = p .count; met = p .met }) w
+pub moved : (p : Progress) (w : Work) (at : ℕ) → WorkWithin p w → WorkWithin (record { at = at; passed = p .passed; count = p .count; met = p .met }) w
 moved p w at h = record { passed = h .passed; count = h .count; met = h .met; job = h .job; letters = h .letters; states = h .states }
 
 -- ---- blocks
@@ -64,7 +64,7 @@ pub record Passed (text : List ℕ) (depth : ℕ) (p : Progress) (w : Work) (q :
   pub further : Further text p q w′
   pub comes : Comes depth (restFrom text p) p w (λ os. goOn (restFrom text q) (positionOf q w′ os))
 
-pub passed-none : (text : List ℕ) (depth : ℕ) (p : Progress) (w : Work) → Within p w → p .at ≤ length text → Passed text depth p w p w
+pub passed-none : (text : List ℕ) (depth : ℕ) (p : Progress) (w : Work) → WorkWithin p w → p .at ≤ length text → Passed text depth p w p w
 passed-none text depth p w bounds inside = record { further = record { within = bounds; on = omega arith; inside = inside }; comes = λ os e. refl }
 
 module _ (text : List ℕ) (depth : ℕ) (p : Progress) (w : Work) (q : Progress) (w′ : Work) (passed : Passed text depth p w q w′) where
@@ -84,7 +84,7 @@ module _ (text : List ℕ) (depth : ℕ) (p : Progress) (w : Work) (q : Progress
   block-after (block.Refused why n) w″ comes = λ os e. passed .comes os e ∙ comes os e
 
 module _ (text : List ℕ) (depth : ℕ) (p : Progress) (w : Work) where
-  pub block-over : Within p w → length text ≤ p .at → BlockRead text depth p w (block.Over p) w
+  pub block-over : WorkWithin p w → length text ≤ p .at → BlockRead text depth p w (block.Over p) w
   block-over bounds h = (bounds, λ os e. ap (λ ls. goOn ls (positionOf p w os)) (cut-over text (p .at) h))
 
   -- a last line without byte 10
@@ -128,7 +128,7 @@ module _ (text : List ℕ) (depth : ℕ) (p : Progress) (w : Work) where
 
 -- ---- statements
 
-module _ (text : List ℕ) (line : Line) (depth : ℕ) (p : Progress) (w : Work) (bounds : Within p w) (inside : p .at ≤ length text)
+module _ (text : List ℕ) (line : Line) (depth : ℕ) (p : Progress) (w : Work) (bounds : WorkWithin p w) (inside : p .at ≤ length text)
     (r : Begun) (w′ : Work) (begins : Begins depth line p w r w′) where
   -- the place in the text stays
   same-rest : (q : Progress) → q .at ≡ p .at → restFrom text p ≡ restFrom text q
@@ -146,7 +146,7 @@ module _ (text : List ℕ) (line : Line) (depth : ℕ) (p : Progress) (w : Work)
   pub statement-ended : r ≡ begun.Ended → StatementRead text line depth p w (statement.Ended p) w′
   statement-ended e =
       let (is-end, same) = subst (λ x. Begins depth line p w x w′) e begins in (
-        record { within = subst (Within p) (sym same) bounds; on = omega arith; inside = inside },
+        record { within = subst (WorkWithin p) (sym same) bounds; on = omega arith; inside = inside },
         λ os d. ap (λ l. goOn (l ∷ restFrom text p) (positionOf p w os)) is-end ∙ ap (λ x. goOn (End ∷ restFrom text p) (positionOf p x os)) (sym same),
       )
 
@@ -161,7 +161,7 @@ module _ (text : List ℕ) (line : Line) (depth : ℕ) (p : Progress) (w : Work)
 
     -- what the block is read with
     pub record Inner : Type 0 where
-      pub within : Within q w′
+      pub within : WorkWithin q w′
       pub at : q .at ≡ p .at
       pub deep : depth < 16
       pub state : o .state < 64
@@ -176,7 +176,7 @@ module _ (text : List ℕ) (line : Line) (depth : ℕ) (p : Progress) (w : Work)
         ∙ comes (openOf o ∷ os) (omega arith)
 
     module _ (b : Block) (w″ : Work) (read : BlockRead text (depth + 1) q w′ b w″) where
-      pub over-within : (s : Progress) → b ≡ block.Over s → Within s w″
+      pub over-within : (s : Progress) → b ≡ block.Over s → WorkWithin s w″
       over-within s f = subst (λ x. BlockRead text (depth + 1) q w′ x w″) f read .0
 
       pub open-over : (s : Progress) → b ≡ block.Over s → Comes depth (line ∷ restFrom text p) p w (λ os. refused 17 (s .passed + 1))
@@ -192,7 +192,7 @@ module _ (text : List ℕ) (line : Line) (depth : ℕ) (p : Progress) (w : Work)
         ended-here : BlockRead text (depth + 1) q w′ (block.Ended s) w″
         ended-here = subst (λ x. BlockRead text (depth + 1) q w′ x w″) f read
 
-        pub ended-within : Within s w″
+        pub ended-within : WorkWithin s w″
         ended-within = ended-here .0 .within
 
         module _ (l : Led) (w‴ : Work) (closes : Closes s w″ o l w‴) where

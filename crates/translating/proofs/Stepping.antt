@@ -14,9 +14,9 @@ use lib.Seq.{length-take-le}
 use Rattle.lines.specs.Line.{opens}
 use Rattle.lines.specs.declared.Line.the-variants.{Perform, Mark}
 use Rattle.lines.specs.declared.Operation.{Operation}
-use Rattle.listing.specs.LineByLine.{Open, Position, reached, refused, numbered, arrowNumbers, skipNumbers, testNumbers, oppositeNumbers, marked, opened, closed, limited, advance}
-use Rattle.translating.specs.Reading.{namesAfter, Numbers, Adds, Leads, Steps, Begins, Closes}
-use Rattle.translating.specs.Work.{Work, openOf, transitionsIn, positionOf, Within}
+use Rattle.listing.specs.LineByLine.{Open, LinePosition, reached, refused, numbered, arrowNumbers, skipNumbers, testNumbers, oppositeNumbers, marked, opened, closed, limited, advance}
+use Rattle.translating.specs.Reading.{namesAfter, Numbers, Adds, Leads, LineSteps, Begins, Closes}
+use Rattle.translating.specs.Work.{Work, openOf, transitionsIn, positionOf, WorkWithin}
 use Rattle.translating.specs.declared.names.Numbered.{Numbered}
 use Rattle.translating.specs.declared.steps.Begun.the-variants as begun
 use Rattle.translating.specs.declared.steps.Led.the-variants as led
@@ -29,23 +29,23 @@ or-true : (b : Bool) → b || true ≡ true
 or-true true = refl
 or-true false = refl
 
-limited-on : (s : Position) → length (s .names) ≤ 8 → s .passed ≤ 63 → limited s ≡ reached s
+limited-on : (s : LinePosition) → length (s .names) ≤ 8 → s .passed ≤ 63 → limited s ≡ reached s
 limited-on s n p = rw (le-ltb 8 (length (s .names)) n, le-ltb 64 (suc (s .passed)) (omega arith)) refl
 
-limited-names : (s : Position) → 8 < length (s .names) → limited s ≡ refused 19 (s .passed)
+limited-names : (s : LinePosition) → 8 < length (s .names) → limited s ≡ refused 19 (s .passed)
 limited-names s h = rw (lt-ltb 8 (length (s .names)) h) refl
 
-limited-states : (s : Position) → 63 < s .passed → limited s ≡ refused 19 (s .passed)
+limited-states : (s : LinePosition) → 63 < s .passed → limited s ≡ refused 19 (s .passed)
 limited-states s h = rw (lt-ltb 64 (suc (s .passed)) (omega arith), or-true (ltb 8 (length (s .names)))) refl
 
 -- `while` and `if` alike
-opens-line : (loops : Bool) (t : Operation) (s : Position)
+opens-line : (loops : Bool) (t : Operation) (s : LinePosition)
     → advance (opens loops t) s ≡ cond (leb 16 (length (s .opens))) (refused 18 (suc (s .passed))) (limited (opened loops t s))
 opens-line true t s = refl
 opens-line false t s = refl
 
 pub open-deep : (loops : Bool) (t : Operation) (p : Progress) (depth : ℕ) (w : Work) → 16 ≤ depth
-    → Steps depth (opens loops t) p w (λ os. refused 18 (p .passed + 1))
+    → LineSteps depth (opens loops t) p w (λ os. refused 18 (p .passed + 1))
 open-deep loops t p depth w h os e = opens-line loops t (positionOf p w os) ∙ rw (le-leb 16 (length os) (omega arith), add-one (p .passed)) refl
 
 -- inside a list any default will do
@@ -63,7 +63,7 @@ after p met = record { at = p .at; passed = suc (p .passed); count = suc (p .cou
 module _ (p : Progress) (job letters : List ℕ) (passed : p .passed ≤ 63) (count : p .count ≤ 2 * p .passed) where
   -- the new progress keeps to its bounds
   within-after : (met : ℕ) (job′ letters′ states′ : List ℕ) → met ≤ 8 → p .passed ≤ 62 → length job′ ≡ 635 → length letters′ ≡ 8 → length states′ ≡ 64
-      → Within (after p met) (record { job = job′; letters = letters′; states = states′ })
+      → WorkWithin (after p met) (record { job = job′; letters = letters′; states = states′ })
   within-after met job′ letters′ states′ few room j l s = record { passed = omega arith; count = omega arith; met = few; job = j; letters = l; states = s }
 
   -- an operation whose operands are numbered, by which a line leads on: `o` on the line, `by` in the transition
@@ -79,7 +79,7 @@ module _ (p : Progress) (job letters : List ℕ) (passed : p .passed ≤ 63) (co
       abbrev w′ : List ℕ → Work
       w′ job′ = record { job = job′; letters = letters′; states = states }
 
-      abbrev led-to : List Open → Position
+      abbrev led-to : List Open → LinePosition
       led-to os =
           record {
             passed = suc (p .passed);
@@ -134,7 +134,7 @@ module _ (p : Progress) (job letters : List ℕ) (passed : p .passed ≤ 63) (co
             λ os e. limited-to states size (λ y. y) job′ few room added os,
           )
 
-      pub perform-full : (depth : ℕ) → (n .met ≤ 8 → 62 < p .passed) → Steps depth (Perform o) p w₀ (λ os. refused 19 (p .passed + 1))
+      pub perform-full : (depth : ℕ) → (n .met ≤ 8 → 62 < p .passed) → LineSteps depth (Perform o) p w₀ (λ os. refused 19 (p .passed + 1))
       perform-full depth full os e = rw (add-one (p .passed)) (limited-full states size (λ y. y) full os)
 
       -- `while T` and `if T`
@@ -160,7 +160,7 @@ module _ (p : Progress) (job letters : List ℕ) (passed : p .passed ≤ 63) (co
                   ∙ ap (λ t. reached (positionOf (after p (n .met)) (w₁ job′) (inner t ∷ os))) test),
             )
 
-        pub open-full : (n .met ≤ 8 → 62 < p .passed) → Steps depth (opens loops o) p w₀ (λ os. refused 19 (p .passed + 1))
+        pub open-full : (n .met ≤ 8 → 62 < p .passed) → LineSteps depth (opens loops o) p w₀ (λ os. refused 19 (p .passed + 1))
         open-full full os e =
             opens-line loops o (positionOf p w₀ os)
             ∙ rw (lt-leb 16 (length os) (omega arith), add-one (p .passed)) (limited-full states size testNumbers full (inner numbered-test ∷ os))
@@ -171,7 +171,7 @@ module _ (p : Progress) (job letters : List ℕ) (passed : p .passed ≤ 63) (co
     abbrev w₂ : Work
     w₂ = record { job = job; letters = letters; states = states }
 
-    pub mark-again : (depth : ℕ) → (getD states k 0 ≡ 64 → ⊥) → Steps depth (Mark k) p w₂ (λ os. refused 17 (p .passed + 1))
+    pub mark-again : (depth : ℕ) → (getD states k 0 ≡ 64 → ⊥) → LineSteps depth (Mark k) p w₂ (λ os. refused 17 (p .passed + 1))
     mark-again depth taken os e =
         rw (ne-eqb (getD states k 64) 64 (λ z. taken (getD-any states k 0 64 (omega arith) ∙ z)), add-one (p .passed)) refl
 
@@ -201,12 +201,12 @@ module _ (p : Progress) (job letters : List ℕ) (passed : p .passed ≤ 63) (co
                 }))),
           )
 
-      pub mark-full : (depth : ℕ) → (p .met ≤ 8 → 62 < p .passed) → Steps depth (Mark k) p w₂ (λ os. refused 19 (p .passed + 1))
+      pub mark-full : (depth : ℕ) → (p .met ≤ 8 → 62 < p .passed) → LineSteps depth (Mark k) p w₂ (λ os. refused 19 (p .passed + 1))
       mark-full depth full os e = rw (is-free, add-one (p .passed)) (limited-states (marked k (positionOf p w₂ os)) (omega (arith, full met)))
 
 -- ---- an `end`
 
-module _ (p : Progress) (w : Work) (o : declared.Open) (bounds : Within p w) where
+module _ (p : Progress) (w : Work) (o : declared.Open) (bounds : WorkWithin p w) where
   pub close-full : 62 < p .passed → (inner opens : List Open)
       → limited (closed (openOf o) opens (positionOf p w inner)) ≡ refused 19 (suc (p .passed))
   close-full h inner os = limited-states (closed (openOf o) os (positionOf p w inner)) (omega arith)

@@ -9,7 +9,7 @@ use Rattle.lines.specs.declared.Operation.{Operation}
 use Rattle.listing.specs.LineByLine.{Open, Outcome, reached, refused, numbered, arrowNumbers, limited, closed, advance, goOn}
 use Rattle.listing.specs.Names.{meet, numberIn}
 use Rattle.listing.specs.Text.{linesOf}
-use Rattle.translating.specs.Work.{Work, faultNumber, openOf, transitionsIn, positionOf, Within}
+use Rattle.translating.specs.Work.{Work, faultNumber, openOf, transitionsIn, positionOf, WorkWithin}
 use Rattle.translating.specs.declared.blocks.Block.{Block}
 use Rattle.translating.specs.declared.blocks.Block.the-variants as block
 use Rattle.translating.specs.declared.blocks.Statement.{Statement}
@@ -24,7 +24,7 @@ use Rattle.translating.specs.declared.steps.Open as declared
 use Rattle.translating.specs.declared.steps.Progress.{Progress}
 
 -- The letters after an operand is met, and the operand's number: of nine names the ninth is only counted.
-pub record Meets (before : List ℕ) (met operand : ℕ) (r : Met) (after : List ℕ) : Type 0 where
+pub record LettersMet (before : List ℕ) (met operand : ℕ) (r : Met) (after : List ℕ) : Type 0 where
   pub size : length after ≡ 8
   pub count : r .met ≡ length (meet (take met before) operand)
   pub names : r .met ≤ 8 → take (r .met) after ≡ meet (take met before) operand
@@ -53,19 +53,19 @@ Leads p met o before (led.On q) after =
 Leads p met o before led.Full after = (met ≤ 8 → 62 < p .passed)
 
 -- the line does this to every position with so many open
-abbrev pub Steps : ℕ → Line → Progress → Work → (List Open → Outcome) → Type 0
-Steps depth line p w to = (opens : List Open) → length opens ≡ depth → advance line (positionOf p w opens) ≡ to opens
+abbrev pub LineSteps : ℕ → Line → Progress → Work → (List Open → Outcome) → Type 0
+LineSteps depth line p w to = (opens : List Open) → length opens ≡ depth → advance line (positionOf p w opens) ≡ to opens
 
 -- reading goes on within bounds, from the same place in the text
 abbrev pub Kept : Progress → Progress → Work → Type 0
-Kept p q w = Within q w × (q .at ≡ p .at)
+Kept p q w = WorkWithin q w × (q .at ≡ p .at)
 
 abbrev pub Begins : ℕ → Line → Progress → Work → Begun → Work → Type 0
-Begins depth line p w (begun.On q) w′ = Kept p q w′ × Steps depth line p w (λ os. reached (positionOf q w′ os))
+Begins depth line p w (begun.On q) w′ = Kept p q w′ × LineSteps depth line p w (λ os. reached (positionOf q w′ os))
 Begins depth line p w (begun.Opened q o) w′ =
-    Kept p q w′ × (depth < 16) × (o .state < 64) × Steps depth line p w (λ os. reached (positionOf q w′ (openOf o ∷ os)))
+    Kept p q w′ × (depth < 16) × (o .state < 64) × LineSteps depth line p w (λ os. reached (positionOf q w′ (openOf o ∷ os)))
 Begins depth line p w begun.Ended w′ = (line ≡ End) × (w′ ≡ w)
-Begins depth line p w (begun.Refused why n) w′ = Steps depth line p w (λ os. refused (faultNumber why) n)
+Begins depth line p w (begun.Refused why n) w′ = LineSteps depth line p w (λ os. refused (faultNumber why) n)
 
 -- `mark k` has a k that the array of states has room for
 abbrev pub MarkIn : Line → Type 0
@@ -89,7 +89,7 @@ Comes depth ls p w to = (opens : List Open) → length opens ≡ depth → goOn 
 
 -- reading goes on within bounds, further on in the text
 pub record Further (text : List ℕ) (p q : Progress) (w : Work) : Type 0 where
-  pub within : Within q w
+  pub within : WorkWithin q w
   pub on : p .at ≤ q .at
   pub inside : q .at ≤ length text
 
@@ -97,7 +97,7 @@ abbrev pub restFrom : List ℕ → Progress → List Line
 restFrom text p = linesOf (drop (p .at) text)
 
 abbrev pub BlockRead : List ℕ → ℕ → Progress → Work → Block → Work → Type 0
-BlockRead text depth p w (block.Over q) w′ = Within q w′ × Comes depth (restFrom text p) p w (λ os. goOn [] (positionOf q w′ os))
+BlockRead text depth p w (block.Over q) w′ = WorkWithin q w′ × Comes depth (restFrom text p) p w (λ os. goOn [] (positionOf q w′ os))
 BlockRead text depth p w (block.Ended q) w′ =
     Further text p q w′ × Comes depth (restFrom text p) p w (λ os. goOn (End ∷ restFrom text q) (positionOf q w′ os))
 BlockRead text depth p w (block.Refused why n) w′ = Comes depth (restFrom text p) p w (λ os. refused (faultNumber why) n)

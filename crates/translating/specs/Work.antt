@@ -3,7 +3,7 @@ use mathlib.Core.List.{List}
 use Prim.Native.Nat.{ℕ, _*_, _≤_}
 use mathlib.Core.Path.{_≡_}
 use lib.ListN.{length, take, drop}
-use Rattle.listing.specs.LineByLine.{Open, Position}
+use Rattle.listing.specs.LineByLine.{Open, LinePosition}
 use Rattle.translating.specs.declared.Fault.{Fault}
 use Rattle.translating.specs.declared.Fault.the-variants.{Grammar, Nesting, Limits}
 use Rattle.translating.specs.declared.steps.Open as declared
@@ -30,7 +30,7 @@ abbrev pub transitionsIn : ℕ → List ℕ → List ℕ
 transitionsIn count job = take (5 * count) (drop 5 job)
 
 -- the position, where these are open
-abbrev pub positionOf : Progress → Work → List Open → Position
+abbrev pub positionOf : Progress → Work → List Open → LinePosition
 positionOf p w opens =
     record {
       passed = p .passed;
@@ -42,7 +42,7 @@ positionOf p w opens =
     }
 
 -- a line brings one state, at most two transitions and, while it is not refused, no ninth name
-pub record Within (p : Progress) (w : Work) : Type 0 where
+pub record WorkWithin (p : Progress) (w : Work) : Type 0 where
   pub passed : p .passed ≤ 63
   pub count : p .count ≤ 2 * p .passed
   pub met : p .met ≤ 8

@@ -11,7 +11,7 @@ ghost use mathlib.Core.Path.{_≡_};
 ghost use Prim.Native.Nat.{_-_, _≤_, _<_};
 ghost use lib.ListN.{length, take, drop, getD};
 ghost use Rattle.listing.specs.Text.{linesFrom, linesOf};
-ghost use Rattle.translating.specs.Work.{Within};
+ghost use Rattle.translating.specs.Work.{WorkWithin};
 ghost use Rattle.translating.specs.Reading.{MarkIn, BlockRead, StatementRead};
 
 // How a block ends: with the text; with a line `end`, which is passed in the text only; refused.
@@ -52,7 +52,7 @@ pub(crate) fn read_block(
     letters: &mut [u8; 8],
     states: &mut [u8; 64],
 ) -> Block
-    requires { ⌜ (Within p (record { job = now job; letters = now letters; states = now states })) × (p .at ≤ length (now text)) × (depth ≤ 16) ⌝ }
+    requires { ⌜ (WorkWithin p (record { job = now job; letters = now letters; states = now states })) × (p .at ≤ length (now text)) × (depth ≤ 16) ⌝ }
     ensures { λ r. ⌜ BlockRead (now (text .entry)) depth p (record { job = now (job .entry); letters = now (letters .entry); states = now (states .entry) }) r (record { job = now (job .exit); letters = now (letters .exit); states = now (states .exit) }) ⌝ }
 {
     let mut reached = p;
@@ -97,7 +97,7 @@ fn read_statement(
     letters: &mut [u8; 8],
     states: &mut [u8; 64],
 ) -> Statement
-    requires { ⌜ (MarkIn line) × (Within p (record { job = now job; letters = now letters; states = now states })) × (p .at ≤ length (now text)) × (depth ≤ 16) ⌝ }
+    requires { ⌜ (MarkIn line) × (WorkWithin p (record { job = now job; letters = now letters; states = now states })) × (p .at ≤ length (now text)) × (depth ≤ 16) ⌝ }
     ensures { λ r. ⌜ StatementRead (now (text .entry)) line depth p (record { job = now (job .entry); letters = now (letters .entry); states = now (states .entry) }) r (record { job = now (job .exit); letters = now (letters .exit); states = now (states .exit) }) ⌝ }
 {
     let begun = begin(line, p, depth, job, letters, states);

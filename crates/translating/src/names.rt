@@ -4,7 +4,7 @@ ghost use mathlib.Core.Path.{_≡_};
 ghost use Prim.Native.Nat.{_≤_};
 ghost use lib.ListN.{length, take};
 ghost use Rattle.listing.specs.Names.{indexOf};
-ghost use Rattle.translating.specs.Reading.{Meets, Numbers};
+ghost use Rattle.translating.specs.Reading.{LettersMet, Numbers};
 
 // An operand's number, and how many names there are once it is met.
 pub struct Met {
@@ -36,7 +36,7 @@ fn find(letters: &[u8; 8], met: usize, letter: u8) -> usize
 // Numbers an operand. A letter that is no name yet becomes the next one; there is no room for a ninth.
 fn number_operand(letters: &mut [u8; 8], met: usize, operand: u8) -> Met
     requires { ⌜ (met ≤ 8) × (length (now letters) ≡ 8) ⌝ }
-    ensures { λ r. ⌜ Meets (now (letters .entry)) met operand r (now (letters .exit)) ⌝ }
+    ensures { λ r. ⌜ LettersMet (now (letters .entry)) met operand r (now (letters .exit)) ⌝ }
 {
     if operand == 0 {
         return Met { met, number: 0 };

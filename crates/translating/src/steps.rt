@@ -14,7 +14,7 @@ ghost use lib.ListN.{length};
 ghost use Rattle.lines.specs.Line.{opens};
 ghost use Rattle.lines.specs.declared.Line.the-variants.{Perform, Mark};
 ghost use Rattle.listing.specs.LineByLine.{skipNumbers, testNumbers, oppositeNumbers};
-ghost use Rattle.translating.specs.Work.{Within};
+ghost use Rattle.translating.specs.Work.{WorkWithin};
 ghost use Rattle.translating.specs.Reading.{Adds, Leads, Begins, MarkIn, Closes};
 
 // How far the reading has come: the place in the text; the lines passed, which is the number of the present state too; how many transitions
@@ -136,7 +136,7 @@ fn back_to(opened: Open, new: usize) -> usize
 // The two transitions of an `end`.
 pub(crate) fn close(p: Progress, opened: Open, job: &mut [u8; 635]) -> Led
     requires { ⌜ (length (now job) ≡ 635) × (p .passed ≤ 63) × (p .count ≤ 2 * p .passed) × (opened .state < 64) ⌝ }
-    ensures { λ r. ⌜ ((letters states : List ℕ) → Within p (record { job = now (job .entry); letters = letters; states = states }) → Closes p (record { job = now (job .entry); letters = letters; states = states }) opened r (record { job = now (job .exit); letters = letters; states = states })) ⌝ }
+    ensures { λ r. ⌜ ((letters states : List ℕ) → WorkWithin p (record { job = now (job .entry); letters = letters; states = states }) → Closes p (record { job = now (job .entry); letters = letters; states = states }) opened r (record { job = now (job .exit); letters = letters; states = states })) ⌝ }
 {
     if 62 < p.passed {
         return Led::Full;
@@ -225,7 +225,7 @@ pub(crate) fn begin(
     letters: &mut [u8; 8],
     states: &mut [u8; 64],
 ) -> Begun
-    requires { ⌜ (MarkIn line) × (Within p (record { job = now job; letters = now letters; states = now states })) ⌝ }
+    requires { ⌜ (MarkIn line) × (WorkWithin p (record { job = now job; letters = now letters; states = now states })) ⌝ }
     ensures { λ r. ⌜ Begins depth line p (record { job = now (job .entry); letters = now (letters .entry); states = now (states .entry) }) r (record { job = now (job .exit); letters = now (letters .exit); states = now (states .exit) }) ⌝ }
 {
     match line {

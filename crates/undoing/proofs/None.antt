@@ -14,7 +14,7 @@ use Rattle.lists.proofs.Reflect.{r-lt, r-or, cond-cases}
 use Rattle.facts.specs.Facts.{FactOf}
 use Rattle.factrows.specs.Rows.{hasFact, rowsBy, noFacts, isConsistent, shrink, movedAt, lowered}
 use Rattle.factrows.specs.Listed.{closed, closedFrom}
-use Rattle.factrows.proofs.Standing.{stands-none, stands-test, stands-consistent}
+use Rattle.factrows.proofs.RowsOf.{stands-none, stands-test, stands-consistent}
 
 no-row : (j : ℕ) → getD noFacts j 0 ≡ 0
 no-row j = go (decLt j 28)

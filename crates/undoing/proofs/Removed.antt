@@ -27,7 +27,7 @@ use Rattle.backward.proofs.Tests.{Unspoken, r-unspoken}
 use Rattle.factrows.specs.Rows.{hasFact, lowered}
 use Rattle.factrows.proofs.Predecessors.{unspoken-rows, remove-stands}
 use Rattle.layout.specs.ShapeArray.{cellCount, operandAt, shapeIn, ShapeArray}
-use Rattle.shapes.specs.Change.{casesOfNew, casesOfDelete, casesOf, arrayPrepared, isBefore, arrayBefore, before}
+use Rattle.shapes.specs.Change.{casesOfNew, casesOfDelete, casesOf, arrayPrepared, isBefore, arrayBefore, beforeByCase}
 use Rattle.shapes.specs.declared.Cases.{Cases}
 use Rattle.shapes.specs.Without.{isFree, without}
 use Rattle.shapes.proofs.Before.{s₀, prepared-new, without-cell, unchanged, delete-all}
@@ -98,8 +98,8 @@ module _ (variables : ℕ) (s rows : List ℕ) (array : ShapeArray variables s) 
 
   -- ---- kind 7: the facts are left
 
-  left : (count : ℕ) (t : List ℕ) (k : ℕ) → beforeRowed variables 7 count t rows k ≡ map (rowed rows) (before variables 7 count t k)
-  unfolding beforeRowed isBeforeRowed rowsBefore before
+  left : (count : ℕ) (t : List ℕ) (k : ℕ) → beforeRowed variables 7 count t rows k ≡ map (rowed rows) (beforeByCase variables 7 count t k)
+  unfolding beforeRowed isBeforeRowed rowsBefore beforeByCase
   left count t k = rw (and-true (isBefore variables 7 t k)) (sym (map-keep (rowed rows) (isBefore variables 7 t k) (shapeIn variables (arrayBefore variables 7 count t k))))
 
   abbrev cases : Cases
@@ -112,7 +112,7 @@ module _ (variables : ℕ) (s rows : List ℕ) (array : ShapeArray variables s) 
   unfolding casesRowed casesOf
   rowed-all =
       (λ i. concatMap (λ k. left (cases .end) (arrayPrepared variables 7 a s) k i) numbers)
-      ∙ sym (map-concat (rowed rows) (before variables 7 (cases .end) (arrayPrepared variables 7 a s)) numbers)
+      ∙ sym (map-concat (rowed rows) (beforeByCase variables 7 (cases .end) (arrayPrepared variables 7 a s)) numbers)
       ∙ ap (map (rowed rows)) (delete-all variables s array few a some most)
 
   pub delete-stand : AllStandFor (casesRowed variables 7 a s rows) (backward.before (delete a) whole)
@@ -151,7 +151,7 @@ module _ (variables : ℕ) (s rows : List ℕ) (array : ShapeArray variables s) 
 
   -- by a cell of the shape
   cell-stands : (count k : ℕ) → k < n → AllStandFor (beforeRowed variables 6 count t rows k) (without whole₀ k)
-  unfolding beforeRowed isBeforeRowed rowsBefore before
+  unfolding beforeRowed isBeforeRowed rowsBefore beforeByCase
   cell-stands count k b =
       let taken : isTakenOut 6 t k ≡ true = lt-ltb k (cellCount t) (rw (count-operand s a nowhere) b) in
       let (e, same) = keep-same (isBefore variables 6 t k) (isFree (cell k) bare₀) _ (removeCell (cell k) bare₀) (without-cell variables s array few a some most count k b) in
@@ -171,7 +171,7 @@ module _ (variables : ℕ) (s rows : List ℕ) (array : ShapeArray variables s) 
 
   -- by one that the shape lacks
   fresh-stands : (count : ℕ) → AllStandFor (beforeRowed variables 6 count t rows n) (whole₀ ∷ [])
-  unfolding beforeRowed isBeforeRowed rowsBefore before
+  unfolding beforeRowed isBeforeRowed rowsBefore beforeByCase
   fresh-stands count =
       let taken : isTakenOut 6 t n ≡ false = le-ltb n (cellCount t) (omega (arith, count-operand s a nowhere)) in
       let (e, same) = keep-same (isBefore variables 6 t n) true (shapeIn variables (arrayBefore variables 6 count t n)) bare₀ (unchanged variables s array few a some most count) in

@@ -16,10 +16,10 @@ use Rattle.backward.proofs.Bare.{BareFrom}
 use Rattle.backward.proofs.ClosedFacts.{close-closed}
 use Rattle.cover.specs.Test.{closedIn}
 use Rattle.factrows.specs.Rows.{FactsIn, isConsistent, cellNumber, rowsTest}
-use Rattle.factrows.specs.Standing.{Stands}
+use Rattle.factrows.specs.RowsOf.{RowsOf}
 use Rattle.factrows.proofs.Predecessors.{settle-rows}
 use Rattle.factrows.proofs.Reading.{r-fact}
-use Rattle.factrows.proofs.Standing.{stands-close}
+use Rattle.factrows.proofs.RowsOf.{stands-close}
 use Rattle.undoing.specs.Rowed.{Rowed, rowed, StandsFor, Settled, AllStandFor}
 
 -- ---- the test of closed facts
@@ -48,7 +48,7 @@ rows-among o s h k p q = same-test (r-fact (o .rows) k (cellNumber p) (cellNumbe
 
 -- ---- settled
 
-module _ (l : List ℕ) (s : Shape) (r : Stands l (s .facts)) (h : FactsOf (size s) (s .facts)) (few : size s ≤ 14) where
+module _ (l : List ℕ) (s : Shape) (r : RowsOf l (s .facts)) (h : FactsOf (size s) (s .facts)) (few : size s ≤ 14) where
   -- rows that stand for a shape's facts stand for those closed
   closed-stands : StandsFor (rowed l (withFacts s [])) (withFacts s (close (size s) (s .facts)))
   closed-stands = record { bare = refl; cells = few; facts-of = close-cells (size s) (s .facts); facts = stands-close l (s .facts) r (size s) h few }
@@ -82,7 +82,7 @@ all-concat f g [] h = tt
 all-concat f g (x ∷ xs) h = all-append (f x) (concatMap f xs) (g x) (concatMap g xs) (h x (List·Memᴰ·head refl)) (all-concat f g xs (λ y m. h y (List·Memᴰ·tail m)))
 
 -- the same facts beside each of a list of bare shapes
-module _ (l : List ℕ) (facts : List Fact) (r : Stands l facts) (n : ℕ) (h : FactsOf n facts) where
+module _ (l : List ℕ) (facts : List Fact) (r : RowsOf l facts) (n : ℕ) (h : FactsOf n facts) where
   pub rowed-stands : (t : Shape) → BareFrom n t → size t ≤ 14 → StandsFor (rowed l t) (withFacts t facts)
   rowed-stands t (none, more) few =
       record {

@@ -21,7 +21,7 @@ use Rattle.backward.proofs.ClosedFacts.{ClosedFacts, close-closed}
 use Rattle.backward.proofs.Tests.{without-mem}
 use Rattle.factrows.specs.Rows.{withFact, clashing, withoutCell}
 use Rattle.factrows.proofs.Predecessors.{learn-rows, learn-stands, forget-stands, had-stands}
-use Rattle.factrows.proofs.Standing.{factOn}
+use Rattle.factrows.proofs.RowsOf.{factOn}
 use Rattle.undoing.specs.Rowed.{Rowed, rowed, StandsFor, Settled, AllStandFor}
 use Rattle.undoing.specs.Undone.{factKind, leftCell, rightCell, isOwn, isUndone, rowsTold, rowsUndone, shapesUndone}
 use Rattle.undoing.proofs.Cases.{not-own, undone-read, undone-own, undone-told, undone-written, undone-kept}

@@ -7,7 +7,7 @@ use Rattle.facts.specs.Facts.{Listed, Follows, FactsOf}
 use Rattle.shape.specs.Shape.{Shape, size}
 use Rattle.backward.specs.Predecessors.{withFacts}
 use Rattle.factrows.specs.Rows.{isConsistent}
-use Rattle.factrows.specs.Standing.{Stands}
+use Rattle.factrows.specs.RowsOf.{RowsOf}
 
 -- a shape without facts, and the rows of its facts
 pub record Rowed : Type 0 where
@@ -22,7 +22,7 @@ pub record StandsFor (o : Rowed) (s : Shape) : Type 0 where
   pub bare : o .shape ≡ withFacts s []
   pub cells : size s ≤ 14
   pub facts-of : FactsOf (size s) (s .facts)
-  pub facts : Stands (o .rows) (s .facts)
+  pub facts : RowsOf (o .rows) (s .facts)
 
 -- its facts are closed, and none puts a cell below itself
 pub record Settled (o : Rowed) (s : Shape) : Type 0 where

@@ -1,7 +1,7 @@
 -- Not ready, no list, or counted.
 use mathlib.Core.Path.{sym, _∙_}
 use lib.ListN.{length, length-map}
-use Rattle.blocklist.specs.Answers.{Met}
+use Rattle.blocklist.specs.Answers.{MetFromHead}
 use Rattle.blocklist.proofs.Answering.{count-unready, count-refused, count-done}
 use Rattle.blocklist.proofs.Bound as bound
 use borrow.Author.Needs.{needs}
@@ -9,7 +9,7 @@ use Rattle.blocklist.proofs.count.Statement.{statement}
 use Rattle.blocklist.proofs.count.Tie as tie
 
 -- the beginning: what is met in the heap
-met : (s : tie.Start) → Met (s .args .heap)
+met : (s : tie.Start) → MetFromHead (s .args .heap)
 met s = bound.met (s .args .heap) (simp length-map at (s .good .0 .1 .1 .1 .1 .1 .0 .1 .0 .1))
 
 slice-aggregate-steps : tie.Need-slice-aggregate-steps

@@ -6,7 +6,7 @@ use native.Mathlib.Omega.{arith}
 use Rattle.lines.proofs.Starting.{rest}
 use mathlib.Core.Bool.{true, false}
 use Rattle.lines.specs.Words.{end, while, mark, starts, isWord}
-use Rattle.lines.specs.Line.{testOf, markOf, lineOf}
+use Rattle.lines.specs.Line.{testLine, markOf, lineOf}
 use borrow.Author.Needs.{needs}
 use Rattle.lines.proofs.read_line.Statement.{statement}
 use Rattle.lines.proofs.read_line.Tie as tie
@@ -99,7 +99,7 @@ returns-3 c =
     let f = c .before .before .before in
     let m = past-mark f in
     let e = past-end (m .before) in
-    c .read-test .ensures ∙ ap (testOf true) (rest (bytes e) 6) ∙ simp (sym (f .has-front2 .ensures .0) ∙ c .before .before .if3 .taken, no-mark m, no-end e)
+    c .read-test .ensures ∙ ap (testLine true) (rest (bytes e) 6) ∙ simp (sym (f .has-front2 .ensures .0) ∙ c .before .before .if3 .taken, no-mark m, no-end e)
 
 slice-aggregate-has-front-3 : tie.Need-slice-aggregate-has-front-3
 slice-aggregate-has-front-3 c = search needs
@@ -126,7 +126,7 @@ returns-4 c =
     let w = past-while f in
     let m = past-mark (w .before) in
     let e = past-end (m .before) in
-    c .read-test2 .ensures ∙ ap (testOf false) (rest (bytes e) 3)
+    c .read-test2 .ensures ∙ ap (testLine false) (rest (bytes e) 3)
     ∙ simp (sym (f .has-front3 .ensures .0) ∙ c .before .before .if4 .taken, no-mark m, no-while w, no-end e)
 
 read-operation-requires : tie.Need-read-operation-requires

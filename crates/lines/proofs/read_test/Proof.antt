@@ -3,7 +3,7 @@ use mathlib.Core.Bool.{false}
 use mathlib.Core.Path.{_≡_, sym, ap, _∙_}
 use Rattle.lines.proofs.Starting.{test-taken, test-left, no-operation}
 use Rattle.lines.specs.Words.{any, isWord}
-use Rattle.lines.specs.Line.{operationOf, opensLine, testOf}
+use Rattle.lines.specs.Line.{operationOf, opensLine, testLine}
 use Rattle.lines.specs.declared.Line.the-variants.{Perform}
 use borrow.Author.Needs.{needs}
 use Rattle.lines.proofs.read_test.Statement.{statement}
@@ -35,7 +35,7 @@ open-requires : tie.Need-open-requires
 open-requires c κs = search needs
 
 returns : tie.Need-returns
-unfolding testOf
+unfolding testLine
 returns c = c .«open» .ensures ∙ simp (sym (c .before .before .is-word .ensures) ∙ c .before .if1 .taken)
 
 read-operation-requires : tie.Need-read-operation-requires
@@ -45,7 +45,7 @@ enum-known-line : tie.Need-enum-known-line
 enum-known-line c = search needs
 
 returns-2 : tie.Need-returns-2
-unfolding testOf
+unfolding testLine
 returns-2 c =
     let r = c .before in
     let a = begun r .args in
@@ -55,7 +55,7 @@ open-requires-2 : tie.Need-open-requires-2
 open-requires-2 c κs = search needs
 
 returns-3 : tie.Need-returns-3
-unfolding testOf
+unfolding testLine
 returns-3 c =
     let l = c .before .before .before .before in
     let r = l .before .before in
@@ -63,7 +63,7 @@ returns-3 c =
     c .open2 .ensures ∙ test-taken (a .loops) (l .line .given .0 .0) (c .before .if2 .taken) ∙ ap (opensLine (a .loops)) (read l) ∙ simp (not-any r)
 
 returns-4 : tie.Need-returns-4
-unfolding testOf
+unfolding testLine
 returns-4 c =
     let l = c .before .before .before in
     let r = l .before .before in

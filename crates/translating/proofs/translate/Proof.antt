@@ -4,7 +4,7 @@ use Prim.Native.Nat.{_+_, _*_}
 use lib.Seq.{length-take-le}
 use native.Mathlib.Omega.{arith}
 use lib.ListN.{replicate}
-use Rattle.translating.specs.Work.{Work, Within}
+use Rattle.translating.specs.Work.{Work, WorkWithin}
 use Rattle.translating.proofs.Answering.{over-within, ended-within, answers-over, answers-ended, answers-refused}
 use borrow.Author.Needs.{needs}
 use Rattle.translating.proofs.translate.Statement.{statement}
@@ -29,7 +29,7 @@ abbrev left : tie.After-read-block → Work
 left c = let l = c .read-block .last in record { job = l .1 .1 .1 .0; letters = l .1 .1 .1 .1 .0; states = l .1 .1 .1 .1 .1 .0 }
 
 -- where the text is over, the reading is within its bounds
-within : (c : tie.After-read) → Within (c .read .given .0 .0) (left (c .before .before))
+within : (c : tie.After-read) → WorkWithin (c .read .given .0 .0) (left (c .before .before))
 within c =
     let b = c .before .before in
     over-within (begun b .args .text .now) (replicate 635 0) (replicate 8 0) (b .read-block .result) (left b) (b .read-block .ensures) (c .read .given .0 .0) (c .read .given .1)

@@ -11,7 +11,7 @@ use Prim.Native.Nat.{ℕ, _+_, _-_, _*_, _≤_, _<_}
 use lib.ListN.{length, drop}
 use Rattle.listing.specs.Text.{linesOf}
 use Rattle.translating.specs.Reading.{restFrom}
-use Rattle.translating.specs.Work.{Work, Within}
+use Rattle.translating.specs.Work.{Work, WorkWithin}
 use Rattle.translating.specs.declared.Fault.the-variants.{Grammar}
 use Rattle.translating.specs.declared.blocks.Block.the-variants as block
 use Rattle.translating.proofs.Nesting.{Passed, mark-in, moved, passed-none, passed-more, block-after, block-over, block-last, block-line, block-ended, block-refused, statement-further, statement-passed, statement-on, statement-ended, statement-refused, inner, open-over, over-within, open-refused, ended-within, close-statement, close-refused}
@@ -284,7 +284,7 @@ module _ (t : ℕ) where
   read-work c = let w = c .read-block .last in record { job = w .1 .1 .1 .0; letters = w .1 .1 .1 .1 .0; states = w .1 .1 .1 .1 .1 .0 }
 
   -- at its `end` the block is within its bounds
-  ended-well : (c : Statement-ended) → Within (c .inner3 .given .0 .0) (read-work (read c))
+  ended-well : (c : Statement-ended) → WorkWithin (c .inner3 .given .0 .0) (read-work (read c))
   ended-well c =
       let r = read c in
       let o = opened r in

@@ -17,7 +17,7 @@ use Rattle.facts.proofs.Adding.{renamed-laws, least, alike-laws}
 use Rattle.facts.proofs.Closing.{lawful, both-laws, follows-laws, r-has, close-cells, close-follows, closure-reflects}
 use Rattle.factrows.specs.Listed.{count, kindAt, leftAt, rightAt, factAt, listed, closedFrom, closed}
 use Rattle.factrows.specs.Rows.{FactsIn, hasFact, noFacts, isConsistent, withFact}
-use Rattle.factrows.specs.Standing.{Stands}
+use Rattle.factrows.specs.RowsOf.{RowsOf}
 use Rattle.factrows.proofs.Adding.{with-laws, with-closure}
 use Rattle.factrows.proofs.Reading.{r-fact, none-in, consistent-reflects}
 
@@ -35,7 +35,7 @@ cell-number p h = omega arith
 
 -- each listed fact is in the rows, they have the laws, and each of their facts follows
 pub stands-of : (l : List ℕ) (facts : List Fact) → FactsOf 14 facts → Laws (FactsIn l) → Every (λ t. FactsIn l (t .kind) (number (t .left)) (number (t .right))) facts
-    → ((k p q : ℕ) → FactsIn l k p q → Follows facts k (cell p) (cell q)) → Stands l facts
+    → ((k p q : ℕ) → FactsIn l k p q → Follows facts k (cell p) (cell q)) → RowsOf l facts
 stands-of l facts cells w each sound =
     record {
       cells = cells;
@@ -45,7 +45,7 @@ stands-of l facts cells w each sound =
           (lawful facts (λ k p q. FactsIn l k (number p) (number q)) (renamed-laws (FactsIn l) w number) each i);
     }
 
-module _ (l : List ℕ) (facts : List Fact) (s : Stands l facts) where
+module _ (l : List ℕ) (facts : List Fact) (s : RowsOf l facts) where
   -- the rows are closed
   pub stands-laws : Laws (FactsIn l)
   stands-laws = alike-laws (FactsIn l) (λ k p q. Follows facts k (cell p) (cell q)) (λ k p q. (s .sound k p q, s .complete k p q)) (follows-laws facts cell)
@@ -71,15 +71,15 @@ none-laws =
       less-same = λ p q r i j. absurd (none-in 0 p q i);
     }
 
-pub stands-none : Stands noFacts []
+pub stands-none : RowsOf noFacts []
 stands-none = stands-of noFacts [] (every-none (FactOf 14)) none-laws (λ t m. absurd (List·Memᴰ·not-nil m)) (λ k p q i. absurd (none-in k p q i))
 
 -- the fact of this kind about the cells c and d
 abbrev pub factOn : ℕ → ℕ → ℕ → Fact
 factOn k c d = record { kind = k; left = cell c; right = cell d }
 
-module _ (l : List ℕ) (facts : List Fact) (s : Stands l facts) (k c d : ℕ) (hk : k < 2) (hc : c < 14) (hd : d < 14) where
-  pub stands-more : Stands (withFact l k c d) (factOn k c d ∷ facts)
+module _ (l : List ℕ) (facts : List Fact) (s : RowsOf l facts) (k c d : ℕ) (hk : k < 2) (hc : c < 14) (hd : d < 14) where
+  pub stands-more : RowsOf (withFact l k c d) (factOn k c d ∷ facts)
   stands-more = stands-of l′ (factOn k c d ∷ facts) (every-cons (FactOf 14) (hk, (omega arith, omega arith), (omega arith, omega arith)) (s .cells)) (with-laws l w k c d hc hd) each sound
     where
       l′ : List ℕ
@@ -110,7 +110,7 @@ module _ (l : List ℕ) (facts : List Fact) (s : Stands l facts) (k c d : ℕ) (
 
 -- ---- a list in bytes
 
-stands-from : (s : List ℕ) (n i : ℕ) → FactsOf 14 (map (factAt s) (range i n)) → Stands (closedFrom s n i) (map (factAt s) (range i n))
+stands-from : (s : List ℕ) (n i : ℕ) → FactsOf 14 (map (factAt s) (range i n)) → RowsOf (closedFrom s n i) (map (factAt s) (range i n))
 unfolding closedFrom
 stands-from s zero i h = stands-none
 stands-from s (suc n) i h =
@@ -118,12 +118,12 @@ stands-from s (suc n) i h =
     stands-more (closedFrom s n (suc i)) (map (factAt s) (range (suc i) n)) (stands-from s n (suc i) (λ t m. h t (List·Memᴰ·tail m))) (kindAt s i) (leftAt s i) (rightAt s i) a
     (omega (arith, b .1)) (omega (arith, c .1))
 
-pub stands-closed : (s : List ℕ) → FactsOf 14 (listed s) → Stands (closed s) (listed s)
+pub stands-closed : (s : List ℕ) → FactsOf 14 (listed s) → RowsOf (closed s) (listed s)
 stands-closed s h = stands-from s (count s) 0 h
 
 -- ---- tests
 
-module _ (l : List ℕ) (facts : List Fact) (s : Stands l facts) (n : ℕ) (h : FactsOf n facts) where
+module _ (l : List ℕ) (facts : List Fact) (s : RowsOf l facts) (n : ℕ) (h : FactsOf n facts) where
   -- whether a fact follows
   pub stands-test : (k p q : ℕ) → hasFact l k p q ≡ follows? n facts k (cell p) (cell q)
   stands-test k p q = same-test (r-fact l k p q) (closure-reflects facts n h k (cell p) (cell q)) (s .sound k p q) (s .complete k p q)
@@ -139,7 +139,7 @@ module _ (l : List ℕ) (facts : List Fact) (s : Stands l facts) (n : ℕ) (h : 
   in-close k p q f = r-has (close n facts) k (cell p) (cell q) .holds (closure-reflects facts n h k (cell p) (cell q) .tests (s .sound k p q f))
 
   -- closing changes nothing
-  pub stands-close : n ≤ 14 → Stands l (close n facts)
+  pub stands-close : n ≤ 14 → RowsOf l (close n facts)
   stands-close b =
       record {
         cells = λ t m. let (k, p, q) = close-cells n facts t m in (k, (p .0, omega (arith, p .1)), (q .0, omega (arith, q .1)));
