@@ -1,4 +1,8 @@
-// Forbidden shapes as bytes: each of their numbers is one byte. Codes of places: 0 nowhere, 1 #, 2 *, 3 cell 0, 4 cell 1.
+// Forbidden shapes as bytes: each of their numbers is one byte.
+use place::DANGLING;
+use place::FIRST_CELL;
+use place::NOWHERE;
+use place::NULL;
 use putting::put_all;
 ghost use mathlib.Core.List.{[], map};
 ghost use mathlib.Core.Path.{_≡_};
@@ -10,6 +14,9 @@ ghost use Rattle.shape.specs.Placing.{grow};
 ghost use Rattle.format.specs.JobNumbers.{locatedNumbers};
 ghost use Rattle.forbidding.specs.Answers.{countBytes, PointIn};
 ghost use Rattle.putting.specs.Put.{Put};
+
+// The place of the second cell.
+const SECOND_CELL: u8 = FIRST_CELL + 1;
 
 // A variable, of so many, at a state, in a job of a version.
 pub struct Point {
@@ -36,7 +43,7 @@ fn put_shape(bytes: &mut [u8], at: usize, p: Point, place: u8, links: &[u8]) -> 
 {
     let head = [p.state as u8, links.len() as u8];
     let none = [0u8; 1];
-    let mut vars = [0u8; 8];
+    let mut vars = [NOWHERE; 8];
     vars[p.variable - 1] = place;
     let variables = p.variables;
     let count = count_bytes(p.version);
@@ -51,10 +58,10 @@ pub(crate) fn put_not_list(bytes: &mut [u8], at: usize, p: Point) -> usize
     requires { ⌜ (PointIn p) × (at + 4 * (2 + p .variables + countBytes (p .version)) + 4 ≤ length (now bytes)) ⌝ }
     ensures { λ r. ⌜ Put at (now (bytes .entry)) (concatMap (locatedNumbers (p .version)) (atState (p .state) (notList (p .variables) (p .variable)))) r (now (bytes .exit)) ⌝ }
 {
-    let second = put_shape(bytes, at, p, 2, b"");
-    let third = put_shape(bytes, second, p, 3, &[2]);
-    let fourth = put_shape(bytes, third, p, 3, &[3]);
-    put_shape(bytes, fourth, p, 3, &[4, 4])
+    let second = put_shape(bytes, at, p, DANGLING, b"");
+    let third = put_shape(bytes, second, p, FIRST_CELL, &[DANGLING]);
+    let fourth = put_shape(bytes, third, p, FIRST_CELL, &[FIRST_CELL]);
+    put_shape(bytes, fourth, p, FIRST_CELL, &[SECOND_CELL, SECOND_CELL])
 }
 
 // One loose cell, the last, beside each of those four.
@@ -62,10 +69,16 @@ fn put_loose(bytes: &mut [u8], at: usize, p: Point) -> usize
     requires { ⌜ (PointIn p) × (at + 4 * (2 + p .variables + countBytes (p .version)) + 8 ≤ length (now bytes)) ⌝ }
     ensures { λ r. ⌜ (r ≡ at + 4 * (2 + p .variables + countBytes (p .version)) + 8) × Put at (now (bytes .entry)) (concatMap (locatedNumbers (p .version)) (atState (p .state) (map grow (notList (p .variables) (p .variable))))) r (now (bytes .exit)) ⌝ }
 {
-    let second = put_shape(bytes, at, p, 2, &[0]);
-    let third = put_shape(bytes, second, p, 3, &[2, 0]);
-    let fourth = put_shape(bytes, third, p, 3, &[3, 0]);
-    put_shape(bytes, fourth, p, 3, &[4, 4, 0])
+    let second = put_shape(bytes, at, p, DANGLING, &[NOWHERE]);
+    let third = put_shape(bytes, second, p, FIRST_CELL, &[DANGLING, NOWHERE]);
+    let fourth = put_shape(bytes, third, p, FIRST_CELL, &[FIRST_CELL, NOWHERE]);
+    put_shape(
+        bytes,
+        fourth,
+        p,
+        FIRST_CELL,
+        &[SECOND_CELL, SECOND_CELL, NOWHERE],
+    )
 }
 
 // "Lost block": one loose cell beside each of those four, beside x at # and beside x's cell linked to #.
@@ -74,8 +87,8 @@ pub(crate) fn put_lost_block(bytes: &mut [u8], at: usize, p: Point) -> usize
     ensures { λ r. ⌜ Put at (now (bytes .entry)) (concatMap (locatedNumbers (p .version)) (atState (p .state) (lostBlock (p .variables) (p .variable)))) r (now (bytes .exit)) ⌝ }
 {
     let fifth = put_loose(bytes, at, p);
-    let sixth = put_shape(bytes, fifth, p, 1, &[0]);
-    put_shape(bytes, sixth, p, 3, &[1, 0])
+    let sixth = put_shape(bytes, fifth, p, NULL, &[NOWHERE]);
+    put_shape(bytes, sixth, p, FIRST_CELL, &[NULL, NOWHERE])
 }
 
 // A step through the variable: at # and then at *.
@@ -83,6 +96,6 @@ pub(crate) fn put_bad_step(bytes: &mut [u8], at: usize, p: Point) -> usize
     requires { ⌜ (PointIn p) × (at + 2 * (2 + p .variables + countBytes (p .version)) ≤ length (now bytes)) ⌝ }
     ensures { λ r. ⌜ Put at (now (bytes .entry)) (concatMap (locatedNumbers (p .version)) (atState (p .state) (badStep (p .variables) (p .variable)))) r (now (bytes .exit)) ⌝ }
 {
-    let second = put_shape(bytes, at, p, 1, b"");
-    put_shape(bytes, second, p, 2, b"")
+    let second = put_shape(bytes, at, p, NULL, b"");
+    put_shape(bytes, second, p, DANGLING, b"")
 }
