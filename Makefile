@@ -5,6 +5,7 @@
 # make try ROUTINE=name-or-file     from a routine as text to a verdict; without ROUTINE, the routines there are;
 #                                   with CERTIFICATE=file the verdict on a certificate of one's own, ROUTINE being text or a job's bytes
 # make report ROUTINE=name-or-file  a page to look at; without ROUTINE, or with a folder, a table and a page for each routine
+# make release FOLDER=folder        the verdict on each routine's job.bin and cert.bin below a folder, and the release sheet
 # make bench                        the benchmarks
 
 export PATH := $(PATH):/opt/rattle/bin
@@ -12,7 +13,7 @@ export PATH := $(PATH):/opt/rattle/bin
 PREFIX ?= /usr/local
 export PREFIX DESTDIR
 
-.PHONY: run test lib install try report bench
+.PHONY: run test lib install try report release bench
 
 run:
 	@scripts/run.sh
@@ -36,6 +37,9 @@ try:
 report:
 	@scripts/lib.sh
 	@scripts/tool.sh report $(if $(ROUTINE),"$(ROUTINE)")
+
+release:
+	@scripts/release.sh "$(FOLDER)"
 
 bench:
 	@scripts/lib.sh

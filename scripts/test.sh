@@ -12,6 +12,7 @@ scripts/pages.sh
 scripts/lib.sh
 scripts/example.sh
 scripts/install_test.sh
+scripts/release_test.sh
 scripts/lint.sh
 cargo test --offline --release --quiet --manifest-path host/Cargo.toml
 cargo run --offline --release --quiet --manifest-path host/Cargo.toml --bin compare

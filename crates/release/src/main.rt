@@ -34,7 +34,10 @@ fn judge_pair(job_argument: usize, certificate_argument: usize) -> Verdict {
 fn taken_in(tally: Tally, judged: Verdict) -> Tally {
     let taken = added(tally, judged);
     if taken.number != 0 {
-        io::write_all(STDERR_FILENO, b"the tally is full: this verdict is not in it\n");
+        io::write_all(
+            STDERR_FILENO,
+            b"the tally is full: this verdict is not in it\n",
+        );
     }
     taken.tally
 }
@@ -52,7 +55,10 @@ fn print_sheet(tally: Tally) {
 fn main() {
     let arguments = os::arg_count();
     if arguments < 3 || arguments % 2 == 0 {
-        io::write_all(STDERR_FILENO, b"usage: release JOB CERTIFICATE [JOB CERTIFICATE ...]\n");
+        io::write_all(
+            STDERR_FILENO,
+            b"usage: release JOB CERTIFICATE [JOB CERTIFICATE ...]\n",
+        );
         return;
     }
     let mut tally = tally::begin();
