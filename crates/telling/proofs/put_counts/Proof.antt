@@ -5,6 +5,22 @@ use borrow.Author.Needs.{needs}
 use Rattle.telling.proofs.put_counts.Statement.{statement}
 use Rattle.telling.proofs.put_counts.Tie as tie
 
+-- ---- moments on the way
+
+-- where the bads were put, once the members are
+abbrev bads : tie.After-put-worded2 → tie.After-put-worded
+bads c = c .before .before .before .before .before .before
+
+-- where the members were put, once the covers are
+abbrev members : tie.After-put-worded3 → tie.After-put-worded2
+members c = c .before .before .before .before .before .before
+
+-- where the covers were put, once the links are
+abbrev covers : tie.After-put-worded4 → tie.After-put-worded3
+covers c = c .before .before .before .before .before .before
+
+-- ---- what is to be shown
+
 slice-aggregate-put-worded : tie.Need-slice-aggregate-put-worded
 slice-aggregate-put-worded c = search needs
 
@@ -47,10 +63,12 @@ same-length c = search needs
 returns : tie.Need-returns
 returns c =
     let d = c .before .before in
-    let e = d .before .before .before .before .before .before in
-    let f = e .before .before .before .before .before .before in
-    let g = f .before .before .before .before .before .before in
-    (omega (arith, d .put-worded4 .ensures .0), put-accepted _ (g .put-worded .ensures .1) (f .put-worded2 .ensures .1) (e .put-worded3 .ensures .1) (d .put-worded4 .ensures .1))
+    let e = covers d in
+    let f = members e in
+    let g = bads f in (
+      omega (arith, g .put-worded .ensures .0, f .put-worded2 .ensures .0, e .put-worded3 .ensures .0, d .put-worded4 .ensures .0),
+      put-accepted _ (g .put-worded .ensures .1) (f .put-worded2 .ensures .1) (e .put-worded3 .ensures .1) (d .put-worded4 .ensures .1),
+    )
 
 pub put-counts-spec : {M : Type 1} → statement M
 put-counts-spec =

@@ -4,6 +4,10 @@ use borrow.Author.Needs.{needs}
 use Rattle.telling.proofs.tell.Statement.{statement}
 use Rattle.telling.proofs.tell.Tie as tie
 
+-- where it was known that the pair was accepted, once the values are lent
+abbrev accepted : tie.After-lend → tie.After-v
+accepted c = c .before .before .before .before .before .before .before .before
+
 enum-known-v : tie.Need-enum-known-v
 enum-known-v c = search needs
 
@@ -53,7 +57,7 @@ same-length : tie.Need-same-length
 same-length c = search needs
 
 returns : tie.Need-returns
-returns c = rw (c .before .before .before .before .before .before .before .before .before .before .v .given .1) (refl, c .before .before .lend .ensures)
+returns c = let d = c .before .before in rw (accepted d .v .given .1) (refl, d .lend .ensures)
 
 same-length-2 : tie.Need-same-length-2
 same-length-2 c = search needs
