@@ -1,5 +1,9 @@
 -- By the first number that is full.
+use mathlib.Core.Path.{_≡_, ap, _∙_}
+use Prim.Native.Nat.{ℕ, _-_}
 use native.Mathlib.Omega.{arith}
+use lib.Dec.{ltb}
+use lib.ListN.{getD}
 use Rattle.tally.proofs.Taking.{countsOf, full-verdicts, full-accepted, full-members, last-covers, last-count}
 use Rattle.verdict.specs.Verdict.{reasonOf, verdictOf}
 use Rattle.verdict.proofs.Numbers.{numbered}
@@ -69,9 +73,11 @@ returns-4 c =
 
 returns-5 : tie.Need-returns-5
 returns-5 c =
-    let d = refused (c .before) in
-    let (why, rest) = d .v2 .given .0 in
-    rw (d .v2 .given .1, c .before .refusal-number .ensures) (last-count (begun-2 d .args .t) (reasonOf why) (rest .0) (omega arith))
+    let d = c .before .before .before in
+    let why = d .v2 .given .0 .0 in
+    let counted = c .before .refusal-number .ensures in
+    rw (d .v2 .given .1)
+    (ap (λ (n : ℕ). ltb (getD (begun-2 d .args .t .refusals) (n - 1) 0) 4294967295) counted ∙ last-count (begun-2 d .args .t) (reasonOf why) (d .v2 .given .0 .1 .0) (omega arith))
 
 pub is-fitting-spec : {M : Type 1} → statement M
 is-fitting-spec =
