@@ -1,6 +1,6 @@
 -- The text of a fraction and of the sheet.
 use mathlib.Core.List.{List, [], _∷_, _++_}
-use mathlib.Core.Path.{_≡_, refl, ap, _∙_}
+use mathlib.Core.Path.{_≡_, refl}
 use Prim.Native.Nat.{ℕ, _+_, _/_, _<_, _≤_}
 use native.Mathlib.Nat.{div-le-self, ne-of-gt}
 use native.Mathlib.Omega.{arith}
@@ -10,7 +10,7 @@ use Rattle.number.specs.CallResult.{lent}
 use Rattle.putting.specs.Digits.{digits}
 use Rattle.putting.specs.Put.{Put}
 use Rattle.putting.proofs.Decimal.{few-digits}
-use Rattle.putting.proofs.Putting.{put-more, put-first}
+use Rattle.putting.proofs.Putting.{put-more}
 use Rattle.sheet.specs.Lowest.{gcd}
 use Rattle.sheet.specs.Sheet.{noneText, shareText, coversText, fractionText, sheetText, reported}
 

@@ -1,6 +1,6 @@
 -- The parts of a verdict's line, put one after the other.
-use mathlib.Core.List.{List, [], _++_}
-use mathlib.Core.Path.{_≡_, refl, sym, ap, _∙_}
+use mathlib.Core.List.{List, _++_}
+use mathlib.Core.Path.{_≡_}
 use Prim.Native.Nat.{ℕ, _<_}
 use borrow.Author.Tests.{eq-eqb, ne-eqb}
 use native.Mathlib.Nat.{ne-of-gt}
@@ -10,7 +10,7 @@ use Rattle.putting.specs.Digits.{digits}
 use Rattle.putting.specs.Put.{Put}
 use Rattle.putting.proofs.Putting.{put-more, put-end}
 use Rattle.verdict.specs.Verdict.{ruleTold, nameTold}
-use Rattle.telling.specs.Line.{acceptedWords, membersWords, coversWords, linksWords, refusedWords, atWords, ruleWords, ofWords, ruleLine, verdictLine}
+use Rattle.telling.specs.Line.{acceptedWords, membersWords, coversWords, linksWords, refusedWords, atWords, ruleWords, ofWords, verdictLine}
 
 pub put-accepted : (c : Counts) {i j k n : ℕ} {out o₁ o₂ o₃ after : List ℕ} → Put 0 out (acceptedWords ++ digits (c .bads)) i o₁
     → Put i o₁ (membersWords ++ digits (c .members)) j o₂ → Put j o₂ (coversWords ++ digits (c .covers)) k o₃

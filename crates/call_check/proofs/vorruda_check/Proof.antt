@@ -1,6 +1,5 @@
 -- The verdict's number; 0 exactly where the conditions hold, and then no run meets a forbidden shape.
-use mathlib.Core.Path.{_≡_, ap, _∙_}
-use Prim.Native.Nat.{ℕ}
+use mathlib.Core.Path.{ap, _∙_}
 use Rattle.format.specs.Verdict.{Verdict}
 use Rattle.telling.proofs.Judging.{told}
 use Rattle.verdict.specs.Verdict.{verdictResult}

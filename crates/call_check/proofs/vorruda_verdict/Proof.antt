@@ -1,6 +1,5 @@
 -- The same as of `vorruda_check`, and the values lent.
-use mathlib.Core.Path.{_≡_, ap, _∙_}
-use Prim.Native.Nat.{ℕ}
+use mathlib.Core.Path.{ap, _∙_}
 use Rattle.call_check.proofs.Judging.{told-values}
 use Rattle.format.specs.Verdict.{Verdict}
 use Rattle.number.specs.CallResult.{lent}

@@ -1,7 +1,6 @@
 -- By whether the verdict fits.
-use mathlib.Core.Path.{_≡_, sym, ap, _∙_}
+use mathlib.Core.Path.{sym, ap, _∙_}
 use Rattle.tally.specs.declared.Tally.{Tally}
-use Rattle.tally.specs.declared.Taken.{Taken}
 use Rattle.verdict.specs.Verdict.{verdictOf}
 use Rattle.tally.proofs.Taking.{goes-in, is-full}
 use borrow.Author.Needs.{needs}

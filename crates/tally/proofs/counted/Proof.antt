@@ -1,6 +1,6 @@
 -- Each sum stays in 32 bits, since the verdict fits.
 use mathlib.Core.List.{List}
-use mathlib.Core.Path.{_≡_, refl, sym, ap, _∙_}
+use mathlib.Core.Path.{refl, sym, ap, _∙_}
 use Prim.Native.Nat.{ℕ, _+_, _-_, _≤_}
 use native.Mathlib.Omega.{arith}
 use Rattle.tally.specs.Tally.{oneMore, fits}

@@ -1,5 +1,4 @@
 -- By the verdict.
-use native.Mathlib.Omega.{arith}
 use borrow.Author.Needs.{needs}
 use Rattle.telling.proofs.put_line.Statement.{statement}
 use Rattle.telling.proofs.put_line.Tie as tie
