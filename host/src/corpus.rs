@@ -19,6 +19,7 @@ pub enum Expected {
     Beyond,
 }
 
+/// A routine that could be read.
 pub struct Entry {
     pub name: String,
     pub expected: Expected,
@@ -29,14 +30,25 @@ pub fn folder() -> PathBuf {
     Path::new(env!("CARGO_MANIFEST_DIR")).join("corpus")
 }
 
-/// All routines by name, or what is wrong with a file.
-pub fn read() -> Result<Vec<Entry>, String> {
-    read_folder(&folder())
+/// A file of a folder: its routine, or what is wrong with it.
+pub struct File {
+    pub name: String,
+    pub entry: Result<Entry, String>,
 }
 
-/// The routines of a folder by name, or what is wrong with a file.
-pub fn read_folder(folder: &Path) -> Result<Vec<Entry>, String> {
-    files(folder)?.iter().map(|path| entry(path)).collect()
+/// All routines by name, or what is wrong with a file.
+pub fn read() -> Result<Vec<Entry>, String> {
+    let files = read_folder(&folder())?.into_iter();
+    files.map(|file| file.entry).collect()
+}
+
+/// The files of a folder that are routines, by name.
+pub fn read_folder(folder: &Path) -> Result<Vec<File>, String> {
+    let file = |path: &PathBuf| File {
+        name: name_of(path),
+        entry: entry(path),
+    };
+    Ok(files(folder)?.iter().map(file).collect())
 }
 
 /// The files of a folder that are routines, in the order of their names.

@@ -88,6 +88,49 @@ fn pages_of_the_corpus() {
     }
 }
 
+/// Right, wrong, right but beyond the rules, and one with a mistake; each has a row and is counted.
+#[test]
+fn a_folder_with_a_mistaken_file() {
+    let from = Path::new(env!("CARGO_TARGET_TMPDIR")).join("mixed");
+    fs::create_dir_all(&from).unwrap();
+    for name in ["reverse", "wrong_delete_linked", "beyond_delete_first"] {
+        let file = format!("{name}.routine");
+        fs::copy(corpus::folder().join(&file), from.join(&file)).unwrap();
+    }
+    fs::write(from.join("faulty.listing"), "x := nul\n").unwrap();
+
+    // Without a folder for the pages they go below the usual one, beside the corpus' index.
+    let home = Path::new(env!("CARGO_TARGET_TMPDIR")).join("mixed_home");
+    let usual = home.join("build/report");
+    fs::create_dir_all(&usual).unwrap();
+    fs::write(usual.join("index.html"), "the corpus").unwrap();
+    let output = Command::new(env!("CARGO_BIN_EXE_report"))
+        .arg(&from)
+        .current_dir(&home)
+        .output()
+        .unwrap();
+    assert_eq!(output.status.code(), Some(2), "{output:?}");
+    let said = String::from_utf8(output.stderr).unwrap();
+    assert!(said.contains("faulty.listing: line 1, "), "{said}");
+    let printed = String::from_utf8(output.stdout).unwrap();
+    assert_eq!(printed, "build/report/mixed/index.html\n");
+    assert_eq!(page(&usual, "index"), "the corpus");
+
+    let folder = usual.join("mixed");
+    let index = page(&folder, "index");
+    assert_stands_alone("index", &index);
+    let totals = ">4 routines: 1 certified, 1 wrong, 1 beyond the rules, 0 not found, 1 mistaken \
+                  file.</p>";
+    assert!(index.contains(totals), "{index}");
+    assert_eq!(index.matches("<tr><td>").count(), 4);
+    let row = "<tr><td>faulty</td><td><pre>";
+    assert!(index.contains(row), "{index}");
+    assert!(!folder.join("faulty.html").exists());
+    for name in ["reverse", "wrong_delete_linked", "beyond_delete_first"] {
+        assert!(folder.join(format!("{name}.html")).is_file(), "{name}");
+    }
+}
+
 #[test]
 fn the_page_of_a_wrong_routine() {
     let page = page(

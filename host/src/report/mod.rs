@@ -11,7 +11,7 @@ mod index_page;
 mod routine_page;
 mod svg;
 
-pub use index_page::index_page;
+pub use index_page::{index_page, Row};
 pub use routine_page::routine_page;
 
 use std::time::Duration;

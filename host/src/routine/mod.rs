@@ -97,6 +97,30 @@ pub struct Origin {
     pub text: String,
 }
 
+/// What a line forbids, by its form.
+#[derive(Clone, Debug, PartialEq, Eq)]
+pub enum Forbids<'a> {
+    /// `steps`
+    Steps,
+    /// A ready set, as `lost block: x y`, by its name and its variables.
+    Set(String, Vec<&'a str>),
+    /// A shape of one's own.
+    Shape,
+}
+
+impl Origin {
+    pub fn forbids(&self) -> Forbids<'_> {
+        match self.text.split_once(':') {
+            Some((set, variables)) => {
+                let set: Vec<&str> = set.split_whitespace().collect();
+                Forbids::Set(set.join(" "), variables.split_whitespace().collect())
+            }
+            None if self.text == "steps" => Forbids::Steps,
+            None => Forbids::Shape,
+        }
+    }
+}
+
 impl fmt::Display for Origin {
     fn fmt(&self, f: &mut fmt::Formatter) -> fmt::Result {
         match self.line {
