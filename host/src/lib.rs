@@ -9,6 +9,7 @@ pub mod compare;
 pub mod corpus;
 pub mod definitions;
 pub mod draw;
+pub mod excluded;
 pub mod extremes;
 pub mod facts_text;
 pub mod judge;

@@ -34,6 +34,8 @@ fn a_certified_routine() {
         text.contains("\naccepted bads 17 members 116 covers 380 links 412\n"),
         "{text}"
     );
+    let words = "\nNo run of reverse, on lists of any length, comes to this: at mark 0 (line ";
+    assert!(text.contains(words), "{text}");
 }
 
 #[test]
@@ -103,8 +105,12 @@ fn a_plain_listing() {
     let (status, text) = tried(&[example]);
     assert_eq!(status, 0, "{text}");
     let verdict =
-        ": Reverses the list x into y.\naccepted bads 16 members 115 covers 379 links 412\n";
-    assert!(text.ends_with(verdict), "{text}");
+        ": Reverses the list x into y.\naccepted bads 16 members 115 covers 379 links 412\nNo run of ";
+    assert!(text.contains(verdict), "{text}");
+    let words = "reverse.listing, on lists of any length, comes to this: at mark 0 (line 14), y is no \
+                 list that ends at null, or a block is lost beside y; anywhere, a link is followed or \
+                 set at null or dangling.\n";
+    assert!(text.ends_with(words), "{text}");
 
     let path = file(
         "plain.listing",
@@ -178,8 +184,12 @@ fn tried_pair(name: &str, job: &[u8], certificate: &[u8]) -> (i32, String) {
 
 #[test]
 fn a_pair_of_ones_own() {
-    let accepted = "accepted bads 1 members 1 covers 1 links 0\n".to_string();
-    assert_eq!(tried_pair("holds", &JOB, &HOLDS), (0, accepted));
+    let (status, text) = tried_pair("holds", &JOB, &HOLDS);
+    assert_eq!(status, 0, "{text}");
+    let accepted = "accepted bads 1 members 1 covers 1 links 0\nNo run of ";
+    assert!(text.starts_with(accepted), "{text}");
+    let words = "holds_job.bin, on lists of any length, comes to this: at state 1, `shape 0`.\n";
+    assert!(text.ends_with(words), "{text}");
     let elsewhere = "\
 refused 9 at 5 rule 3 of 1
 v1 stands elsewhere: it is to stand at *, but stands at # in the covered shape.

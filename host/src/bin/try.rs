@@ -15,6 +15,7 @@ use std::{env, fs};
 use vorruda_host::check::check;
 use vorruda_host::corpus;
 use vorruda_host::draw;
+use vorruda_host::excluded;
 use vorruda_host::judge::{judge, Ending};
 use vorruda_host::reference::certificate::Certificate;
 use vorruda_host::reference::job::Job;
@@ -71,7 +72,7 @@ fn try_one(name: &str, folder: Option<&Path>) -> Result<Answer, String> {
         _ => ExitCode::FAILURE,
     };
     let mut text = heading(name, &routine);
-    tell(&mut text, &routine, &ending).expect("a string takes all");
+    tell(&mut text, name, &routine, &ending).expect("a string takes all");
     Ok((text, status))
 }
 
@@ -98,7 +99,8 @@ fn try_certificate(name: &str, certificate: &str) -> Result<Answer, String> {
     };
     let certificate = read(certificate)?;
     let verdict = check(&job, &certificate);
-    tell_verdict(&mut text, routine.as_ref(), &certificate, &verdict).expect("a string takes all");
+    let named = routine.as_ref().map(|routine| (name, routine));
+    tell_verdict(&mut text, named, &certificate, &verdict).expect("a string takes all");
     Ok((text, status_of(&verdict)))
 }
 
@@ -118,27 +120,33 @@ fn heading(name: &str, routine: &Routine) -> String {
     text
 }
 
-/// Tells a verdict, and what a cover breaks that doesn't hold. There is no routine where the job can't
-/// be read.
+/// Tells a verdict, and in words what can't happen, or what a cover breaks that doesn't hold. There is
+/// no routine where the job can't be read.
 fn tell_verdict(
     text: &mut String,
-    routine: Option<&Routine>,
+    named: Option<(&str, &Routine)>,
     certificate: &[u8],
     verdict: &Verdict,
 ) -> std::fmt::Result {
     writeln!(text, "{verdict}")?;
-    let refused = routine.and_then(|routine| RefusedCover::of(routine, certificate, verdict));
-    if let Some(cover) = refused {
-        writeln!(text, "{}\n\n{}", cover.how(), cover.drawn().join("\n"))?;
+    let Some((name, routine)) = named else {
+        return Ok(());
+    };
+    if let Verdict::Accepted(_) = verdict {
+        return writeln!(text, "{}", excluded::sentence(name, routine));
     }
-    Ok(())
+    match RefusedCover::of(routine, certificate, verdict) {
+        Some(cover) => writeln!(text, "{}\n\n{}", cover.how(), cover.drawn().join("\n")),
+        None => Ok(()),
+    }
 }
 
 /// Tells how a routine ends, and why.
-fn tell(text: &mut String, routine: &Routine, ending: &Ending) -> std::fmt::Result {
+fn tell(text: &mut String, name: &str, routine: &Routine, ending: &Ending) -> std::fmt::Result {
     match ending {
         Ending::Certified(certificate, verdict) => {
-            tell_verdict(text, Some(routine), &certificate.bytes(), verdict)
+            let named = Some((name, routine));
+            tell_verdict(text, named, &certificate.bytes(), verdict)
         }
         Ending::Wrong(run) => tell_run(text, routine, run),
         Ending::Beyond(chain, bound) => {

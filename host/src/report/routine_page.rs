@@ -7,6 +7,7 @@ use super::fault::fault;
 use super::html::{escape, page};
 use super::{explain, graph};
 use crate::draw;
+use crate::excluded;
 use crate::judge::{Ending, Judged};
 use crate::reference::certificate::Certificate;
 use crate::reference::heap::Heap;
@@ -52,7 +53,7 @@ pub fn routine_page(name: &str, routine: &Routine, judged: &Judged) -> String {
     }
     let run: &[usize] = match &judged.ending {
         Ending::Certified(certificate, verdict) => {
-            body += &certified(routine, certificate, verdict);
+            body += &certified(name, routine, certificate, verdict);
             &[]
         }
         Ending::Wrong(run) => {
@@ -100,14 +101,16 @@ fn banner(class: &str, heading: &str, text: &str) -> String {
     )
 }
 
-fn certified(routine: &Routine, certificate: &Certificate, verdict: &Verdict) -> String {
+fn certified(
+    name: &str,
+    routine: &Routine,
+    certificate: &Certificate,
+    verdict: &Verdict,
+) -> String {
     if let Verdict::Accepted(_) = verdict {
-        return banner(
-            "good",
-            "Certified",
-            "No run of this routine, on lists of any length, meets what is forbidden below. The \
-             proved checker has accepted the certificate.",
-        );
+        let sentence = excluded::sentence(name, routine);
+        let text = format!("{sentence} The proved checker has accepted the certificate.");
+        return banner("good", "Certified", &text);
     }
     let refused = |how: &str| banner("bad", "The certificate is refused", how);
     match RefusedCover::of(routine, &certificate.bytes(), verdict) {

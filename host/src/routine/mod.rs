@@ -170,6 +170,21 @@ impl Routine {
         }
     }
 
+    /// A state as a person finds it: a mark with its line, or else the state's name.
+    pub fn place(&self, state: u64) -> String {
+        let name = &self.states[state as usize];
+        match self.mark(state) {
+            Some(mark) => format!("{mark} ({name})"),
+            None => name.clone(),
+        }
+    }
+
+    /// The mark of the listing at a state.
+    pub fn mark(&self, state: u64) -> Option<&str> {
+        let statement = self.statement(state);
+        statement.filter(|statement| statement.starts_with("mark"))
+    }
+
     /// The line of the listing that begins at a state.
     pub fn statement(&self, state: u64) -> Option<&str> {
         self.statements.get(state as usize).map(String::as_str)
