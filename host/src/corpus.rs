@@ -13,6 +13,8 @@ use crate::text::nearest;
 pub enum Expected {
     /// Right, and to be certified.
     Certified,
+    /// `warned_`: certified, but a run stops at a line, or none reaches what is forbidden.
+    Warned,
     /// `wrong_`: a run meets what is forbidden.
     Wrong,
     /// `beyond_`: right, but the rules forget too much to certify it.
@@ -118,6 +120,7 @@ fn entry(path: &Path) -> Result<Entry, String> {
     let name = name_of(path);
     Ok(Entry {
         expected: match &name {
+            name if name.starts_with("warned_") => Expected::Warned,
             name if name.starts_with("wrong_") => Expected::Wrong,
             name if name.starts_with("beyond_") => Expected::Beyond,
             _ => Expected::Certified,
@@ -127,7 +130,7 @@ fn entry(path: &Path) -> Result<Entry, String> {
     })
 }
 
-/// The pairs of the routines that are certified, by name.
+/// The pairs of the routines that are certified without a warning, by name.
 pub fn certified() -> Result<Vec<(String, Pair)>, String> {
     let pair = |entry: Entry| match search(&entry.routine.job) {
         Outcome::Certified(certificate) => Some((
@@ -139,5 +142,7 @@ pub fn certified() -> Result<Vec<(String, Pair)>, String> {
         )),
         _ => None,
     };
-    Ok(read()?.into_iter().filter_map(pair).collect())
+    let entries = read()?.into_iter();
+    let certified = entries.filter(|entry| entry.expected == Expected::Certified);
+    Ok(certified.filter_map(pair).collect())
 }

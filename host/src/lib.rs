@@ -4,6 +4,7 @@
 
 pub mod baseline;
 pub mod bench;
+pub mod beyond;
 pub mod check;
 pub mod compare;
 pub mod corpus;
@@ -16,6 +17,7 @@ pub mod judge;
 pub mod library;
 pub mod list_library;
 pub mod listings;
+pub mod outlook;
 pub mod pairs;
 pub mod random;
 pub mod reference;

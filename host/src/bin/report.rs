@@ -91,7 +91,7 @@ fn write_folder(title: &str, from: &Path, into: &Path) -> Result<Written, String
 }
 
 fn write_routine(entry: &Entry, into: &Path) -> Result<(PathBuf, Judged), String> {
-    let judged = judge(&entry.routine.job);
+    let judged = judge(&entry.routine);
     let page = routine_page(&entry.name, &entry.routine, &judged);
     Ok((write_page(into, &entry.name, &page)?, judged))
 }

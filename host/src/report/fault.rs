@@ -3,14 +3,15 @@
 use std::collections::BTreeSet;
 
 use super::cells::Marks;
-use super::images::images;
 use crate::facts_text::facts_text;
 use crate::reference::facts::{Fact, Relation};
 use crate::reference::heap::{Heap, Place};
 use crate::reference::operation::{Operation, LOAD, STORE};
 use crate::reference::shape::Shape;
 use crate::routine::{Forbids, Origin, Routine};
-use crate::search::run::Run;
+use crate::search::flat_heap::FlatHeap;
+use crate::search::run::WrongRun;
+use crate::search::satisfied::images;
 
 /// What is wrong with the last heap of a run.
 #[derive(Clone, Debug, PartialEq, Eq)]
@@ -21,15 +22,14 @@ pub struct Fault {
     pub marks: Marks,
 }
 
-pub fn fault(routine: &Routine, run: &Run) -> Fault {
-    let bad = &routine.job.forbidden[run.forbidden];
-    let heap = run.heaps.last().expect("a run has a heap");
+pub fn fault(routine: &Routine, wrong: &WrongRun) -> Fault {
+    let bad = &routine.job.forbidden[wrong.forbidden];
     let met = Met {
         routine,
         shape: &bad.shape,
-        heap,
+        heap: wrong.run.last(),
     };
-    let origin = &routine.origins[run.forbidden];
+    let origin = &routine.origins[wrong.forbidden];
     match origin.forbids() {
         Forbids::Steps => met.blocked_step(bad.state),
         Forbids::Set(set, variables) => match &set[..] {
@@ -126,7 +126,10 @@ impl Met<'_> {
 
     /// Where the heap has the cells of the shape.
     fn images(&self) -> Vec<usize> {
-        images(self.shape, self.heap).expect("a run's last heap satisfies the shape")
+        let cells: Vec<usize> = self.heap.links.keys().copied().collect();
+        let images = images(self.shape, &FlatHeap::of_heap(self.heap));
+        let images = images.expect("a run's last heap satisfies the shape");
+        images.into_iter().map(|image| cells[image]).collect()
     }
 
     /// What the shape itself says, as far as there are words for it.
@@ -368,13 +371,14 @@ mod tests {
     use crate::judge::{judge, Ending};
     use crate::reference::job::Located;
     use crate::routine::parse;
+    use crate::search::run::Run;
 
     fn of(name: &str) -> (Fault, Heap) {
         let routine = corpus::find(name).unwrap().routine;
-        let Ending::Wrong(run) = judge(&routine.job).ending else {
+        let Ending::Wrong(wrong) = judge(&routine).ending else {
             panic!("{name} is not wrong");
         };
-        (fault(&routine, &run), run.heaps.last().unwrap().clone())
+        (fault(&routine, &wrong), wrong.run.last().clone())
     }
 
     #[test]
@@ -427,9 +431,9 @@ mod tests {
         let run = Run {
             transitions: Vec::new(),
             heaps: vec![last],
-            forbidden: 0,
         };
-        fault(&routine, &run)
+        let wrong = WrongRun { run, forbidden: 0 };
+        fault(&routine, &wrong)
     }
 
     #[test]
@@ -470,10 +474,10 @@ mod tests {
              0\n\nforbidden\nmark 0 {forbidden}\n"
         );
         let routine = parse(&text).unwrap();
-        let Ending::Wrong(run) = judge(&routine.job).ending else {
+        let Ending::Wrong(wrong) = judge(&routine).ending else {
             panic!("{forbidden} is not met");
         };
-        fault(&routine, &run)
+        fault(&routine, &wrong)
     }
 
     /// A shape with a cell whose link it doesn't tell isn't a lost block, and a cell named as a set
@@ -508,8 +512,8 @@ mod tests {
     #[test]
     fn every_wrong_routine_has_marks() {
         for entry in corpus::read().unwrap() {
-            if let Ending::Wrong(run) = judge(&entry.routine.job).ending {
-                let marks = fault(&entry.routine, &run).marks;
+            if let Ending::Wrong(wrong) = judge(&entry.routine).ending {
+                let marks = fault(&entry.routine, &wrong).marks;
                 assert_ne!(marks, Marks::default(), "{}", entry.name);
             }
         }

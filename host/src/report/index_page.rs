@@ -16,6 +16,7 @@ pub struct Row {
 #[derive(Clone, Copy, PartialEq, Eq)]
 enum Answer {
     Certified,
+    Warned,
     Wrong,
     Beyond,
     NotFound,
@@ -23,8 +24,9 @@ enum Answer {
 }
 
 impl Answer {
-    const ALL: [Answer; 5] = [
+    const ALL: [Answer; 6] = [
         Answer::Certified,
+        Answer::Warned,
         Answer::Wrong,
         Answer::Beyond,
         Answer::NotFound,
@@ -34,8 +36,9 @@ impl Answer {
     fn of(row: &Row) -> Answer {
         match &row.judged {
             Err(_) => Answer::Mistaken,
-            Ok((_, judged)) => match judged.ending.expected() {
+            Ok((_, judged)) => match judged.expected() {
                 Some(Expected::Certified) => Answer::Certified,
+                Some(Expected::Warned) => Answer::Warned,
                 Some(Expected::Wrong) => Answer::Wrong,
                 Some(Expected::Beyond) => Answer::Beyond,
                 None => Answer::NotFound,
@@ -46,6 +49,7 @@ impl Answer {
     fn words(self) -> &'static str {
         match self {
             Answer::Certified => "certified",
+            Answer::Warned => "certified with a warning",
             Answer::Wrong => "wrong",
             Answer::Beyond => "beyond the rules",
             Answer::NotFound => "not found",
@@ -57,7 +61,7 @@ impl Answer {
         match self {
             Answer::Certified => "good",
             Answer::Wrong | Answer::Mistaken => "bad",
-            Answer::Beyond | Answer::NotFound => "open",
+            Answer::Warned | Answer::Beyond | Answer::NotFound => "open",
         }
     }
 }

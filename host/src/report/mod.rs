@@ -6,7 +6,6 @@ mod explain;
 mod fault;
 mod graph;
 mod html;
-mod images;
 mod index_page;
 mod routine_page;
 mod svg;
