@@ -20,17 +20,21 @@ impl Beyond {
         let origin = &routine.origins[chain.forbidden];
         Beyond {
             found: format!(
-                "No certificate exists while {origin} at {place}: by the rules for shapes that goes back \
-                 to the empty heap."
+                "No certificate exists while {origin} at {place}: by the rules for shapes that \
+                 goes back to the empty heap."
             ),
             looked: format!(
-                "No run was found that meets it, among {looked}; and by the lines of the chain alone, \
-                 among {along}. A run with more cells may still meet it."
+                "No run was found that meets it, among {looked}; and by the lines of the chain \
+                 alone, among {along}. A run with more cells may still meet it."
             ),
             next: format!("{} {ANYHOW}", next(routine, chain)),
         }
     }
 }
+
+/// What may help where the search came to a limit.
+pub const AT_A_LIMIT: &str = "What to do: forbid the lines in two routines that are otherwise the \
+                              same, or spare a variable or a state (docs/CORPUS.md, Limits).";
 
 const ANYHOW: &str = "Or leave this line out, and see whether all else is certified.";
 
@@ -42,13 +46,14 @@ fn next(routine: &Routine, chain: &Chain) -> &'static str {
     let links = &job.forbidden[chain.forbidden].shape.links;
     match deletes && links.contains(&Some(Place::Dangling)) {
         true => {
-            "What to do: going back over a delete forgets which links dangle. Set the links again behind \
-             the last delete, or forbid all but links to * (docs/CORPUS.md, Delete and keep a list)."
+            "What to do: going back over a delete forgets which links dangle. Set the links again \
+             behind the last delete, or forbid all but links to * (docs/CORPUS.md, Delete and keep \
+             a list)."
         }
         false => {
-            "What to do: a path of several cells counts as one link, so nothing can rest on how many \
-             cells lie between two variables. Follow the chain to the line where it goes as no run \
-             does, and move the variables in another order there (docs/CORPUS.md, Counting)."
+            "What to do: a path of several cells counts as one link, so nothing can rest on how \
+             many cells lie between two variables. Follow the chain to the line where it goes as \
+             no run does, and move the variables in another order there (docs/CORPUS.md, Counting)."
         }
     }
 }

@@ -66,8 +66,28 @@ impl Outlook {
 
     /// What to warn of.
     pub fn warnings<'a>(&'a self, routine: &Routine) -> Vec<Warning<'a>> {
-        let stops = self.stops.iter().map(|stop| of_stop(routine, stop));
+        let stops = self.stops.iter().map(|stop| self.of_stop(routine, stop));
         stops.chain(self.of_unreached(routine)).collect()
+    }
+
+    fn of_stop<'a>(&self, routine: &Routine, stop: &'a Stop) -> Warning<'a> {
+        let transition = &routine.job.transitions[stop.transition];
+        let state = &routine.states[transition.from as usize];
+        let line = match routine.statement(transition.from) {
+            Some(statement) => statement.to_string(),
+            None => routine.operation(stop.transition),
+        };
+        let why = reason(routine, stop);
+        Warning {
+            what: format!("a run stops at {state}, `{line}`: {why}"),
+            meaning: format!(
+                "The line can't be carried out, and by the rules the run ends there. The verdict \
+                 says nothing of what the controller does then. Such runs were looked for among \
+                 {}.",
+                self.bound
+            ),
+            run: Some(&stop.run),
+        }
     }
 
     fn of_unreached(&self, routine: &Routine) -> Option<Warning<'static>> {
@@ -76,32 +96,12 @@ impl Outlook {
         (!places.is_empty()).then(|| Warning {
             what: format!("no run was found that reaches {}", places.join(", ")),
             meaning: format!(
-                "If there is none, what is forbidden there says nothing of the routine. Runs were looked \
-                 for among {}.",
+                "If there is none, what is forbidden there says nothing of the routine. Runs were \
+                 looked for among {}.",
                 self.bound
             ),
             run: None,
         })
-    }
-}
-
-fn of_stop<'a>(routine: &Routine, stop: &'a Stop) -> Warning<'a> {
-    let transition = &routine.job.transitions[stop.transition];
-    let state = &routine.states[transition.from as usize];
-    let line = match routine.statement(transition.from) {
-        Some(statement) => statement.to_string(),
-        None => routine.operation(stop.transition),
-    };
-    Warning {
-        what: format!(
-            "a run stops at {state}, `{line}`: {}",
-            reason(routine, stop)
-        ),
-        meaning:
-            "The line can't be carried out, and by the rules the run ends there. The verdict says \
-                  nothing of what the controller does then."
-                .to_string(),
-        run: Some(&stop.run),
     }
 }
 

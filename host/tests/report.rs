@@ -94,6 +94,7 @@ fn pages_of_the_corpus() {
         if let Some((before, _)) = page.split_once("<h2>Certified</h2>") {
             let warns = before.contains("<h2>Warning: ");
             assert_eq!(warns, entry.expected == Expected::Warned, "{name}");
+            assert!(page.contains("\n<p>Looking forward went over "), "{name}");
         }
         let row = index
             .lines()

@@ -65,11 +65,16 @@ fn a_run_that_stops_is_a_warning() {
     for line in [
         "Warning: a run stops at line 15, `while y != null`: y dangles. The line can't be carried \
          out, and by the rules the run ends there. The verdict says nothing of what the controller \
-         does then.",
+         does then. Such runs were looked for among ",
         "The run (# is null, * dangling):",
     ] {
-        assert!(before.lines().any(|other| other == line), "{line}\n{text}");
+        let mut lines = before.lines();
+        assert!(lines.any(|other| other.starts_with(line)), "{line}\n{text}");
     }
+    assert!(
+        before.contains(" heaps, all those of runs with up to "),
+        "{text}"
+    );
     assert!(before.contains("  line 12  delete(x)"), "{text}");
 
     let (status, text) = tried(&["warned_mark_unreached"]);
@@ -102,6 +107,23 @@ fn a_warning_ahead_of_ones_own_certificate() {
     let certificate = folder.join("cert.bin");
     let again = tried(&["warned_never_set", certificate.to_str().unwrap()]);
     assert_eq!(again, (0, text));
+}
+
+/// The same routine is certified where that isn't forbidden.
+#[test]
+fn a_limit_says_what_can_be_done() {
+    let known = corpus::folder().join("selection_sort_values.routine");
+    let text = fs::read_to_string(known).unwrap();
+    let path = file("limit.routine", text + "end lost block: y\n");
+    let (status, text) = tried(&[path.to_str().unwrap()]);
+    assert_eq!(status, 1, "{text}");
+    for said in [
+        "\nNo certificate found: 544 members are needed, 512 are allowed.\n",
+        "\nNo run was found that meets what is forbidden, among ",
+        "\nWhat to do: forbid the lines in two routines that are otherwise the same, ",
+    ] {
+        assert!(text.contains(said), "{said}\n{text}");
+    }
 }
 
 /// Ten times `x := x.next` and then a ring: no list of ten blocks shows it.

@@ -12,7 +12,7 @@ use std::path::Path;
 use std::process::ExitCode;
 use std::{env, fs};
 
-use vorruda_host::beyond::Beyond;
+use vorruda_host::beyond::{Beyond, AT_A_LIMIT};
 use vorruda_host::check::check;
 use vorruda_host::corpus;
 use vorruda_host::draw;
@@ -196,7 +196,7 @@ fn tell(text: &mut String, name: &str, routine: &Routine, ending: &Ending) -> st
             writeln!(text, "No certificate found: {limit}.")?;
             writeln!(
                 text,
-                "No run was found that meets what is forbidden, among {bound}."
+                "No run was found that meets what is forbidden, among {bound}.\n{AT_A_LIMIT}"
             )
         }
     }

@@ -6,7 +6,7 @@ use super::cells::{Frame, Marks, Scene};
 use super::fault::fault;
 use super::html::{escape, page};
 use super::{explain, graph};
-use crate::beyond::Beyond;
+use crate::beyond::{Beyond, AT_A_LIMIT};
 use crate::draw;
 use crate::excluded;
 use crate::judge::{Ending, Judged};
@@ -88,7 +88,7 @@ pub fn routine_page(name: &str, routine: &Routine, judged: &Judged) -> String {
                 "No certificate found",
                 &format!(
                     "The search gave up: {limit}. No run was found that meets what is forbidden, \
-                     among {bound}."
+                     among {bound}. {AT_A_LIMIT}"
                 ),
             );
             &[]
@@ -103,6 +103,10 @@ pub fn routine_page(name: &str, routine: &Routine, judged: &Judged) -> String {
             body += &titled_run(routine, &title, run);
         }
     }
+    body += &format!(
+        "<p>Looking forward went over {}.</p>\n",
+        judged.outlook.bound
+    );
     body += &counts(routine, judged);
     body += &forbidden(routine);
     body += &listing(routine);
