@@ -13,12 +13,15 @@ use crate::text::nearest;
 pub enum Expected {
     /// Right, and to be certified.
     Certified,
+    /// `warned_`: certified, but a run stops at a line, or none reaches what is forbidden.
+    Warned,
     /// `wrong_`: a run meets what is forbidden.
     Wrong,
     /// `beyond_`: right, but the rules forget too much to certify it.
     Beyond,
 }
 
+/// A routine that could be read.
 pub struct Entry {
     pub name: String,
     pub expected: Expected,
@@ -29,14 +32,25 @@ pub fn folder() -> PathBuf {
     Path::new(env!("CARGO_MANIFEST_DIR")).join("corpus")
 }
 
-/// All routines by name, or what is wrong with a file.
-pub fn read() -> Result<Vec<Entry>, String> {
-    read_folder(&folder())
+/// A file of a folder: its routine, or what is wrong with it.
+pub struct File {
+    pub name: String,
+    pub entry: Result<Entry, String>,
 }
 
-/// The routines of a folder by name, or what is wrong with a file.
-pub fn read_folder(folder: &Path) -> Result<Vec<Entry>, String> {
-    files(folder)?.iter().map(|path| entry(path)).collect()
+/// All routines by name, or what is wrong with a file.
+pub fn read() -> Result<Vec<Entry>, String> {
+    let files = read_folder(&folder())?.into_iter();
+    files.map(|file| file.entry).collect()
+}
+
+/// The files of a folder that are routines, by name.
+pub fn read_folder(folder: &Path) -> Result<Vec<File>, String> {
+    let file = |path: &PathBuf| File {
+        name: name_of(path),
+        entry: entry(path),
+    };
+    Ok(files(folder)?.iter().map(file).collect())
 }
 
 /// The files of a folder that are routines, in the order of their names.
@@ -106,6 +120,7 @@ fn entry(path: &Path) -> Result<Entry, String> {
     let name = name_of(path);
     Ok(Entry {
         expected: match &name {
+            name if name.starts_with("warned_") => Expected::Warned,
             name if name.starts_with("wrong_") => Expected::Wrong,
             name if name.starts_with("beyond_") => Expected::Beyond,
             _ => Expected::Certified,
@@ -115,7 +130,7 @@ fn entry(path: &Path) -> Result<Entry, String> {
     })
 }
 
-/// The pairs of the routines that are certified, by name.
+/// The pairs of the routines that are certified without a warning, by name.
 pub fn certified() -> Result<Vec<(String, Pair)>, String> {
     let pair = |entry: Entry| match search(&entry.routine.job) {
         Outcome::Certified(certificate) => Some((
@@ -127,5 +142,7 @@ pub fn certified() -> Result<Vec<(String, Pair)>, String> {
         )),
         _ => None,
     };
-    Ok(read()?.into_iter().filter_map(pair).collect())
+    let entries = read()?.into_iter();
+    let certified = entries.filter(|entry| entry.expected == Expected::Certified);
+    Ok(certified.filter_map(pair).collect())
 }

@@ -317,7 +317,7 @@ forbidden
 end       ring: x
 ";
         let routine = parse(text).unwrap();
-        let Ending::Wrong(found) = judge(&routine.job).ending else {
+        let Ending::Wrong(found) = judge(&routine).ending else {
             panic!("no run");
         };
         let expected = "
@@ -331,6 +331,6 @@ end       ring: x
     4  kept   x.next := x  [2 x] -> back to [2 x]
                            y at *
 ";
-        assert_eq!(format!("\n{}", run(&found, &routine)), expected);
+        assert_eq!(format!("\n{}", run(&found.run, &routine)), expected);
     }
 }

@@ -4,17 +4,20 @@
 
 pub mod baseline;
 pub mod bench;
+pub mod beyond;
 pub mod check;
 pub mod compare;
 pub mod corpus;
 pub mod definitions;
 pub mod draw;
+pub mod excluded;
 pub mod extremes;
 pub mod facts_text;
 pub mod judge;
 pub mod library;
 pub mod list_library;
 pub mod listings;
+pub mod outlook;
 pub mod pairs;
 pub mod random;
 pub mod reference;

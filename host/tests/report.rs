@@ -3,10 +3,9 @@
 use std::fs;
 use std::path::{Path, PathBuf};
 use std::process::Command;
-use std::time::Duration;
 
 use vorruda_host::corpus::{self, Expected};
-use vorruda_host::judge::{Ending, Judged};
+use vorruda_host::judge::{judge, Ending, Judged};
 use vorruda_host::reference::checker::check;
 use vorruda_host::reference::facts::Fact;
 use vorruda_host::reference::heap::Heap;
@@ -17,7 +16,7 @@ use vorruda_host::reference::shape::Shape;
 use vorruda_host::reference::version::Version;
 use vorruda_host::report::routine_page;
 use vorruda_host::routine::{Origin, Routine};
-use vorruda_host::search::run::Run;
+use vorruda_host::search::run::{Run, WrongRun};
 use vorruda_host::search::{search, Outcome};
 
 /// Runs the command, and gives the folder of its pages.
@@ -73,11 +72,30 @@ fn pages_of_the_corpus() {
         assert_eq!(page.matches("<svg class=\"graph\"").count(), 1, "{name}");
         let verdict = match entry.expected {
             Expected::Certified => ("good", "certified", "<h2>Certified</h2>"),
+            Expected::Warned => ("open", "certified with a warning", "<h2>Certified</h2>"),
             Expected::Wrong => ("bad", "wrong", "<h2>Wrong: "),
-            Expected::Beyond => ("open", "beyond the rules", "<h2>No certificate exists</h2>"),
+            Expected::Beyond => (
+                "open",
+                "beyond the rules",
+                "<h2>No certificate, and no run found</h2>",
+            ),
         };
         let (class, word, heading) = verdict;
         assert!(page.contains(heading), "{name}");
+        let is_certified = heading == "<h2>Certified</h2>";
+        let routine = &entry.routine;
+        for state in (0..routine.job.states).filter(|&state| routine.mark(state).is_some()) {
+            let said =
+                |words: &str| page.contains(&format!("<h2>{words}{}</h2>", routine.place(state)));
+            let is_unreached = said("Warning: no run was found that reaches ");
+            let is_reached = said("A run that reaches ");
+            assert_eq!(is_reached, is_certified && !is_unreached, "{name}");
+        }
+        if let Some((before, _)) = page.split_once("<h2>Certified</h2>") {
+            let warns = before.contains("<h2>Warning: ");
+            assert_eq!(warns, entry.expected == Expected::Warned, "{name}");
+            assert!(page.contains("\n<p>Looking forward went over "), "{name}");
+        }
         let row = index
             .lines()
             .find(|line| line.contains(&format!("<a href=\"{name}.html\">")));
@@ -85,6 +103,49 @@ fn pages_of_the_corpus() {
         assert!(row.is_some_and(|row| row.contains(&in_row)), "{name}");
         let is_marked = page.contains("cell bad") || page.contains("chip bad");
         assert_eq!(is_marked, entry.expected == Expected::Wrong, "{name}");
+    }
+}
+
+/// Right, wrong, right but beyond the rules, and one with a mistake; each has a row and is counted.
+#[test]
+fn a_folder_with_a_mistaken_file() {
+    let from = Path::new(env!("CARGO_TARGET_TMPDIR")).join("mixed");
+    fs::create_dir_all(&from).unwrap();
+    for name in ["reverse", "wrong_delete_linked", "beyond_delete_first"] {
+        let file = format!("{name}.routine");
+        fs::copy(corpus::folder().join(&file), from.join(&file)).unwrap();
+    }
+    fs::write(from.join("faulty.listing"), "x := nul\n").unwrap();
+
+    // Without a folder for the pages they go below the usual one, beside the corpus' index.
+    let home = Path::new(env!("CARGO_TARGET_TMPDIR")).join("mixed_home");
+    let usual = home.join("build/report");
+    fs::create_dir_all(&usual).unwrap();
+    fs::write(usual.join("index.html"), "the corpus").unwrap();
+    let output = Command::new(env!("CARGO_BIN_EXE_report"))
+        .arg(&from)
+        .current_dir(&home)
+        .output()
+        .unwrap();
+    assert_eq!(output.status.code(), Some(2), "{output:?}");
+    let said = String::from_utf8(output.stderr).unwrap();
+    assert!(said.contains("faulty.listing: line 1, "), "{said}");
+    let printed = String::from_utf8(output.stdout).unwrap();
+    assert_eq!(printed, "build/report/mixed/index.html\n");
+    assert_eq!(page(&usual, "index"), "the corpus");
+
+    let folder = usual.join("mixed");
+    let index = page(&folder, "index");
+    assert_stands_alone("index", &index);
+    let totals = ">4 routines: 1 certified, 0 certified with a warning, 1 wrong, 1 beyond the \
+                  rules, 0 not found, 1 mistaken file.</p>";
+    assert!(index.contains(totals), "{index}");
+    assert_eq!(index.matches("<tr><td>").count(), 4);
+    let row = "<tr><td>faulty</td><td><pre>";
+    assert!(index.contains(row), "{index}");
+    assert!(!folder.join("faulty.html").exists());
+    for name in ["reverse", "wrong_delete_linked", "beyond_delete_first"] {
+        assert!(folder.join(format!("{name}.html")).is_file(), "{name}");
     }
 }
 
@@ -124,7 +185,7 @@ fn the_page_of_a_refused_certificate() {
     let verdict = check(&routine.job.bytes(), &certificate.bytes());
     let judged = Judged {
         ending: Ending::Certified(certificate, verdict),
-        time: Duration::ZERO,
+        ..judge(&routine)
     };
     let page = routine_page("reverse", &routine, &judged);
     assert_stands_alone("reverse", &page);
@@ -182,17 +243,17 @@ fn unsorted() -> Routine {
 }
 
 /// The run through all of its steps.
-fn run_of(routine: &Routine) -> Run {
+fn run_of(routine: &Routine) -> WrongRun {
     let mut heaps = vec![Heap::empty(2)];
     for (transition, (_, _, _, choice)) in routine.job.transitions.iter().zip(STEPS) {
         let after = heaps[heaps.len() - 1].after(transition.operation, choice);
         heaps.push(after.expect("the step is enabled"));
     }
-    Run {
+    let run = Run {
         transitions: (0..STEPS.len()).collect(),
         heaps,
-        forbidden: 0,
-    }
+    };
+    WrongRun { run, forbidden: 0 }
 }
 
 #[test]
@@ -200,7 +261,7 @@ fn the_page_of_a_run_with_values() {
     let routine = unsorted();
     let judged = Judged {
         ending: Ending::Wrong(run_of(&routine)),
-        time: Duration::ZERO,
+        ..judge(&routine)
     };
     let page = routine_page("unsorted", &routine, &judged);
     assert_stands_alone("unsorted", &page);

@@ -2,7 +2,7 @@
 
 mod common;
 
-use common::{assert_chain_holds, assert_run_holds};
+use common::{assert_chain_holds, assert_wrong_run_holds};
 use vorruda_host::pairs::{accepted_pairs, Pair};
 use vorruda_host::reference::checker::check;
 use vorruda_host::reference::job::Job;
@@ -21,11 +21,11 @@ fn is_certified(job: &Job) -> bool {
             );
             true
         }
-        Outcome::Wrong(run) => {
-            assert_run_holds(job, &run, &format!("{job:?}"));
+        Outcome::Wrong(wrong) => {
+            assert_wrong_run_holds(job, &wrong, &format!("{job:?}"));
             false
         }
-        Outcome::Impossible(chain, _) => {
+        Outcome::Impossible { chain, .. } => {
             assert_chain_holds(job, &chain, &format!("{job:?}"));
             false
         }

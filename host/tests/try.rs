@@ -34,6 +34,8 @@ fn a_certified_routine() {
         text.contains("\naccepted bads 17 members 116 covers 380 links 412\n"),
         "{text}"
     );
+    let words = "\nNo run of reverse, on lists of any length, comes to this: at mark 0 (line ";
+    assert!(text.contains(words), "{text}");
 }
 
 #[test]
@@ -54,12 +56,111 @@ fn a_wrong_routine_shows_a_run() {
     }
 }
 
+/// The warning stands before the verdict, with the run, and the exit status is the verdict's.
+#[test]
+fn a_run_that_stops_is_a_warning() {
+    let (status, text) = tried(&["warned_delete_twice"]);
+    assert_eq!(status, 0, "{text}");
+    let (before, _) = text.split_once("\naccepted bads ").expect("it is accepted");
+    for line in [
+        "Warning: a run stops at line 15, `while y != null`: y dangles. The line can't be carried \
+         out, and by the rules the run ends there. The verdict says nothing of what the controller \
+         does then. Such runs were looked for among ",
+        "The run (# is null, * dangling):",
+    ] {
+        let mut lines = before.lines();
+        assert!(lines.any(|other| other.starts_with(line)), "{line}\n{text}");
+    }
+    assert!(
+        before.contains(" heaps, all those of runs with up to "),
+        "{text}"
+    );
+    assert!(before.contains("  line 12  delete(x)"), "{text}");
+
+    let (status, text) = tried(&["warned_mark_unreached"]);
+    assert_eq!(status, 0, "{text}");
+    let warning =
+        "Warning: no run was found that reaches mark 0 (line 13). If there is none, what is \
+                   forbidden there says nothing of the routine. Runs were looked for among ";
+    assert!(text.contains(warning), "{text}");
+    for (name, warning) in [
+        ("warned_never_set", "line 10, `x := y`: y was never set. "),
+        ("warned_link_of_null", "line 17, `l.next := n`: l is null. "),
+        (
+            "warned_use_after_delete",
+            "line 9, `if h != null`: h dangles. ",
+        ),
+    ] {
+        let (status, text) = tried(&[name]);
+        assert_eq!(status, 0, "{text}");
+        let warning = format!("\nWarning: a run stops at {warning}");
+        assert!(text.contains(&warning), "{text}");
+    }
+}
+
+/// So is it where the certificate is one's own.
+#[test]
+fn a_warning_ahead_of_ones_own_certificate() {
+    let folder = PathBuf::from(env!("CARGO_TARGET_TMPDIR")).join("warned");
+    fs::create_dir_all(&folder).unwrap();
+    let (_, text) = tried(&["warned_never_set", folder.to_str().unwrap()]);
+    let certificate = folder.join("cert.bin");
+    let again = tried(&["warned_never_set", certificate.to_str().unwrap()]);
+    assert_eq!(again, (0, text));
+}
+
+/// The same routine is certified where that isn't forbidden.
+#[test]
+fn a_limit_says_what_can_be_done() {
+    let known = corpus::folder().join("selection_sort_values.routine");
+    let text = fs::read_to_string(known).unwrap();
+    let path = file("limit.routine", text + "end lost block: y\n");
+    let (status, text) = tried(&[path.to_str().unwrap()]);
+    assert_eq!(status, 1, "{text}");
+    for said in [
+        "\nNo certificate found: 544 members are needed, 512 are allowed.\n",
+        "\nNo run was found that meets what is forbidden, among ",
+        "\nWhat to do: forbid the lines in two routines that are otherwise the same, ",
+    ] {
+        assert!(text.contains(said), "{said}\n{text}");
+    }
+}
+
+/// Ten times `x := x.next` and then a ring: no list of ten blocks shows it.
+#[test]
+fn what_is_wrong_on_long_lists_only() {
+    let walk = "x := x.next\n".repeat(10);
+    let text = format!(
+        "x := null\nwhile any\nnew(t)\nt.next := x\nx := t\nend\n{walk}x.next := x\nmark \
+         0\n\nforbidden\nmark 0 ring: x\n"
+    );
+    let path = file("ten.listing", text);
+    let (status, text) = tried(&[path.to_str().unwrap()]);
+    assert_eq!(status, 1, "{text}");
+    assert!(text.contains("\nWrong: a run of "), "{text}");
+    assert!(text.contains("[1 x] -> back to [1 x]"), "{text}");
+    let (status, text) = tried(&["wrong_ring_behind_ten"]);
+    assert_eq!(status, 1, "{text}");
+    assert!(text.contains("[1 x] -> back to [1 x]"), "{text}");
+    assert!(text.contains("[11 x] -> [10] -> [9] -> "), "{text}");
+}
+
 #[test]
 fn a_right_routine_beyond_the_rules_says_how_far_was_looked() {
     let (status, text) = tried(&["beyond_delete_first"]);
     assert_eq!(status, 1, "{text}");
-    let bound = "among all 99 heaps of up to 10 cells that runs reach";
-    assert!(text.contains(bound), "{text}");
+    for said in [
+        "\nNo certificate exists while line 17 forbids `no list: x` at mark 0 (line 14): by the rules ",
+        "\nNo run was found that meets it, among ",
+        " heaps, all those of runs with up to 64 cells; and by the lines of the chain alone, among ",
+        "\nWhat to do: going back over a delete forgets which links dangle. Set the links again ",
+        " Or leave this line out, and see whether all else is certified.\n",
+    ] {
+        assert!(text.contains(said), "{said}\n{text}");
+    }
+    let (_, counts) = tried(&["beyond_split_middle"]);
+    let said = "\nWhat to do: a path of several cells counts as one link, ";
+    assert!(counts.contains(said), "{counts}");
     for line in [
         "  line 14        [1 x] -> *",
         "                   after delete(t)",
@@ -103,8 +204,12 @@ fn a_plain_listing() {
     let (status, text) = tried(&[example]);
     assert_eq!(status, 0, "{text}");
     let verdict =
-        ": Reverses the list x into y.\naccepted bads 16 members 115 covers 379 links 412\n";
-    assert!(text.ends_with(verdict), "{text}");
+        ": Reverses the list x into y.\naccepted bads 16 members 115 covers 379 links 412\nNo run of ";
+    assert!(text.contains(verdict), "{text}");
+    let words = "reverse.listing, on lists of any length, comes to this: at mark 0 (line 14), y is no \
+                 list that ends at null, or a block is lost beside y; anywhere, a link is followed or \
+                 set at null or dangling.\n";
+    assert!(text.ends_with(words), "{text}");
 
     let path = file(
         "plain.listing",
@@ -178,8 +283,12 @@ fn tried_pair(name: &str, job: &[u8], certificate: &[u8]) -> (i32, String) {
 
 #[test]
 fn a_pair_of_ones_own() {
-    let accepted = "accepted bads 1 members 1 covers 1 links 0\n".to_string();
-    assert_eq!(tried_pair("holds", &JOB, &HOLDS), (0, accepted));
+    let (status, text) = tried_pair("holds", &JOB, &HOLDS);
+    assert_eq!(status, 0, "{text}");
+    let accepted = "accepted bads 1 members 1 covers 1 links 0\nNo run of ";
+    assert!(text.starts_with(accepted), "{text}");
+    let words = "holds_job.bin, on lists of any length, comes to this: at state 1, `shape 0`.\n";
+    assert!(text.ends_with(words), "{text}");
     let elsewhere = "\
 refused 9 at 5 rule 3 of 1
 v1 stands elsewhere: it is to stand at *, but stands at # in the covered shape.

@@ -27,8 +27,10 @@ fn main() -> ExitCode {
             .count()
     };
     println!(
-        "\n{} certified, {} wrong, {} right but beyond the rules; {unexpected} not as expected",
+        "\n{} certified, {} certified with a warning, {} wrong, {} right but beyond the rules; \
+         {unexpected} not as expected",
         of(Expected::Certified),
+        of(Expected::Warned),
         of(Expected::Wrong),
         of(Expected::Beyond),
     );
@@ -38,8 +40,12 @@ fn main() -> ExitCode {
 /// Prints a routine's row.
 fn as_expected(entry: &Entry) -> bool {
     let job = &entry.routine.job;
-    let ending = judge(job).ending;
+    let judged = judge(&entry.routine);
+    let ending = &judged.ending;
     let certificate = ending.certificate();
+    let warnings = judged.outlook.warnings(&entry.routine);
+    let mut verdict = vec![ending.words()];
+    verdict.extend(warnings.into_iter().map(|warning| warning.what));
     let or_none = |count: Option<usize>| count.map_or("-".to_string(), |count| count.to_string());
     println!(
         "| {} | {} | {} | {} | {} | {} | {} | {} | {} | {} |",
@@ -52,7 +58,7 @@ fn as_expected(entry: &Entry) -> bool {
         or_none(certificate.map(|certificate| certificate.covers.len())),
         job.bytes().len(),
         or_none(certificate.map(|certificate| certificate.bytes().len())),
-        ending.words(),
+        verdict.join("; "),
     );
-    ending.expected() == Some(entry.expected)
+    judged.expected() == Some(entry.expected)
 }

@@ -12,15 +12,19 @@ use std::path::Path;
 use std::process::ExitCode;
 use std::{env, fs};
 
+use vorruda_host::beyond::{Beyond, AT_A_LIMIT};
 use vorruda_host::check::check;
 use vorruda_host::corpus;
 use vorruda_host::draw;
+use vorruda_host::excluded;
 use vorruda_host::judge::{judge, Ending};
+use vorruda_host::outlook::{Outlook, Warning};
 use vorruda_host::reference::certificate::Certificate;
 use vorruda_host::reference::job::Job;
 use vorruda_host::refused_cover::RefusedCover;
 use vorruda_host::routine::Routine;
-use vorruda_host::search::run::Run;
+use vorruda_host::search::first_look;
+use vorruda_host::search::run::WrongRun;
 use vorruda_host::text::counted;
 use vorruda_host::verdict::Verdict;
 
@@ -62,16 +66,18 @@ fn list() -> Result<Answer, String> {
 
 fn try_one(name: &str, folder: Option<&Path>) -> Result<Answer, String> {
     let routine = corpus::find(name)?.routine;
-    let ending = judge(&routine.job).ending;
-    if let (Some(folder), Ending::Certified(certificate, _)) = (folder, &ending) {
+    let judged = judge(&routine);
+    let ending = &judged.ending;
+    if let (Some(folder), Ending::Certified(certificate, _)) = (folder, ending) {
         write(&routine, certificate, folder)?;
     }
-    let status = match &ending {
+    let status = match ending {
         Ending::Certified(_, verdict) => status_of(verdict),
         _ => ExitCode::FAILURE,
     };
     let mut text = heading(name, &routine);
-    tell(&mut text, &routine, &ending).expect("a string takes all");
+    warn(&mut text, &routine, &judged.outlook).expect("a string takes all");
+    tell(&mut text, name, &routine, ending).expect("a string takes all");
     Ok((text, status))
 }
 
@@ -96,9 +102,14 @@ fn try_certificate(name: &str, certificate: &str) -> Result<Answer, String> {
             (routine.job.bytes(), Some(routine))
         }
     };
+    if let Some(routine) = &routine {
+        let outlook = Outlook::of(routine, &first_look(&routine.job), None);
+        warn(&mut text, routine, &outlook).expect("a string takes all");
+    }
     let certificate = read(certificate)?;
     let verdict = check(&job, &certificate);
-    tell_verdict(&mut text, routine.as_ref(), &certificate, &verdict).expect("a string takes all");
+    let named = routine.as_ref().map(|routine| (name, routine));
+    tell_verdict(&mut text, named, &certificate, &verdict).expect("a string takes all");
     Ok((text, status_of(&verdict)))
 }
 
@@ -118,38 +129,58 @@ fn heading(name: &str, routine: &Routine) -> String {
     text
 }
 
-/// Tells a verdict, and what a cover breaks that doesn't hold. There is no routine where the job can't
-/// be read.
-fn tell_verdict(
-    text: &mut String,
-    routine: Option<&Routine>,
-    certificate: &[u8],
-    verdict: &Verdict,
-) -> std::fmt::Result {
-    writeln!(text, "{verdict}")?;
-    let refused = routine.and_then(|routine| RefusedCover::of(routine, certificate, verdict));
-    if let Some(cover) = refused {
-        writeln!(text, "{}\n\n{}", cover.how(), cover.drawn().join("\n"))?;
+/// Warns of what a desk may not mean, with the runs that show it.
+fn warn(text: &mut String, routine: &Routine, outlook: &Outlook) -> std::fmt::Result {
+    for Warning { what, meaning, run } in outlook.warnings(routine) {
+        writeln!(text, "Warning: {what}. {meaning}")?;
+        if let Some(run) = run {
+            writeln!(text, "The run ({}):\n", draw::key_of_run(run))?;
+            writeln!(text, "{}", draw::run(run, routine))?;
+        }
     }
     Ok(())
 }
 
+/// Tells a verdict, and in words what can't happen, or what a cover breaks that doesn't hold. There is
+/// no routine where the job can't be read.
+fn tell_verdict(
+    text: &mut String,
+    named: Option<(&str, &Routine)>,
+    certificate: &[u8],
+    verdict: &Verdict,
+) -> std::fmt::Result {
+    writeln!(text, "{verdict}")?;
+    let Some((name, routine)) = named else {
+        return Ok(());
+    };
+    if let Verdict::Accepted(_) = verdict {
+        return writeln!(text, "{}", excluded::sentence(name, routine));
+    }
+    match RefusedCover::of(routine, certificate, verdict) {
+        Some(cover) => writeln!(text, "{}\n\n{}", cover.how(), cover.drawn().join("\n")),
+        None => Ok(()),
+    }
+}
+
 /// Tells how a routine ends, and why.
-fn tell(text: &mut String, routine: &Routine, ending: &Ending) -> std::fmt::Result {
+fn tell(text: &mut String, name: &str, routine: &Routine, ending: &Ending) -> std::fmt::Result {
     match ending {
         Ending::Certified(certificate, verdict) => {
-            tell_verdict(text, Some(routine), &certificate.bytes(), verdict)
+            let named = Some((name, routine));
+            tell_verdict(text, named, &certificate.bytes(), verdict)
         }
-        Ending::Wrong(run) => tell_run(text, routine, run),
-        Ending::Beyond(chain, bound) => {
-            writeln!(
-                text,
-                "No certificate exists: the rules forget too much on the way."
-            )?;
-            writeln!(
-                text,
-                "No run was found that meets what is forbidden, among {bound}."
-            )?;
+        Ending::Wrong(wrong) => tell_wrong(text, routine, wrong),
+        Ending::Beyond {
+            chain,
+            looked,
+            along,
+        } => {
+            let Beyond {
+                found,
+                looked,
+                next,
+            } = Beyond::of(routine, chain, looked, along);
+            writeln!(text, "{found}\n{looked}\n{next}")?;
             writeln!(
                 text,
                 "From a forbidden shape back to the empty heap ({}):\n",
@@ -165,13 +196,14 @@ fn tell(text: &mut String, routine: &Routine, ending: &Ending) -> std::fmt::Resu
             writeln!(text, "No certificate found: {limit}.")?;
             writeln!(
                 text,
-                "No run was found that meets what is forbidden, among {bound}."
+                "No run was found that meets what is forbidden, among {bound}.\n{AT_A_LIMIT}"
             )
         }
     }
 }
 
-fn tell_run(text: &mut String, routine: &Routine, run: &Run) -> std::fmt::Result {
+fn tell_wrong(text: &mut String, routine: &Routine, wrong: &WrongRun) -> std::fmt::Result {
+    let WrongRun { run, forbidden } = wrong;
     let steps = counted(run.transitions.len(), "step");
     writeln!(
         text,
@@ -179,8 +211,8 @@ fn tell_run(text: &mut String, routine: &Routine, run: &Run) -> std::fmt::Result
         draw::key_of_run(run)
     )?;
     text.push_str(&draw::run(run, routine));
-    let bad = &routine.job.forbidden[run.forbidden];
-    let origin = &routine.origins[run.forbidden];
+    let bad = &routine.job.forbidden[*forbidden];
+    let origin = &routine.origins[*forbidden];
     let state = &routine.states[bad.state as usize];
     let statement = routine.statement(bad.state);
     let statement = statement.map_or(String::new(), |line| format!(", `{line}`"));

@@ -3,14 +3,15 @@
 use std::collections::BTreeSet;
 
 use super::cells::Marks;
-use super::images::images;
 use crate::facts_text::facts_text;
 use crate::reference::facts::{Fact, Relation};
 use crate::reference::heap::{Heap, Place};
 use crate::reference::operation::{Operation, LOAD, STORE};
 use crate::reference::shape::Shape;
-use crate::routine::Routine;
-use crate::search::run::Run;
+use crate::routine::{Forbids, Origin, Routine};
+use crate::search::flat_heap::FlatHeap;
+use crate::search::run::WrongRun;
+use crate::search::satisfied::images;
 
 /// What is wrong with the last heap of a run.
 #[derive(Clone, Debug, PartialEq, Eq)]
@@ -21,35 +22,24 @@ pub struct Fault {
     pub marks: Marks,
 }
 
-pub fn fault(routine: &Routine, run: &Run) -> Fault {
-    let bad = &routine.job.forbidden[run.forbidden];
-    let heap = run.heaps.last().expect("a run has a heap");
+pub fn fault(routine: &Routine, wrong: &WrongRun) -> Fault {
+    let bad = &routine.job.forbidden[wrong.forbidden];
     let met = Met {
         routine,
         shape: &bad.shape,
-        heap,
+        heap: wrong.run.last(),
     };
-    let text = &routine.origins[run.forbidden].text;
-    if text == "steps" {
-        met.blocked_step(bad.state)
-    } else if text.starts_with("lost block") {
-        met.lost()
-    } else if text.starts_with("shared") {
-        met.shared()
-    } else if text.starts_with("not sorted") && bad.shape.facts.iter().any(is_below) {
-        met.not_sorted()
-    } else if !bad.shape.facts.is_empty() {
-        met.values()
-    } else if has_ring(&bad.shape) {
-        met.ring()
-    } else if bad.shape.links.contains(&Some(Place::Dangling)) {
-        met.dangling_link()
-    } else if bad.shape.variables.contains(&Some(Place::Dangling)) {
-        met.dangling_variable()
-    } else if bad.shape.cells() > 0 && bad.shape.links.contains(&None) {
-        met.lost()
-    } else {
-        met.otherwise()
+    let origin = &routine.origins[wrong.forbidden];
+    match origin.forbids() {
+        Forbids::Steps => met.blocked_step(bad.state),
+        Forbids::Set(set, variables) => match &set[..] {
+            "lost block" => met.lost(met.unmet_from(met.placed())),
+            "shared" => met.shared(),
+            "not sorted" => met.not_sorted(),
+            "no ring" => met.off_ring(&variables.join(", ")),
+            _ => met.as_told(origin),
+        },
+        Forbids::Shape => met.as_told(origin),
     }
 }
 
@@ -124,6 +114,68 @@ impl Met<'_> {
             .collect()
     }
 
+    /// The cells that aren't met from some variables.
+    fn unmet_from(&self, variables: Vec<usize>) -> BTreeSet<usize> {
+        let met: BTreeSet<usize> = variables
+            .iter()
+            .flat_map(|&variable| self.list(variable))
+            .collect();
+        let cells: BTreeSet<usize> = self.heap.links.keys().copied().collect();
+        &cells - &met
+    }
+
+    /// Where the heap has the cells of the shape.
+    fn images(&self) -> Vec<usize> {
+        let cells: Vec<usize> = self.heap.links.keys().copied().collect();
+        let images = images(self.shape, &FlatHeap::of_heap(self.heap));
+        let images = images.expect("a run's last heap satisfies the shape");
+        images.into_iter().map(|image| cells[image]).collect()
+    }
+
+    /// What the shape itself says, as far as there are words for it.
+    fn as_told(&self, origin: &Origin) -> Fault {
+        let lost = self.lost_cells();
+        if !self.shape.facts.is_empty() {
+            self.values()
+        } else if has_ring(self.shape) {
+            self.ring()
+        } else if self.shape.links.contains(&Some(Place::Dangling)) {
+            self.dangling_link()
+        } else if self.shape.variables.contains(&Some(Place::Dangling)) {
+            self.dangling_variable()
+        } else if !lost.is_empty() {
+            self.lost(lost)
+        } else {
+            self.otherwise(origin)
+        }
+    }
+
+    /// The cells that the shape only says are there, and that no variable of the routine leads to.
+    fn lost_cells(&self) -> BTreeSet<usize> {
+        let stands_at = |place: Place| {
+            let mut places = self.shape.variables.iter().chain(&self.shape.links);
+            places.any(|&stands| stands == Some(place))
+        };
+        let is_loose =
+            |&cell: &usize| self.shape.links[cell].is_none() && !stands_at(Place::Cell(cell));
+        let images = self.images();
+        let loose = (0..self.shape.cells()).filter(is_loose);
+        let loose: BTreeSet<usize> = loose.map(|cell| images[cell]).collect();
+        &loose & &self.unmet_from((0..self.routine.variables.len()).collect())
+    }
+
+    fn off_ring(&self, name: &str) -> Fault {
+        Fault {
+            heading: format!("{name} is not on a ring"),
+            meaning: format!("Following links from {name} does not come back to it.",),
+            marks: Marks {
+                cells: self.lists(),
+                variables: self.placed().into_iter().collect(),
+                ..Marks::default()
+            },
+        }
+    }
+
     fn ring(&self) -> Fault {
         let on_ring = |&cell: &usize| {
             let mut place = self.heap.links[&cell];
@@ -150,31 +202,25 @@ impl Met<'_> {
         }
     }
 
-    fn lost(&self) -> Fault {
-        let lists = self.lists();
-        let lost = self
-            .heap
-            .links
-            .keys()
-            .copied()
-            .filter(|cell| !lists.contains(cell));
+    fn lost(&self, cells: BTreeSet<usize>) -> Fault {
         Fault {
             heading: "A block is lost".to_string(),
             meaning: "No list leads to what is marked any more. Its part of the pattern is never \
                       lifted again, and its memory is never given back."
                 .to_string(),
             marks: Marks {
-                cells: lost.collect(),
+                cells,
                 ..Marks::default()
             },
         }
     }
 
     fn dangling_link(&self) -> Fault {
-        let lists = self.lists().into_iter();
-        let links: BTreeSet<usize> = lists
-            .filter(|cell| self.heap.links[cell] == Place::Dangling)
-            .collect();
+        let dangles = |cell: &usize| self.heap.links[cell] == Place::Dangling;
+        let mut links: BTreeSet<usize> = self.lists().into_iter().filter(dangles).collect();
+        if links.is_empty() {
+            links = self.heap.links.keys().copied().filter(dangles).collect();
+        }
         Fault {
             heading: "A link dangles".to_string(),
             meaning: "The marked link leads to a block that is gone, or was never set. The \
@@ -265,7 +311,7 @@ impl Met<'_> {
 
     /// The facts of the shape, of the cells in the heap that satisfy it.
     fn facts(&self) -> Vec<Fact> {
-        let images = images(self.shape, self.heap).expect("a run's last heap satisfies the shape");
+        let images = self.images();
         let facts = self.shape.facts.iter();
         facts
             .map(|fact| fact.renamed(|cell| images[cell]))
@@ -305,14 +351,13 @@ impl Met<'_> {
         }
     }
 
-    fn otherwise(&self) -> Fault {
-        let variables: BTreeSet<usize> = self.placed().into_iter().collect();
+    fn otherwise(&self, origin: &Origin) -> Fault {
         Fault {
             heading: "A forbidden shape is met".to_string(),
-            meaning: "What the routine forbids here has come about.".to_string(),
+            meaning: format!("What is marked has come about, though {origin}."),
             marks: Marks {
-                cells: self.lists(),
-                variables,
+                cells: self.images().into_iter().collect(),
+                variables: self.placed().into_iter().collect(),
                 ..Marks::default()
             },
         }
@@ -325,14 +370,15 @@ mod tests {
     use crate::corpus;
     use crate::judge::{judge, Ending};
     use crate::reference::job::Located;
-    use crate::routine::Origin;
+    use crate::routine::parse;
+    use crate::search::run::Run;
 
     fn of(name: &str) -> (Fault, Heap) {
         let routine = corpus::find(name).unwrap().routine;
-        let Ending::Wrong(run) = judge(&routine.job).ending else {
+        let Ending::Wrong(wrong) = judge(&routine).ending else {
             panic!("{name} is not wrong");
         };
-        (fault(&routine, &run), run.heaps.last().unwrap().clone())
+        (fault(&routine, &wrong), wrong.run.last().clone())
     }
 
     #[test]
@@ -385,9 +431,9 @@ mod tests {
         let run = Run {
             transitions: Vec::new(),
             heaps: vec![last],
-            forbidden: 0,
         };
-        fault(&routine, &run)
+        let wrong = WrongRun { run, forbidden: 0 };
+        fault(&routine, &wrong)
     }
 
     #[test]
@@ -415,12 +461,59 @@ mod tests {
         assert_eq!(forbidden.marks, all);
     }
 
+    /// The fault of a run that ends with x at the first and y at the second of two cells, z at null and
+    /// perhaps a third cell that nothing leads to, where this is forbidden.
+    fn of_own_shape(forbidden: &str, has_lost_cell: bool) -> Fault {
+        let lose = if has_lost_cell {
+            "new(z)\nz.next := null\nz := null\n"
+        } else {
+            "z := null\n"
+        };
+        let text = format!(
+            "-- Two blocks.\nlisting\nnew(y)\ny.next := null\nnew(x)\nx.next := y\n{lose}mark \
+             0\n\nforbidden\nmark 0 {forbidden}\n"
+        );
+        let routine = parse(&text).unwrap();
+        let Ending::Wrong(wrong) = judge(&routine).ending else {
+            panic!("{forbidden} is not met");
+        };
+        fault(&routine, &wrong)
+    }
+
+    /// A shape with a cell whose link it doesn't tell isn't a lost block, and a cell named as a set
+    /// is isn't the set.
+    #[test]
+    fn a_heading_says_what_is_so() {
+        for own in [
+            "x at c, c -> d",
+            "cell shared",
+            "lost -> d",
+            "x at c, cell d",
+        ] {
+            let fault = of_own_shape(own, false);
+            assert_eq!(fault.heading, "A forbidden shape is met", "{own}");
+            let told = format!("What is marked has come about, though line 11 forbids `{own}`.");
+            assert_eq!(fault.meaning, told);
+            assert!(!fault.marks.cells.is_empty(), "{own}");
+        }
+        let lost = of_own_shape("x at c, c -> d, y at d, d -> #, cell e", true);
+        assert_eq!(lost.heading, "A block is lost");
+        assert_eq!(lost.marks.cells, BTreeSet::from([2]));
+        assert_eq!(of_own_shape("lost  block :  x", true), lost);
+        let off_ring = of_own_shape("no ring: x", false);
+        assert_eq!(off_ring.heading, "x is not on a ring");
+        assert_eq!(
+            of_own_shape("z at #", false).heading,
+            "A forbidden shape is met"
+        );
+    }
+
     /// Whatever is wrong, something is marked.
     #[test]
     fn every_wrong_routine_has_marks() {
         for entry in corpus::read().unwrap() {
-            if let Ending::Wrong(run) = judge(&entry.routine.job).ending {
-                let marks = fault(&entry.routine, &run).marks;
+            if let Ending::Wrong(wrong) = judge(&entry.routine).ending {
+                let marks = fault(&entry.routine, &wrong).marks;
                 assert_ne!(marks, Marks::default(), "{}", entry.name);
             }
         }

@@ -6,12 +6,11 @@ mod explain;
 mod fault;
 mod graph;
 mod html;
-mod images;
 mod index_page;
 mod routine_page;
 mod svg;
 
-pub use index_page::index_page;
+pub use index_page::{index_page, Row};
 pub use routine_page::routine_page;
 
 use std::time::Duration;

@@ -6,24 +6,28 @@ use super::cells::{Frame, Marks, Scene};
 use super::fault::fault;
 use super::html::{escape, page};
 use super::{explain, graph};
+use crate::beyond::{Beyond, AT_A_LIMIT};
 use crate::draw;
+use crate::excluded;
 use crate::judge::{Ending, Judged};
+use crate::outlook::Warning;
 use crate::reference::certificate::Certificate;
 use crate::reference::heap::Heap;
 use crate::reference::shape::Shape;
 use crate::refused_cover::RefusedCover;
 use crate::routine::{Origin, Routine};
 use crate::search::chain::Chain;
-use crate::search::run::Run;
+use crate::search::run::{Run, WrongRun};
 use crate::text::{counted, thousands};
 use crate::verdict::Verdict;
 
-/// How to read the pictures of a run, of a chain, and of the forbidden shapes.
+/// How to read the pictures of a run, and of a wrong one, of a chain, and of the forbidden shapes.
 const OF_RUNS: &str = "\
 A box is a cell of the list, a pattern block; an arrow is its link to the next. <b>#</b> is null, the
 end of a list; <b>*</b> is dangling, no block at all. The names above are the routine's variables.
-<span class=\"swatch new\">This colour</span> is what a step changes,
-<span class=\"swatch bad\">this one</span> what is wrong at the end.";
+<span class=\"swatch new\">This colour</span> is what a step changes";
+const OF_WRONG_RUNS: &str = ",
+<span class=\"swatch bad\">this one</span> what is wrong at the end";
 const OF_CHAINS: &str = "\
 Each shape may come before the one above it, as far as the rules can tell; the empty heap, with which
 every run begins, satisfies the last. A dashed arrow is one link or several.";
@@ -50,25 +54,31 @@ pub fn routine_page(name: &str, routine: &Routine, judged: &Judged) -> String {
             escape(&warning.to_string())
         );
     }
+    let warnings = judged.outlook.warnings(routine);
+    for Warning { what, meaning, .. } in &warnings {
+        body += &banner("open", &format!("Warning: {what}"), meaning);
+    }
     let run: &[usize] = match &judged.ending {
         Ending::Certified(certificate, verdict) => {
-            body += &certified(routine, certificate, verdict);
+            body += &certified(name, routine, certificate, verdict);
             &[]
         }
-        Ending::Wrong(run) => {
-            body += &wrong(routine, run);
-            &run.transitions
+        Ending::Wrong(wrong) => {
+            body += &of_wrong(routine, wrong);
+            &wrong.run.transitions
         }
-        Ending::Beyond(chain, bound) => {
-            body += &banner(
-                "open",
-                "No certificate exists",
-                &format!(
-                    "The rules by which certificates are made forget too much to tell that this \
-                     routine is right. No run was found that meets what is forbidden, among \
-                     {bound}."
-                ),
-            );
+        Ending::Beyond {
+            chain,
+            looked,
+            along,
+        } => {
+            let Beyond {
+                found,
+                looked,
+                next,
+            } = Beyond::of(routine, chain, looked, along);
+            let heading = "No certificate, and no run found";
+            body += &banner("open", heading, &format!("{found} {looked} {next}"));
             body += &of_chain(routine, chain);
             &[]
         }
@@ -78,12 +88,25 @@ pub fn routine_page(name: &str, routine: &Routine, judged: &Judged) -> String {
                 "No certificate found",
                 &format!(
                     "The search gave up: {limit}. No run was found that meets what is forbidden, \
-                     among {bound}."
+                     among {bound}. {AT_A_LIMIT}"
                 ),
             );
             &[]
         }
     };
+    for Warning { what, run, .. } in &warnings {
+        body += &run.map_or(String::new(), |run| titled_run(routine, what, run));
+    }
+    if let Ending::Certified(..) = judged.ending {
+        for (state, run) in &judged.outlook.arrivals {
+            let title = format!("A run that reaches {}", routine.place(*state));
+            body += &titled_run(routine, &title, run);
+        }
+    }
+    body += &format!(
+        "<p>Looking forward went over {}.</p>\n",
+        judged.outlook.bound
+    );
     body += &counts(routine, judged);
     body += &forbidden(routine);
     body += &listing(routine);
@@ -100,14 +123,16 @@ fn banner(class: &str, heading: &str, text: &str) -> String {
     )
 }
 
-fn certified(routine: &Routine, certificate: &Certificate, verdict: &Verdict) -> String {
+fn certified(
+    name: &str,
+    routine: &Routine,
+    certificate: &Certificate,
+    verdict: &Verdict,
+) -> String {
     if let Verdict::Accepted(_) = verdict {
-        return banner(
-            "good",
-            "Certified",
-            "No run of this routine, on lists of any length, meets what is forbidden below. The \
-             proved checker has accepted the certificate.",
-        );
+        let sentence = excluded::sentence(name, routine);
+        let text = format!("{sentence} The proved checker has accepted the certificate.");
+        return banner("good", "Certified", &text);
     }
     let refused = |how: &str| banner("bad", "The certificate is refused", how);
     match RefusedCover::of(routine, &certificate.bytes(), verdict) {
@@ -120,16 +145,48 @@ fn certified(routine: &Routine, certificate: &Certificate, verdict: &Verdict) ->
     }
 }
 
-/// The run from the start on, with what it ends with.
-fn wrong(routine: &Routine, run: &Run) -> String {
-    let fault = fault(routine, run);
-    let origin = &routine.origins[run.forbidden];
-    let mut text = banner("bad", &format!("Wrong: {}", fault.heading), &fault.meaning);
-    text += &format!(
-        "<h2>How it comes about</h2>\n<p>A run of {}. {OF_RUNS}{}</p>\n<ol class=\"run\">\n",
+/// A run with a title, for what isn't forbidden.
+fn titled_run(routine: &Routine, title: &str, run: &Run) -> String {
+    format!(
+        "<h2>{}</h2>\n<p>A run of {}. {OF_RUNS}.{}</p>\n{}",
+        escape(title),
         counted(run.transitions.len(), "step"),
         of_values(&run.heaps),
+        steps(routine, run, None),
+    )
+}
+
+/// The run from the start on, with what it ends with.
+fn of_wrong(routine: &Routine, wrong: &WrongRun) -> String {
+    let fault = fault(routine, wrong);
+    let WrongRun { run, forbidden } = wrong;
+    let origin = &routine.origins[*forbidden];
+    let mut text = banner("bad", &format!("Wrong: {}", fault.heading), &fault.meaning);
+    text += &format!(
+        "<h2>How it comes about</h2>\n<p>A run of {}. {OF_RUNS}{OF_WRONG_RUNS}.{}</p>\n{}",
+        counted(run.transitions.len(), "step"),
+        of_values(&run.heaps),
+        steps(routine, run, Some(&fault.marks)),
     );
+    let bad = &routine.job.forbidden[*forbidden];
+    let statement = routine.statement(bad.state);
+    text += &format!(
+        "<section class=\"met\">\n<p>That is at <b>{}</b>{}, where {}. The shape that is \
+         met:</p>\n{}</section>\n",
+        escape(&routine.states[bad.state as usize]),
+        statement.map_or(String::new(), |line| format!(
+            ", <code>{}</code>",
+            escape(line)
+        )),
+        forbids(origin),
+        shape_figure(routine, *forbidden),
+    );
+    text
+}
+
+/// The steps of a run; in the last heap what is wrong is marked, if anything is.
+fn steps(routine: &Routine, run: &Run, wrong: Option<&Marks>) -> String {
+    let mut text = "<ol class=\"run\">\n".to_string();
     let frame = Frame::of(&run.heaps);
     let mut gone = BTreeSet::new();
     for (index, &number) in run.transitions.iter().enumerate() {
@@ -143,36 +200,25 @@ fn wrong(routine: &Routine, run: &Run) -> String {
         let mut scene = Scene::of_heap(after, &routine.variables, &frame);
         scene.gone = gone.clone();
         scene.changed = changes(before, after);
-        let is_last = index + 1 == run.transitions.len();
-        if is_last {
-            scene.forbidden = fault.marks.clone();
+        let wrong = wrong.filter(|_| index + 1 == run.transitions.len());
+        if let Some(marks) = wrong {
+            scene.forbidden = marks.clone();
         }
         let words = draw::heap(after, &routine.variables).join("; ");
-        let figure = match before == after && !is_last {
+        let figure = match before == after && wrong.is_none() {
             true => String::new(),
             false => scene.figure(&words),
         };
         text += &format!(
             "<li{}>\n<p><span class=\"where\">{}</span> <code>{}</code> <span \
              class=\"what\">{}</span></p>\n{figure}</li>\n",
-            if is_last { " class=\"last\"" } else { "" },
+            wrong.map_or("", |_| " class=\"last\""),
             escape(&routine.states[transition.from as usize]),
             escape(&routine.operation(number)),
             escape(&explain::step(routine, transition.operation, after)),
         );
     }
-    let bad = &routine.job.forbidden[run.forbidden];
-    let statement = routine.statement(bad.state);
-    text +=
-        &format!(
-        "</ol>\n<section class=\"met\">\n<p>That is at <b>{}</b>{}, where {}. The shape that is \
-         met:</p>\n{}</section>\n",
-        escape(&routine.states[bad.state as usize]),
-        statement.map_or(String::new(), |line| format!(", <code>{}</code>", escape(line))),
-        forbids(origin),
-        shape_figure(routine, run.forbidden),
-    );
-    text
+    text + "</ol>\n"
 }
 
 /// How to read values, where there are any.

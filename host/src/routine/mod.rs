@@ -97,6 +97,30 @@ pub struct Origin {
     pub text: String,
 }
 
+/// What a line forbids, by its form.
+#[derive(Clone, Debug, PartialEq, Eq)]
+pub enum Forbids<'a> {
+    /// `steps`
+    Steps,
+    /// A ready set, as `lost block: x y`, by its name and its variables.
+    Set(String, Vec<&'a str>),
+    /// A shape of one's own.
+    Shape,
+}
+
+impl Origin {
+    pub fn forbids(&self) -> Forbids<'_> {
+        match self.text.split_once(':') {
+            Some((set, variables)) => {
+                let set: Vec<&str> = set.split_whitespace().collect();
+                Forbids::Set(set.join(" "), variables.split_whitespace().collect())
+            }
+            None if self.text == "steps" => Forbids::Steps,
+            None => Forbids::Shape,
+        }
+    }
+}
+
 impl fmt::Display for Origin {
     fn fmt(&self, f: &mut fmt::Formatter) -> fmt::Result {
         match self.line {
@@ -144,6 +168,21 @@ impl Routine {
             (NULL_IS_NULL, Some(statement)) => statement.to_string(),
             (operation, _) => words(operation, |operand| self.operand(operand)),
         }
+    }
+
+    /// A state as a person finds it: a mark with its line, or else the state's name.
+    pub fn place(&self, state: u64) -> String {
+        let name = &self.states[state as usize];
+        match self.mark(state) {
+            Some(mark) => format!("{mark} ({name})"),
+            None => name.clone(),
+        }
+    }
+
+    /// The mark of the listing at a state.
+    pub fn mark(&self, state: u64) -> Option<&str> {
+        let statement = self.statement(state);
+        statement.filter(|statement| statement.starts_with("mark"))
     }
 
     /// The line of the listing that begins at a state.

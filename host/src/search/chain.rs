@@ -2,7 +2,7 @@
 
 use std::convert::Infallible;
 
-use super::before::each_before;
+use super::before::{each_before, forbidden};
 use super::closure::Obstruction;
 use super::explore::{Exploration, Step};
 use super::images::find_images;
@@ -21,11 +21,16 @@ pub struct Link {
 /// start state and satisfied by the empty heap.
 pub struct Chain {
     pub links: Vec<Link>,
+    /// The number of the forbidden shape.
+    pub forbidden: usize,
 }
 
 /// The chain from a forbidden shape that is obstructed.
 pub fn chain(job: &Job, reached: &Exploration, obstruction: &Obstruction) -> Chain {
     let mut links = Vec::new();
+    let mut bads = forbidden(job).into_iter();
+    let forbidden = bads.position(|bad| bad == obstruction.needed);
+    let forbidden = forbidden.expect("what is obstructed is forbidden");
     let mut located = obstruction.needed;
     let mut heap = &reached.reached[obstruction.heap];
     loop {
@@ -44,7 +49,7 @@ pub fn chain(job: &Job, reached: &Exploration, obstruction: &Obstruction) -> Cha
                     located,
                     transition: None,
                 });
-                return Chain { links };
+                return Chain { links, forbidden };
             }
         }
     }

@@ -5,7 +5,6 @@ use std::collections::hash_map::Entry;
 use std::collections::HashMap;
 
 use super::facts::{classes, renamed, with_any_value};
-use super::images::find_images;
 use super::pool::Pool;
 use super::shape::{Located, Shape};
 use super::smaller::{without_middle, without_unmet};
@@ -50,8 +49,6 @@ pub struct Exploration<'a> {
     job: &'a Job,
     pub extent: Extent,
     pub reached: Vec<Reached>,
-    /// Whether there are no more within the extent's cells and values.
-    pub is_complete: bool,
     pool: Pool,
     known: HashMap<Located, usize>,
 }
@@ -63,7 +60,6 @@ impl<'a> Exploration<'a> {
             job,
             extent,
             reached: Vec::new(),
-            is_complete: false,
             pool: Pool::new(job.states as usize),
             known: HashMap::new(),
         };
@@ -88,7 +84,6 @@ impl<'a> Exploration<'a> {
             take(self, next);
             next += 1;
         }
-        self.is_complete = next == self.reached.len();
     }
 
     /// Adds what the transitions lead to.
@@ -163,18 +158,6 @@ impl<'a> Exploration<'a> {
     /// A heap reached at the state that satisfies the shape.
     pub fn satisfying(&self, state: u8, shape: &Shape) -> Option<usize> {
         self.pool.satisfying(state, shape)
-    }
-
-    /// The first of them.
-    pub fn first_satisfying(&self, state: u8, shape: &Shape) -> Option<usize> {
-        self.satisfying(state, shape)?;
-        self.reached.iter().position(|reached| {
-            let Located {
-                state: at,
-                shape: heap,
-            } = &reached.located;
-            *at == state && find_images(shape, heap).is_some()
-        })
     }
 }
 

@@ -6,10 +6,13 @@ mod closure;
 pub mod covers;
 mod explore;
 mod facts;
+pub mod flat_heap;
 pub mod generalise;
 pub mod images;
+pub mod look;
 mod pool;
 pub mod run;
+pub mod satisfied;
 pub mod shape;
 mod smaller;
 
@@ -23,16 +26,21 @@ use crate::reference::version::Version;
 use chain::{chain, Chain};
 use closure::{Closure, Members, Obstacle};
 use explore::{Exploration, Extent};
-use run::{Bound, Run};
+use look::{Distance, Look};
+use run::{Bound, WrongRun};
 
 /// What a search ends with.
 pub enum Outcome {
     Certified(Certificate),
     /// A run meets what is forbidden.
-    Wrong(Run),
+    Wrong(WrongRun),
     /// There is no certificate because of this chain, and no run within the bound meets what is
-    /// forbidden: the rules forget too much on the way to tell.
-    Impossible(Chain, Bound),
+    /// forbidden, nor one within the other bound by the transitions of the chain.
+    Impossible {
+        chain: Chain,
+        looked: Bound,
+        along: Bound,
+    },
     /// No certificate was found within the limit that is named, and no such run.
     Undecided(Limit, Bound),
 }
@@ -97,33 +105,57 @@ const fn extent_with_values(cells: u8, values: usize) -> Extent {
 const MOST_NEEDED: usize = 1_000;
 const MOST_GENERAL: usize = 2_000;
 
-/// Where there is no certificate: how many cells the heaps have, and how many of them there are,
-/// that are looked at for a run.
-const MOST_CELLS_OF_RUNS: u8 = 10;
-const MOST_HEAPS_OF_RUNS: usize = 200_000;
+/// How many heaps are looked at for a run at first, and where there is no certificate.
+const FIRST_HEAPS: usize = 10_000;
+const MOST_HEAPS: usize = 200_000;
 
-/// Looks for a run that meets what is forbidden, and where small heaps show none for a certificate.
-/// Where there is none of that either, larger heaps are looked at.
+/// Looks for a run that meets what is forbidden, and where the first heaps show none for a certificate.
+/// Where there is none of that either, more heaps are looked at.
 pub fn search(job: &Job) -> Outcome {
-    let extents = extents(job);
-    if let Some(run) = run::first(job, &Exploration::of_runs(job, extents[0])) {
-        return Outcome::Wrong(run);
+    search_behind(job, &first_look(job))
+}
+
+/// The heaps that are looked at first.
+pub fn first_look(job: &Job) -> Look<'_> {
+    Look::forward(job, distance(job, FIRST_HEAPS))
+}
+
+fn distance(job: &Job, heaps: usize) -> Distance {
+    let values = extents(job)[0].values;
+    Distance { values, heaps }
+}
+
+/// Searches behind the first look.
+pub fn search_behind(job: &Job, look: &Look) -> Outcome {
+    if let Some(wrong) = look.wrong_run() {
+        return Outcome::Wrong(wrong);
     }
-    let failure = match certificate(job, &extents) {
+    let failure = match certificate(job, &extents(job)) {
         Ok(certificate) => return Outcome::Certified(certificate),
         Err(failure) => failure,
     };
-    let extent = Extent {
-        cells: MOST_CELLS_OF_RUNS,
-        heaps: MOST_HEAPS_OF_RUNS,
-        ..extents[0]
-    };
-    let runs = Exploration::of_runs(job, extent);
-    let bound = Bound::of(&runs);
-    match (run::first(job, &runs), failure) {
-        (Some(run), _) => Outcome::Wrong(run),
-        (None, Failure::Impossible(chain)) => Outcome::Impossible(chain, bound),
-        (None, Failure::Limit(what)) => Outcome::Undecided(what, bound),
+    let distance = distance(job, MOST_HEAPS);
+    match failure {
+        Failure::Impossible(chain) => {
+            let transitions = chain.links.iter().filter_map(|link| link.transition);
+            let along = Look::along(job, transitions.collect(), distance);
+            let far = Look::forward(job, distance);
+            match along.wrong_run().or_else(|| far.wrong_run()) {
+                Some(wrong) => Outcome::Wrong(wrong),
+                None => Outcome::Impossible {
+                    chain,
+                    looked: far.bound(),
+                    along: along.bound(),
+                },
+            }
+        }
+        Failure::Limit(limit) => {
+            let far = Look::forward(job, distance);
+            match far.wrong_run() {
+                Some(wrong) => Outcome::Wrong(wrong),
+                None => Outcome::Undecided(limit, far.bound()),
+            }
+        }
     }
 }
 

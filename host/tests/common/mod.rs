@@ -9,10 +9,18 @@ use vorruda_host::reference::operation::{Operation, LARGER, NEW, READ, SMALLER};
 use vorruda_host::reference::predecessor::predecessors;
 use vorruda_host::reference::shape::Shape;
 use vorruda_host::search::chain::{Chain, Link};
-use vorruda_host::search::run::Run;
+use vorruda_host::search::run::{Run, WrongRun};
 
 /// From the empty heap at the start, by enabled steps, to a heap that satisfies the forbidden shape.
-pub fn assert_run_holds(job: &Job, run: &Run, name: &str) {
+pub fn assert_wrong_run_holds(job: &Job, wrong: &WrongRun, name: &str) {
+    let bad = &job.forbidden[wrong.forbidden];
+    assert_run_holds(job, &wrong.run, bad.state, name);
+    let last = Shape::of_heap(wrong.run.last());
+    assert!(embeds_somehow(&bad.shape, &last), "{name}");
+}
+
+/// From the empty heap at the start, by enabled steps, to a state.
+pub fn assert_run_holds(job: &Job, run: &Run, last: u64, name: &str) {
     let mut state = job.start;
     let mut heap = Heap::empty(job.variables as usize);
     assert_eq!(run.heaps.len(), run.transitions.len() + 1, "{name}");
@@ -27,9 +35,7 @@ pub fn assert_run_holds(job: &Job, run: &Run, name: &str) {
         assert_eq!(heap, *after, "{name}");
         state = transition.to;
     }
-    let bad = &job.forbidden[run.forbidden];
-    assert_eq!(bad.state, state, "{name}");
-    assert!(embeds_somehow(&bad.shape, &Shape::of_heap(&heap)), "{name}");
+    assert_eq!(last, state, "{name}");
 }
 
 /// What a step left open: the fresh cell that new took, or the value that was written.
