@@ -1078,6 +1078,55 @@ right | x := t";
     assert_eq!(told, ["1:1 `variables` a routine of transitions"]);
 }
 
+/// A routine with a head above its listing; the lines below are read as a listing all the same.
+#[test]
+fn heads_above_a_listing() {
+    let rows = [
+        (
+            "variables x\nlisting",
+            "2:1 `listing` a listing has no `variables`, `start` or transitions beside it",
+        ),
+        ("listin", "1:1 `listin` did you mean `listing`?"),
+        ("Listing", "1:1 `Listing` did you mean `listing`?"),
+        (
+            "listing\nlisting",
+            "2:1 `listing` a head inside of the listing => ",
+        ),
+    ];
+    for (heads, expected) in rows {
+        let mistakes = parse(&format!("{heads}\n{LISTING}")).unwrap_err();
+        let told: Vec<String> = mistakes.all.iter().map(in_short).collect();
+        assert_eq!(told, [expected]);
+    }
+    assert!(parse(&format!("listing\n{LISTING}")).is_ok());
+}
+
+/// Whatever is left out or doubled: a text is read, or mistakes are told in lines that it has.
+#[test]
+fn damaged_texts_have_mistakes_too() {
+    let (mut read, mut mistaken) = (0, 0);
+    for (old, new, _) in TABLE {
+        let text: Vec<char> = LISTING.replacen(old, new, 1).chars().collect();
+        for at in 0..text.len() {
+            let without = [&text[..at], &text[at + 1..]].concat();
+            let doubled = [&text[..=at], &text[at..]].concat();
+            for damaged in [without, doubled] {
+                let damaged = String::from_iter(damaged);
+                let Err(mistakes) = parse_listing(&damaged) else {
+                    read += 1;
+                    continue;
+                };
+                mistaken += 1;
+                let lines = damaged.lines().count();
+                let is_within = |told: &Told| (1..=lines).contains(&told.mistake.line);
+                assert!(mistakes.all.iter().all(is_within), "{damaged}{mistakes}");
+                assert!(!mistakes.all.is_empty(), "{damaged}");
+            }
+        }
+    }
+    assert!(read > 20 && mistaken > 10_000, "{read} {mistaken}");
+}
+
 #[test]
 fn no_last_line_end() {
     let mistakes = parse_listing("new(x)\nx := x.next").unwrap_err();

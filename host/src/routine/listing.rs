@@ -90,6 +90,7 @@ impl Listing {
         let texts: Vec<&str> = lines.lines.iter().map(|(_, line)| *line).collect();
         let Ok((bytes, marks)) = translate(&texts.concat()) else {
             let refused = refused(lines);
+            assert!(!refused.mistakes.is_empty(), "what is refused is mistaken");
             return (Listing::of_names(lines, &refused), refused.mistakes);
         };
         let marks = marks.iter().map(|&state| usize::from(state)).enumerate();

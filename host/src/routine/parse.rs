@@ -248,12 +248,14 @@ impl<'a> Parser<'a> {
     }
 
     fn begin_listing(&mut self, head: Word) -> Result<(), Mistake> {
-        if !self.variables.all.is_empty() || !self.states.all.is_empty() {
-            let what = "a listing has no `variables`, `start` or transitions beside it";
-            return Err(Mistake::at(head, what));
-        }
         self.reading = Some(Lines::new());
-        Ok(())
+        match self.variables.all.is_empty() && self.states.all.is_empty() {
+            true => Ok(()),
+            false => {
+                let what = "a listing has no `variables`, `start` or transitions beside it";
+                Err(Mistake::at(head, what))
+            }
+        }
     }
 
     /// Has the listing translated once its last line is read.
