@@ -881,8 +881,9 @@ mark 0 no list x
     let mistakes = parse_listing(text).unwrap_err();
     let told: Vec<String> = mistakes.all.iter().map(in_short).collect();
     let expected = [
-        "1:5 `NULL` null by another name => x = null",
-        "1:9 `;` a semicolon => x = null",
+        "1:3 `=` `=` tests => x := null",
+        "1:5 `NULL` null by another name => x := null",
+        "1:9 `;` a semicolon => x := null",
         "2:7 `(` brackets => t := x.next / while t != null",
         "2:8 `x->next` an arrow => t := x.next / while t != null",
         "2:8 `x->next` a link in a test => t := x.next / while t != null",

@@ -474,9 +474,14 @@ impl<'a> Reading<'a> {
         match texts[..] {
             [a, sign @ (":=" | "="), b] if links(a) + links(b) > 0 && are_paths(&[a, b]) => {
                 if sign == "=" {
-                    self.wrong(&parts[1], "`=` tests: expected `:=`, which sets");
+                    self.wrong(&parts[1], TESTS);
                 }
                 self.links(&parts[0], &parts[2]);
+            }
+            // Who ends a line with a semicolon sets by this sign.
+            [a, "=", b] if self.text.contains(';') && is_letter(a) && is_operand(b) => {
+                self.wrong(&parts[1], TESTS);
+                self.put(format!("{a} := {b}"));
             }
             _ => match operation_text::operation(self.words(parts), &letters()) {
                 Ok(operation) => self.put(written(operation)),
@@ -533,6 +538,7 @@ impl<'a> Reading<'a> {
 }
 
 const BRACE: &str = "a brace: `while` and `if` open a block, and `end` closes it";
+const TESTS: &str = "`=` tests: expected `:=`, which sets";
 const SEVERAL_LINKS: &str = "several links at once: follow one in a line";
 const NUMBER: &str = "a mark without its number: expected one from 0 to 63 in its shortest form";
 
