@@ -323,14 +323,14 @@ const TABLE: &[(&str, &str, &[&str])] = &[
         ),
         (
             "x := t\n",
-            "if x != null\nx := t\nelse\nt := x\nend\n",
+            "if x != null\nt := x\nelse\nx := t\nend\n",
             &[
                 "7:1 `else` a listing has no `else` => end / if x = null",
             ],
         ),
         (
             "x := t\n",
-            "if (x = t) {\nx := t\n} else {\nt := x\n}\n",
+            "if (x = t) {\nt.next := x\n} else {\nt := x\n}\n",
             &[
                 "5:4 `(` brackets => if x = t",
                 "5:12 `{` a brace => if x = t",
@@ -347,7 +347,7 @@ const TABLE: &[(&str, &str, &[&str])] = &[
         ),
         (
             "x := t\n",
-            "if x = t\nx := t\nelse if x = null\nt := x\nend\n",
+            "if x = t\nt.next := x\nelse if x = null\nt := x\nend\n",
             &[
                 "7:1 `else` a listing has no `else`",
             ],
@@ -1009,7 +1009,7 @@ right | while any",
         ),
         (
             "x := t\n",
-            "if x != null\nx := t\nelse\nt := x\nend\n",
+            "if x != null\nt := x\nelse\nx := t\nend\n",
             "\
 line 7, column 1: `else`: a listing has no `else`: close the `if`, and open one with the opposite test
     7 | else
@@ -1077,6 +1077,21 @@ right | x := t";
     let mistakes = parse_listing(transitions).unwrap_err();
     let told: Vec<String> = mistakes.all.iter().map(in_short).collect();
     assert_eq!(told, ["1:1 `variables` a routine of transitions"]);
+}
+
+/// The opposite test stands for `else` only where it still ends as before.
+#[test]
+fn no_second_test_where_it_may_end_otherwise() {
+    for line in ["x := t", "new(x)", "delete(t)"] {
+        let lines = format!("if x != null\n{line}\nelse\nt := x\nend\n");
+        let told: Vec<String> = mistakes("x := t\n", &lines)
+            .all
+            .iter()
+            .map(in_short)
+            .collect();
+        let name = "a listing has no `else`, and what the `if` tests may change above";
+        assert_eq!(told, [format!("7:1 `else` {name}")]);
+    }
 }
 
 /// A routine with a head above its listing; the lines below are read as a listing all the same.

@@ -300,11 +300,14 @@ impl<'a> Reading<'a> {
 
     /// `else`, which a listing hasn't: a second `if` stands for it.
     fn otherwise(&mut self, word: &Part, behind: &[Part]) {
-        let opened = open(self.above);
-        let opened = opened.last().map(|line| line.text.trim_end());
-        let Some(test) = opened.and_then(|line| line.strip_prefix("if ")) else {
+        let opened = open(self.above).last().copied();
+        let test = opened.and_then(|line| line.text.trim_end().strip_prefix("if "));
+        let Some(test) = test else {
             return self.unclear(word, "a listing has no `else`, and no `if` is open here");
         };
+        let is_inside = |line: &&Asked| Some(line.number) > opened.map(|line| line.number);
+        let mut inside = self.above.iter().filter(is_inside);
+        let is_changed = inside.any(|line| may_change(&line.text, test));
         let what = "a listing has no `else`: close the `if`, and open one with the opposite test";
         let is_alone = behind
             .iter()
@@ -316,6 +319,11 @@ impl<'a> Reading<'a> {
         match is_alone {
             _ if test == "any" => {
                 let what = "a listing has no `else`, and `any` has no opposite: set a variable and test it";
+                self.unclear(word, what);
+            }
+            _ if is_changed => {
+                let what = "a listing has no `else`, and what the `if` tests may change above: keep it in \
+                            a variable, close the `if`, and open one with the opposite test of that";
                 self.unclear(word, what);
             }
             true => {
@@ -541,6 +549,14 @@ const BRACE: &str = "a brace: `while` and `if` open a block, and `end` closes it
 const TESTS: &str = "`=` tests: expected `:=`, which sets";
 const SEVERAL_LINKS: &str = "several links at once: follow one in a line";
 const NUMBER: &str = "a mark without its number: expected one from 0 to 63 in its shortest form";
+
+/// Whether a line may change how a test ends: it sets a name of the test, or deletes any cell.
+fn may_change(line: &str, test: &str) -> bool {
+    let sets = |name: &str| {
+        line.starts_with(&format!("{name} := ")) || line.starts_with(&format!("new({name})"))
+    };
+    line.starts_with("delete(") || test.split(' ').any(|name| is_letter(name) && sets(name))
+}
 
 /// The word that is about values, if there is one.
 fn value(parts: &[Part]) -> Option<&Part> {
