@@ -14,6 +14,40 @@ pub fn counted(count: usize, noun: &str) -> String {
     format!("{} {noun}{ending}", thousands(count as u64))
 }
 
+/// Numbers in rising order with their noun, three neighbours or more together: `lines 3 and 5 to 9`.
+pub fn ranges(noun: &str, numbers: &[usize]) -> String {
+    let mut ranges: Vec<(usize, usize)> = Vec::new();
+    for &number in numbers {
+        match ranges.last_mut() {
+            Some((_, last)) if number <= *last + 1 => *last = number,
+            _ => ranges.push((number, number)),
+        }
+    }
+    let text = |&(first, last): &(usize, usize)| match last - first {
+        0 => vec![first.to_string()],
+        1 => vec![first.to_string(), last.to_string()],
+        _ => vec![format!("{first} to {last}")],
+    };
+    let texts: Vec<String> = ranges.iter().flat_map(text).collect();
+    match &texts[..] {
+        [one] if ranges[0].0 == ranges[0].1 => format!("{noun} {one}"),
+        [before @ .., last] if !before.is_empty() => {
+            format!("{noun}s {} and {last}", before.join(", "))
+        }
+        _ => format!("{noun}s {}", texts.concat()),
+    }
+}
+
+/// A text with what can't be seen written out, as `\t` and `\r`.
+pub fn visible(text: &str) -> String {
+    let written = |c: char| match c {
+        ' ' => " ".to_string(),
+        c if c.is_control() || c.is_whitespace() => c.escape_default().to_string(),
+        c => c.to_string(),
+    };
+    text.chars().map(written).collect()
+}
+
 /// The known names that a word may be, misspelt or cut short, nearest first.
 pub fn nearest<'a>(word: &str, known: impl IntoIterator<Item = &'a str>) -> Vec<&'a str> {
     let length = word.chars().count();
@@ -74,6 +108,21 @@ mod tests {
         assert_eq!(counted(0, "step"), "0 steps");
         assert_eq!(counted(1, "step"), "1 step");
         assert_eq!(counted(1000, "step"), "1,000 steps");
+    }
+
+    #[test]
+    fn neighbours_are_told_together() {
+        assert_eq!(ranges("line", &[3]), "line 3");
+        assert_eq!(ranges("line", &[3, 4]), "lines 3 and 4");
+        assert_eq!(ranges("line", &[3, 4, 5]), "lines 3 to 5");
+        assert_eq!(ranges("line", &[3, 3]), "line 3");
+        assert_eq!(ranges("line", &[1, 3, 5, 6, 7]), "lines 1, 3 and 5 to 7");
+    }
+
+    #[test]
+    fn what_cannot_be_seen_is_written_out() {
+        assert_eq!(visible("a b\t\r"), "a b\\t\\r");
+        assert_eq!(visible("\u{a0}\u{2260}"), "\\u{a0}\u{2260}");
     }
 
     #[test]

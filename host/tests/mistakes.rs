@@ -5,10 +5,12 @@ use vorruda_host::routine::{parse, Mistake};
 
 const SMALL: &str = include_str!("small.txt");
 
-/// The mistake after a change of the small routine.
+/// The one mistake after a change of the small routine.
 fn mistake(old: &str, new: &str) -> String {
     assert!(SMALL.contains(old), "{old}");
-    parse(&SMALL.replacen(old, new, 1)).unwrap_err().to_string()
+    let mistakes = parse(&SMALL.replacen(old, new, 1)).unwrap_err();
+    assert_eq!(mistakes.all.len(), 1, "{mistakes}");
+    mistakes.all[0].mistake.to_string()
 }
 
 #[test]
@@ -175,8 +177,8 @@ fn mistakes_in_lines() {
         ),
         (
             "variables x y",
-            "variables x x",
-            "line 2, column 13: `x`: the word is taken: expected another name",
+            "variables x y x",
+            "line 2, column 15: `x`: the word is taken: expected another name",
         ),
         (
             "variables x y",
@@ -231,8 +233,8 @@ fn mistakes_in_what_is_forbidden() {
         (
             "d -> *",
             "x -> *",
-            "line 11, column 27: `x`: is a variable, so no cell can have its \
-             name",
+            "line 11, column 27: `x`: a variable in place of a cell: expected the \
+             cell that it is at",
         ),
         (
             "d -> *",
@@ -277,7 +279,7 @@ fn mistakes_in_facts_on_values() {
         ("c < c", format!("31: `c`: {inconsistent}")),
         (
             "c < x",
-            "31: `x`: is a variable, so no cell can have its name".to_string(),
+            "31: `x`: a variable in place of a cell: expected the cell that it is at".to_string(),
         ),
         (
             "c < #",

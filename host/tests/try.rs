@@ -231,7 +231,8 @@ fn a_plain_listing() {
     let path = file("mistake.listing", "x := null\nx :=  x.next\n");
     let (status, text) = tried(&[path.to_str().unwrap()]);
     assert_eq!(status, 2, "{text}");
-    let mistake = ": line 2, column 6: expected `x := x.next`, with these blanks and no others\n";
+    let mistake = "mistake.listing: 1 mistake\n\nline 2, column 6: blanks: expected `x := x.next`, with \
+                   these and no others\n    2 | x :=  x.next\n      |      ^\nright | x := x.next\n";
     assert!(text.ends_with(mistake), "{text}");
 }
 
@@ -264,7 +265,9 @@ fn a_mistake_names_its_place() {
     let path = file("mistake.routine", DEAD_END.replace("new(x) ", "x := x.nxt"));
     let (status, text) = tried(&[path.to_str().unwrap()]);
     assert_eq!(status, 2, "{text}");
-    let mistake = ": line 4, column 12: `x.nxt`: did you mean `x.next`?\n";
+    let mistake =
+        "mistake.routine: 1 mistake\n\nline 4, column 12: `x.nxt`: did you mean `x.next`?\n    \
+                   4 | begin x := x.nxt-> made\n      |            ^^^^^\n";
     assert!(text.ends_with(mistake), "{text}");
 }
 

@@ -2,7 +2,7 @@
 
 use super::mistake::Mistake;
 use super::names::Names;
-use super::words::Words;
+use super::words::{Word, Words};
 use super::{ready, sets, shape_text};
 use crate::reference::shape::Shape;
 use crate::text::nearest;
@@ -17,7 +17,7 @@ const SETS: [&str; 6] = [
     "not sorted",
 ];
 
-/// The shapes that the words forbid.
+/// The shapes that the words forbid. A mistake's right line is without the state.
 pub fn shapes(words: Words, variables: &Names) -> Result<Vec<Shape>, Mistake> {
     match words.split_at_first(":") {
         Some((set, names)) => ready_set(set, names, variables),
@@ -25,8 +25,27 @@ pub fn shapes(words: Words, variables: &Names) -> Result<Vec<Shape>, Mistake> {
             let what = "expected a shape, as `x at #`, or a ready set, as `no list: x`";
             Err(Mistake::at(words.peek(), what))
         }
-        None => Ok(vec![shape_text::shape(words, variables)?]),
+        None => {
+            let shape = shape_text::shape(words.clone(), variables);
+            let shape = shape.map_err(|wrong| without_colon(words.rest()).unwrap_or(wrong))?;
+            Ok(vec![shape])
+        }
     }
+}
+
+/// What is wrong with a ready set without its colon, where the words are one.
+fn without_colon(words: &[Word]) -> Option<Mistake> {
+    let texts: Vec<&str> = words.iter().map(|word| word.text).collect();
+    let set = SETS.into_iter().find(|set| {
+        let set: Vec<&str> = set.split(' ').collect();
+        texts.starts_with(&set)
+    })?;
+    let names = texts[set.split(' ').count()..].join(" ");
+    let right = format!("{set}: {names}");
+    let what = format!("a ready set without its colon: expected `{right}`");
+    let first = words.first()?;
+    let mistake = Mistake::new(first.line, first.column, set, what);
+    Some(mistake.with_right([right]))
 }
 
 /// The shapes of a ready set of the variables that are named.
@@ -36,6 +55,7 @@ fn ready_set(mut set: Words, mut names: Words, variables: &Names) -> Result<Vec<
     while !set.is_empty() {
         words.push(set.take().text);
     }
+    let told: Vec<&str> = names.rest().iter().map(|word| word.text).collect();
     let mut from = Vec::new();
     while !names.is_empty() {
         let word = names.take();
@@ -59,13 +79,11 @@ fn ready_set(mut set: Words, mut names: Words, variables: &Names) -> Result<Vec<
             Err(Mistake::at(names.peek(), what))
         }
         (other, _) => {
-            let what = match nearest(other, SETS)[..] {
-                [near, ..] => format!("did you mean `{near}`?"),
-                [] => format!("expected a ready set, one of {}", SETS.join(", ")),
-            };
-            Err(Mistake {
-                word: set,
-                ..Mistake::at(first, what)
+            let wrong = |what: String| Mistake::new(first.line, first.column, &set, what);
+            Err(match nearest(other, SETS)[..] {
+                [near, ..] => wrong(format!("did you mean `{near}`?"))
+                    .with_right([format!("{near}: {}", told.join(" "))]),
+                [] => wrong(format!("expected a ready set, one of {}", SETS.join(", "))),
             })
         }
     }

@@ -50,18 +50,23 @@
 //! job of version 1.
 
 mod forbidden_text;
+mod foreign;
+mod layout;
 mod listing;
 mod listing_mistake;
 mod mistake;
+mod mistakes;
 mod names;
 mod operation_text;
 mod parse;
 mod ready;
 pub mod sets;
 mod shape_text;
+mod short_names;
 mod words;
 
 pub use mistake::Mistake;
+pub use mistakes::{Mistakes, Told};
 pub use parse::{parse, parse_listing};
 
 use std::fmt;

@@ -27,8 +27,13 @@ impl Names {
     /// The number of a name, which is the word without its ending; where there is none, what may
     /// have been meant.
     pub fn find(&self, word: Word, name: &str, ending: &str) -> Result<usize, Mistake> {
-        let number = self.number(name);
-        number.ok_or_else(|| Mistake::at(word, self.meant(name, ending)))
+        self.number(name).ok_or_else(|| {
+            let mistake = Mistake::at(word, self.meant(name, ending));
+            match self.all.is_empty() {
+                true => mistake.told_once(),
+                false => mistake,
+            }
+        })
     }
 
     fn meant(&self, name: &str, ending: &str) -> String {

@@ -12,8 +12,22 @@ const FORMS: &str =
     "expected `x at p`, `c -> p`, `cell c`, `c < d`, `c = d` or `value c`, where p \
                      is a cell, # or *";
 
+/// Null as a routine has it; in a shape it is #.
+const NULLS: [&str; 3] = ["null", "nil", "nullptr"];
+
 /// The shape with these facts.
 pub fn shape(mut words: Words, variables: &Names) -> Result<Shape, Mistake> {
+    let told = words.clone();
+    read(&mut words, variables).map_err(|wrong| match is_misplaced(&wrong.word, variables) {
+        true => {
+            let right = put_right(told.rest(), variables);
+            wrong.with_right([right])
+        }
+        false => wrong,
+    })
+}
+
+fn read(words: &mut Words, variables: &Names) -> Result<Shape, Mistake> {
     let mut reading = Reading {
         variables,
         cells: Vec::new(),
@@ -24,7 +38,7 @@ pub fn shape(mut words: Words, variables: &Names) -> Result<Shape, Mistake> {
         },
     };
     loop {
-        reading.fact(&mut words)?;
+        reading.fact(words)?;
         if words.is_empty() {
             reading.shape.facts.sort();
             reading.shape.facts.dedup();
@@ -34,6 +48,7 @@ pub fn shape(mut words: Words, variables: &Names) -> Result<Shape, Mistake> {
     }
 }
 
+/// A shape while its facts are read.
 struct Reading<'a> {
     variables: &'a Names,
     /// Names of cells, in the order they were met.
@@ -123,8 +138,11 @@ impl Reading<'_> {
     fn cell(&mut self, word: Word) -> Result<usize, Mistake> {
         let name = word.text;
         if self.variables.number(name).is_some() {
-            let what = "is a variable, so no cell can have its name";
+            let what = "a variable in place of a cell: expected the cell that it is at";
             return Err(Mistake::at(word, what));
+        }
+        if is_null(name) {
+            return Err(Mistake::at(word, "null by another name: expected `#`"));
         }
         if !is_name(name) {
             return Err(Mistake::at(word, "expected the name of a cell, # or *"));
@@ -140,6 +158,65 @@ impl Reading<'_> {
         self.shape.links.push(None);
         Ok(self.cells.len() - 1)
     }
+}
+
+fn is_null(text: &str) -> bool {
+    NULLS.contains(&&text.to_lowercase()[..])
+}
+
+/// Whether a word is no cell's name because it is null's or a variable's.
+fn is_misplaced(text: &str, variables: &Names) -> bool {
+    is_null(text) || variables.number(text).is_some()
+}
+
+/// The facts with # for null and a cell for each variable that stands in place of one: the cell that
+/// it is told to be at, or another.
+fn put_right(words: &[Word], variables: &Names) -> String {
+    let texts: Vec<&str> = words.iter().map(|word| word.text).collect();
+    let is_variable = |text: &str| variables.number(text).is_some();
+    let mut cells: Vec<(&str, String)> = Vec::new();
+    for three in texts.windows(3) {
+        if three[1] == "at" && is_name(three[2]) && !is_misplaced(three[2], variables) {
+            cells.push((three[0], three[2].to_string()));
+        }
+    }
+    let mut facts = Vec::new();
+    for fact in texts.split(|text| *text == ",") {
+        let mut fact = fact.to_vec();
+        if let [_, sign @ "=", place] = &mut fact[..] {
+            if ["#", "*"].contains(place) || is_null(place) {
+                *sign = "at";
+            }
+        }
+        let is_placed = fact.get(1) == Some(&"at");
+        let mut right = Vec::new();
+        for (number, &text) in fact.iter().enumerate() {
+            let known = cells.iter().find(|(name, _)| *name == text);
+            right.push(match known {
+                _ if is_null(text) => "#".to_string(),
+                _ if !is_variable(text) || number == 0 && is_placed => text.to_string(),
+                Some((_, cell)) => cell.clone(),
+                None => {
+                    let cell = free_cell(&texts, &cells, variables);
+                    facts.push(format!("{text} at {cell}"));
+                    cells.push((text, cell.clone()));
+                    cell
+                }
+            });
+        }
+        facts.push(right.join(" "));
+    }
+    facts.join(", ")
+}
+
+/// A name that neither a cell nor a variable has, c if it can be.
+fn free_cell(texts: &[&str], cells: &[(&str, String)], variables: &Names) -> String {
+    let is_free = |name: &String| {
+        let is_told = texts.contains(&&name[..]) || cells.iter().any(|(_, cell)| cell == name);
+        !is_told && variables.number(name).is_none()
+    };
+    let mut letters = ('c'..='z').chain('a'..='b').map(String::from);
+    letters.find(is_free).unwrap_or_else(|| "cell1".to_string())
 }
 
 fn is_name(text: &str) -> bool {

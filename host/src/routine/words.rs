@@ -44,6 +44,11 @@ impl<'a> Words<'a> {
             rest = behind;
             column += length;
         }
+        Words::new(line, words)
+    }
+
+    /// Words of a line with their places.
+    pub fn new(line: usize, words: Vec<Word<'a>>) -> Words<'a> {
         let column = words
             .last()
             .map_or(1, |last: &Word| last.column + last.text.chars().count() + 1);
@@ -57,6 +62,11 @@ impl<'a> Words<'a> {
             next: 0,
             end,
         }
+    }
+
+    /// The words that are still to be read.
+    pub fn rest(&self) -> &[Word<'a>] {
+        &self.words[self.next..]
     }
 
     pub fn is_empty(&self) -> bool {
