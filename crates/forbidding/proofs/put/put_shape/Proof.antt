@@ -1,6 +1,6 @@
--- State, number of cells, places, links and the number of no facts, put in this order, are the numbers of the shape at its state.
+-- State, number of cells, places, links, loose cells and the number of no facts, put in this order, are the numbers of the shape at its state.
 use mathlib.Core.Path.{_≡_}
-use Prim.Native.Nat.{_-_}
+use Prim.Native.Nat.{_+_, _-_}
 use native.Mathlib.Omega.{arith}
 use lib.ListN.{length, set, take, replicate}
 use Rattle.heap.specs.Place.{nowhere}
@@ -27,7 +27,7 @@ headed c = c .before .before .before .before .before
 abbrev placed : tie.After-put-all3 → tie.After-put-all2
 placed c = c .before .before .before .before
 
--- where the links were put, once the number of facts is
+-- where the links were put, once what comes after them is
 abbrev linked : tie.After-put-all4 → tie.After-put-all3
 linked c = c .before .before .before .before .before
 
@@ -35,17 +35,20 @@ linked c = c .before .before .before .before .before
 places : (s : tie.Start) → let a = s .args in a .p .variables ≡ length (take (a .p .variables) (set (replicate 8 nowhere) (a .p .variable - 1) (a .place)))
 places s = taken-length (s .args .p .variables) (s .args .p .variable) (s .args .place) (s .pre .0 .most)
 
--- no facts are as many bytes as a count has
-facts : (c : tie.After-count-bytes) → c .count-bytes .result ≡ length (take (c .count-bytes .result) (replicate 1 nowhere))
-facts c = none-count (c .count-bytes .result) (c .count-bytes .ensures .1)
+-- as many bytes after the links
+ends : (c : tie.After-count-bytes) → let k = begun c .args .loose + c .count-bytes .result in k ≡ length (take k (replicate 2 nowhere))
+ends c = none-count (begun c .args .loose + c .count-bytes .result) (omega (arith, c .count-bytes .ensures .1, begun c .pre))
 
 -- ---- what is to be shown
 
-cast-t14 : tie.Need-cast-t14
-cast-t14 c = search needs
+cast-t15 : tie.Need-cast-t15
+cast-t15 c = search needs
 
-cast-t16 : tie.Need-cast-t16
-cast-t16 c = search needs
+add-t17 : tie.Need-add-t17
+add-t17 c = search needs
+
+cast-t18 : tie.Need-cast-t18
+cast-t18 c = search needs
 
 sub-vars : tie.Need-sub-vars
 sub-vars c = search needs
@@ -55,6 +58,9 @@ array-write-vars c = search needs
 
 count-bytes-requires : tie.Need-count-bytes-requires
 count-bytes-requires c κs = search needs
+
+add-last : tie.Need-add-last
+add-last c = search needs
 
 slice-aggregate-put-all : tie.Need-slice-aggregate-put-all
 slice-aggregate-put-all c = search needs
@@ -75,10 +81,10 @@ put-all-requires-3 : tie.Need-put-all-requires-3
 put-all-requires-3 c κs = search needs
 
 array-share-prefix-none : tie.Need-array-share-prefix-none
-array-share-prefix-none c = omega (arith, counted (headed (placed (c .before .before .before))) .count-bytes .ensures .1)
+array-share-prefix-none c = search needs
 
 slice-aggregate-put-all-3 : tie.Need-slice-aggregate-put-all-3
-slice-aggregate-put-all-3 c = facts (counted (headed (placed (c .before .before .before .before))))
+slice-aggregate-put-all-3 c = ends (counted (headed (placed (c .before .before .before .before))))
 
 put-all-requires-4 : tie.Need-put-all-requires-4
 put-all-requires-4 c κs = search needs
@@ -99,21 +105,23 @@ returns c =
     let head = g .put-all .ensures .room (omega (arith, s .pre .1)) in
     let vars = f .put-all2 .ensures .room (omega (arith, s .pre .1, head .next-is, head .same, places s)) in
     let links = e .put-all3 .ensures .room (omega (arith, s .pre .1, head .next-is, head .same, places s, vars .next-is, vars .same)) in
-    let none = d .put-all4 .ensures .room (omega (arith, s .pre .1, head .next-is, head .same, places s, vars .next-is, vars .same, links .next-is, links .same, facts o, count .ensures .0)) in (
-      omega (arith, head .next-is, places s, vars .next-is, links .next-is, none .next-is, facts o, count .ensures .0),
-      put-parts (p .version) (p .state) (p .variables) (p .variable) (s .args .place) (s .args .links .now) (count .result) (count .ensures .0) (s .pre .0 .some)
-          (s .pre .0 .variable) (s .pre .0 .most) head vars links none,
+    let last = d .put-all4 .ensures .room (omega (arith, s .pre .1, head .next-is, head .same, places s, vars .next-is, vars .same, links .next-is, links .same, ends o, count .ensures .0)) in (
+      omega (arith, head .next-is, places s, vars .next-is, links .next-is, last .next-is, ends o, count .ensures .0),
+      put-parts (p .version) (p .state) (p .variables) (p .variable) (s .args .place) (s .args .links .now) (s .args .loose) (count .result) (s .pre .3) (count .ensures)
+          (s .pre .0 .some) (s .pre .0 .variable) (s .pre .0 .most) head vars links last,
     )
 
 pub put-shape-spec : {M : Type 1} → statement M
 put-shape-spec =
     tie.close
     (tie.spec
-    cast-t14
-    cast-t16
+    cast-t15
+    add-t17
+    cast-t18
     sub-vars
     array-write-vars
     count-bytes-requires
+    add-last
     slice-aggregate-put-all
     put-all-requires
     array-share-prefix-vars
