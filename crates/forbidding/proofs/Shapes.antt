@@ -26,15 +26,19 @@ take-nowhere zero n h = refl
 take-nowhere (suc v) zero h = absurd (omega arith)
 take-nowhere (suc v) (suc n) h = ap (λ (l : List ℕ). nowhere ∷ l) (take-nowhere v n (omega arith))
 
--- the first of eight variables, x at p and the others nowhere
-pub only-taken : (n x p : ℕ) → 1 ≤ x → x ≤ n → n ≤ 8 → take n (set (replicate 8 nowhere) (x - 1) p) ≡ only n x p
-only-taken n zero p a b c = absurd (omega arith)
-only-taken n (suc v) p a b c =
-    let e : suc v - 1 ≡ v = omega arith in
-    rw e (take-set-lt n (replicate 8 nowhere) v p (omega arith) ∙ ap (λ (l : List ℕ). set l v p) (take-nowhere n 8 c))
+-- state, number of cells, and the first of eight variables, x at p and the others nowhere
+abbrev pub started : ℕ → ℕ → ℕ → ℕ → List ℕ
+started q k x p = set (q ∷ k ∷ replicate 8 nowhere) (1 + x) p
 
-pub taken-length : (n x p : ℕ) → n ≤ 8 → n ≡ length (take n (set (replicate 8 nowhere) (x - 1) p))
-taken-length n x p h = sym (length-take-le n (set (replicate 8 nowhere) (x - 1) p) (omega (arith, length-set (replicate 8 nowhere) (x - 1) p)))
+start-taken : (q k n x p : ℕ) → 1 ≤ x → x ≤ n → n ≤ 8 → take (2 + n) (started q k x p) ≡ q ∷ k ∷ only n x p
+start-taken q k n zero p a b c = absurd (omega arith)
+start-taken q k n (suc v) p a b c =
+    let e : 1 + suc v ≡ suc (suc v) = omega arith in
+    let f : 2 + n ≡ suc (suc n) = omega arith in
+    rw (e, f) (ap (λ (l : List ℕ). q ∷ k ∷ l) (take-set-lt n (replicate 8 nowhere) v p (omega arith) ∙ ap (λ (l : List ℕ). set l v p) (take-nowhere n 8 c)))
+
+pub start-length : (q k x p : ℕ) → length (started q k x p) ≡ 10
+start-length q k x p = length-set (q ∷ k ∷ replicate 8 nowhere) (1 + x) p
 
 -- loose cells, and then the number of no facts, in a file of this version
 pub none-taken : (version loose count : ℕ) → loose ≤ 1 → count ≤ 1 → count ≡ countBytes version
@@ -58,19 +62,18 @@ none-length version = go (eqb version 2)
     go true = refl
     go false = refl
 
--- a shape, put by its parts: state and number of cells, variables, links, then loose cells and the number of no facts
-pub put-parts : {at m k l next : ℕ} {before b₁ b₂ b₃ after : List ℕ} (version q n x p : ℕ) (links : List ℕ) (loose count : ℕ) → loose ≤ 1
-    → (count ≡ countBytes version) × (count ≤ 1) → 1 ≤ x → x ≤ n → n ≤ 8 → Put at before (q ∷ (length links + loose) ∷ []) m b₁
-    → Put m b₁ (take n (set (replicate 8 nowhere) (x - 1) p)) k b₂ → Put k b₂ links l b₃ → Put l b₃ (take (loose + count) (replicate 2 nowhere)) next after
+-- a shape, put by its parts: state, number of cells and variables, links, then loose cells and the number of no facts
+pub put-parts : {at m k next : ℕ} {before b₁ b₂ after : List ℕ} (version q n x p : ℕ) (links : List ℕ) (loose count : ℕ) → loose ≤ 1
+    → (count ≡ countBytes version) × (count ≤ 1) → 1 ≤ x → x ≤ n → n ≤ 8 → Put at before (take (2 + n) (started q (length links + loose) x p)) m b₁
+    → Put m b₁ links k b₂ → Put k b₂ (take (loose + count) (replicate 2 nowhere)) next after
     → Put at before (locatedNumbers version (record { state = q; shape = withLoose loose (record { vars = only n x p; links = links; facts = [] }) })) next after
-put-parts version q n x p links loose count h e a b c i j k l =
+put-parts version q n x p links loose count h e a b c i j k =
     rw (
       length-append links (replicate loose nowhere),
       length-replicate loose nowhere,
       append-assoc links (replicate loose nowhere) (factsNumbers version []),
       ← none-taken version loose count h (e .1) (e .0),
-      ← only-taken n x p a b c,
-    ) (put-more i (put-more j (put-more k l)))
+    ) (put-more (rw (start-taken q (length links + loose) n x p a b c) at i) (put-more j k))
 
 -- ---- how many bytes shapes have together
 

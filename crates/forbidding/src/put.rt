@@ -41,14 +41,14 @@ fn put_shape(bytes: &mut [u8], at: usize, p: Point, place: u8, links: &[u8], loo
     requires { ⌜ (PointIn p) × (at + 2 + p .variables + countBytes (p .version) + length (now links) + loose ≤ length (now bytes)) × (length (now links) ≤ 12) × (loose ≤ 1) ⌝ }
     ensures { λ r. ⌜ (r ≡ at + 2 + p .variables + countBytes (p .version) + length (now (links .entry)) + loose) × Put at (now (bytes .entry)) (locatedNumbers (p .version) (record { state = p .state; shape = withLoose loose (record { vars = only (p .variables) (p .variable) place; links = now (links .entry); facts = [] }) })) r (now (bytes .exit)) ⌝ }
 {
-    let head = [p.state as u8, (links.len() + loose) as u8];
+    let mut start = [NOWHERE; 10];
+    start[0] = p.state as u8;
+    start[1] = (links.len() + loose) as u8;
+    start[1 + p.variable] = place;
+    let places = 2 + p.variables;
     let none = [NOWHERE; 2];
-    let mut vars = [NOWHERE; 8];
-    vars[p.variable - 1] = place;
-    let variables = p.variables;
     let last = loose + count_bytes(p.version);
-    let vars_at = put_all(bytes, at, &head);
-    let links_at = put_all(bytes, vars_at, &vars[..variables]);
+    let links_at = put_all(bytes, at, &start[..places]);
     let last_at = put_all(bytes, links_at, links);
     put_all(bytes, last_at, &none[..last])
 }
