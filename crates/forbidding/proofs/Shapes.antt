@@ -2,7 +2,7 @@
 use mathlib.Core.Bool.{Bool, true, false, cond}
 use mathlib.Core.List.{List, [], _∷_, _++_, map, append-assoc}
 use mathlib.Core.Path.{_≡_, refl, sym, ap, _∙_, subst}
-use Prim.Native.Nat.{ℕ, zero, suc, _+_, _-_, _*_, _≤_}
+use Prim.Native.Nat.{ℕ, zero, suc, _+_, _*_, _≤_}
 use native.Mathlib.Omega.{arith}
 use lib.Dec.{eqb}
 use lib.ListN.{length, set, take, replicate, length-append, length-set, length-replicate, replicate-append-replicate}
@@ -41,7 +41,7 @@ pub start-length : (q k x p : ℕ) → length (started q k x p) ≡ 10
 start-length q k x p = length-set (q ∷ k ∷ replicate 8 nowhere) (1 + x) p
 
 -- loose cells, and then the number of no facts, in a file of this version
-pub none-taken : (version loose count : ℕ) → loose ≤ 1 → count ≤ 1 → count ≡ countBytes version
+none-taken : (version loose count : ℕ) → loose ≤ 1 → count ≤ 1 → count ≡ countBytes version
     → take (loose + count) (replicate 2 nowhere) ≡ replicate loose nowhere ++ factsNumbers version []
 none-taken version loose count a b e =
     take-nowhere (loose + count) 2 (omega arith)
