@@ -129,7 +129,7 @@ fn a_folder_with_a_mistaken_file() {
         .unwrap();
     assert_eq!(output.status.code(), Some(2), "{output:?}");
     let said = String::from_utf8(output.stderr).unwrap();
-    assert!(said.contains("faulty.listing: line 1, "), "{said}");
+    assert!(said.contains("faulty.listing: 1 mistake"), "{said}");
     let printed = String::from_utf8(output.stdout).unwrap();
     assert_eq!(printed, "build/report/mixed/index.html\n");
     assert_eq!(page(&usual, "index"), "the corpus");

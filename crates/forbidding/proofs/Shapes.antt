@@ -1,11 +1,11 @@
 -- The bytes of the ready shapes.
 use mathlib.Core.Bool.{Bool, true, false, cond}
-use mathlib.Core.List.{List, [], _∷_, _++_, map}
-use mathlib.Core.Path.{_≡_, refl, sym, ap, _∙_, subst, subst₂}
-use Prim.Native.Nat.{ℕ, zero, suc, _+_, _-_, _*_, _≤_}
+use mathlib.Core.List.{List, [], _∷_, _++_, map, append-assoc}
+use mathlib.Core.Path.{_≡_, refl, sym, ap, _∙_, subst}
+use Prim.Native.Nat.{ℕ, zero, suc, _+_, _*_, _≤_}
 use native.Mathlib.Omega.{arith}
 use lib.Dec.{eqb}
-use lib.ListN.{length, set, take, replicate, length-append, length-set}
+use lib.ListN.{length, set, take, replicate, length-append, length-set, length-replicate, replicate-append-replicate}
 use lib.Seq.{length-take-le, take-set-lt}
 use Rattle.lists.specs.List.{Every, concatMap}
 use Rattle.lists.proofs.List.{every-none, every-cons, every-one, every-head, every-tail, every-concat, concatMap-append}
@@ -17,7 +17,7 @@ use Rattle.format.specs.JobNumbers.{factsNumbers, locatedNumbers}
 use Rattle.forbidden.specs.Sets.{only, ending, notList, lostBlock, atState, badStep, badStepsOf, badSteps, stepsThrough}
 use Rattle.forbidden.proofs.Only.{only-length}
 use Rattle.forbidden.specs.Written.{ReadySet, not-list, lost-block, bad-steps, shapesOf}
-use Rattle.forbidding.specs.Answers.{cellsOf, countBytes}
+use Rattle.forbidding.specs.Answers.{cellsOf, countBytes, withLoose}
 use Rattle.putting.specs.Put.{Put}
 use Rattle.putting.proofs.Putting.{put-more}
 
@@ -26,26 +26,34 @@ take-nowhere zero n h = refl
 take-nowhere (suc v) zero h = absurd (omega arith)
 take-nowhere (suc v) (suc n) h = ap (λ (l : List ℕ). nowhere ∷ l) (take-nowhere v n (omega arith))
 
--- the first of eight variables, x at p and the others nowhere
-pub only-taken : (n x p : ℕ) → 1 ≤ x → x ≤ n → n ≤ 8 → take n (set (replicate 8 nowhere) (x - 1) p) ≡ only n x p
-only-taken n zero p a b c = absurd (omega arith)
-only-taken n (suc v) p a b c =
-    let e : suc v - 1 ≡ v = omega arith in
-    rw e (take-set-lt n (replicate 8 nowhere) v p (omega arith) ∙ ap (λ (l : List ℕ). set l v p) (take-nowhere n 8 c))
+-- state, number of cells, and the first of eight variables, x at p and the others nowhere
+abbrev pub started : ℕ → ℕ → ℕ → ℕ → List ℕ
+started q k x p = set (q ∷ k ∷ replicate 8 nowhere) (1 + x) p
 
-pub taken-length : (n x p : ℕ) → n ≤ 8 → n ≡ length (take n (set (replicate 8 nowhere) (x - 1) p))
-taken-length n x p h = sym (length-take-le n (set (replicate 8 nowhere) (x - 1) p) (omega (arith, length-set (replicate 8 nowhere) (x - 1) p)))
+start-taken : (q k n x p : ℕ) → 1 ≤ x → x ≤ n → n ≤ 8 → take (2 + n) (started q k x p) ≡ q ∷ k ∷ only n x p
+start-taken q k n zero p a b c = absurd (omega arith)
+start-taken q k n (suc v) p a b c =
+    let e : 1 + suc v ≡ suc (suc v) = omega arith in
+    let f : 2 + n ≡ suc (suc n) = omega arith in
+    rw (e, f) (ap (λ (l : List ℕ). q ∷ k ∷ l) (take-set-lt n (replicate 8 nowhere) v p (omega arith) ∙ ap (λ (l : List ℕ). set l v p) (take-nowhere n 8 c)))
 
--- the number of no facts, in a file of this version
-pub none-taken : (version count : ℕ) → count ≡ countBytes version → take count (replicate 1 nowhere) ≡ factsNumbers version []
-none-taken version count e = ap (λ k. take k (replicate 1 nowhere)) e ∙ go (eqb version 2)
+pub start-length : (q k x p : ℕ) → length (started q k x p) ≡ 10
+start-length q k x p = length-set (q ∷ k ∷ replicate 8 nowhere) (1 + x) p
+
+-- loose cells, and then the number of no facts, in a file of this version
+none-taken : (version loose count : ℕ) → loose ≤ 1 → count ≤ 1 → count ≡ countBytes version
+    → take (loose + count) (replicate 2 nowhere) ≡ replicate loose nowhere ++ factsNumbers version []
+none-taken version loose count a b e =
+    take-nowhere (loose + count) 2 (omega arith)
+    ∙ sym (replicate-append-replicate loose count nowhere)
+    ∙ ap (λ (l : List ℕ). replicate loose nowhere ++ l) (ap (λ k. replicate k nowhere) e ∙ go (eqb version 2))
   where
-    go : (b : Bool) → take (cond b 1 0) (replicate 1 nowhere) ≡ cond b (0 ∷ []) []
+    go : (b : Bool) → replicate (cond b 1 0) nowhere ≡ cond b (0 ∷ []) []
     go true = refl
     go false = refl
 
-pub none-count : (count : ℕ) → count ≤ 1 → count ≡ length (take count (replicate 1 nowhere))
-none-count count h = sym (length-take-le count (replicate 1 nowhere) h)
+pub none-count : (k : ℕ) → k ≤ 2 → k ≡ length (take k (replicate 2 nowhere))
+none-count k h = sym (length-take-le k (replicate 2 nowhere) h)
 
 none-length : (version : ℕ) → length (factsNumbers version []) ≡ countBytes version
 none-length version = go (eqb version 2)
@@ -54,14 +62,18 @@ none-length version = go (eqb version 2)
     go true = refl
     go false = refl
 
--- a shape, put by its parts: state and number of cells, variables, links, the number of no facts
-pub put-parts : {at m k l next : ℕ} {before b₁ b₂ b₃ after : List ℕ} (version q n x p : ℕ) (links : List ℕ) (count : ℕ) → count ≡ countBytes version
-    → 1 ≤ x → x ≤ n → n ≤ 8 → Put at before (q ∷ length links ∷ []) m b₁ → Put m b₁ (take n (set (replicate 8 nowhere) (x - 1) p)) k b₂
-    → Put k b₂ links l b₃ → Put l b₃ (take count (replicate 1 nowhere)) next after
-    → Put at before (locatedNumbers version (record { state = q; shape = record { vars = only n x p; links = links; facts = [] } })) next after
-put-parts {at} {next = next} {before = before} {after = after} version q n x p links count e a b c i j k l =
-    subst₂ (λ (vars none : List ℕ). Put at before (q ∷ length links ∷ (vars ++ (links ++ none))) next after) (only-taken n x p a b c)
-    (none-taken version count e) (put-more i (put-more j (put-more k l)))
+-- a shape, put by its parts: state, number of cells and variables, links, then loose cells and the number of no facts
+pub put-parts : {at m k next : ℕ} {before b₁ b₂ after : List ℕ} (version q n x p : ℕ) (links : List ℕ) (loose count : ℕ) → loose ≤ 1
+    → (count ≡ countBytes version) × (count ≤ 1) → 1 ≤ x → x ≤ n → n ≤ 8 → Put at before (take (2 + n) (started q (length links + loose) x p)) m b₁
+    → Put m b₁ links k b₂ → Put k b₂ (take (loose + count) (replicate 2 nowhere)) next after
+    → Put at before (locatedNumbers version (record { state = q; shape = withLoose loose (record { vars = only n x p; links = links; facts = [] }) })) next after
+put-parts version q n x p links loose count h e a b c i j k =
+    rw (
+      length-append links (replicate loose nowhere),
+      length-replicate loose nowhere,
+      append-assoc links (replicate loose nowhere) (factsNumbers version []),
+      ← none-taken version loose count h (e .1) (e .0),
+    ) (put-more (rw (start-taken q (length links + loose) n x p a b c) at i) (put-more j k))
 
 -- ---- how many bytes shapes have together
 

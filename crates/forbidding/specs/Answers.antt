@@ -1,10 +1,12 @@
 -- The sets that are asked for and the answers, in the terms of the definitions.
 use mathlib.Core.Bool.{cond}
-use mathlib.Core.List.{List, [], _∷_}
+use mathlib.Core.List.{List, [], _∷_, _++_}
 use Prim.Native.Nat.{ℕ, _+_, _*_, _≤_, _<_}
 use lib.Dec.{eqb}
-use lib.ListN.{length, set}
+use lib.ListN.{length, set, replicate}
 use Rattle.lists.specs.List.{concatMap}
+use Rattle.heap.specs.Place.{nowhere}
+use Rattle.shape.specs.Shape.{Shape}
 use Rattle.number.specs.CallResult.{CallResult}
 use Rattle.format.specs.Parser.{reasonNumber}
 use Rattle.number.specs.Number.{bytesOf}
@@ -41,6 +43,10 @@ pub record PointIn (p : Point) : Type 0 where
   pub some : 1 ≤ p .variable
   pub variable : p .variable ≤ p .variables
   pub state : p .state < 64
+
+-- a shape with so many loose cells beside it: they have no link, and are the last
+abbrev pub withLoose : ℕ → Shape → Shape
+withLoose loose s = record { vars = s .vars; links = s .links ++ replicate loose nowhere; facts = s .facts }
 
 -- how many cells the shapes of a set have together; those of the third have none
 abbrev pub cellsOf : ReadySet → ℕ

@@ -7,9 +7,9 @@ use Rattle.forbidding.proofs.put.put_lost_block.Tie as tie
 
 -- ---- moments on the way, and what is so then
 
--- where the four with a loose cell were put, once the fifth shape is
-abbrev loose : tie.After-put-shape → tie.After-put-loose
-loose c = c .before .before .before .before .before
+-- where the four were put, once the fifth shape is
+abbrev four : tie.After-put-shape → tie.After-put-four
+four c = c .before .before .before .before .before
 
 -- where the fifth was put, once the sixth is
 abbrev fifth : tie.After-put-shape2 → tie.After-put-shape
@@ -17,8 +17,8 @@ fifth c = c .before .before .before .before .before
 
 -- ---- what is to be shown
 
-put-loose-requires : tie.Need-put-loose-requires
-put-loose-requires c κs = search needs
+put-four-requires : tie.Need-put-four-requires
+put-four-requires c κs = search needs
 
 slice-aggregate-put-shape : tie.Need-slice-aggregate-put-shape
 slice-aggregate-put-shape c = search needs
@@ -38,16 +38,16 @@ same-length c = search needs
 returns : tie.Need-returns
 returns c =
     let d = c .before .before in
-    let e = loose (fifth d) in
+    let e = four (fifth d) in
     let p = e .before .before .before .args .p in
-    put-lost (p .version) (p .variables) (p .variable) (p .state) (e .put-loose .ensures .1)
+    put-lost (p .version) (p .variables) (p .variable) (p .state) (e .put-four .ensures .1)
     (put-more (fifth d .put-shape .ensures .1) (put-end (d .put-shape2 .ensures .1)))
 
 pub put-lost-block-spec : {M : Type 1} → statement M
 put-lost-block-spec =
     tie.close
     (tie.spec
-    put-loose-requires
+    put-four-requires
     slice-aggregate-put-shape
     put-shape-requires
     slice-aggregate-put-shape-2

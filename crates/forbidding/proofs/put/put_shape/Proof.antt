@@ -1,10 +1,12 @@
--- State, number of cells, places, links and the number of no facts, put in this order, are the numbers of the shape at its state.
-use mathlib.Core.Path.{_≡_}
-use Prim.Native.Nat.{_-_}
+-- State, number of cells and places, links, loose cells and the number of no facts, put in this order, are the numbers of the shape at its state.
+use mathlib.Core.List.{List}
+use mathlib.Core.Path.{_≡_, sym}
+use Prim.Native.Nat.{ℕ, _+_, _≤_}
 use native.Mathlib.Omega.{arith}
-use lib.ListN.{length, set, take, replicate}
+use lib.ListN.{length, take, replicate}
+use lib.Seq.{length-take-le}
 use Rattle.heap.specs.Place.{nowhere}
-use Rattle.forbidding.proofs.Shapes.{taken-length, none-count, put-parts}
+use Rattle.forbidding.proofs.Shapes.{started, start-length, none-count, put-parts}
 use borrow.Author.Needs.{needs}
 use Rattle.forbidding.proofs.put.put_shape.Statement.{statement}
 use Rattle.forbidding.proofs.put.put_shape.Tie as tie
@@ -13,75 +15,87 @@ use Rattle.forbidding.proofs.put.put_shape.Tie as tie
 
 -- the beginning, once the size of a count is known
 abbrev begun : tie.After-count-bytes → tie.Start
-begun c = c .before .before .before .before .before
+begun c = c .before .before .before .before .before .before
 
--- where it became known, once the head is put
+-- where it became known, once the places are put
 abbrev counted : tie.After-put-all → tie.After-count-bytes
 counted c = c .before .before .before
 
--- where the head was put, once the places are
-abbrev headed : tie.After-put-all2 → tie.After-put-all
-headed c = c .before .before .before .before .before
-
 -- where the places were put, once the links are
-abbrev placed : tie.After-put-all3 → tie.After-put-all2
+abbrev placed : tie.After-put-all2 → tie.After-put-all
 placed c = c .before .before .before .before
 
--- where the links were put, once the number of facts is
-abbrev linked : tie.After-put-all4 → tie.After-put-all3
+-- where the links were put, once what comes after them is
+abbrev linked : tie.After-put-all3 → tie.After-put-all2
 linked c = c .before .before .before .before .before
 
--- as many places as the shape has variables
-places : (s : tie.Start) → let a = s .args in a .p .variables ≡ length (take (a .p .variables) (set (replicate 8 nowhere) (a .p .variable - 1) (a .place)))
-places s = taken-length (s .args .p .variables) (s .args .p .variable) (s .args .place) (s .pre .0 .most)
+-- the bytes up to the links
+module _ (s : tie.Start) where
+  abbrev start : List ℕ
+  start = let a = s .args in started (a .p .state) (length (a .links .now) + a .loose) (a .p .variable) (a .place)
 
--- no facts are as many bytes as a count has
-facts : (c : tie.After-count-bytes) → c .count-bytes .result ≡ length (take (c .count-bytes .result) (replicate 1 nowhere))
-facts c = none-count (c .count-bytes .result) (c .count-bytes .ensures .1)
+  fits : 2 + s .args .p .variables ≤ length start
+  fits = let a = s .args in omega (arith, s .pre .0 .most, start-length (a .p .state) (length (a .links .now) + a .loose) (a .p .variable) (a .place))
+
+  starts : length (take (2 + s .args .p .variables) start) ≡ 2 + s .args .p .variables
+  starts = length-take-le (2 + s .args .p .variables) start fits
+
+-- those after the links
+ends : (c : tie.After-count-bytes) → let k = begun c .args .loose + c .count-bytes .result in k ≡ length (take k (replicate 2 nowhere))
+ends c = none-count (begun c .args .loose + c .count-bytes .result) (omega (arith, c .count-bytes .ensures .1, begun c .pre))
 
 -- ---- what is to be shown
 
-cast-t14 : tie.Need-cast-t14
-cast-t14 c = search needs
+cast-start : tie.Need-cast-start
+cast-start c = search needs
 
-cast-t16 : tie.Need-cast-t16
-cast-t16 c = search needs
+array-write-start : tie.Need-array-write-start
+array-write-start c = search needs
 
-sub-vars : tie.Need-sub-vars
-sub-vars c = search needs
+add-start : tie.Need-add-start
+add-start c = search needs
 
-array-write-vars : tie.Need-array-write-vars
-array-write-vars c = search needs
+cast-start-2 : tie.Need-cast-start-2
+cast-start-2 c = search needs
+
+array-write-start-2 : tie.Need-array-write-start-2
+array-write-start-2 c = search needs
+
+add-start-2 : tie.Need-add-start-2
+add-start-2 c = search needs
+
+array-write-start-3 : tie.Need-array-write-start-3
+array-write-start-3 c = search needs
+
+add-places : tie.Need-add-places
+add-places c = search needs
 
 count-bytes-requires : tie.Need-count-bytes-requires
 count-bytes-requires c κs = search needs
 
+add-last : tie.Need-add-last
+add-last c = search needs
+
+array-share-prefix-start : tie.Need-array-share-prefix-start
+array-share-prefix-start c = fits (begun (c .before))
+
 slice-aggregate-put-all : tie.Need-slice-aggregate-put-all
-slice-aggregate-put-all c = search needs
+slice-aggregate-put-all c = sym (starts (begun (c .before .before)))
 
 put-all-requires : tie.Need-put-all-requires
 put-all-requires c κs = search needs
 
-array-share-prefix-vars : tie.Need-array-share-prefix-vars
-array-share-prefix-vars c = search needs
-
-slice-aggregate-put-all-2 : tie.Need-slice-aggregate-put-all-2
-slice-aggregate-put-all-2 c = places (begun (counted (c .before .before .before .before)))
-
 put-all-requires-2 : tie.Need-put-all-requires-2
 put-all-requires-2 c κs = search needs
 
+array-share-prefix-none : tie.Need-array-share-prefix-none
+array-share-prefix-none c = search needs
+
+slice-aggregate-put-all-2 : tie.Need-slice-aggregate-put-all-2
+slice-aggregate-put-all-2 c = ends (counted (placed (c .before .before .before .before)))
+
 put-all-requires-3 : tie.Need-put-all-requires-3
 put-all-requires-3 c κs = search needs
-
-array-share-prefix-none : tie.Need-array-share-prefix-none
-array-share-prefix-none c = omega (arith, counted (headed (placed (c .before .before .before))) .count-bytes .ensures .1)
-
-slice-aggregate-put-all-3 : tie.Need-slice-aggregate-put-all-3
-slice-aggregate-put-all-3 c = facts (counted (headed (placed (c .before .before .before .before))))
-
-put-all-requires-4 : tie.Need-put-all-requires-4
-put-all-requires-4 c κs = search needs
 
 same-length : tie.Need-same-length
 same-length c = search needs
@@ -91,37 +105,38 @@ returns c =
     let d = c .before .before in
     let e = linked d in
     let f = placed e in
-    let g = headed f in
-    let o = counted g in
+    let o = counted f in
     let s = begun o in
     let p = s .args .p in
     let count = o .count-bytes in
-    let head = g .put-all .ensures .room (omega (arith, s .pre .1)) in
-    let vars = f .put-all2 .ensures .room (omega (arith, s .pre .1, head .next-is, head .same, places s)) in
-    let links = e .put-all3 .ensures .room (omega (arith, s .pre .1, head .next-is, head .same, places s, vars .next-is, vars .same)) in
-    let none = d .put-all4 .ensures .room (omega (arith, s .pre .1, head .next-is, head .same, places s, vars .next-is, vars .same, links .next-is, links .same, facts o, count .ensures .0)) in (
-      omega (arith, head .next-is, places s, vars .next-is, links .next-is, none .next-is, facts o, count .ensures .0),
-      put-parts (p .version) (p .state) (p .variables) (p .variable) (s .args .place) (s .args .links .now) (count .result) (count .ensures .0) (s .pre .0 .some)
-          (s .pre .0 .variable) (s .pre .0 .most) head vars links none,
+    let places = f .put-all .ensures .room (omega (arith, s .pre .1, starts s)) in
+    let links = e .put-all2 .ensures .room (omega (arith, s .pre .1, starts s, places .next-is, places .same)) in
+    let last = d .put-all3 .ensures .room (omega (arith, s .pre .1, starts s, places .next-is, places .same, links .next-is, links .same, ends o, count .ensures .0)) in (
+      omega (arith, starts s, places .next-is, links .next-is, last .next-is, ends o, count .ensures .0),
+      put-parts (p .version) (p .state) (p .variables) (p .variable) (s .args .place) (s .args .links .now) (s .args .loose) (count .result) (s .pre .3) (count .ensures)
+          (s .pre .0 .some) (s .pre .0 .variable) (s .pre .0 .most) places links last,
     )
 
 pub put-shape-spec : {M : Type 1} → statement M
 put-shape-spec =
     tie.close
     (tie.spec
-    cast-t14
-    cast-t16
-    sub-vars
-    array-write-vars
+    cast-start
+    array-write-start
+    add-start
+    cast-start-2
+    array-write-start-2
+    add-start-2
+    array-write-start-3
+    add-places
     count-bytes-requires
+    add-last
+    array-share-prefix-start
     slice-aggregate-put-all
     put-all-requires
-    array-share-prefix-vars
-    slice-aggregate-put-all-2
     put-all-requires-2
-    put-all-requires-3
     array-share-prefix-none
-    slice-aggregate-put-all-3
-    put-all-requires-4
+    slice-aggregate-put-all-2
+    put-all-requires-3
     same-length
     returns)

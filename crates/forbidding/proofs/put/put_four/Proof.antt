@@ -1,8 +1,9 @@
--- The four shapes of "not a proper list", one put after the other.
+-- The four shapes, one put after the other.
+use native.Mathlib.Omega.{arith}
 use Rattle.putting.proofs.Putting.{put-more, put-end}
 use borrow.Author.Needs.{needs}
-use Rattle.forbidding.proofs.put.put_not_list.Statement.{statement}
-use Rattle.forbidding.proofs.put.put_not_list.Tie as tie
+use Rattle.forbidding.proofs.put.put_four.Statement.{statement}
+use Rattle.forbidding.proofs.put.put_four.Tie as tie
 
 -- ---- moments on the way, and what is so then
 
@@ -51,12 +52,14 @@ returns : tie.Need-returns
 returns c =
     let d = c .before .before in
     let e = third d in
-    let f = second e in
-    put-more (first f .put-shape .ensures .1)
-    (put-more (f .put-shape2 .ensures .1) (put-more (e .put-shape3 .ensures .1) (put-end (d .put-shape4 .ensures .1))))
+    let f = second e in (
+      omega arith,
+      put-more (first f .put-shape .ensures .1)
+          (put-more (f .put-shape2 .ensures .1) (put-more (e .put-shape3 .ensures .1) (put-end (d .put-shape4 .ensures .1)))),
+    )
 
-pub put-not-list-spec : {M : Type 1} → statement M
-put-not-list-spec =
+pub put-four-spec : {M : Type 1} → statement M
+put-four-spec =
     tie.close
     (tie.spec
     slice-aggregate-put-shape
