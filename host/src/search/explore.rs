@@ -262,9 +262,8 @@ mod tests {
     use super::*;
     use crate::random::Random;
     use crate::reference::heap::Heap;
-    use crate::reference::operation::operation;
     use crate::reference::shape as reference;
-    use crate::reference::version::Version;
+    use crate::search::trial::random_operation;
 
     fn shape_of(heap: &Heap) -> Shape {
         Shape::of_reference(&reference::Shape::of_heap(heap))
@@ -300,13 +299,7 @@ mod tests {
         let mut moved = [0; 14];
         let mut heap = Heap::empty(3);
         for _ in 0..300_000 {
-            // Often read, so that there are values.
-            let kind = match random.once_in(4) {
-                true => READ,
-                false => 1 + random.below(*Version::Two.kinds().end() as usize) as u64,
-            };
-            let (a, b) = (random.below(4), random.below(4));
-            let Some(operation) = operation(kind, a as u64, b as u64, 3) else {
+            let Some(operation) = random_operation(&mut random) else {
                 continue;
             };
             let next = steps(&heap, operation);
@@ -321,7 +314,7 @@ mod tests {
             assert_eq!(ours, theirs, "{operation:?} on {heap:?}");
             if !next.is_empty() {
                 heap = with_odd_values(next[random.below(next.len())].clone());
-                moved[kind as usize] += 1;
+                moved[operation.kind as usize] += 1;
             }
             if heap.links.len() > 12 {
                 heap = Heap::empty(3);

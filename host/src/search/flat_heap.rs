@@ -258,8 +258,7 @@ mod tests {
 
     use super::*;
     use crate::random::Random;
-    use crate::reference::operation::operation;
-    use crate::reference::version::Version;
+    use crate::search::trial::random_operation;
 
     /// Whether every cell is met by following links from the variables.
     fn is_all_met(heap: &Heap) -> bool {
@@ -284,13 +283,7 @@ mod tests {
         let mut heap = Heap::empty(3);
         let mut fresh = 0;
         for _ in 0..300_000 {
-            // Often read, so that there are values.
-            let kind = match random.once_in(4) {
-                true => READ,
-                false => 1 + random.below(*Version::Two.kinds().end() as usize) as u64,
-            };
-            let (a, b) = (random.below(4), random.below(4));
-            let Some(operation) = operation(kind, a as u64, b as u64, 3) else {
+            let Some(operation) = random_operation(&mut random) else {
                 continue;
             };
             let before = FlatHeap::of_heap(&heap).canonical();
@@ -301,12 +294,12 @@ mod tests {
                 continue;
             };
             let (slot, after) = &after[random.below(after.len())];
-            let choice = match kind {
+            let choice = match operation.kind {
                 LARGER | SMALLER | READ => value_in(*slot, &heap),
                 _ => fresh,
             };
             heap = heap.after(operation, choice).expect("it is enabled");
-            fresh += usize::from(kind == NEW);
+            fresh += usize::from(operation.kind == NEW);
             assert_eq!(FlatHeap::of_heap(&heap).values(), after.values());
             let ours = FlatHeap::of_heap(&heap).canonical();
             assert_eq!(ours.places, after.places, "{operation:?} to {heap:?}");
@@ -315,7 +308,7 @@ mod tests {
                 assert_eq!(ours, *after, "{operation:?} to {heap:?}");
                 whole += 1;
             }
-            moved[kind as usize] += 1;
+            moved[operation.kind as usize] += 1;
             if heap.links.len() > 12 || random.once_in(40) {
                 heap = Heap::empty(3);
             }

@@ -15,6 +15,8 @@ pub mod run;
 pub mod satisfied;
 pub mod shape;
 mod smaller;
+#[cfg(test)]
+mod trial;
 
 use std::fmt;
 
