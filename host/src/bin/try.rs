@@ -175,12 +175,8 @@ fn tell(text: &mut String, name: &str, routine: &Routine, ending: &Ending) -> st
             looked,
             along,
         } => {
-            let Beyond {
-                found,
-                looked,
-                next,
-            } = Beyond::of(routine, chain, looked, along);
-            writeln!(text, "{found}\n{looked}\n{next}")?;
+            let said = Beyond::of(routine, chain, looked, along);
+            writeln!(text, "{}\n{}\n{}", said.found, said.looked, said.next)?;
             writeln!(
                 text,
                 "From a forbidden shape back to the empty heap ({}):\n",

@@ -72,13 +72,9 @@ pub fn routine_page(name: &str, routine: &Routine, judged: &Judged) -> String {
             looked,
             along,
         } => {
-            let Beyond {
-                found,
-                looked,
-                next,
-            } = Beyond::of(routine, chain, looked, along);
-            let heading = "No certificate, and no run found";
-            body += &banner("open", heading, &format!("{found} {looked} {next}"));
+            let said = Beyond::of(routine, chain, looked, along);
+            let words = format!("{} {} {}", said.found, said.looked, said.next);
+            body += &banner("open", "No certificate, and no run found", &words);
             body += &of_chain(routine, chain);
             &[]
         }
