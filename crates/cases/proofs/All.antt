@@ -19,7 +19,7 @@ use Rattle.number.specs.Range.{AtMost}
 use Rattle.format.specs.Parser.{many, each, readAs, end}
 use Rattle.format.specs.Job.{readFact, factsAfter, readFacts, readShape, readLocated, readTransition, readJob, readWholeJob}
 use Rattle.format.specs.Certificate.{readMember, readMembers, readCoverBy}
-use Rattle.format.specs.Verdict.{readCertificate, readBoth, verdict}
+use Rattle.format.specs.Verdict.{readCertificate, readBoth, verdictAt}
 use Rattle.cases.specs.Values.{valueRows}
 use Rattle.cases.specs.Rows.{P10, P11, shape, twoLinks, oneLink, fourCells, twoLinksFollowed, rows, Conjunction}
 
@@ -63,15 +63,15 @@ P11-holds =
 
 -- the rows
 pub all-rows : Conjunction rows
-unfolding allFrom lowest numberIn many each readAs end readShape readFacts readLocated readTransition readJob readWholeJob readMember readMembers readCoverBy readCertificate readBoth verdict
+unfolding allFrom lowest numberIn many each readAs end readShape readFacts readLocated readTransition readJob readWholeJob readMember readMembers readCoverBy readCertificate readBoth verdictAt
 all-rows = (refl, (refl, (refl, (refl, (refl, (refl, (refl, (refl, (refl, (P10-holds, (P11-holds, (refl, (refl, (refl, tt))))))))))))))
 
 -- links followed, by the same computation
 pub links-followed : twoLinksFollowed
-unfolding allFrom lowest numberIn many each readAs end readShape readFacts readLocated readTransition readJob readWholeJob readMember readMembers readCoverBy readCertificate readBoth verdict
+unfolding allFrom lowest numberIn many each readAs end readShape readFacts readLocated readTransition readJob readWholeJob readMember readMembers readCoverBy readCertificate readBoth verdictAt
 links-followed = refl
 
 -- values in the cells
 pub all-values : Conjunction valueRows
-unfolding allFrom lowest numberIn many each readAs end readFact factsAfter readShape readFacts readLocated readTransition readJob readWholeJob readMember readMembers readCoverBy readCertificate readBoth verdict
+unfolding allFrom lowest numberIn many each readAs end readFact factsAfter readShape readFacts readLocated readTransition readJob readWholeJob readMember readMembers readCoverBy readCertificate readBoth verdictAt
 all-values = (refl, (refl, (refl, (refl, (refl, (refl, (refl, (refl, (refl, (refl, (refl, (refl, tt))))))))))))

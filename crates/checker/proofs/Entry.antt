@@ -17,11 +17,12 @@ use Rattle.factrows.specs.Rows.{isConsistent}
 use Rattle.factrows.specs.RowsOf.{RowsOf}
 use Rattle.factrows.proofs.RowsOf.{stands-closed}
 use Rattle.heap.specs.Operation.{Op}
-use Rattle.layout.specs.Entries.{versionOf, factBytes, factsFrom, linksEnd, locatedAt, EntryInRange}
+use Rattle.layout.specs.Entries.{locatedAt, EntryInRange}
 use Rattle.layout.specs.Loading.{loadedShape, entryFacts, loadedFacts}
 use Rattle.layout.specs.ShapeArray.{shapeIn}
+use Rattle.layout.proofs.Facts.{facts-listed}
 use Rattle.layout.proofs.Loaded.{loaded}
-use Rattle.layout.proofs.Whole.{is-whole}
+use Rattle.layout.proofs.Whole.{entry-whole}
 use Rattle.undoing.specs.Rowed.{rowed, StandsFor, Settled}
 use Rattle.undoing.proofs.Rowed.{settled-listed}
 
@@ -30,22 +31,15 @@ module _ (bytes : List ℕ) (variables at : ℕ) (entry : EntryInRange bytes var
   shape = locatedAt bytes variables at .shape
 
   -- its facts are those that its bytes list
-  facts-listed : shape .facts ≡ listed (entryFacts bytes variables at)
-  unfolding factsFrom entryFacts
-  facts-listed =
-      rw (is-whole bytes variables at (record { variables-most = omega arith; cells = entry .cells; inside = entry .inside; facts-inside = entry .facts-inside }))
-      (go (eqb (versionOf bytes) 2))
-    where
-      go : (b : Bool) → cond b (listed (factBytes bytes (linksEnd bytes variables at))) [] ≡ listed (cond b (factBytes bytes (linksEnd bytes variables at)) [])
-      go true = refl
-      go false = refl
+  abbrev are-listed : shape .facts ≡ listed (entryFacts bytes variables at)
+  are-listed = facts-listed bytes variables at (entry-whole bytes variables at entry few)
 
   facts-fourteen : FactsOf 14 (shape .facts)
   facts-fourteen t m = let (k, p, q) = entry .range .facts t m in (k, (p .0, omega (arith, p .1, entry .range .cells)), (q .0, omega (arith, q .1, entry .range .cells)))
 
   module _ (s rows : List ℕ) (s-is : s ≡ loadedShape bytes variables at (replicate 28 0)) (rows-is : rows ≡ loadedFacts bytes variables at) where
     stands : RowsOf rows (shape .facts)
-    stands = rw (rows-is, facts-listed) (stands-closed (entryFacts bytes variables at) (rw facts-listed at facts-fourteen))
+    stands = rw (rows-is, are-listed) (stands-closed (entryFacts bytes variables at) (rw are-listed at facts-fourteen))
 
     bare : withFacts shape [] ≡ shapeIn variables s
     bare = sym (loaded bytes variables at s entry few s-is .shape)

@@ -7,7 +7,7 @@ use lib.ListN.{length, getD}
 use Rattle.run.specs.Run.{Located}
 use Rattle.layout.specs.Entries.{locatedAt, membersAt, Table}
 use Rattle.layout.specs.Members.{memberAt, membersFrom}
-use Rattle.layout.proofs.Whole.{is-whole}
+use Rattle.layout.proofs.Whole.{is-whole, entry-whole}
 
 same-on : (f g : ℕ → Located) (xs : List ℕ) → ((i : ℕ) → i < length xs → f (getD xs i 0) ≡ g (getD xs i 0)) → map f xs ≡ map g xs
 same-on f g [] h = refl
@@ -20,5 +20,5 @@ from-table cert variables starts t = same-on (memberAt cert variables) (locatedA
     stands : (i : ℕ) → i < length starts → memberAt cert variables (getD starts i 0) ≡ locatedAt cert variables (getD starts i 0)
     stands i b =
         let e = t .entry i b in
-        rw (is-whole cert variables (getD starts i 0) (record { variables-most = omega (arith, t .variables-most); cells = e .cells; inside = e .inside; facts-inside = e .facts-inside }))
+        rw (is-whole cert variables (getD starts i 0) (entry-whole cert variables (getD starts i 0) e (t .variables-most)))
         refl

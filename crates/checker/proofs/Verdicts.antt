@@ -13,18 +13,18 @@ use Rattle.lists.specs.List.{sum}
 use Rattle.run.specs.Run.{Located, Job}
 use Rattle.cover.specs.Cover.{owed}
 use Rattle.format.specs.Certificate.{Member, withoutPlaces, readMembers, testStart, readCover}
-use Rattle.format.specs.Conditions.{Conditions, countsOf}
+use Rattle.format.specs.Conditions.{Conditions, ConditionsAt, countsOf}
 use Rattle.format.specs.JobBytes.{SafeBytes}
 use Rattle.format.specs.Job.{readWholeJob}
 use Rattle.format.specs.JobNumbers.{JobFile}
 use Rattle.format.specs.Parser.{Reason, refusal, Parsed, parsed, fault, Parser, onward, each, certificateBuffer, jobBuffer, end}
-use Rattle.format.specs.Verdict.{Counts, accepted, refused, conclude, readCertificate, fits, verdict, readBoth}
-use Rattle.format.proofs.Exact.{exact}
+use Rattle.format.specs.Verdict.{noState, Counts, Verdict, accepted, refused, conclude, readCertificate, fits, verdictAt, verdict, readBoth}
+use Rattle.format.proofs.Exact.{exact, exact-at}
 use Rattle.format.proofs.Guarantee.{safe-bytes}
 use Rattle.reader.specs.Job.{JobRead}
 use Rattle.reader.specs.Members.{Bounds, tested, readTested}
 use Rattle.reader.specs.declared.Header.{Header}
-use Rattle.verdict.specs.Verdict.{reasonOf, verdictOf}
+use Rattle.verdict.specs.Verdict.{reasonOf, countsTold, verdictOf}
 use Rattle.verdict.specs.declared.Refusal.{Refusal}
 use Rattle.verdict.specs.declared.Counts.{Counts as CountsAnswer}
 use Rattle.verdict.specs.declared.Verdict.{Verdict as Answer}
@@ -96,20 +96,20 @@ module _ (cert : List ℕ) (j : Job) (ms : List Located) (at : ℕ) (g : Checked
 pub bounds : (job cert : List ℕ) (h : Header) → JobRead job h → length cert ≤ 65536 → Bounds cert (h .variables) (h .states)
 bounds job cert h d fits = record { variables-range = d .variables; states-most = d .states .1; fits = fits }
 
-module _ (cert : List ℕ) (f : JobFile) where
+module _ (cert : List ℕ) (f : JobFile) (start : ℕ) where
   -- what is read after the members
   abbrev covers : List Member → Parser Counts
   covers ms = readCovers cert (f .job) (withoutPlaces ms)
 
   -- the members are read and tested, then the covers are
-  in-turn : readCertificate (certificateBuffer cert) f 0
-      ≡ onward (readTested (certificateBuffer cert) (f .version) (f .job .variables) (f .states) (f .job .start) 0) covers
+  in-turn : readCertificate start (certificateBuffer cert) f 0
+      ≡ onward (readTested (certificateBuffer cert) (f .version) (f .job .variables) (f .states) start 0) covers
   unfolding readCertificate readTested readCovers
   in-turn = go (readMembers (certificateBuffer cert) (f .version) (f .job .variables) (f .states) 0)
     where
-      go : (r : Parsed (List Member)) → onward r (λ ms at. onward (each (testStart (f .job .start)) ms at) (λ us. covers ms))
-          ≡ onward (onward r (tested (f .job .start))) covers
-      go (parsed ms next) = tests (each (testStart (f .job .start)) ms next)
+      go : (r : Parsed (List Member)) → onward r (λ ms at. onward (each (testStart start) ms at) (λ us. covers ms))
+          ≡ onward (onward r (tested start)) covers
+      go (parsed ms next) = tests (each (testStart start) ms next)
         where
           tests : (r : Parsed (List (Unit {0}))) → onward r (λ us. covers ms) ≡ onward (onward r (λ us at. parsed ms at)) covers
           tests (parsed us at) = refl
@@ -117,13 +117,13 @@ module _ (cert : List ℕ) (f : JobFile) where
       go (fault why place) = refl
 
   pub certificate-refused : (why : Reason) (place : ℕ)
-      → readTested (certificateBuffer cert) (f .version) (f .job .variables) (f .states) (f .job .start) 0 ≡ fault why place
-      → refused why place ≡ conclude (readCertificate (certificateBuffer cert) f 0)
+      → readTested (certificateBuffer cert) (f .version) (f .job .variables) (f .states) start 0 ≡ fault why place
+      → refused why place ≡ conclude (readCertificate start (certificateBuffer cert) f 0)
   certificate-refused why place e = rw (in-turn, e) refl
 
   pub certificate-members : (ms : List Member) (next : ℕ)
-      → readTested (certificateBuffer cert) (f .version) (f .job .variables) (f .states) (f .job .start) 0 ≡ parsed ms next
-      → covers ms next ≡ readCertificate (certificateBuffer cert) f 0
+      → readTested (certificateBuffer cert) (f .version) (f .job .variables) (f .states) start 0 ≡ parsed ms next
+      → covers ms next ≡ readCertificate start (certificateBuffer cert) f 0
   certificate-members ms next e = rw (in-turn, e) refl
 
 -- ---- the job
@@ -142,26 +142,27 @@ file-is job h d =
           };
     }
 
-module _ (job cert : List ℕ) where
-  pub job-length : fits job ≡ false → refused (refusal 1) 0 ≡ verdict job cert
-  unfolding verdict
+module _ (tested : JobFile → ℕ) (job cert : List ℕ) where
+  pub job-length : fits job ≡ false → refused (refusal 1) 0 ≡ verdictAt tested job cert
+  unfolding verdictAt
   job-length e = rw e refl
 
   module _ (job-fits : fits job ≡ true) where
-    pub certificate-length : fits cert ≡ false → refused (refusal 2) 0 ≡ verdict job cert
-    unfolding verdict
+    pub certificate-length : fits cert ≡ false → refused (refusal 2) 0 ≡ verdictAt tested job cert
+    unfolding verdictAt
     certificate-length e = rw (job-fits, e) refl
 
     module _ (cert-fits : fits cert ≡ true) where
-      pub job-refused : (why : Reason) (place : ℕ) → readWholeJob (jobBuffer job) 0 ≡ fault why place → refused why place ≡ verdict job cert
-      unfolding verdict readBoth
+      pub job-refused : (why : Reason) (place : ℕ) → readWholeJob (jobBuffer job) 0 ≡ fault why place → refused why place ≡ verdictAt tested job cert
+      unfolding verdictAt readBoth
       job-refused why place e = rw (job-fits, cert-fits, e) refl
 
-      pub job-read : (h : Header) → JobRead job h → conclude (readCertificate (certificateBuffer cert) (fileIn job h) 0) ≡ verdict job cert
-      unfolding verdict readBoth
+      pub job-read : (h : Header) → JobRead job h → conclude (readCertificate (tested (fileIn job h)) (certificateBuffer cert) (fileIn job h) 0) ≡ verdictAt tested job cert
+      unfolding verdictAt readBoth
       job-read h d = rw (job-fits, cert-fits, d .read, file-is job h d) refl
 
-  -- what `check` promises of the verdict: which it is, when it accepts, and that an accepted job is safe
+-- what `check` promises of the verdict: which it is, when it accepts, and that an accepted job is safe
+module _ (job cert : List ℕ) where
   pub promised : (r : Answer) → verdictOf r ≡ verdict job cert
       → (verdictOf r ≡ verdict job cert)
       × (((c : Counts) → (verdictOf r ≡ accepted c) ↔ Conditions job cert c) × ((c : CountsAnswer) → r ≡ Accepted c → SafeBytes job))
@@ -169,6 +170,11 @@ module _ (job cert : List ℕ) where
     e,
     (
       λ c. (λ is. exact job cert c .0 (sym e ∙ is), λ d. e ∙ exact job cert c .1 d),
-      λ c r-is. safe-bytes job cert (record { bads = c .bads; members = c .members; covers = c .covers; links = c .links }) (sym e ∙ ap verdictOf r-is),
+      λ c r-is. safe-bytes job cert (countsTold c) (sym e ∙ ap verdictOf r-is),
     ),
   )
+
+  -- and `check_second`, which judges no member by the empty heap
+  pub promised-second : (v : Verdict) → v ≡ verdictAt noState job cert
+      → (v ≡ verdictAt noState job cert) × ((c : Counts) → (v ≡ accepted c) ↔ ConditionsAt noState job cert c)
+  promised-second v e = (e, λ c. (λ is. exact-at noState job cert c .0 (sym e ∙ is), λ d. e ∙ exact-at noState job cert c .1 d))

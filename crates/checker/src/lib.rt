@@ -15,11 +15,12 @@ ghost use mathlib.Core.Logic.{_↔_};
 ghost use mathlib.Core.Path.{_≡_};
 ghost use Prim.Native.Nat.{_≤_};
 ghost use lib.ListN.{length};
+ghost use Rattle.checker.specs.Begun.{Begun};
 ghost use Rattle.checker.specs.Jobs.{fileIn, readCovers};
-ghost use Rattle.format.specs.Conditions.{Conditions};
+ghost use Rattle.format.specs.Conditions.{Conditions, ConditionsAt};
 ghost use Rattle.format.specs.JobBytes.{SafeBytes};
 ghost use Rattle.format.specs.Parser.{certificateBuffer, within};
-ghost use Rattle.format.specs.Verdict.{Counts as CountsDue, accepted, conclude, readCertificate, verdict};
+ghost use Rattle.format.specs.Verdict.{noState, Counts as CountsDue, accepted, conclude, readCertificate, verdictAt, verdict};
 ghost use Rattle.layout.specs.Entries.{membersAt, Table};
 ghost use Rattle.reader.specs.Job.{JobRead};
 ghost use Rattle.verdict.specs.Verdict.{verdictOf};
@@ -67,14 +68,14 @@ fn check_covers(job: &[u8], h: Header, cert: &[u8], starts: &[u16], at: usize) -
     }
 }
 
-// Checks a certificate for a job that was read.
-fn check_certificate(job: &[u8], h: Header, cert: &[u8]) -> Verdict
+// Checks a certificate for a job that was read; 8 is judged at the state `tested`.
+fn check_certificate(job: &[u8], h: Header, tested: usize, cert: &[u8]) -> Verdict
     requires { ⌜ (JobRead (now job) h) × (length (now cert) ≤ 65536) ⌝ }
-    ensures { λ r. ⌜ verdictOf r ≡ conclude (readCertificate (certificateBuffer (now (cert .entry))) (fileIn (now (job .entry)) h) 0) ⌝ }
+    ensures { λ r. ⌜ verdictOf r ≡ conclude (readCertificate tested (certificateBuffer (now (cert .entry))) (fileIn (now (job .entry)) h) 0) ⌝ }
 {
     let mut starts = [0u16; 512];
     let version = version_of(job);
-    let r = read_members(cert, version, h.variables, h.states, h.start, &mut starts);
+    let r = read_members(cert, version, h.variables, h.states, tested, &mut starts);
     match r {
         MembersAnswer::Refused(why, place) => Verdict::Refused(why, place),
         MembersAnswer::Members(members, at) => {
@@ -84,6 +85,19 @@ fn check_certificate(job: &[u8], h: Header, cert: &[u8]) -> Verdict
     }
 }
 
+// Both lengths and the job: all that is judged ahead of the certificate's first byte.
+fn begin(job: &[u8], cert: &[u8]) -> JobAnswer
+    ensures { λ r. ⌜ Begun (now (job .entry)) (now (cert .entry)) r ⌝ }
+{
+    if !fits(job.len()) {
+        return JobAnswer::Refused(Refusal::JobLength, 0);
+    }
+    if !fits(cert.len()) {
+        return JobAnswer::Refused(Refusal::CertificateLength, 0);
+    }
+    read_job(job)
+}
+
 // The verdict on a job and a certificate: accepted with these counts exactly if the conditions of document 01 hold with them. An accepted job is
 // safe.
 pub fn check(job: &[u8], cert: &[u8]) -> Verdict
@@ -91,15 +105,21 @@ pub fn check(job: &[u8], cert: &[u8]) -> Verdict
     ensures accepted { λ r. ⌜ ((c : CountsDue) → (verdictOf r ≡ accepted c) ↔ Conditions (now (job .entry)) (now (cert .entry)) c) ⌝ }
     ensures safe { λ r. ⌜ ((c : CountsAnswer) → r ≡ Accepted c → SafeBytes (now (job .entry))) ⌝ }
 {
-    if !fits(job.len()) {
-        return Verdict::Refused(Refusal::JobLength, 0);
-    }
-    if !fits(cert.len()) {
-        return Verdict::Refused(Refusal::CertificateLength, 0);
-    }
-    let r = read_job(job);
+    let r = begin(job, cert);
     match r {
         JobAnswer::Refused(why, place) => Verdict::Refused(why, place),
-        JobAnswer::Job(h) => check_certificate(job, h, cert),
+        JobAnswer::Job(h) => check_certificate(job, h, h.start, cert),
+    }
+}
+
+// The verdict without 8, for a second job, whose runs begin where a first hands over: the first number that is no state has no member.
+pub fn check_second(job: &[u8], cert: &[u8]) -> Verdict
+    ensures exact { λ r. ⌜ verdictOf r ≡ verdictAt noState (now (job .entry)) (now (cert .entry)) ⌝ }
+    ensures accepted { λ r. ⌜ ((c : CountsDue) → (verdictOf r ≡ accepted c) ↔ ConditionsAt noState (now (job .entry)) (now (cert .entry)) c) ⌝ }
+{
+    let r = begin(job, cert);
+    match r {
+        JobAnswer::Refused(why, place) => Verdict::Refused(why, place),
+        JobAnswer::Job(h) => check_certificate(job, h, h.states, cert),
     }
 }

@@ -16,7 +16,7 @@ use Rattle.factrows.specs.Rows.{rowsTest}
 use Rattle.factrows.proofs.Covers.{missing-rows, none-missing}
 use Rattle.layout.specs.Entries.{versionOf, factCount, factsFirst, factBytes, factsFrom, factsEnd, linksEnd, locatedAt, Whole}
 use Rattle.layout.specs.Loading.{entryFacts}
-use Rattle.layout.proofs.Whole.{is-whole}
+use Rattle.layout.proofs.Facts.{facts-listed}
 use Rattle.coverreader.specs.Images.{imagesIn, ImageCodes}
 use Rattle.covering.proofs.Images.{image-coded, image-beyond}
 
@@ -26,25 +26,13 @@ module _ (cert : List ℕ) (variables start : ℕ) (w : Whole cert variables sta
   abbrev member : Shape
   member = locatedAt cert variables start .shape
 
-  -- the facts are those that its bytes list
-  facts-listed : member .facts ≡ listed (entryFacts cert variables start)
-  unfolding factsFrom entryFacts
-  facts-listed = rw (is-whole cert variables start w) (go (eqb (versionOf cert) 2))
-    where
-      bytes : List ℕ
-      bytes = factBytes cert (linksEnd cert variables start)
-
-      go : (b : Bool) → cond b (listed bytes) [] ≡ listed (cond b bytes [])
-      go true = refl
-      go false = refl
-
   module _ (count n : ℕ) (codes : List ℕ) (m : ImageCodes count n codes) (rows s : List ℕ) (bytes : s ≡ entryFacts cert variables start)
       (covered : Shape) where
     abbrev rule : ℕ → Bool
     rule = factsIn member covered (imagesIn count codes) (rowsTest rows)
 
     are : member .facts ≡ listed s
-    are = facts-listed ∙ ap listed (sym bytes)
+    are = facts-listed cert variables start w ∙ ap listed (sym bytes)
 
     pub missing-found : (r : ℕ) → r ≡ firstMissing rows s codes count → r ≡ numberOr count (lowest count 0 rule)
     missing-found r e =

@@ -22,13 +22,13 @@ use Rattle.format.specs.Parser.{broken-rule, Reason, refusal, parsed, fa
 use Rattle.format.specs.Job.{readWholeJob}
 use Rattle.format.specs.JobNumbers.{JobFile, locatedNumbers}
 use Rattle.format.specs.Certificate.{Member, withoutPlaces, readMembers, atStart, testStart, readCover, readCoverBy}
-use Rattle.format.specs.Verdict.{Counts, refused, readCertificate, readBoth, fits, verdict}
+use Rattle.format.specs.Verdict.{Counts, refused, readCertificate, readBoth, fits, verdictAt}
 use Rattle.format.specs.Conditions.{MembersInRange, countsOf}
 use Rattle.format.specs.JobBytes.{Between, LocatedInRange, JobInRange}
 use Rattle.format.specs.Numbers.{memberNumbers, coverNumbers}
 use Rattle.format.specs.Meaning.{InJob, job-number, job-range, job-left, OfMembers, StartSatisfied, Covered, CoverBegun, CoverDue, member-due, image-due}
 use Rattle.format.specs.Meaning.{InCertificate, member-unread, cover-unread, version-range, member-range, versions-differ, cover-range, member-satisfied, cover-fails, certificate-left}
-use Rattle.format.specs.Meaning.{Meaning, job-length, certificate-length, in-job, in-certificate}
+use Rattle.format.specs.Meaning.{MeaningAt, job-length, certificate-length, in-job, in-certificate}
 use Rattle.format.proofs.Sequence.{Reads, one, reads-first, reads-append, reads-split, reads-place}
 use Rattle.format.proofs.Parsing.{then, require-refuses, Faulty, faulty-map, read-outside, read-complete, read-refuses, ranged-exact, codes-exact, codes-refuses}
 use Rattle.format.proofs.Files.{end-refuses, job-exact}
@@ -88,7 +88,7 @@ past-last [] n h = refl
 past-last (x ∷ l) zero h = absurd (omega arith)
 past-last (x ∷ l) (suc n) h = past-last l n (omega arith)
 
-module _ (certificate : List ℕ) (f : JobFile) (ok : JobInRange f) where
+module _ (tested : ℕ) (certificate : List ℕ) (f : JobFile) (ok : JobInRange f) where
   abbrev s : Buffer
   s = certificateBuffer certificate
 
@@ -97,20 +97,20 @@ module _ (certificate : List ℕ) (f : JobFile) (ok : JobInRange f) where
   afterMembers ms at = onward (each (readCover s ms) (owed (f .job) ms) at) (λ ls at. onward (end s at) (λ u. return (countsOf (f .job) ms (sum ls))))
 
   -- members in range that the empty heap does not satisfy at the start state are read, and what comes after them decides
-  to-covers : (ms : List Located) → MembersInRange f ms → Every (Avoids (f .job .start)) ms → (next : ℕ)
-      → Reads certificate 0 (memberNumbers (f .version) ms) next → readCertificate s f 0 ≡ afterMembers ms next
+  to-covers : (ms : List Located) → MembersInRange f ms → Every (Avoids tested) ms → (next : ℕ)
+      → Reads certificate 0 (memberNumbers (f .version) ms) next → readCertificate tested s f 0 ≡ afterMembers ms next
   unfolding readCertificate
   to-covers ms oks start next r =
       let (members, same, h₂) = members-complete s (f .version) (f .job .variables) (f .states) 0 ms next r (ok .version) (oks .number) (oks .members) in
       let ranges : Every (LocatedInRange (f .version) (f .job .variables) (f .states)) (withoutPlaces members) = rw same (oks .members) in
-      let avoid : Every (Avoids (f .job .start)) (withoutPlaces members) = rw same start in
-      let (us, h₃) = tests-complete (f .version) (f .job .variables) (f .states) (f .job .start) members ranges next avoid in
+      let avoid : Every (Avoids tested) (withoutPlaces members) = rw same start in
+      let (us, h₃) = tests-complete (f .version) (f .job .variables) (f .states) tested members ranges next avoid in
       rw (h₂, h₃) (ap (λ l. afterMembers l next) same)
 
   -- ---- covers
 
   -- what has been covered is read, up to a place
-  module _ {place : ℕ} {left : List Located} (c : Covered f certificate place left) where
+  module _ {place : ℕ} {left : List Located} (c : Covered tested f certificate place left) where
     shapes : (m : Located) → m ∈ c .members → InRange (f .job .variables) 12 (m .shape)
     shapes m i = c .members-range .members m i .shape
 
@@ -120,7 +120,7 @@ module _ (certificate : List ℕ) (f : JobFile) (ok : JobInRange f) where
     fits-done : Every FactsFit (c .done)
     fits-done o i = fits-cells o (subst (λ (l : List Located). o ∈ l) (sym (c .owed-is)) (Memᴰ·append-left left i))
 
-    covered-read : (next : ℕ) × (ls : List ℕ) × (readCertificate s f 0 ≡ afterMembers (c .members) next)
+    covered-read : (next : ℕ) × (ls : List ℕ) × (readCertificate tested s f 0 ≡ afterMembers (c .members) next)
         × (each (readCover s (c .members)) (c .done) next ≡ parsed ls place)
     covered-read =
         let (next, r₁, r₂) = reads-split (memberNumbers (f .version) (c .members)) (before-reads certificate (c .before)) in
@@ -128,8 +128,8 @@ module _ (certificate : List ℕ) (f : JobFile) (ok : JobInRange f) where
         (next, ls, to-covers (c .members) (c .members-range) (c .start) next r₁, h)
 
   -- the next cover is refused
-  cover-refused : {first : ℕ} {shape : Located} {later : List Located} (c : Covered f certificate first (shape ∷ later)) (why : Reason) (place : ℕ)
-      → readCover s (c .members) shape first ≡ fault why place → readCertificate s f 0 ≡ fault why place
+  cover-refused : {first : ℕ} {shape : Located} {later : List Located} (c : Covered tested f certificate first (shape ∷ later)) (why : Reason) (place : ℕ)
+      → readCover s (c .members) shape first ≡ fault why place → readCertificate tested s f 0 ≡ fault why place
   cover-refused {shape = shape} {later = later} c why place h =
       let (next, vs, e, g) = covered-read c in
       let stops : each (readCover s (c .members)) (owed (f .job) (c .members)) next ≡ fault why place =
@@ -143,7 +143,7 @@ module _ (certificate : List ℕ) (f : JobFile) (ok : JobInRange f) where
   member-refused members shape first why h = rw h
 
   -- a cover that is read up to a place
-  module _ {first next : ℕ} (c : CoverBegun f certificate first next) where
+  module _ {first next : ℕ} (c : CoverBegun tested f certificate first next) where
     abbrev ms : List Located
     ms = c .so-far .members
 
@@ -189,8 +189,8 @@ module _ (certificate : List ℕ) (f : JobFile) (ok : JobInRange f) where
         )
 
   -- the number that is due is refused
-  number-refused : (why : Reason) (place limit : ℕ) → CoverDue f certificate place limit → Faulty s (λ n. limit ≤ n) why place
-      → readCertificate s f 0 ≡ fault why place
+  number-refused : (why : Reason) (place limit : ℕ) → CoverDue tested f certificate place limit → Faulty s (λ n. limit ≤ n) why place
+      → readCertificate tested s f 0 ≡ fault why place
   number-refused why place limit (member-due shape later c e) w =
       cover-refused c why place
       (member-refused (c .members) shape place why
@@ -235,7 +235,7 @@ module _ (certificate : List ℕ) (f : JobFile) (ok : JobInRange f) where
         require-refuses (eqb n (f .version)) (refusal 20) 0 next (λ t. other (r-eq n (f .version) .holds t)),
       )
 
-  module _ {place : ℕ} (w : StartSatisfied f certificate place) where
+  module _ {place : ℕ} (w : StartSatisfied tested f certificate place) where
     -- the members as they are read: the one at the place, with those before and after it
     module _ (earlier : List Member) (member : Member) (later : List Member) (earlier-is : withoutPlaces earlier ≡ w .earlier)
         (member-is : member .located ≡ w .member) (all-is : withoutPlaces (earlier ++ (member ∷ later)) ≡ w .earlier ++ (w .member ∷ w .later))
@@ -250,24 +250,24 @@ module _ (certificate : List ℕ) (f : JobFile) (ok : JobInRange f) where
       range-earlier : Every (LocatedInRange (f .version) (f .job .variables) (f .states)) (withoutPlaces earlier)
       range-earlier m i = w .members-range .members m (Memᴰ·append-left (w .member ∷ w .later) (subst (λ (l : List Located). m ∈ l) earlier-is i))
 
-      avoid-earlier : Every (Avoids (f .job .start)) (withoutPlaces earlier)
+      avoid-earlier : Every (Avoids tested) (withoutPlaces earlier)
       avoid-earlier = rw earlier-is (w .unsatisfied)
 
-      test-fails : ¬ T (not (atStart (f .job .start) (member .located)))
+      test-fails : ¬ T (not (atStart tested (member .located)))
       test-fails t =
           let ok = w .members-range .members (w .member) (Memᴰ·append-right (w .earlier) (List·Memᴰ·head refl)) in
-          r-avoids (f .version) (f .job .variables) (f .states) (f .job .start) (w .member) ok .holds (rw member-is at t) (w .state) (w .satisfied)
+          r-avoids (f .version) (f .job .variables) (f .states) tested (w .member) ok .holds (rw member-is at t) (w .state) (w .satisfied)
 
-      member-fails : readCertificate s f 0 ≡ fault (refusal 8) place
+      member-fails : readCertificate tested s f 0 ≡ fault (refusal 8) place
       unfolding readCertificate
       member-fails =
-          let (us, h₃) = tests-complete (f .version) (f .job .variables) (f .states) (f .job .start) earlier range-earlier (w .next) avoid-earlier in
-          let stops : each (testStart (f .job .start)) (earlier ++ (member ∷ later)) (w .next) ≡ fault (refusal 8) (member .first) =
-          each-refuses (testStart (f .job .start)) earlier member later (w .next) h₃
-          (require-refuses (not (atStart (f .job .start) (member .located))) (refusal 8) (member .first) (w .next) test-fails) in
+          let (us, h₃) = tests-complete (f .version) (f .job .variables) (f .states) tested earlier range-earlier (w .next) avoid-earlier in
+          let stops : each (testStart tested) (earlier ++ (member ∷ later)) (w .next) ≡ fault (refusal 8) (member .first) =
+          each-refuses (testStart tested) earlier member later (w .next) h₃
+          (require-refuses (not (atStart tested (member .located))) (refusal 8) (member .first) (w .next) test-fails) in
           rw (h, stops) (ap (fault (refusal 8)) place-is)
 
-    start-refused : readCertificate s f 0 ≡ fault (refusal 8) place
+    start-refused : readCertificate tested s f 0 ≡ fault (refusal 8) place
     start-refused =
         let (members, same, h) =
         members-complete s (f .version) (f .job .variables) (f .states) 0 (w .earlier ++ (w .member ∷ w .later)) (w .next) (before-reads certificate (w .members-read))
@@ -277,14 +277,14 @@ module _ (certificate : List ℕ) (f : JobFile) (ok : JobInRange f) where
 
   -- ---- the end
 
-  left-refused : (place : ℕ) → Covered f certificate place [] → place < length certificate → readCertificate s f 0 ≡ fault (refusal 10) place
+  left-refused : (place : ℕ) → Covered tested f certificate place [] → place < length certificate → readCertificate tested s f 0 ≡ fault (refusal 10) place
   left-refused place c more =
       let (next, vs, e, g) = covered-read c in
       let all : each (readCover s (c .members)) (owed (f .job) (c .members)) next ≡ parsed vs place =
       ap (λ l. each (readCover s (c .members)) l next) (c .owed-is ∙ append-nil (c .done)) ∙ g in
       e ∙ rw (all, end-refuses s place more)
 
-  certificate-refused : (why : Reason) (place : ℕ) → InCertificate f certificate why place → readCertificate s f 0 ≡ fault why place
+  certificate-refused : (why : Reason) (place : ℕ) → InCertificate tested f certificate why place → readCertificate tested s f 0 ≡ fault why place
   unfolding readCertificate
   certificate-refused why place (member-unread at w) =
       rw (members-refused (refusal 6) at (inl (refl, w)) (λ (k, _). let z : _≡_ {A = ℕ} 6 7 = cc in omega arith))
@@ -300,15 +300,15 @@ module _ (certificate : List ℕ) (f : JobFile) (ok : JobInRange f) where
 
 -- ---- the verdict
 
-pub decided : (job certificate : List ℕ) (why : Reason) (place : ℕ) → Meaning job certificate why place → verdict job certificate ≡ refused why place
-unfolding verdict readBoth
-decided job certificate why place (job-length n) = cond-false (fits job) _ (refused (refusal 1) 0) (λ t. n (r-fits job .holds t))
-decided job certificate why place (certificate-length i n) =
+pub decided : (tested : JobFile → ℕ) (job certificate : List ℕ) (why : Reason) (place : ℕ) → MeaningAt tested job certificate why place → verdictAt tested job certificate ≡ refused why place
+unfolding verdictAt readBoth
+decided tested job certificate why place (job-length n) = cond-false (fits job) _ (refused (refusal 1) 0) (λ t. n (r-fits job .holds t))
+decided tested job certificate why place (certificate-length i n) =
     cond-true (fits job) _ (refused (refusal 1) 0) (r-fits job .tests i) ∙ cond-false (fits certificate) _ (refused (refusal 2) 0) (λ t. n (r-fits certificate .holds t))
-decided job certificate why place (in-job k q i j m) =
+decided tested job certificate why place (in-job k q i j m) =
     cond-true (fits job) _ (refused (refusal 1) 0) (r-fits job .tests i) ∙ cond-true (fits certificate) _ (refused (refusal 2) 0) (r-fits certificate .tests j)
     ∙ rw (job-refused job k q m)
-decided job certificate why place (in-certificate k q i j f is m) =
+decided tested job certificate why place (in-certificate k q i j f is m) =
     let (next, h) = job-read job f is in
     cond-true (fits job) _ (refused (refusal 1) 0) (r-fits job .tests i) ∙ cond-true (fits certificate) _ (refused (refusal 2) 0) (r-fits certificate .tests j)
-    ∙ rw (h, certificate-refused certificate f (is .in-range) k q m)
+    ∙ rw (h, certificate-refused (tested f) certificate f (is .in-range) k q m)

@@ -14,7 +14,7 @@ use Rattle.cover.specs.Links.{linksOf}
 use Rattle.format.specs.JobBytes.{Between, LocatedInRange, IsJob}
 use Rattle.format.specs.JobNumbers.{JobFile}
 use Rattle.format.specs.Numbers.{certificateNumbers}
-use Rattle.format.specs.Verdict.{Counts}
+use Rattle.format.specs.Verdict.{startOf, Counts}
 
 -- "N 1..512; N members (state, shape)"
 pub record MembersInRange (f : JobFile) (ms : List Located) : Type 0 where
@@ -29,8 +29,8 @@ ImageForEach ms c = (m : Located) → getElem? ms (c .member) ≡ some m → len
 abbrev pub countsOf : Job → List Located → ℕ → Counts
 countsOf j ms links = record { bads = length (j .forbidden); members = length ms; covers = length (owed j ms); links = links }
 
--- The conditions of acceptance, with the counts that are then told.
-pub record Conditions (job certificate : List ℕ) (counts : Counts) : Type 0 where
+-- The conditions of acceptance, with the counts that are then told. 8 is judged at the state `tested`.
+pub record ConditionsAt (tested : JobFile → ℕ) (job certificate : List ℕ) (counts : Counts) : Type 0 where
   pub job-length : Between 1 65536 (length job)
   pub certificate-length : Between 1 65536 (length certificate)
   pub file : JobFile
@@ -40,10 +40,13 @@ pub record Conditions (job certificate : List ℕ) (counts : Counts) : Type 0 wh
   pub covers : List Cover
   pub images : Every (ImageForEach members) covers
   pub certificate-reads : decode certificate ≡ numbers (certificateNumbers (file .version) members covers)
-  pub start : Every (Avoids (file .job .start)) members
+  pub start : Every (Avoids (tested file)) members
   pub hold : AllHold members covers (owed (file .job) members)
   -- the links: over all covers, the lengths of the paths of its embedding
   pub counts-due : counts ≡ countsOf (file .job) members (linksOf members covers (owed (file .job) members) hold)
+
+abbrev pub Conditions : List ℕ → List ℕ → Counts → Type 0
+Conditions = ConditionsAt startOf
 
 -- the certificate is to be accepted, with some counts
 abbrev pub Acceptable : List ℕ → List ℕ → Type 0

@@ -8,7 +8,7 @@ use borrow.Author.Tests.{eq-eqb, ne-eqb}
 use lib.Dec.{eqb, leb}
 use lib.ListN.{length, getD}
 use Rattle.lists.proofs.Reflect.{Reflect, r-and, r-iff, r-eq, r-le, r-lt, cond-cases, is-true, is-false, same-test, passes, fails}
-use Rattle.layout.specs.Entries.{versionOf, factCount, factsFirst, factsEnd, linksEnd, linksInside, entryEnd, isWhole, Whole}
+use Rattle.layout.specs.Entries.{versionOf, factCount, factsFirst, factsEnd, linksEnd, linksInside, entryEnd, isWhole, EntryInRange, Whole}
 
 -- facts come after the links
 pub facts-after : (bytes : List ℕ) (at : ℕ) → at ≤ factsEnd bytes at
@@ -61,6 +61,10 @@ module _ (bytes : List ℕ) (variables at : ℕ) where
 
   pub not-whole : (Whole bytes variables at → ⊥) → false ≡ isWhole bytes variables at
   not-whole n = sym (is-false (isWhole bytes variables at) (λ t. n (r-whole .holds t)))
+
+  -- an entry in range is whole
+  pub entry-whole : EntryInRange bytes variables at → variables ≤ 8 → Whole bytes variables at
+  entry-whole e few = record { variables-most = omega arith; cells = e .cells; inside = e .inside; facts-inside = e .facts-inside }
 
   -- an entry whose links are not inside is not whole
   pub lost-inside : linksInside bytes variables at ≡ false → Whole bytes variables at → ⊥

@@ -6,7 +6,7 @@ use native.Mathlib.Omega.{arith}
 use Rattle.format.specs.JobNumbers.{JobFile}
 use Rattle.format.specs.Meaning.{InJob, job-number, job-range, job-left, InCertificate, member-unread, cover-unread, version-range, member-range, cover-range, versions-differ, member-satisfied, cover-fails, certificate-left, Meaning, job-length, certificate-length, in-job, in-certificate}
 use Rattle.format.specs.Parser.{Reason, reasonNumber}
-use Rattle.format.specs.Verdict.{Verdict, accepted, refused, verdict}
+use Rattle.format.specs.Verdict.{startOf, Verdict, accepted, refused, verdict}
 use Rattle.format.proofs.Means.{means}
 use Rattle.tally.specs.Release.{tallied, takenIn, SaysOf, Numbered, AllNumbered, verdictsOn}
 use Rattle.tally.specs.Tally.{begun}
@@ -20,7 +20,7 @@ of-job (job-number place u) = (omega arith, omega arith)
 of-job (job-range place o) = (omega arith, omega arith)
 of-job (job-left f place i l) = (omega arith, omega arith)
 
-of-certificate : {f : JobFile} {certificate : List ℕ} {why : Reason} {place : ℕ} → InCertificate f certificate why place → InTable why
+of-certificate : {tested : ℕ} {f : JobFile} {certificate : List ℕ} {why : Reason} {place : ℕ} → InCertificate tested f certificate why place → InTable why
 of-certificate (member-unread place u) = (omega arith, omega arith)
 of-certificate (cover-unread place limit d u) = (omega arith, omega arith)
 of-certificate (version-range n next e b) = (omega arith, omega arith)
@@ -42,7 +42,7 @@ verdict-numbered job certificate = go (verdict job certificate) refl
   where
     go : (v : Verdict) → verdict job certificate ≡ v → Numbered v
     go (accepted c) e = tt
-    go (refused why place) e = of-both (means job certificate why place e)
+    go (refused why place) e = of-both (means startOf job certificate why place e)
 
 all-numbered : (pairs : List (List ℕ × List ℕ)) → AllNumbered (verdictsOn pairs)
 all-numbered [] = tt

@@ -10,14 +10,9 @@ use lib.ListN.{getD, set}
 use Rattle.format.specs.Parser.{Reason, reasonNumber}
 use Rattle.format.specs.Verdict.{Verdict, Counts, accepted, refused}
 use Rattle.lists.proofs.Test.{and-left, and-right}
-use Rattle.verdict.specs.declared.Counts.{Counts as CountsAnswer}
 use Rattle.tally.specs.Tally.{limit, oneMore, after, countOf, fits, takeIn}
 use Rattle.tally.specs.declared.Taken.{Taken}
 use Rattle.tally.specs.declared.Tally.{Tally}
-
--- the counts of the definitions that counts of the code are
-abbrev pub countsOf : CountsAnswer → Counts
-countsOf c = record { bads = c .bads; members = c .members; covers = c .covers; links = c .links }
 
 -- one more at a place, as a store
 pub one-more : (l : List ℕ) (i : ℕ) → set l i (getD l i 0 + 1) ≡ oneMore i l

@@ -8,7 +8,7 @@ use Rattle.format.specs.Conditions.{Conditions, Acceptable}
 use Rattle.format.specs.JobBytes.{SafeBytes}
 use Rattle.format.specs.Parser.{Reason, reasonNumber}
 use Rattle.format.specs.Verdict.{Verdict, Counts, accepted, refused, verdict}
-use Rattle.verdict.specs.Verdict.{reasonOf, verdictOf, verdictResult}
+use Rattle.verdict.specs.Verdict.{reasonOf, countsTold, verdictOf, verdictResult}
 use Rattle.verdict.specs.declared.Counts.{Counts as CountsAnswer}
 use Rattle.verdict.specs.declared.Refusal.{Refusal}
 use Rattle.verdict.specs.declared.Verdict.{Verdict as Answer}
@@ -28,9 +28,7 @@ module _
     (safe : (c : CountsAnswer) → r ≡ Accepted c → SafeBytes job)
   where
     told-accepted : (c : CountsAnswer) → r ≡ Accepted c → Told job cert 0
-    told-accepted c r-is =
-        let counts : Counts = record { bads = c .bads; members = c .members; covers = c .covers; links = c .links } in
-        ((λ z. (counts, exact counts .0 (ap verdictOf r-is)), λ d. refl), λ z. safe c r-is)
+    told-accepted c r-is = ((λ z. (countsTold c, exact (countsTold c) .0 (ap verdictOf r-is)), λ d. refl), λ z. safe c r-is)
 
     told-refused : (why : Refusal) (place code : ℕ) → r ≡ Refused why place → code ≡ reasonNumber (reasonOf why) → Told job cert code
     told-refused why place code r-is code-is =

@@ -2,8 +2,9 @@
 use mathlib.Core.List.{[], _∷_}
 use Prim.Native.Nat.{ℕ}
 use Rattle.format.specs.Parser.{Reason, refusal, broken-rule, reasonNumber, Parsed, parsed, fault}
-use Rattle.format.specs.Verdict.{Verdict, accepted, refused}
+use Rattle.format.specs.Verdict.{Counts, Verdict, accepted, refused}
 use Rattle.number.specs.CallResult.{CallResult}
+use Rattle.verdict.specs.declared.Counts.{Counts as CountsAnswer}
 use Rattle.verdict.specs.declared.Reached.{Reached}
 use Rattle.verdict.specs.declared.Reached.the-variants.{At, Refused as ReachedRefused}
 use Rattle.verdict.specs.declared.Refusal.{Refusal}
@@ -34,9 +35,13 @@ abbrev pub nameTold : Reason → ℕ
 nameTold (refusal number) = 0
 nameTold (broken-rule rule name) = name
 
+-- the counts of the definitions that the code's are
+abbrev pub countsTold : CountsAnswer → Counts
+countsTold c = record { bads = c .bads; members = c .members; covers = c .covers; links = c .links }
+
 -- the verdict of the definitions that an answer of the code is
 abbrev pub verdictOf : Answer → Verdict
-verdictOf (Accepted c) = accepted (record { bads = c .bads; members = c .members; covers = c .covers; links = c .links })
+verdictOf (Accepted c) = accepted (countsTold c)
 verdictOf (Refused r place) = refused (reasonOf r) place
 
 -- what a place reached, or a refusal, is as the answer of a parser

@@ -27,7 +27,7 @@ members : (c : tie.After-known-told2)
     → let o = read c in
     let a = begun o .args in
     let v = c .before .r2 .given .0 in
-    MembersRead (a .cert .now) (o .before .before .version-of .result) (a .h .variables) (a .h .states) (a .h .start) (o .read-members .last .1 .1 .1 .1 .1 .0) (v .0) (v .1 .0)
+    MembersRead (a .cert .now) (o .before .before .version-of .result) (a .h .variables) (a .h .states) (a .tested) (o .read-members .last .1 .1 .1 .1 .1 .0) (v .0) (v .1 .0)
 members c = rw (c .before .r2 .given .1) at (c .before .before .before .read-members .ensures .0)
 
 -- the certificate is short, and the job has few variables and states
@@ -67,7 +67,7 @@ returns : tie.Need-returns
 returns c =
     let o = c .before .before .before in
     let a = begun o .args in
-    certificate-refused (a .cert .now) (fileIn (a .job .now) (a .h)) _ _ (rw (c .before .r .given .1, o .before .before .version-of .ensures) at (o .read-members .ensures .0))
+    certificate-refused (a .cert .now) (fileIn (a .job .now) (a .h)) (a .tested) _ _ (rw (c .before .r .given .1, o .before .before .version-of .ensures) at (o .read-members .ensures .0))
 
 returns-2 : tie.Need-returns-2
 returns-2 c =
@@ -79,8 +79,8 @@ returns-2 c =
     let f = fileIn (a .job .now) (a .h) in
     c .check-covers .ensures
     ∙ ap conclude (ap (λ ms. readCovers (a .cert .now) (f .job) ms next) (sym (m .members-are (limits s)))
-    ∙ certificate-members (a .cert .now) f (m .members) next
-    (subst (λ (w : ℕ). readTested (certificateBuffer (a .cert .now)) w (a .h .variables) (a .h .states) (a .h .start) 0 ≡ parsed (m .members) next)
+    ∙ certificate-members (a .cert .now) f (a .tested) (m .members) next
+    (subst (λ (w : ℕ). readTested (certificateBuffer (a .cert .now)) w (a .h .variables) (a .h .states) (a .tested) 0 ≡ parsed (m .members) next)
     (read told .before .before .version-of .ensures) (m .read)))
 
 pub check-certificate-spec : {M : Type 1} → statement M

@@ -4,8 +4,8 @@ use mathlib.Core.Path.{refl, sym, ap, _∙_}
 use Prim.Native.Nat.{ℕ, _+_, _-_, _≤_}
 use native.Mathlib.Omega.{arith}
 use Rattle.tally.specs.Tally.{oneMore, fits}
-use Rattle.tally.proofs.Taking.{countsOf, one-more, FitsAccepted, fits-accepted, FitsRefused, fits-refused}
-use Rattle.verdict.specs.Verdict.{reasonOf, verdictOf}
+use Rattle.tally.proofs.Taking.{one-more, FitsAccepted, fits-accepted, FitsRefused, fits-refused}
+use Rattle.verdict.specs.Verdict.{reasonOf, countsTold, verdictOf}
 use Rattle.verdict.specs.declared.Verdict.{Verdict as Answer}
 use Rattle.verdict.proofs.Numbers.{numbered}
 use borrow.Author.Needs.{needs}
@@ -21,9 +21,9 @@ begun c = c .before .before .before
 abbrev begun-2 : tie.After-v2 → tie.Start
 begun-2 c = c .before .before .before
 
-accepts : (c : tie.After-v) → FitsAccepted (begun c .args .t) (countsOf (c .v .given .0 .0))
+accepts : (c : tie.After-v) → FitsAccepted (begun c .args .t) (countsTold (c .v .given .0 .0))
 accepts c =
-    fits-accepted (begun c .args .t) (countsOf (c .v .given .0 .0)) (sym (ap (λ (v : Answer). fits (verdictOf v) (begun c .args .t)) (c .v .given .1)) ∙ begun c .pre)
+    fits-accepted (begun c .args .t) (countsTold (c .v .given .0 .0)) (sym (ap (λ (v : Answer). fits (verdictOf v) (begun c .args .t)) (c .v .given .1)) ∙ begun c .pre)
 
 refuses : (c : tie.After-v2) → FitsRefused (begun-2 c .args .t) (reasonOf (c .v2 .given .0 .0))
 refuses c =

@@ -4,8 +4,8 @@ use Prim.Native.Nat.{ℕ, _-_}
 use native.Mathlib.Omega.{arith}
 use lib.Dec.{ltb}
 use lib.ListN.{getD}
-use Rattle.tally.proofs.Taking.{countsOf, full-verdicts, full-accepted, full-members, last-covers, last-count}
-use Rattle.verdict.specs.Verdict.{reasonOf, verdictOf}
+use Rattle.tally.proofs.Taking.{full-verdicts, full-accepted, full-members, last-covers, last-count}
+use Rattle.verdict.specs.Verdict.{reasonOf, countsTold, verdictOf}
 use Rattle.verdict.proofs.Numbers.{numbered}
 use borrow.Author.Needs.{needs}
 use Rattle.tally.proofs.is_fitting.Statement.{statement}
@@ -35,7 +35,7 @@ enum-known-v c = search needs
 returns-2 : tie.Need-returns-2
 returns-2 c =
     let d = c .before .before .before in
-    rw (d .v .given .1) (full-accepted (begun d .args .t) (countsOf (d .v .given .0 .0)) (omega arith) (omega arith))
+    rw (d .v .given .1) (full-accepted (begun d .args .t) (countsTold (d .v .given .0 .0)) (omega arith) (omega arith))
 
 sub-if3 : tie.Need-sub-if3
 sub-if3 c = search needs
@@ -43,7 +43,7 @@ sub-if3 c = search needs
 returns-3 : tie.Need-returns-3
 returns-3 c =
     let d = c .before .before .before .before .before .before in
-    rw (d .v .given .1) (full-members (begun d .args .t) (countsOf (d .v .given .0 .0)) (omega arith) (omega arith) (omega arith))
+    rw (d .v .given .1) (full-members (begun d .args .t) (countsTold (d .v .given .0 .0)) (omega arith) (omega arith) (omega arith))
 
 sub-result : tie.Need-sub-result
 sub-result c = search needs
@@ -69,7 +69,7 @@ array-read-result c = omega (arith, c .before .refusal-number .ensures, numbered
 returns-4 : tie.Need-returns-4
 returns-4 c =
     let d = c .before .before .before .before .before .before .before .before in
-    rw (d .v .given .1) (last-covers (begun d .args .t) (countsOf (d .v .given .0 .0)) (omega arith) (omega arith) (omega arith) (omega arith))
+    rw (d .v .given .1) (last-covers (begun d .args .t) (countsTold (d .v .given .0 .0)) (omega arith) (omega arith) (omega arith) (omega arith))
 
 returns-5 : tie.Need-returns-5
 returns-5 c =

@@ -5,7 +5,7 @@ use Prim.Native.Nat.{_+_, _-_, _≤_}
 use native.Mathlib.Omega.{arith}
 use Rattle.layout.specs.Entries.{EntryInRange, entryEnd, locatedAt, entriesAt, EntriesIn}
 use Rattle.layout.specs.Members.{membersFrom}
-use Rattle.layout.proofs.Whole.{end-told}
+use Rattle.layout.proofs.Whole.{end-told, entry-whole}
 use Rattle.run.specs.Run.{Located}
 use Rattle.checker.specs.Checking.{coversOf, ChecksAll}
 use Rattle.checker.proofs.Checking.{Progress, begin, advance, halt, finish}
@@ -99,7 +99,7 @@ next c =
     let a = s .args in
     let e = entries i .0 in
     c .entry-end .ensures
-    ∙ sym (end-told (a .job .now) (a .variables) (l .loop .at) (record { variables-most = omega (arith, s .pre .1); cells = e .cells; inside = e .inside; facts-inside = e .facts-inside }))
+    ∙ sym (end-told (a .job .now) (a .variables) (l .loop .at) (entry-whole (a .job .now) (a .variables) (l .loop .at) e (s .pre .1)))
 
 -- ---- what is to be shown
 

@@ -1,0 +1,37 @@
+-- What is refused ahead of the certificate, or its verdict without 8.
+use mathlib.Core.Path.{_∙_}
+use Rattle.format.specs.Verdict.{noState}
+use Rattle.checker.proofs.Verdicts.{promised-second}
+use borrow.Author.Needs.{needs}
+use Rattle.checker.proofs.check_second.Statement.{statement}
+use Rattle.checker.proofs.check_second.Tie as tie
+
+begin-requires : tie.Need-begin-requires
+begin-requires c κs = search needs
+
+enum-known-r : tie.Need-enum-known-r
+enum-known-r c = search needs
+
+enum-known-r-2 : tie.Need-enum-known-r-2
+enum-known-r-2 c = search needs
+
+check-certificate-requires : tie.Need-check-certificate-requires
+check-certificate-requires c κs =
+    let (job-read, (fits, _)) = rw (c .before .r2 .given .1) at (c .before .before .before .begin .ensures) in
+    (job-read, fits)
+
+returns : tie.Need-returns
+returns c =
+    let o = c .before .before .before in
+    let a = o .before .before .before .args in
+    promised-second (a .job .now) (a .cert .now) _ ((rw (c .before .r .given .1) at (o .begin .ensures)) noState)
+
+returns-2 : tie.Need-returns-2
+returns-2 c =
+    let o = c .before .before .before .before in
+    let a = o .before .before .before .args in
+    let (_, (_, verdict-is)) = rw (c .before .before .r2 .given .1) at (o .begin .ensures) in
+    promised-second (a .job .now) (a .cert .now) _ (c .check-certificate .ensures ∙ verdict-is noState)
+
+pub check-second-spec : {M : Type 1} → statement M
+check-second-spec = tie.close (tie.spec begin-requires enum-known-r enum-known-r-2 check-certificate-requires returns returns-2)

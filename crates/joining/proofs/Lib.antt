@@ -1,0 +1,11 @@
+pub mod Moved
+pub mod InPhase
+pub mod Safe
+pub mod Phases
+pub mod Small
+pub mod Example
+pub mod NotSafe
+pub mod Tests
+pub mod Exact
+pub mod Cases
+pub mod Numbers

@@ -1,0 +1,5 @@
+pub mod Same
+pub mod Shapes
+pub mod Refusals
+pub mod Reading
+pub mod Answers
