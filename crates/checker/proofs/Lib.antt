@@ -1,4 +1,3 @@
-pub mod Begun
 pub mod Members
 pub mod CoverPlace
 pub mod Lists

@@ -1,4 +1,3 @@
-pub mod Begun
 pub mod Checking
 pub mod Placing
 pub mod Jobs
