@@ -11,6 +11,7 @@ scripts/pages.sh
 
 scripts/lib.sh
 scripts/example.sh
+scripts/search_test.sh
 scripts/install_test.sh
 scripts/release_test.sh
 scripts/lint.sh
