@@ -171,6 +171,7 @@ fn the_usual_forbidden_shapes_are_those() {
             state: 0,
         },
     ];
+    assert_eq!(rows.len(), 3);
     for (row, set) in rows.iter().zip(sets) {
         let shown: Vec<&str> = row[1].trim_matches('`').split("` `").collect();
         assert_eq!(shown, added(set), "{row:?}");
