@@ -1,7 +1,7 @@
 #!/usr/bin/env python3
-"""A search tool of a page or two, written after docs/FORMAT.md.
+"""A small search tool, written after docs/FORMAT.md.
 
-    search.py JOB CERT    reads a job of version 2 and writes a certificate for it
+    search.py JOB CERT    reads a job and writes a certificate for it
     search.py FOLDER      writes FOLDER/job.bin, a routine that reverses a list, and FOLDER/cert.bin
 
 It goes backward from the forbidden shapes: a shape that no member covers becomes a member, and its
@@ -19,7 +19,7 @@ EQUAL, DIFFERENT, ASSIGN, LOAD, STORE, NEW, DELETE = range(1, 8)
 SAME_VALUE, LESS_VALUE, COPY, LARGER, SMALLER, READ = range(8, 14)
 BELOW, SAME = 0, 1  # kinds of facts
 
-Job = namedtuple("Job", "variables states start transitions forbidden")
+Job = namedtuple("Job", "version variables states start transitions forbidden")
 Shape = namedtuple("Shape", "places links facts")  # codes of places; closed facts
 
 # ---- Files ----
@@ -45,24 +45,24 @@ def read_job(data):
     numbers = list(from_bytes(data))
     take = lambda some: tuple(numbers.pop(0) for _ in range(some))
     version, variables, states, start, transitions = take(5)
-    if version != 2:
-        sys.exit("the job has to be of version 2")
     transitions = [take(5) for _ in range(transitions)]
     forbidden = []
     for _ in range(*take(1)):
         state, cells = take(2)
         places, links = take(variables), take(cells)
-        forbidden.append((state, Shape(places, links, closed([take(3) for _ in range(*take(1))]))))
-    return Job(variables, states, start, transitions, forbidden)
+        facts = [take(3) for _ in range(*take(1))] if version == 2 else []
+        forbidden.append((state, Shape(places, links, closed(facts))))
+    return Job(version, variables, states, start, transitions, forbidden)
 
-def numbers_of(state, shape):
-    facts = sorted(shape.facts)
-    return [state, len(shape.links), *shape.places, *shape.links, len(facts), *chain(*facts)]
+def shapes_at_states(version, located):
+    yield len(located)
+    for state, shape in located:
+        yield from (state, len(shape.links), *shape.places, *shape.links)
+        yield from (len(shape.facts), *chain(*sorted(shape.facts))) if version == 2 else ()
 
 def write_job(job):
-    shapes = chain(*(numbers_of(*bad) for bad in job.forbidden))
-    return to_bytes([2, job.variables, job.states, job.start, len(job.transitions), *chain(*job.transitions),
-                     len(job.forbidden), *shapes])
+    return to_bytes([job.version, job.variables, job.states, job.start, len(job.transitions),
+                     *chain(*job.transitions), *shapes_at_states(job.version, job.forbidden)])
 
 # ---- Facts ----
 
@@ -116,6 +116,8 @@ def without(shape, cell):
                  frozenset((kind, down(i, cell), down(j, cell)) for kind, i, j in shape.facts))
 
 def before_delete(shape, a):
+    if place_of(shape, a) not in (NOWHERE, DANGLING):
+        return []
     fresh = CELL + len(shape.links)
     links = tuple(NOWHERE if code == DANGLING else code for code in shape.links) + (NOWHERE,)
     cases = [(fresh,) if variable == a else (DANGLING, fresh) if code == DANGLING else (code,)
@@ -153,7 +155,7 @@ def predecessors(shape, kind, a, b):
     if not possible(shape):
         return []
     if kind == DELETE:
-        return before_delete(shape, a) if place_of(shape, a) in (NOWHERE, DANGLING) else []
+        return before_delete(shape, a)
     if kind == LOAD and a == b:
         helper = len(shape.places) + 1
         helped = predecessors(shape._replace(places=shape.places + (NOWHERE,)), LOAD, a, helper)
@@ -224,8 +226,8 @@ def search(job):
 
 def certificate(job, members):
     owed = chain(job.forbidden, ((source, one) for member in members for source, one, _ in before(job, *member)))
-    shapes = chain(*(numbers_of(*member) for member in members))
-    return to_bytes([2, len(members), *shapes, *chain(*(cover(members, *shape) for shape in owed))])
+    covers = (cover(members, *shape) for shape in owed)
+    return to_bytes([job.version, *shapes_at_states(job.version, members), *chain(*covers)])
 
 # ---- The reversal of a list ----
 
@@ -251,7 +253,7 @@ def reversal():
     forbidden = [bad(end, y, *codes) for codes in no_list]
     forbidden += [bad(end, y, *codes, NOWHERE) for codes in no_list + a_list]  # a cell beside it is lost
     forbidden += [bad(state, variable, code) for state, variable in ((2, t), (7, x), (8, y)) for code in (NULL, DANGLING)]
-    return Job(3, 10, 0, transitions, forbidden)
+    return Job(2, 3, 10, 0, transitions, forbidden)
 
 def main(names):
     if len(names) not in (1, 2):

@@ -232,6 +232,9 @@ fn the_example_in_python_finds_certificates() {
     let names = names.into_iter().chain(of_values);
     let mut jobs: Vec<(&str, Job)> = names.map(|name| (name, of_corpus(name))).collect();
     jobs.push(("larger", with_larger_values()));
+    let first_version = corpus::find("reverse").unwrap().routine.job;
+    assert_eq!(first_version.version, Version::One);
+    jobs.push(("first_version", first_version));
     let mut kinds = BTreeSet::new();
     for (name, job) in jobs {
         let certificate = search(name, &job).expect(name);

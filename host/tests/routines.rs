@@ -23,7 +23,7 @@ fn listings(page: &str) -> Vec<&str> {
 }
 
 /// The rows of all tables with these headings, as cells.
-fn rows<'a>(page: &'a str, is_heading: impl Fn(&str) -> bool) -> Vec<Vec<&'a str>> {
+fn rows(page: &str, is_heading: impl Fn(&str) -> bool) -> Vec<Vec<&str>> {
     let mut rows = Vec::new();
     let mut inside = false;
     for line in page.lines() {
