@@ -30,9 +30,10 @@ END
     echo "installed include/$1.h, lib/lib$1.a and lib/pkgconfig/$1.pc below $into"
 }
 
-install -d "$into/include" "$into/lib/pkgconfig" "$into/share/doc/vorruda"
+install -d "$into/include" "$into/lib/pkgconfig" "$into/share/doc/vorruda/examples"
 install_library vorruda "Proved checker of certificates for linked-list routines"
 install_library vorruda_list "Proved list of pattern blocks for a loom box"
 install -m 644 include/vorruda_text.h "$into/include/vorruda_text.h"
 install -m 644 LICENSE docs/FORMAT.md docs/ROUTINES.md "$into/share/doc/vorruda"
-echo "installed include/vorruda_text.h and, in share/doc/vorruda, FORMAT.md, ROUTINES.md and LICENSE below $into"
+install -m 644 examples/*.c examples/*.listing examples/*.py "$into/share/doc/vorruda/examples"
+echo "installed include/vorruda_text.h and, in share/doc/vorruda, FORMAT.md, ROUTINES.md, LICENSE and the examples below $into"

@@ -11,7 +11,8 @@ cd build/installed
 (cd staged/usr && find . -type f | sort) | cmp - files
 grep -q '^prefix=/usr$' staged/usr/lib/pkgconfig/vorruda.pc
 grep -q '^prefix=/usr$' staged/usr/lib/pkgconfig/vorruda_list.pc
-printf './share/doc/vorruda/%s\n' FORMAT.md LICENSE ROUTINES.md | diff - <(grep '^./share/' files)
+pages=(FORMAT.md LICENSE ROUTINES.md examples/block_list.c examples/host.c examples/reverse.listing examples/search.py)
+printf './share/doc/vorruda/%s\n' "${pages[@]}" | sort | diff - <(grep '^./share/' files)
 if ! command -v pkg-config > /dev/null; then
     echo "pkg-config is not installed: the installed library is not tried"
     exit 0
@@ -21,7 +22,7 @@ export PKG_CONFIG_PATH=$PWD/usr/lib/pkgconfig
 built() {
     local flags
     read -r -a flags <<< "$(pkg-config --cflags --libs "$2")"
-    gcc -std=c11 -Wall -Wextra -Werror -O2 "../../examples/$1.c" "${flags[@]}" -o "$1"
+    gcc -std=c11 -Wall -Wextra -Werror -O2 "usr/share/doc/vorruda/examples/$1.c" "${flags[@]}" -o "$1"
     "./$1" | tail -n 1 | grep -q '^As expected\.$'
     grep -qF "#define VORRUDA_VERSION \"$(pkg-config --modversion "$2")\"" "usr/include/$2.h"
 }
