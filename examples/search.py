@@ -252,7 +252,8 @@ def reversal():
     a_list = [(NULL,), (CELL, NULL)]
     forbidden = [bad(end, y, *codes) for codes in no_list]
     forbidden += [bad(end, y, *codes, NOWHERE) for codes in no_list + a_list]  # a cell beside it is lost
-    forbidden += [bad(state, variable, code) for state, variable in ((2, t), (7, x), (8, y)) for code in (NULL, DANGLING)]
+    steps = ((2, t), (7, x), (8, y))  # where a link is set or followed, and of which variable
+    forbidden += [bad(*step, code) for step in steps for code in (NULL, DANGLING)]
     return Job(2, 3, 10, 0, transitions, forbidden)
 
 def main(names):
