@@ -1,7 +1,7 @@
 # make run                          the main job: the verdict on a sample job and certificate
 # make test                         every proof and every test
 # make lib                          target/staticlib/libvorruda.a and libvorruda_list.a, for hosts to link
-# make install PREFIX=/usr/local    headers, libraries and pkg-config files; DESTDIR is honoured
+# make install PREFIX=/usr/local    headers, libraries, pkg-config files, pages and examples; DESTDIR is honoured
 # make try ROUTINE=name-or-file     from a routine as text to a verdict; without ROUTINE, the routines there are;
 #                                   with CERTIFICATE=file the verdict on a certificate of one's own, ROUTINE being text or a job's bytes
 # make report ROUTINE=name-or-file  a page to look at; without ROUTINE, or with a folder, a table and a page for each routine

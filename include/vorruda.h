@@ -16,6 +16,38 @@
 #include <stddef.h>
 #include <stdint.h>
 
+/* ---- Version, limits, lengths -----------------------------------------------------------------
+ *
+ * vorruda_text.h has a text for each refusal. The files are told byte by byte in FORMAT.md, which is
+ * installed beside ROUTINES.md, from a routine in C to a listing, in share/doc/vorruda. */
+
+#define VORRUDA_VERSION "0.1.0" /* as pkg-config --modversion vorruda tells it */
+
+#define VORRUDA_MOST_NUMBER      65535 /* in a file */
+#define VORRUDA_MOST_BYTES       65536 /* of a job, of a certificate */
+#define VORRUDA_MOST_VARIABLES   8
+#define VORRUDA_MOST_STATES      64
+#define VORRUDA_MOST_TRANSITIONS 256
+#define VORRUDA_MOST_FORBIDDEN   64
+#define VORRUDA_MOST_MEMBERS     512
+#define VORRUDA_MOST_CELLS       12  /* of a shape in a file */
+#define VORRUDA_MOST_FACTS       288 /* of a shape in a file */
+#define VORRUDA_MOST_OPEN        16  /* `while` and `if` of a listing, at once */
+
+/* How many entries of `out` a call tells. */
+#define VORRUDA_READ_NUMBER_OUT   2
+#define VORRUDA_WRITE_NUMBERS_OUT 1
+#define VORRUDA_VERDICT_OUT       4
+#define VORRUDA_TALLY_VERDICT_OUT 4
+#define VORRUDA_TALLY_REPORT_OUT  2
+#define VORRUDA_FORBID_OUT        1 /* each vorruda_forbid_* */
+#define VORRUDA_TRANSLATE_OUT     1
+
+/* How many entries of `marks` vorruda_translate tells, and what stands there for a mark that a
+ * listing hasn't. */
+#define VORRUDA_MARKS   64
+#define VORRUDA_NO_MARK 64
+
 #ifdef __cplusplus
 extern "C" {
 #endif
@@ -282,7 +314,15 @@ uint32_t vorruda_forbid_bad_steps(const uint8_t *job, size_t job_len,
  *
  * where x and y are letters a to z, y or both sides of a test may be `null` (not before `.next`), T
  * is a test or the word `any`, and k is 0 to 63, each once. At most 16 `while` and `if` are open at
- * once. Names are numbered from 1 as first met. */
+ * once. Names are numbered from 1 as first met.
+ *
+ * Which letter is variable k: read the text from its first byte on. A letter with no letter on either
+ * side is a name; all others belong to words. The k-th name that wasn't met before is variable k. In
+ *
+ *   new(t)
+ *   t.next := x
+ *
+ * t is variable 1 and x is variable 2. */
 
 #define VORRUDA_LISTING_LINE    17 /* a line outside the grammar, or an `end` too many or missing */
 #define VORRUDA_LISTING_NESTING 18 /* more than 16 `while` and `if` open */
@@ -306,6 +346,19 @@ uint32_t vorruda_translate(const uint8_t *text, size_t text_len,
                            uint8_t *bytes, size_t len,
                            uint8_t *marks, size_t marks_len,
                            uint64_t *out, size_t out_len);
+
+/* From a listing to a verdict. What is translated ends ahead of the number of forbidden shapes, and a
+ * job has at least one. So the host puts the first behind it, each number one byte:
+ *
+ *   1             how many forbidden shapes there are
+ *   marks[k]      the state at which it is forbidden, here that of mark k
+ *   n             how many cells it has, 0 to 12
+ *   V codes       where variables 1 to V stand; V is bytes[1]
+ *   n codes       where the links of its cells stand
+ *
+ * A code is 0 (nowhere: nothing is said), VORRUDA_NULL, VORRUDA_DANGLING or VORRUDA_CELL(i). Then
+ * vorruda_forbid_* puts ready ones behind it, and what comes out is the job that is checked. With V = 2,
+ * `1 marks[0] 0 0 2` forbids at mark 0 that variable 2 is at *. */
 
 #ifdef __cplusplus
 }

@@ -17,6 +17,10 @@
 #include <stddef.h>
 #include <stdint.h>
 
+#define VORRUDA_VERSION "0.1.0" /* as pkg-config --modversion vorruda_list tells it */
+
+#define VORRUDA_LIST_COUNT_OUT 1 /* how many entries of `out` vorruda_list_count tells */
+
 #ifdef __cplusplus
 extern "C" {
 #endif

@@ -1,5 +1,5 @@
 #!/usr/bin/env bash
-# Builds and runs the examples in C, each with its own library, and sees that both headers may be included together, from C++ too.
+# Builds and runs the examples in C, each with its own library.
 set -euo pipefail
 cd "$(dirname "$0")/.."
 mkdir -p build
@@ -10,8 +10,3 @@ build/host
 sample=(crates/judge/data/job.bin crates/judge/data/cert.bin)
 build/host "${sample[@]}" | tail -n 1 | grep -x 'share 1/1 covers [0-9]*/1'
 build/block_list
-printf '#include "vorruda.h"\n#include "vorruda_list.h"\nint main(void) { return 0; }\n' > build/both.c
-gcc -std=c11 "${flags[@]}" build/both.c -o build/both
-if command -v g++ > /dev/null; then
-    g++ -std=c++11 "${flags[@]}" -x c++ build/both.c -o build/both
-fi

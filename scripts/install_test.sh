@@ -1,5 +1,5 @@
 #!/usr/bin/env bash
-# Installs below build/installed, with and without DESTDIR, and builds and runs both examples in C with what pkg-config says.
+# Installs below build/installed, with and without DESTDIR; builds and runs both examples in C with what pkg-config says, which tells the version that the headers have.
 set -euo pipefail
 cd "$(dirname "$0")/.."
 rm -rf build/installed
@@ -11,6 +11,8 @@ cd build/installed
 (cd staged/usr && find . -type f | sort) | cmp - files
 grep -q '^prefix=/usr$' staged/usr/lib/pkgconfig/vorruda.pc
 grep -q '^prefix=/usr$' staged/usr/lib/pkgconfig/vorruda_list.pc
+pages=(FORMAT.md LICENSE ROUTINES.md examples/block_list.c examples/host.c examples/reverse.listing examples/search.py)
+printf './share/doc/vorruda/%s\n' "${pages[@]}" | sort | diff - <(grep '^./share/' files)
 if ! command -v pkg-config > /dev/null; then
     echo "pkg-config is not installed: the installed library is not tried"
     exit 0
@@ -20,8 +22,9 @@ export PKG_CONFIG_PATH=$PWD/usr/lib/pkgconfig
 built() {
     local flags
     read -r -a flags <<< "$(pkg-config --cflags --libs "$2")"
-    gcc -std=c11 -Wall -Wextra -Werror -O2 "../../examples/$1.c" "${flags[@]}" -o "$1"
+    gcc -std=c11 -Wall -Wextra -Werror -O2 "usr/share/doc/vorruda/examples/$1.c" "${flags[@]}" -o "$1"
     "./$1" | tail -n 1 | grep -q '^As expected\.$'
+    grep -qF "#define VORRUDA_VERSION \"$(pkg-config --modversion "$2")\"" "usr/include/$2.h"
 }
 built host vorruda
 built block_list vorruda_list

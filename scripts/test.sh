@@ -10,7 +10,9 @@ scripts/list_rests.sh
 scripts/pages.sh
 
 scripts/lib.sh
+scripts/header_test.sh
 scripts/example.sh
+scripts/search_test.sh
 scripts/install_test.sh
 scripts/release_test.sh
 scripts/lint.sh
