@@ -5,7 +5,7 @@ use mathlib.Core.Path.{_≡_, refl, sym, ap, subst, _∙_}
 use Prim.Native.Nat.{ℕ}
 use native.Mathlib.Omega.{arith}
 use Rattle.format.specs.Verdict.{Counts}
-use Rattle.joining.specs.Conditions.{Means, accepted, first-refused, second-refused, outside, variables-differ, goes-on, not-listed, SafeJoined}
+use Rattle.joining.specs.Conditions.{JoinMeans, accepted, first-refused, second-refused, outside, variables-differ, goes-on, not-listed, SafeJoined}
 use Rattle.joining.specs.Join.{Joining, both, pair-refused, joint-refused, join}
 use Rattle.joint.specs.Answer.{joiningOf, joinResult, Joinable}
 use Rattle.joint.specs.declared.JoinAnswer.{JoinAnswer}
@@ -21,7 +21,7 @@ module _ (job₁ cert₁ job₂ cert₂ : List ℕ) (state : ℕ) where
   Told code = ((code ≡ 0) ↔ Joinable job₁ cert₁ job₂ cert₂ state) × (code ≡ 0 → SafeJoined job₁ job₂ state)
 
   -- only 24 to 27 are told of the two together
-  some-number : (n : ℕ) (j : Joining) → j ≡ joint-refused n → Means job₁ cert₁ job₂ cert₂ state j → ¬ (n ≡ 0)
+  some-number : (n : ℕ) (j : Joining) → j ≡ joint-refused n → JoinMeans job₁ cert₁ job₂ cert₂ state j → ¬ (n ≡ 0)
   some-number n j e (accepted a b p joins) z = let y : _≡_ {A = ℕ} 0 1 = cc in absurd (omega arith)
   some-number n j e (first-refused why place m) z = let y : _≡_ {A = ℕ} 0 1 = cc in absurd (omega arith)
   some-number n j e (second-refused a c why place m) z = let y : _≡_ {A = ℕ} 0 1 = cc in absurd (omega arith)
@@ -34,7 +34,7 @@ module _ (job₁ cert₁ job₂ cert₂ : List ℕ) (state : ℕ) where
   module _
       (answer : JoinAnswer)
       (is : joiningOf answer ≡ join job₁ cert₁ job₂ cert₂ state)
-      (means : (j : Joining) → (joiningOf answer ≡ j) ↔ Means job₁ cert₁ job₂ cert₂ state j)
+      (means : (j : Joining) → (joiningOf answer ≡ j) ↔ JoinMeans job₁ cert₁ job₂ cert₂ state j)
       (safe : (a b : CountsAnswer) → answer ≡ Both a b → SafeJoined job₁ job₂ state)
     where
       -- a number that isn't 0, of an answer without counts
@@ -54,7 +54,7 @@ module _ (job₁ cert₁ job₂ cert₂ : List ℕ) (state : ℕ) where
       pub promised : (code : ℕ) (out values : List ℕ) → code ≡ joinResult (joiningOf answer) .code → values ≡ lent (joinResult (joiningOf answer) .values) out
           → (code ≡ joinResult (join job₁ cert₁ job₂ cert₂ state) .code)
           × ((values ≡ lent (joinResult (join job₁ cert₁ job₂ cert₂ state) .values) out)
-          × (((j : Joining) → Means job₁ cert₁ job₂ cert₂ state j → (code ≡ joinResult j .code) × (values ≡ lent (joinResult j .values) out)) × Told code))
+          × (((j : Joining) → JoinMeans job₁ cert₁ job₂ cert₂ state j → (code ≡ joinResult j .code) × (values ≡ lent (joinResult j .values) out)) × Told code))
       promised code out values code-is values-are = (
         number _ is,
         (lends _ is, (λ j m. (number j (means j .1 m), lends j (means j .1 m)), subst Told (sym code-is) (told answer refl))),

@@ -4,7 +4,7 @@ use joint::join;
 use lending::lend;
 ghost use mathlib.Core.Logic.{_↔_};
 ghost use mathlib.Core.Path.{_≡_};
-ghost use Rattle.joining.specs.Conditions.{Means, SafeJoined};
+ghost use Rattle.joining.specs.Conditions.{JoinMeans, SafeJoined};
 ghost use Rattle.joining.specs.Join.{Joining, join as joinDue};
 ghost use Rattle.joint.specs.Answer.{joiningOf, joinResult, Joinable};
 ghost use Rattle.number.specs.CallResult.{lent};
@@ -57,7 +57,7 @@ pub extern "C" fn vorruda_join(
 ) -> u32
     ensures number { λ r. ⌜ r ≡ joinResult (joinDue (now (job1 .entry)) (now (cert1 .entry)) (now (job2 .entry)) (now (cert2 .entry)) state) .code ⌝ }
     ensures values { λ r. ⌜ now (out .exit) ≡ lent (joinResult (joinDue (now (job1 .entry)) (now (cert1 .entry)) (now (job2 .entry)) (now (cert2 .entry)) state) .values) (now (out .entry)) ⌝ }
-    ensures means { λ r. ⌜ ((j : Joining) → Means (now (job1 .entry)) (now (cert1 .entry)) (now (job2 .entry)) (now (cert2 .entry)) state j → (r ≡ joinResult j .code) × (now (out .exit) ≡ lent (joinResult j .values) (now (out .entry)))) ⌝ }
+    ensures means { λ r. ⌜ ((j : Joining) → JoinMeans (now (job1 .entry)) (now (cert1 .entry)) (now (job2 .entry)) (now (cert2 .entry)) state j → (r ≡ joinResult j .code) × (now (out .exit) ≡ lent (joinResult j .values) (now (out .entry)))) ⌝ }
     ensures accepted { λ r. ⌜ (r ≡ 0) ↔ Joinable (now (job1 .entry)) (now (cert1 .entry)) (now (job2 .entry)) (now (cert2 .entry)) state ⌝ }
     ensures safe { λ r. ⌜ (r ≡ 0 → SafeJoined (now (job1 .entry)) (now (job2 .entry)) state) ⌝ }
 {

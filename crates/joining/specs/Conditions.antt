@@ -29,21 +29,21 @@ module _ (job₁ cert₁ job₂ cert₂ : List ℕ) (state : ℕ) where
   jointIn p = jointOf (p .first .file) (p .second .file) state
 
   -- what each answer says
-  pub data Means : Joining → Type 0 where
-    accepted : (a b : Counts) (p : Pairs a b) → Joins (jointIn p) (p .second .members) → Means (both a b)
-    first-refused : (why : Reason) (place : ℕ) → Meaning job₁ cert₁ why place → Means (pair-refused 1 why place)
-    second-refused : (a : Counts) → Conditions job₁ cert₁ a → (why : Reason) (place : ℕ) → MeaningAt noState job₂ cert₂ why place → Means (pair-refused 2 why place)
+  pub data JoinMeans : Joining → Type 0 where
+    accepted : (a b : Counts) (p : Pairs a b) → Joins (jointIn p) (p .second .members) → JoinMeans (both a b)
+    first-refused : (why : Reason) (place : ℕ) → Meaning job₁ cert₁ why place → JoinMeans (pair-refused 1 why place)
+    second-refused : (a : Counts) → Conditions job₁ cert₁ a → (why : Reason) (place : ℕ) → MeaningAt noState job₂ cert₂ why place → JoinMeans (pair-refused 2 why place)
     -- "24 for a state outside the first job"
-    outside : (a b : Counts) (p : Pairs a b) → ¬ (state < p .first .file .states) → Means (joint-refused 24)
+    outside : (a b : Counts) (p : Pairs a b) → ¬ (state < p .first .file .states) → JoinMeans (joint-refused 24)
     -- "25 for different numbers of variables"
     variables-differ : (a b : Counts) (p : Pairs a b) → state < p .first .file .states → p .first .file .job .variables ≢ p .second .file .job .variables
-        → Means (joint-refused 25)
+        → JoinMeans (joint-refused 25)
     -- "26 for a transition from there"
     goes-on : (a b : Counts) (p : Pairs a b) → state < p .first .file .states → p .first .file .job .variables ≡ p .second .file .job .variables
-        → ¬ Ends (jointIn p) → Means (joint-refused 26)
+        → ¬ Ends (jointIn p) → JoinMeans (joint-refused 26)
     -- "27 for an owed shape not listed"
     not-listed : (a b : Counts) (p : Pairs a b) → state < p .first .file .states → p .first .file .job .variables ≡ p .second .file .job .variables
-        → Ends (jointIn p) → ¬ OwedListed (jointIn p) (p .second .members) → Means (joint-refused 27)
+        → Ends (jointIn p) → ¬ OwedListed (jointIn p) (p .second .members) → JoinMeans (joint-refused 27)
 
 -- the claim of two jobs' bytes: they are those of two jobs, and no run of the joined program meets what it may not
 pub record SafeJoined (job₁ job₂ : List ℕ) (state : ℕ) : Type 0 where

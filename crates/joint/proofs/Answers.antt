@@ -4,7 +4,7 @@ use mathlib.Core.Logic.{_↔_}
 use mathlib.Core.Path.{_≡_, sym, ap, _∙_}
 use Prim.Native.Nat.{ℕ}
 use Rattle.format.specs.Verdict.{noState, verdictAt, verdict}
-use Rattle.joining.specs.Conditions.{Means, SafeJoined}
+use Rattle.joining.specs.Conditions.{JoinMeans, SafeJoined}
 use Rattle.joining.specs.Join.{Joining, pair-refused, readJoint, afterSecond, afterFirst, join}
 use Rattle.joining.proofs.Exact.{answers, joined-bytes}
 use Rattle.verdict.specs.Verdict.{reasonOf, countsTold, verdictOf}
@@ -33,7 +33,7 @@ module _ (job₁ cert₁ job₂ cert₂ : List ℕ) (state : ℕ) where
 
   pub promised : (r : JoinAnswer) → joiningOf r ≡ join job₁ cert₁ job₂ cert₂ state
       → (joiningOf r ≡ join job₁ cert₁ job₂ cert₂ state)
-      × (((j : Joining) → (joiningOf r ≡ j) ↔ Means job₁ cert₁ job₂ cert₂ state j) × ((a b : CountsAnswer) → r ≡ Both a b → SafeJoined job₁ job₂ state))
+      × (((j : Joining) → (joiningOf r ≡ j) ↔ JoinMeans job₁ cert₁ job₂ cert₂ state j) × ((a b : CountsAnswer) → r ≡ Both a b → SafeJoined job₁ job₂ state))
   promised r e = (
     e,
     (

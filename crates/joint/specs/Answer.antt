@@ -9,7 +9,7 @@ use Rattle.shape.specs.Shape.{Shape}
 use Rattle.run.specs.Run.{Located}
 use Rattle.format.specs.Parser.{reasonNumber}
 use Rattle.format.specs.Verdict.{Counts}
-use Rattle.joining.specs.Conditions.{Means}
+use Rattle.joining.specs.Conditions.{JoinMeans}
 use Rattle.joining.specs.Join.{Joining, both, pair-refused, joint-refused, sameShape}
 use Rattle.number.specs.CallResult.{CallResult}
 use Rattle.verdict.specs.Verdict.{reasonOf, countsTold, ruleTold, nameTold}
@@ -45,4 +45,4 @@ joinResult (joint-refused n) = record { code = n; values = 0 ∷ 0 ∷ 0 ∷ 0 �
 
 -- both pairs are to be accepted, the second without 8, and none of 24 to 27 falls
 abbrev pub Joinable : List ℕ → List ℕ → List ℕ → List ℕ → ℕ → Type 0
-Joinable job₁ cert₁ job₂ cert₂ state = (a : Counts) × (b : Counts) × Means job₁ cert₁ job₂ cert₂ state (both a b)
+Joinable job₁ cert₁ job₂ cert₂ state = (a : Counts) × (b : Counts) × JoinMeans job₁ cert₁ job₂ cert₂ state (both a b)

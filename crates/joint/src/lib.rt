@@ -26,7 +26,7 @@ ghost use Rattle.checker.specs.Jobs.{fileIn};
 ghost use Rattle.format.specs.JobBytes.{SafeBytes};
 ghost use Rattle.format.specs.Parser.{parsed};
 ghost use Rattle.format.specs.Verdict.{noState, verdictAt};
-ghost use Rattle.joining.specs.Conditions.{AcceptableSecond, Means, SafeJoined};
+ghost use Rattle.joining.specs.Conditions.{AcceptableSecond, JoinMeans, SafeJoined};
 ghost use Rattle.joining.specs.Join.{Joining, jointOf, sameNumbers, sameShape, jointRefusal, readJoint, afterPairs, afterSecond, join as joinDue};
 ghost use Rattle.joint.specs.Answer.{joiningOf, refusalOr, listedAmong, isSettled};
 ghost use Rattle.joint.specs.declared.JoinAnswer.the-variants.{Both};
@@ -280,7 +280,7 @@ fn join_second(job1: &[u8], a: Counts, job2: &[u8], cert2: &[u8], state: usize) 
 // meets a shape that it forbids.
 pub fn join(job1: &[u8], cert1: &[u8], job2: &[u8], cert2: &[u8], state: usize) -> JoinAnswer
     ensures exact { λ r. ⌜ joiningOf r ≡ joinDue (now (job1 .entry)) (now (cert1 .entry)) (now (job2 .entry)) (now (cert2 .entry)) state ⌝ }
-    ensures means { λ r. ⌜ ((j : Joining) → (joiningOf r ≡ j) ↔ Means (now (job1 .entry)) (now (cert1 .entry)) (now (job2 .entry)) (now (cert2 .entry)) state j) ⌝ }
+    ensures means { λ r. ⌜ ((j : Joining) → (joiningOf r ≡ j) ↔ JoinMeans (now (job1 .entry)) (now (cert1 .entry)) (now (job2 .entry)) (now (cert2 .entry)) state j) ⌝ }
     ensures safe { λ r. ⌜ ((a b : CountsAnswer) → r ≡ Both a b → SafeJoined (now (job1 .entry)) (now (job2 .entry)) state) ⌝ }
 {
     let v = check(job1, cert1);
