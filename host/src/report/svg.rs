@@ -153,7 +153,7 @@ impl Picture {
         format!(
             "<svg class=\"{class}\" role=\"img\" aria-label=\"{}\" width=\"{width}\" \
              height=\"{height}\" viewBox=\"0 0 {width} {height}\" \
-             style=\"min-width:{}px\">\n{}</svg>\n",
+             style=\"--least:{}px\">\n{}</svg>\n",
             escape(words),
             width * 3 / 5,
             self.body
