@@ -38,15 +38,15 @@ impl Never {
                 "The hooks can't run round a ring while the pick count climbs, and they can't lift \
                  by what is left in the controller's memory.",
             ),
-            "lost block" if variables.len() == 1 => Never::new(
-                format!("Every block is in {all}"),
-                "The hooks can't miss a part of the pattern, and no memory is lost.",
-            ),
             "lost block" => Never::new(
-                format!("Every block is in {}", variables.join(" or ")),
-                format!(
-                    "While {all} are lists apart, the hooks can't miss a part of the pattern, and no memory is lost."
-                ),
+                match &variables[..] {
+                    [one] => format!("Every block is in {one}"),
+                    _ => format!(
+                        "While {all} are lists apart, every block is in {}",
+                        variables.join(" or ")
+                    ),
+                },
+                "The hooks can't miss a part of the pattern, and no memory is lost.",
             ),
             "ring" => Never::new(
                 format!("{all} leads into no ring"),
@@ -96,7 +96,7 @@ fn of_shape(routine: &Routine, shape: &Shape) -> Never {
         ),
         _ if shape.links.contains(&Some(Place::Dangling)) => Never::new(
             "No link dangles so",
-            "The hooks can't lift by what is left in the controller's memory.",
+            "The hooks can't come by such a link to what is left in the controller's memory.",
         ),
         ([(name, Place::Null)], 0) => Never::new(
             format!("{name} isn't null"),
@@ -142,7 +142,10 @@ mod tests {
         for (set, said) in [
             ("no list: x", "x ends at null"),
             ("lost block: x", "Every block is in x"),
-            ("lost block: x y", "Every block is in x or y"),
+            (
+                "lost block: x y",
+                "While x and y are lists apart, every block is in x or y",
+            ),
             ("ring: x", "x leads into no ring"),
             ("no ring: x", "x is on a ring"),
             ("shared: x y", "x and y share no block"),

@@ -3,8 +3,7 @@
 
 use std::ops::Range;
 
-use crate::reference::operation::{Operation, DELETE, LOAD, NEW};
-use crate::reference::operation::{DIFFERENT, EQUAL};
+use crate::reference::operation::{Operation, DELETE, DIFFERENT, EQUAL, LOAD, NEW};
 use crate::routine::{Routine, NULL_IS_NULL};
 use crate::search::run::Run;
 
@@ -38,6 +37,7 @@ pub fn parts(routine: &Routine, run: &Run, is_wrong: bool) -> Vec<Part> {
     parts
 }
 
+/// Whether the heap after a step is the one before.
 pub fn changes_nothing(run: &Run, step: usize) -> bool {
     run.heaps[step] == run.heaps[step + 1]
 }

@@ -29,6 +29,7 @@ const OF_WRONG_RUNS: &str = ",
 const OF_CHAINS: &str = "\
 Each shape may come before the one above it, as far as the rules can tell; the empty heap, with which
 every run begins, satisfies the last. A dashed arrow is one link or several.";
+
 /// What is said besides where cells have values.
 const OF_VALUES: &str = "
 Where a block has a value, its pick, it stands in the box behind the number of the block.";
@@ -204,7 +205,7 @@ fn of_wrong(routine: &Routine, wrong: &WrongRun) -> Told {
         since,
     };
     let steps = Steps::of(routine, run, Some(&marked));
-    let comes_about = since.map_or(String::new(), |step| {
+    let so = since.map_or(String::new(), |step| {
         let number = run.transitions[step];
         let from = routine.job.transitions[number].from;
         format!(
@@ -213,7 +214,7 @@ fn of_wrong(routine: &Routine, wrong: &WrongRun) -> Told {
         )
     });
     let in_box = format!(
-        "<p>{}</p>\n{}<p>That is at {}, where {}.{comes_about}</p>\n",
+        "<p>{}</p>\n{}<p>That is at {}, where {}.{so}</p>\n",
         prose(&fault.meaning),
         steps.last_figure(),
         line(routine, bad.state, ""),
