@@ -1,5 +1,5 @@
 #!/usr/bin/env bash
-# Opens the pages of the corpus in a headless Chromium, wide and narrow, in light and dark: the pictures are there, and nothing overlaps or is cut off.
+# Opens the pages of the corpus in a headless Chromium, wide, narrow and as printed, in light and dark: the pictures are there, and nothing overlaps or is cut off.
 set -euo pipefail
 cd "$(dirname "$0")/.."
 browser=''

@@ -60,6 +60,82 @@ fn assert_stands_alone(name: &str, page: &str) {
     }
 }
 
+/// What stands behind one text, up to another.
+fn between<'a>(page: &'a str, from: &str, to: &str) -> Option<&'a str> {
+    let (_, behind) = page.split_once(from)?;
+    behind.split_once(to).map(|(inner, _)| inner)
+}
+
+/// A page without what is folded.
+fn unfolded(page: &str) -> String {
+    let parts = page.split("<details>");
+    let behind = |part: &str| match part.split_once("</details>") {
+        Some((_, behind)) => behind.to_string(),
+        None => part.to_string(),
+    };
+    parts.map(behind).collect()
+}
+
+/// In the box the last heap is drawn with what is wrong; the listing beside the run has one line
+/// marked as the failing one.
+fn assert_shows_fault(name: &str, page: &str) {
+    let first = between(page, "<section class=\"banner bad\">", "</section>").expect(name);
+    assert!(first.contains("<figure>"), "{name}");
+    assert!(
+        first.contains("cell bad") || first.contains("chip bad"),
+        "{name}: {first}"
+    );
+    let run = between(
+        page,
+        "<h2>How it comes about</h2>",
+        "<section class=\"met\">",
+    );
+    let listing = between(run.expect(name), "<div class=\"listing\">", "</div>").expect(name);
+    assert_eq!(listing.matches("<mark class=\"bad\">").count(), 1, "{name}");
+}
+
+/// What can't happen stands below the box: each forbidden shape drawn, each line in loom words.
+fn assert_shows_never(name: &str, page: &str, routine: &Routine) {
+    let (_, behind) = page.split_once("<h2>Certified</h2>").expect(name);
+    let never = between(behind, "<h2>What can't happen</h2>", "<h2>").expect(name);
+    let rows: Vec<&str> = never
+        .split("<section class=\"forbidden\">")
+        .skip(1)
+        .collect();
+    for row in &rows {
+        let words = between(row, "<p><b>", "</p>").expect(name);
+        assert!(words.contains("can't"), "{name}: {words}");
+        assert!(row.contains("<div class=\"shapes never\">"), "{name}");
+    }
+    let shapes = routine.job.forbidden.len();
+    assert_eq!(never.matches("<figure>").count(), shapes, "{name}");
+    let mut origins: Vec<&Origin> = routine.origins.iter().collect();
+    origins.dedup();
+    assert_eq!(rows.len(), origins.len(), "{name}");
+}
+
+/// What isn't folded of runs changes something; what is folded says which way it goes.
+fn assert_folds(name: &str, page: &str) {
+    for step in unfolded(page).split("<li value=").skip(1) {
+        let (step, _) = step.split_once("</li>").expect(name);
+        assert!(step.contains("<figure>"), "{name}: {step}");
+    }
+    assert!(!page.contains("the routine goes on"), "{name}");
+    for step in page.split("<code>while ").skip(1) {
+        let (step, _) = step.split_once("</p>").expect(name);
+        let is_told = step.contains("enters the loop") || step.contains("leaves the loop");
+        assert!(
+            is_told || !step.contains("class=\"what\""),
+            "{name}: {step}"
+        );
+    }
+    for fold in page.split("<summary>").skip(1) {
+        let (summary, _) = fold.split_once("</summary>").expect(name);
+        let is_build = summary.starts_with("Build phase, ");
+        assert!(is_build || summary.contains("nothing changes; "), "{name}");
+    }
+}
+
 #[test]
 fn pages_of_the_corpus() {
     let folder = report("corpus_pages", &[corpus::folder().to_str().unwrap()]);
@@ -82,6 +158,15 @@ fn pages_of_the_corpus() {
         };
         let (class, word, heading) = verdict;
         assert!(page.contains(heading), "{name}");
+        assert_folds(name, &page);
+        assert!(page.contains("<div class=\"listing\">"), "{name}");
+        match entry.expected {
+            Expected::Wrong => assert_shows_fault(name, &page),
+            Expected::Beyond => {}
+            Expected::Certified | Expected::Warned => {
+                assert_shows_never(name, &page, &entry.routine);
+            }
+        }
         let is_certified = heading == "<h2>Certified</h2>";
         let routine = &entry.routine;
         for state in (0..routine.job.states).filter(|&state| routine.mark(state).is_some()) {
@@ -155,19 +240,57 @@ fn the_page_of_a_wrong_routine() {
         &report("one_page", &["wrong_delete_linked"]),
         "wrong_delete_linked",
     );
+    let (first, rest) = page.split_once("<h2>How it comes about</h2>").unwrap();
     for text in [
         "<h2>Wrong: A link dangles</h2>",
+        "aria-label=\"[2 x] -&gt; *; t at #, q at *\"",
+        "<path class=\"line bad\"",
+        "That is at <b>line 22</b>, <code>mark 0</code>, where line 25 of the routine forbids \
+         <code>no list: x</code>. It is so since <b>line 20</b>, <code>delete(q)</code>.",
+    ] {
+        assert!(first.contains(text), "{text}");
+    }
+    for text in [
         "A run of 19 steps.",
         "<span class=\"where\">line 20</span> <code>delete(q)</code>",
-        "<pre>\nline 3   new(x)\nline 4   x.next := null\nline 5   while any\n",
-        "aria-label=\"[2 x] -&gt; *; t at #, q at *\"",
-        "That is at <b>line 22</b>, <code>mark 0</code>, where line 25 of the routine forbids \
-         <code>no list: x</code>.",
+        "<span> 3  new(x)</span>\n<span> 4  x.next := null</span>\n<span> 5  while any</span>\n",
+        "<mark class=\"since\">20  delete(q)</mark>\n<span>21  end</span>\n<mark class=\"bad\">22  \
+         mark 0</mark>\n",
+        "<p>Forbidden at <mark class=\"bad\">line 22</mark>, so since <mark \
+         class=\"since\">line 20</mark>.</p>",
+        "<summary>Build phase, 8 steps: lines 3 to 9</summary>",
+        "<summary><span class=\"where\">lines 15, 18, 12, 19</span> <span class=\"what\">nothing changes; \
+         skips the branch; t is null: leaves the loop; q is not null: enters the \
+         branch</span></summary>",
+        "<code>while any</code> <span class=\"what\">leaves the loop</span>",
+        "<code>end</code> <span class=\"what\">goes back to line 5</span>",
     ] {
-        assert!(page.contains(text), "{text}");
+        assert!(rest.contains(text), "{text}\n{rest}");
     }
-    assert_eq!(page.matches("<li").count(), 19);
-    assert_eq!(page.matches("<path class=\"line bad\"").count(), 1);
+    assert_eq!(page.matches("<li value=").count(), 19);
+    let shown = unfolded(rest);
+    assert_eq!(shown.matches("From here on it is so.").count(), 1);
+    // The end of the run, in the box and as the last step.
+    assert_eq!(page.matches("<path class=\"line bad\"").count(), 2);
+}
+
+#[test]
+fn the_page_of_a_certified_routine() {
+    let page = page(&report("certified_page", &["reverse"]), "reverse");
+    for text in [
+        "<h3><span class=\"where\">mark 0 (line 16)</span> <code>no list: y</code></h3>\n<p><b>y ends \
+         at null.</b> The hooks can't run round a ring while the pick count climbs",
+        "<p><b>Every block is in y.</b> The hooks can't miss a part of the pattern, and no \
+         memory is lost.</p>",
+        "<p><b>x stands at no block.</b> ",
+        "<h3><span class=\"where\">anywhere</span> <code>steps</code></h3>\n<p><b>Where a line follows \
+         or sets a link, there is a block.</b> ",
+        "<p class=\"where\">line 13</p>\n<figure>",
+        "aria-label=\"[1 y] -&gt; back to [1 y]\"",
+        "<mark class=\"good\">16  mark 0</mark>",
+    ] {
+        assert!(page.contains(text), "{text}\n{page}");
+    }
 }
 
 /// Where the search makes a wrong certificate, the page says what is wrong with it.
@@ -191,10 +314,13 @@ fn the_page_of_a_refused_certificate() {
     assert_stands_alone("reverse", &page);
     let said = format!(
         "<h2>The certificate is refused</h2>\n<p>{verdict}: Two cells have the image 0: cells 0 and \
-         1.</p>\n</section>\n<pre>\nTo be covered at line "
+         1.</p>\n</section>\n"
     );
     assert!(verdict.to_string().ends_with(" rule 2 of 0"), "{verdict}");
     assert!(page.contains(&said), "{page}");
+    assert!(page.contains("<pre>\nTo be covered at line "), "{page}");
+    assert!(page.contains("<h2>What is forbidden</h2>"), "{page}");
+    assert!(!page.contains("can't happen"), "{page}");
 }
 
 /// Each kind with its operands, and the cell or the value that it leaves open.
@@ -275,14 +401,15 @@ fn the_page_of_a_run_with_values() {
         ">1: <tspan class=\"value new\">250</tspan></text>",
         ">2: <tspan class=\"value new\">65535</tspan></text>",
         "at the end.\nWhere a block has a value, its pick, it stands in the box",
-        "line 9 of the routine forbids <code>not sorted: x</code>. The shape that is met:",
-        "at no block.\nBelow a shape, <code>1 &lt; 2 = 3</code> says",
+        "line 9 of the routine forbids <code>not sorted: x</code>.",
+        "nothing is said.\nBelow a shape, <code>1 &lt; 2 = 3</code> says",
         "aria-label=\"[1 x] -&gt; [2]; 1 = 2\"",
     ] {
         assert!(page.contains(text), "{text}\n{page}");
     }
     let counted = |text: &str| page.matches(text).count();
-    assert_eq!(counted("<tspan class=\"value bad\">"), 2);
+    // Two values, in the box and at the end of the run.
+    assert_eq!(counted("<tspan class=\"value bad\">"), 4);
     assert_eq!(counted("<span class=\"facts\">2 &lt; 1</span>"), 2);
     assert_eq!(counted("<span class=\"facts\">1 = 2</span>"), 1);
 }
@@ -292,7 +419,7 @@ fn the_page_of_a_run_with_values() {
 fn the_pages_of_routines_without_values() {
     for name in ["wrong_delete_linked", "beyond_delete_first", "reverse"] {
         let page = page(&report("without_values", &[name]), name);
-        for text in ["value", "pick, it", "&lt; 2"] {
+        for text in ["a value", "values", "\"value", "pick, it", "&lt; 2"] {
             let body = page.split_once("<body>").expect("a page has a body").1;
             assert!(!body.contains(text), "{name}: {text}");
         }

@@ -9,14 +9,37 @@ use crate::facts_text::facts_text;
 use crate::reference::heap::{Heap, Place};
 use crate::reference::shape::Shape;
 
-/// The width of a box, if no value in it needs more, and the least there is beside its text.
-const BOX_WIDTH: i32 = 56;
+/// How to read a picture.
+pub const OF_PICTURES: &str = "\
+A box is a cell of the list, a pattern block; an arrow is its link to the next. <b>#</b> is null, the
+end of a list; <b>*</b> is dangling, no block at all. The names above are the routine's variables.";
+
+/// How wide everything is.
+struct Widths {
+    /// Of a box, if no value in it needs more.
+    cell: i32,
+    /// Between two boxes, if the names of variables leave it at that.
+    gap: i32,
+    /// Of an arrow to # or *.
+    to_end: i32,
+}
+
+/// The widths of a picture of few cells, and of one of more than so many.
+const WIDE: Widths = Widths {
+    cell: 56,
+    gap: 48,
+    to_end: 34,
+};
+const NARROW: Widths = Widths {
+    cell: 48,
+    gap: 28,
+    to_end: 22,
+};
+const FEW: usize = 6;
+
+/// The least there is beside the text of a box.
 const BESIDE_LABEL: i32 = 40;
 const BOX_HEIGHT: i32 = 34;
-/// Between two boxes, if the names of variables leave it at that.
-const GAP: i32 = 48;
-/// The length of an arrow to # or *.
-const TO_END: i32 = 34;
 const TAG: i32 = 20;
 const LANE: i32 = 12;
 
@@ -27,6 +50,16 @@ pub struct Marks {
     pub links: BTreeSet<usize>,
     pub values: BTreeSet<usize>,
     pub variables: BTreeSet<usize>,
+}
+
+impl Marks {
+    /// Whether all that is marked by others is marked by these too.
+    pub fn holds(&self, others: &Marks) -> bool {
+        self.cells.is_superset(&others.cells)
+            && self.links.is_superset(&others.links)
+            && self.values.is_superset(&others.values)
+            && self.variables.is_superset(&others.variables)
+    }
 }
 
 /// What the pictures of a run have in common, so that a cell stays at its place.
@@ -232,7 +265,7 @@ impl<'a> Scene<'a> {
             let class = self.class(|marks| marks.links.contains(&cell));
             let class = format!("{class}{path}");
             let (x, y) = layout.dot(cell);
-            let end = x + TO_END;
+            let end = x + layout.to_end;
             match place {
                 None => continue,
                 Some(Place::Null) => {
@@ -269,6 +302,10 @@ struct Layout {
     box_width: i32,
     /// Between the left sides of two boxes.
     pitch: i32,
+    /// Left of the first box.
+    margin: i32,
+    /// The length of an arrow to # or *.
+    to_end: i32,
     /// The upper side of the boxes.
     top: i32,
     /// The lanes of the links that run below the boxes.
@@ -282,11 +319,19 @@ impl Layout {
             .links
             .keys()
             .map(|&cell| scene.standing_at(cell).count());
-        let box_width = BOX_WIDTH.max(scene.frame.label + BESIDE_LABEL);
+        let columns = scene.frame.columns.clone();
+        let Widths { cell, gap, to_end } = match columns.len() > FEW {
+            true => NARROW,
+            false => WIDE,
+        };
+        let box_width = cell.max(scene.frame.label + BESIDE_LABEL);
+        let pitch = (box_width + gap).max(widest.unwrap_or(0) + 20);
         let mut layout = Layout {
-            columns: scene.frame.columns.clone(),
+            columns,
             box_width,
-            pitch: (box_width + GAP).max(widest.unwrap_or(0) + 20),
+            pitch,
+            margin: 8 + (pitch - box_width - gap) / 2,
+            to_end,
             top: 8 + TAG * rows.max().unwrap_or(0) as i32,
             lane_of: BTreeMap::new(),
         };
@@ -312,7 +357,7 @@ impl Layout {
 
     fn area(&self, cell: usize) -> Area {
         Area {
-            x: 8 + (self.pitch - self.box_width - GAP) / 2 + self.pitch * self.column(cell),
+            x: self.margin + self.pitch * self.column(cell),
             y: self.top,
             width: self.box_width,
             height: BOX_HEIGHT,

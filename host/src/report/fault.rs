@@ -23,13 +23,18 @@ pub struct Fault {
 }
 
 pub fn fault(routine: &Routine, wrong: &WrongRun) -> Fault {
-    let bad = &routine.job.forbidden[wrong.forbidden];
+    fault_of(routine, wrong.forbidden, wrong.run.last())
+}
+
+/// What is wrong with a heap that satisfies the forbidden shape with this number.
+fn fault_of(routine: &Routine, forbidden: usize, heap: &Heap) -> Fault {
+    let bad = &routine.job.forbidden[forbidden];
     let met = Met {
         routine,
         shape: &bad.shape,
-        heap: wrong.run.last(),
+        heap,
     };
-    let origin = &routine.origins[wrong.forbidden];
+    let origin = &routine.origins[forbidden];
     match origin.forbids() {
         Forbids::Steps => met.blocked_step(bad.state),
         Forbids::Set(set, variables) => match &set[..] {
@@ -57,8 +62,27 @@ fn marks_of(facts: &[Fact]) -> Marks {
     }
 }
 
+/// The number of the step, from 0, since which the marked things are wrong in every heap of the run;
+/// nothing where they are so from the start.
+pub fn since(routine: &Routine, wrong: &WrongRun, marks: &Marks) -> Option<usize> {
+    let shape = &routine.job.forbidden[wrong.forbidden].shape;
+    let is_so = |heap: &Heap| {
+        let is_met = images(shape, &FlatHeap::of_heap(heap)).is_some();
+        is_met && fault_of(routine, wrong.forbidden, heap).marks.holds(marks)
+    };
+    // The step behind the last heap that isn't wrong has that heap's number.
+    wrong.run.heaps.iter().rposition(|heap| !is_so(heap))
+}
+
+/// Whether a shape only says that a cell is there: no variable and no link leads to it, and of its own
+/// link nothing is said.
+pub fn is_loose(shape: &Shape, cell: usize) -> bool {
+    let mut places = shape.variables.iter().chain(&shape.links);
+    shape.links[cell].is_none() && places.all(|&stands| stands != Some(Place::Cell(cell)))
+}
+
 /// Whether following links from some cell of a shape comes back to it.
-fn has_ring(shape: &Shape) -> bool {
+pub fn has_ring(shape: &Shape) -> bool {
     (0..shape.cells()).any(|start| {
         let mut cell = start;
         (0..shape.cells()).any(|_| match shape.links[cell] {
@@ -152,14 +176,8 @@ impl Met<'_> {
 
     /// The cells that the shape only says are there, and that no variable of the routine leads to.
     fn lost_cells(&self) -> BTreeSet<usize> {
-        let stands_at = |place: Place| {
-            let mut places = self.shape.variables.iter().chain(&self.shape.links);
-            places.any(|&stands| stands == Some(place))
-        };
-        let is_loose =
-            |&cell: &usize| self.shape.links[cell].is_none() && !stands_at(Place::Cell(cell));
         let images = self.images();
-        let loose = (0..self.shape.cells()).filter(is_loose);
+        let loose = (0..self.shape.cells()).filter(|&cell| is_loose(self.shape, cell));
         let loose: BTreeSet<usize> = loose.map(|cell| images[cell]).collect();
         &loose & &self.unmet_from((0..self.routine.variables.len()).collect())
     }
@@ -505,6 +523,36 @@ mod tests {
         assert_eq!(
             of_own_shape("z at #", false).heading,
             "A forbidden shape is met"
+        );
+    }
+
+    /// Since which line it is so, of the cells that are wrong in the end.
+    #[test]
+    fn since_when() {
+        for (name, line) in [
+            ("wrong_reverse_ring", Some("y.next := y")),
+            ("wrong_delete_linked", Some("delete(q)")),
+            ("wrong_append_null", Some("l := x")),
+            // Before, a new block is in no list either, but it is another one.
+            ("wrong_insert_loses", Some("p.next := n")),
+        ] {
+            let routine = corpus::find(name).unwrap().routine;
+            let Ending::Wrong(wrong) = judge(&routine).ending else {
+                panic!("{name} is not wrong");
+            };
+            let marks = fault(&routine, &wrong).marks;
+            let step = since(&routine, &wrong, &marks);
+            let said = step.map(|step| routine.operation(wrong.run.transitions[step]));
+            assert_eq!(said.as_deref(), line, "{name}");
+        }
+        let text = "-- Set too late.\nlisting\nmark 0\nx := null\n\nforbidden\nmark 0 x at *\n";
+        let routine = parse(text).unwrap();
+        let Ending::Wrong(wrong) = judge(&routine).ending else {
+            panic!("x does not dangle");
+        };
+        assert_eq!(
+            since(&routine, &wrong, &fault(&routine, &wrong).marks),
+            None
         );
     }
 

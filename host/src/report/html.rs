@@ -17,6 +17,15 @@ pub fn escape(text: &str) -> String {
     escaped
 }
 
+/// Text as it may stand between tags, with what stands between backquotes as code.
+pub fn prose(text: &str) -> String {
+    let mut parts: Vec<String> = text.split('`').map(escape).collect();
+    for part in parts.iter_mut().skip(1).step_by(2) {
+        *part = format!("<code>{part}</code>");
+    }
+    parts.concat()
+}
+
 /// A page that needs nothing from elsewhere. The body is HTML already.
 pub fn page(title: &str, body: &str) -> String {
     let title = escape(title);
@@ -40,5 +49,9 @@ mod tests {
             "a -&gt; &lt;b&gt; &amp; &quot;c&quot;"
         );
         assert!(page("<x>", "").contains("<title>&lt;x&gt;</title>"));
+        assert_eq!(
+            prose("at `a < b`, `c`."),
+            "at <code>a &lt; b</code>, <code>c</code>."
+        );
     }
 }

@@ -4,10 +4,15 @@
 mod cells;
 mod explain;
 mod fault;
+mod forbidden;
 mod graph;
 mod html;
 mod index_page;
+mod listing;
+mod never;
+mod parts;
 mod routine_page;
+mod steps;
 mod svg;
 
 pub use index_page::{index_page, Row};

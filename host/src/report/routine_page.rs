@@ -1,11 +1,13 @@
 //! The page of one routine.
 
-use std::collections::BTreeSet;
-
-use super::cells::{Frame, Marks, Scene};
-use super::fault::fault;
-use super::html::{escape, page};
-use super::{explain, graph};
+use super::cells::{Scene, OF_PICTURES};
+use super::fault::{fault, since};
+use super::forbidden::{forbidden, of_facts, shape_figure};
+use super::graph;
+use super::html::{escape, page, prose};
+use super::listing::{beside, lines, End};
+use super::parts::build_phase;
+use super::steps::{Steps, Wrong};
 use crate::beyond::{Beyond, AT_A_LIMIT};
 use crate::draw;
 use crate::excluded;
@@ -13,7 +15,6 @@ use crate::judge::{Ending, Judged};
 use crate::outlook::Warning;
 use crate::reference::certificate::Certificate;
 use crate::reference::heap::Heap;
-use crate::reference::shape::Shape;
 use crate::refused_cover::RefusedCover;
 use crate::routine::{Origin, Routine};
 use crate::search::chain::Chain;
@@ -21,26 +22,17 @@ use crate::search::run::{Run, WrongRun};
 use crate::text::{counted, thousands};
 use crate::verdict::Verdict;
 
-/// How to read the pictures of a run, and of a wrong one, of a chain, and of the forbidden shapes.
-const OF_RUNS: &str = "\
-A box is a cell of the list, a pattern block; an arrow is its link to the next. <b>#</b> is null, the
-end of a list; <b>*</b> is dangling, no block at all. The names above are the routine's variables.
-<span class=\"swatch new\">This colour</span> is what a step changes";
+/// How to read the colours of a run, and of a wrong one; how to read a chain.
+const OF_RUNS: &str = "<span class=\"swatch new\">This colour</span> is what a step changes";
 const OF_WRONG_RUNS: &str = ",
 <span class=\"swatch bad\">this one</span> what is wrong at the end";
 const OF_CHAINS: &str = "\
 Each shape may come before the one above it, as far as the rules can tell; the empty heap, with which
 every run begins, satisfies the last. A dashed arrow is one link or several.";
-const OF_SHAPES: &str = "\
-A dashed arrow is one link or several. Of what isn't drawn nothing is said. <code>steps</code>
-forbids following or setting the link of a variable that stands at no block.";
 
-/// What is said besides where cells have values, and where shapes have facts on them.
+/// What is said besides where cells have values.
 const OF_VALUES: &str = "
 Where a block has a value, its pick, it stands in the box behind the number of the block.";
-const OF_FACTS: &str = "
-Below a shape, <code>1 &lt; 2 = 3</code> says that cell 1 has a smaller value than cell 2, and cell 3
-the same as cell 2.";
 
 pub fn routine_page(name: &str, routine: &Routine, judged: &Judged) -> String {
     let mut body = format!(
@@ -51,22 +43,46 @@ pub fn routine_page(name: &str, routine: &Routine, judged: &Judged) -> String {
     for warning in &routine.warnings {
         body += &format!(
             "<p class=\"warning\">Warning: {}</p>\n",
-            escape(&warning.to_string())
+            prose(&warning.to_string())
         );
     }
     let warnings = judged.outlook.warnings(routine);
-    for Warning { what, meaning, .. } in &warnings {
-        body += &banner("open", &format!("Warning: {what}"), meaning);
+    for Warning { what, meaning, run } in &warnings {
+        let figure = run.map_or(String::new(), |run| {
+            Steps::of(routine, run, None).last_figure()
+        });
+        let text = format!("<p>{}</p>\n{figure}", prose(meaning));
+        body += &banner("open", &format!("Warning: {what}"), &text);
     }
+    let Told { verdict, below } = told(name, routine, &judged.ending);
+    body += &format!("{verdict}<p class=\"lead\">{OF_PICTURES}</p>\n{below}");
+    body += &other_runs(routine, judged, &warnings);
+    body += &format!(
+        "<p>Looking forward went over {}.</p>\n",
+        judged.outlook.bound
+    );
+    body += &counts(routine, judged);
     let run: &[usize] = match &judged.ending {
-        Ending::Certified(certificate, verdict) => {
-            body += &certified(name, routine, certificate, verdict);
-            &[]
-        }
-        Ending::Wrong(wrong) => {
-            body += &of_wrong(routine, wrong);
-            &wrong.run.transitions
-        }
+        Ending::Wrong(wrong) => &wrong.run.transitions,
+        _ => &[],
+    };
+    if !matches!(judged.ending, Ending::Certified(_, Verdict::Accepted(_))) {
+        body += &forbidden(routine, false);
+    }
+    body += &states(routine, run);
+    page(&format!("{name} - Vorruda"), &body)
+}
+
+/// How a routine ends: the box at the top of the page, and what explains it.
+struct Told {
+    verdict: String,
+    below: String,
+}
+
+fn told(name: &str, routine: &Routine, ending: &Ending) -> Told {
+    match ending {
+        Ending::Certified(certificate, verdict) => certified(name, routine, certificate, verdict),
+        Ending::Wrong(wrong) => of_wrong(routine, wrong),
         Ending::Beyond {
             chain,
             looked,
@@ -74,147 +90,163 @@ pub fn routine_page(name: &str, routine: &Routine, judged: &Judged) -> String {
         } => {
             let said = Beyond::of(routine, chain, looked, along);
             let words = format!("{} {} {}", said.found, said.looked, said.next);
-            body += &banner("open", "No certificate, and no run found", &words);
-            body += &of_chain(routine, chain);
-            &[]
+            Told {
+                verdict: said_banner("open", "No certificate, and no run found", &words),
+                below: of_chain(routine, chain),
+            }
         }
         Ending::Undecided(limit, bound) => {
-            body += &banner(
-                "open",
-                "No certificate found",
-                &format!(
-                    "The search gave up: {limit}. No run was found that meets what is forbidden, \
-                     among {bound}. {AT_A_LIMIT}"
-                ),
+            let words = format!(
+                "The search gave up: {limit}. No run was found that meets what is forbidden, among \
+                 {bound}. {AT_A_LIMIT}"
             );
-            &[]
+            Told {
+                verdict: said_banner("open", "No certificate found", &words),
+                below: String::new(),
+            }
         }
-    };
-    for Warning { what, run, .. } in &warnings {
-        body += &run.map_or(String::new(), |run| titled_run(routine, what, run));
+    }
+}
+
+/// The runs that warnings are of, and for a certified routine one to each mark; or else the lines of the
+/// routine, if they stand beside nothing yet.
+fn other_runs(routine: &Routine, judged: &Judged, warnings: &[Warning]) -> String {
+    let mut text = String::new();
+    for Warning { what, run, .. } in warnings {
+        if let Some(run) = run {
+            let title = format!("Warning: {what}");
+            text += &titled_run(routine, &title, run, ("The run stops at", "open"));
+        }
     }
     if let Ending::Certified(..) = judged.ending {
         for (state, run) in &judged.outlook.arrivals {
             let title = format!("A run that reaches {}", routine.place(*state));
-            body += &titled_run(routine, &title, run);
+            text += &titled_run(routine, &title, run, ("The run reaches", "good"));
         }
     }
-    body += &format!(
-        "<p>Looking forward went over {}.</p>\n",
-        judged.outlook.bound
-    );
-    body += &counts(routine, judged);
-    body += &forbidden(routine);
-    body += &listing(routine);
-    body += &states(routine, run);
-    page(&format!("{name} - Vorruda"), &body)
+    let has_lines = matches!(judged.ending, Ending::Wrong(_) | Ending::Beyond { .. });
+    match text.is_empty() && !has_lines {
+        true => lines(routine),
+        false => text,
+    }
 }
 
-/// The verdict, for who reads no further.
-fn banner(class: &str, heading: &str, text: &str) -> String {
+/// The verdict, for who reads no further. What stands below the heading is HTML already.
+fn banner(class: &str, heading: &str, below: &str) -> String {
     format!(
-        "<section class=\"banner {class}\">\n<h2>{}</h2>\n<p>{}</p>\n</section>\n",
-        escape(heading),
-        escape(text)
+        "<section class=\"banner {class}\">\n<h2>{}</h2>\n{below}</section>\n",
+        prose(heading),
     )
 }
 
-fn certified(
-    name: &str,
-    routine: &Routine,
-    certificate: &Certificate,
-    verdict: &Verdict,
-) -> String {
+/// A verdict in words alone.
+fn said_banner(class: &str, heading: &str, text: &str) -> String {
+    banner(class, heading, &format!("<p>{}</p>\n", prose(text)))
+}
+
+fn certified(name: &str, routine: &Routine, certificate: &Certificate, verdict: &Verdict) -> Told {
     if let Verdict::Accepted(_) = verdict {
         let sentence = excluded::sentence(name, routine);
         let text = format!("{sentence} The proved checker has accepted the certificate.");
-        return banner("good", "Certified", &text);
+        return Told {
+            verdict: said_banner("good", "Certified", &text),
+            below: forbidden(routine, true),
+        };
     }
-    let refused = |how: &str| banner("bad", "The certificate is refused", how);
-    match RefusedCover::of(routine, &certificate.bytes(), verdict) {
+    let (how, below) = match RefusedCover::of(routine, &certificate.bytes(), verdict) {
         Some(cover) => {
-            let how = format!("{verdict}: {}", cover.how());
             let drawn = escape(&cover.drawn().join("\n"));
-            format!("{}<pre>\n{drawn}\n</pre>\n", refused(&how))
+            let below = format!("<pre>\n{drawn}\n</pre>\n");
+            (format!("{verdict}: {}", cover.how()), below)
         }
-        None => refused(&verdict.to_string()),
+        None => (verdict.to_string(), String::new()),
+    };
+    Told {
+        verdict: said_banner("bad", "The certificate is refused", &how),
+        below,
     }
 }
 
-/// A run with a title, for what isn't forbidden.
-fn titled_run(routine: &Routine, title: &str, run: &Run) -> String {
+/// A run with a title, for what isn't forbidden, with the lines beside it; the one that it comes to is
+/// marked with words and a colour.
+fn titled_run(
+    routine: &Routine,
+    title: &str,
+    run: &Run,
+    (words, class): (&'static str, &'static str),
+) -> String {
+    let transitions = &routine.job.transitions;
+    let last = run.transitions.last();
+    let end = End {
+        state: last.map_or(routine.job.start, |&number| transitions[number].to),
+        words,
+        class,
+        since: None,
+    };
     format!(
         "<h2>{}</h2>\n<p>A run of {}. {OF_RUNS}.{}</p>\n{}",
-        escape(title),
+        prose(title),
         counted(run.transitions.len(), "step"),
         of_values(&run.heaps),
-        steps(routine, run, None),
+        beside(routine, &end, &Steps::of(routine, run, None).list()),
     )
 }
 
-/// The run from the start on, with what it ends with.
-fn of_wrong(routine: &Routine, wrong: &WrongRun) -> String {
+/// What a run ends with, and then the run from the start on.
+fn of_wrong(routine: &Routine, wrong: &WrongRun) -> Told {
     let fault = fault(routine, wrong);
     let WrongRun { run, forbidden } = wrong;
-    let origin = &routine.origins[*forbidden];
-    let mut text = banner("bad", &format!("Wrong: {}", fault.heading), &fault.meaning);
-    text += &format!(
-        "<h2>How it comes about</h2>\n<p>A run of {}. {OF_RUNS}{OF_WRONG_RUNS}.{}</p>\n{}",
+    let bad = &routine.job.forbidden[*forbidden];
+    // What was so of the list as it was built isn't news.
+    let since = since(routine, wrong, &fault.marks);
+    let since = since.filter(|&step| step >= build_phase(routine, run));
+    let marked = Wrong {
+        marks: fault.marks,
+        since,
+    };
+    let steps = Steps::of(routine, run, Some(&marked));
+    let so = since.map_or(String::new(), |step| {
+        let number = run.transitions[step];
+        let from = routine.job.transitions[number].from;
+        format!(
+            " It is so since {}.",
+            line(routine, from, &routine.operation(number))
+        )
+    });
+    let in_box = format!(
+        "<p>{}</p>\n{}<p>That is at {}, where {}.{so}</p>\n",
+        prose(&fault.meaning),
+        steps.last_figure(),
+        line(routine, bad.state, ""),
+        forbids(&routine.origins[*forbidden]),
+    );
+    let end = End {
+        state: bad.state,
+        words: "Forbidden at",
+        class: "bad",
+        since: since.map(|step| run.transitions[step]),
+    };
+    let below = format!(
+        "<h2>How it comes about</h2>\n<p>A run of {}. {OF_RUNS}{OF_WRONG_RUNS}.{}</p>\n{}\
+         <section class=\"met\">\n<p>The forbidden shape that is met:</p>\n{}</section>\n",
         counted(run.transitions.len(), "step"),
         of_values(&run.heaps),
-        steps(routine, run, Some(&fault.marks)),
-    );
-    let bad = &routine.job.forbidden[*forbidden];
-    let statement = routine.statement(bad.state);
-    text += &format!(
-        "<section class=\"met\">\n<p>That is at <b>{}</b>{}, where {}. The shape that is \
-         met:</p>\n{}</section>\n",
-        escape(&routine.states[bad.state as usize]),
-        statement.map_or(String::new(), |line| format!(
-            ", <code>{}</code>",
-            escape(line)
-        )),
-        forbids(origin),
+        beside(routine, &end, &steps.list()),
         shape_figure(routine, *forbidden),
     );
-    text
+    Told {
+        verdict: banner("bad", &format!("Wrong: {}", fault.heading), &in_box),
+        below,
+    }
 }
 
-/// The steps of a run; in the last heap what is wrong is marked, if anything is.
-fn steps(routine: &Routine, run: &Run, wrong: Option<&Marks>) -> String {
-    let mut text = "<ol class=\"run\">\n".to_string();
-    let frame = Frame::of(&run.heaps);
-    let mut gone = BTreeSet::new();
-    for (index, &number) in run.transitions.iter().enumerate() {
-        let (before, after) = (&run.heaps[index], &run.heaps[index + 1]);
-        let transition = &routine.job.transitions[number];
-        let removed = before
-            .links
-            .keys()
-            .filter(|cell| !after.links.contains_key(cell));
-        gone.extend(removed.copied());
-        let mut scene = Scene::of_heap(after, &routine.variables, &frame);
-        scene.gone = gone.clone();
-        scene.changed = changes(before, after);
-        let wrong = wrong.filter(|_| index + 1 == run.transitions.len());
-        if let Some(marks) = wrong {
-            scene.forbidden = marks.clone();
-        }
-        let words = draw::heap(after, &routine.variables).join("; ");
-        let figure = match before == after && wrong.is_none() {
-            true => String::new(),
-            false => scene.figure(&words),
-        };
-        text += &format!(
-            "<li{}>\n<p><span class=\"where\">{}</span> <code>{}</code> <span \
-             class=\"what\">{}</span></p>\n{figure}</li>\n",
-            wrong.map_or("", |_| " class=\"last\""),
-            escape(&routine.states[transition.from as usize]),
-            escape(&routine.operation(number)),
-            escape(&explain::step(routine, transition.operation, after)),
-        );
+/// A state with the line of the listing that begins there, or else with what stands for it.
+fn line(routine: &Routine, state: u64, otherwise: &str) -> String {
+    let name = escape(&routine.states[state as usize]);
+    match routine.statement(state).unwrap_or(otherwise) {
+        "" => format!("<b>{name}</b>"),
+        text => format!("<b>{name}</b>, <code>{}</code>", escape(text)),
     }
-    text + "</ol>\n"
 }
 
 /// How to read values, where there are any.
@@ -222,15 +254,6 @@ fn of_values(heaps: &[Heap]) -> &'static str {
     match heaps.iter().all(|heap| heap.values.is_empty()) {
         true => "",
         false => OF_VALUES,
-    }
-}
-
-/// How to read facts, where there are any.
-fn of_facts<'a>(shapes: impl IntoIterator<Item = &'a Shape>) -> &'static str {
-    let mut shapes = shapes.into_iter();
-    match shapes.all(|shape| shape.facts.is_empty()) {
-        true => "",
-        false => OF_FACTS,
     }
 }
 
@@ -243,46 +266,31 @@ fn forbids(origin: &Origin) -> String {
     }
 }
 
-/// What a step has changed.
-fn changes(before: &Heap, after: &Heap) -> Marks {
-    let cells = after.links.keys().copied();
-    let values = after.values.keys().copied();
-    let variables = 0..after.variables.len();
-    Marks {
-        cells: cells
-            .clone()
-            .filter(|cell| !before.links.contains_key(cell))
-            .collect(),
-        links: cells
-            .filter(|cell| before.links.get(cell) != after.links.get(cell))
-            .collect(),
-        values: values
-            .filter(|cell| before.values.get(cell) != after.values.get(cell))
-            .collect(),
-        variables: variables
-            .filter(|&variable| before.variables[variable] != after.variables[variable])
-            .collect(),
-    }
-}
-
 fn of_chain(routine: &Routine, chain: &Chain) -> String {
     let shapes = draw::shapes(chain, routine);
-    let mut text = format!(
-        "<h2>Why there is none</h2>\n<p>{OF_CHAINS}{}</p>\n<ol class=\"run\">\n",
-        of_facts(&shapes),
-    );
+    let mut list = "<ol class=\"run\">\n".to_string();
     for (link, shape) in chain.links.iter().zip(&shapes) {
         let words = draw::shape(shape, &routine.variables).join("; ");
         let after = link.transition.map_or("the start".to_string(), |number| {
             format!("after <code>{}</code>", escape(&routine.operation(number)))
         });
-        text += &format!(
+        list += &format!(
             "<li>\n<p><span class=\"where\">{}</span> {after}</p>\n{}</li>\n",
             escape(&routine.states[usize::from(link.located.state)]),
             Scene::of_shape(shape, &routine.variables).figure(&words),
         );
     }
-    text + "</ol>\n"
+    let end = End {
+        state: routine.job.forbidden[chain.forbidden].state,
+        words: "Forbidden at",
+        class: "open",
+        since: None,
+    };
+    format!(
+        "<h2>Why there is none</h2>\n<p>{OF_CHAINS}{}</p>\n{}",
+        of_facts(&shapes),
+        beside(routine, &end, &(list + "</ol>\n")),
+    )
 }
 
 fn counts(routine: &Routine, judged: &Judged) -> String {
@@ -315,18 +323,6 @@ fn counts(routine: &Routine, judged: &Judged) -> String {
     )
 }
 
-/// The listing with the numbers of its lines; nothing for a routine of transitions.
-fn listing(routine: &Routine) -> String {
-    let lines = routine.states.iter().zip(&routine.statements);
-    let lines: String = lines
-        .map(|(line, statement)| format!("{line:<9}{}\n", escape(statement)))
-        .collect();
-    match lines.is_empty() {
-        true => lines,
-        false => format!("<h2>The listing</h2>\n<pre>\n{lines}</pre>\n"),
-    }
-}
-
 fn states(routine: &Routine, run: &[usize]) -> String {
     let of_run = match run.is_empty() {
         true => "",
@@ -344,41 +340,4 @@ fn states(routine: &Routine, run: &[usize]) -> String {
         escape(&routine.states[routine.job.start as usize]),
         graph::picture(routine, run).element("graph", &words)
     )
-}
-
-/// The forbidden shapes, a row for each line of the routine at a state.
-fn forbidden(routine: &Routine) -> String {
-    let shapes = routine.job.forbidden.iter().map(|bad| &bad.shape);
-    let mut text = format!(
-        "<h2>What is forbidden</h2>\n<p>{OF_SHAPES}{}</p>\n",
-        of_facts(shapes)
-    );
-    let key = |number: usize| {
-        (
-            &routine.origins[number],
-            routine.job.forbidden[number].state,
-        )
-    };
-    let numbers: Vec<usize> = (0..routine.job.forbidden.len()).collect();
-    for group in numbers.chunk_by(|&one, &other| key(one) == key(other)) {
-        let (origin, state) = key(group[0]);
-        let figures: String = group
-            .iter()
-            .map(|&number| shape_figure(routine, number))
-            .collect();
-        text += &format!(
-            "<section class=\"forbidden\">\n<h3><span class=\"where\">{}</span> \
-             <code>{}</code></h3>\n\
-             <div class=\"shapes\">\n{figures}</div>\n</section>\n",
-            escape(&routine.states[state as usize]),
-            escape(&origin.text),
-        );
-    }
-    text
-}
-
-fn shape_figure(routine: &Routine, forbidden: usize) -> String {
-    let shape = &routine.job.forbidden[forbidden].shape;
-    let words = draw::shape(shape, &routine.variables).join("; ");
-    Scene::of_shape(shape, &routine.variables).figure(&words)
 }

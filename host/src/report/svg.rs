@@ -146,13 +146,16 @@ impl Picture {
         }
     }
 
-    /// The picture as an element of a page, with words for who can't see it.
+    /// The picture as an element of a page, with words for who can't see it. It shrinks with the page
+    /// as far as its text can be read.
     pub fn element(&self, class: &str, words: &str) -> String {
         let (width, height) = (self.width, self.height);
         format!(
             "<svg class=\"{class}\" role=\"img\" aria-label=\"{}\" width=\"{width}\" \
-             height=\"{height}\" viewBox=\"0 0 {width} {height}\">\n{}</svg>\n",
+             height=\"{height}\" viewBox=\"0 0 {width} {height}\" \
+             style=\"--least:{}px\">\n{}</svg>\n",
             escape(words),
+            width * 3 / 5,
             self.body
         )
     }

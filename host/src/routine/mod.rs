@@ -197,7 +197,7 @@ impl Routine {
 }
 
 /// What always goes on, and its name in a routine of transitions.
-const NULL_IS_NULL: Operation = Operation {
+pub const NULL_IS_NULL: Operation = Operation {
     kind: EQUAL,
     a: 0,
     b: 0,
