@@ -77,7 +77,11 @@ impl Listings {
         }
         let mut names = first.variables.clone();
         let others = second.variables.iter();
-        names.extend(others.filter(|name| !first.variables.contains(name)).cloned());
+        names.extend(
+            others
+                .filter(|name| !first.variables.contains(name))
+                .cloned(),
+        );
         if names.len() as u64 > MOST_VARIABLES {
             let all = counted(names.len(), "variable");
             let names = names.join(", ");

@@ -62,7 +62,10 @@ impl Cases {
         Ok(Cases {
             listings,
             behind: behind.map(|joint| Case::new("", joint)).collect(),
-            most: vec![Case::new("64 owed shapes of 12 cells, in another order", most())],
+            most: vec![Case::new(
+                "64 owed shapes of 12 cells, in another order",
+                most(),
+            )],
         })
     }
 
@@ -181,7 +184,8 @@ pub fn pairs<'a>(joints: impl Iterator<Item = &'a Joint>) -> Vec<Pair> {
 pub fn joints(pairs: &[Pair]) -> Vec<Joint> {
     let joint = |both: &[Pair]| {
         let (first, second) = (both[0].clone(), both[1].clone());
-        let is_joined = |&state: &u32| library::join(first.files(), second.files(), state, &mut []) == 0;
+        let is_joined =
+            |&state: &u32| library::join(first.files(), second.files(), state, &mut []) == 0;
         let state = (0..MOST_STATES as u32).find(is_joined).unwrap_or(0);
         Joint {
             first,
@@ -199,7 +203,9 @@ mod tests {
     /// What is measured is joined, and the checks that it is compared with are accepted.
     #[test]
     fn what_is_measured_is_joined() {
-        let corpus: Vec<Pair> = crate::pairs::accepted_pairs(Version::One, 7).take(20).collect();
+        let corpus: Vec<Pair> = crate::pairs::accepted_pairs(Version::One, 7)
+            .take(20)
+            .collect();
         let all: Vec<Joint> = corpus.iter().filter_map(behind).chain([most()]).collect();
         let mut owed = 0;
         for joint in joints(&pairs(all.iter())) {

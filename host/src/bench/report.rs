@@ -261,9 +261,15 @@ fn joined(cases: &joins::Cases) {
     let name = "**the corpus in all, each behind a job that lists what it owes**";
     row_joined(name, &cases.behind);
     let more = |case: &&joins::Case| joins::more(case.joined.proved, case.alone);
-    let worst = cases.behind.iter().max_by(|x, y| more(x).total_cmp(&more(y)));
+    let worst = cases
+        .behind
+        .iter()
+        .max_by(|x, y| more(x).total_cmp(&more(y)));
     if let Some(case) = worst {
-        row_joined("of these the one that takes most more", std::slice::from_ref(case));
+        row_joined(
+            "of these the one that takes most more",
+            std::slice::from_ref(case),
+        );
     }
     for case in &cases.most {
         row_joined(&case.name, std::slice::from_ref(case));

@@ -10,9 +10,7 @@ use std::process::ExitCode;
 
 use vorruda_host::compare::ready::forbid_in_library;
 use vorruda_host::listings::{edges, Listings};
-use vorruda_host::pairs::{
-    broken_pairs, delete_pairs, joints, Joint, Pair, Pairs, ValuedPairs,
-};
+use vorruda_host::pairs::{broken_pairs, delete_pairs, joints, Joint, Pair, Pairs, ValuedPairs};
 use vorruda_host::random::Random;
 use vorruda_host::reference::block_list::{self, answer, chained};
 use vorruda_host::reference::heap::Heap;
@@ -88,7 +86,9 @@ fn check((turn, Pair { job, certificate }): (usize, Pair)) {
 
 /// Two pairs joined, all at once, and each in turn without its last byte.
 fn join_two((turn, joint): (usize, Joint)) {
-    let [first, second] = joint.files().map(|(job, certificate)| (exact(job), exact(certificate)));
+    let [first, second] = joint
+        .files()
+        .map(|(job, certificate)| (exact(job), exact(certificate)));
     let whole = (first.0.len(), first.1.len(), second.0.len(), second.1.len());
     let cut = [
         whole,

@@ -79,7 +79,9 @@ pub fn compare(joins: &[(&'static str, Join)], seed: u64) -> Vec<Tally> {
             joins.add(&other);
         }
     }
-    alike_but_for_cells().iter().for_each(|joint| joins.add(joint));
+    alike_but_for_cells()
+        .iter()
+        .for_each(|joint| joins.add(joint));
     joins.pairs_of_any_sort(&mut random, seed);
     let calls = joins.compared.into_iter().map(|(_, tally)| tally);
     calls.chain([joins.runs]).collect()

@@ -387,7 +387,11 @@ fn change_facts(random: &mut Random, shape: &mut Shape) {
     match random.below(4) {
         0 => facts = closed(&facts),
         1 if cells > 0 => facts.push(random_fact(random, cells)),
-        2 => facts.iter_mut().rev().take(1).for_each(|last| last.j = random.below(cells)),
+        2 => facts
+            .iter_mut()
+            .rev()
+            .take(1)
+            .for_each(|last| last.j = random.below(cells)),
         _ if !facts.is_empty() => drop(facts.remove(random.below(facts.len()))),
         _ => {}
     }

@@ -78,7 +78,12 @@ pub fn joined(first: &Job, second: &Job, hand_over: u64) -> Job {
         variables: first.variables,
         states: first.states + second.states,
         start: first.start,
-        transitions: first.transitions.iter().copied().chain(transitions).collect(),
+        transitions: first
+            .transitions
+            .iter()
+            .copied()
+            .chain(transitions)
+            .collect(),
         forbidden: elsewhere.cloned().chain(forbidden).collect(),
     }
 }
