@@ -57,7 +57,7 @@ impl Pairs {
 
 /// How two listings end.
 pub enum Joined {
-    Pairs(Pairs),
+    Pairs(Box<Pairs>),
     /// So many shapes would be forbidden by the first, with those that are owed.
     TooMany(usize),
     /// The two as one have no certificate.
@@ -150,12 +150,12 @@ impl Listings {
         let (first, second) = (draft(first, &of_first), draft(second.clone(), &of_second));
         let pairs = [first.pair(), second.pair()];
         let verdict = check::join(pairs[0].files(), pairs[1].files(), self.hand_over as u32);
-        Joined::Pairs(Pairs {
+        Joined::Pairs(Box::new(Pairs {
             first,
             second,
             owed,
             verdict,
-        })
+        }))
     }
 }
 

@@ -7,7 +7,7 @@ use std::fs;
 use std::path::PathBuf;
 use std::process::{Command, Output};
 
-use common::assert_wrong_run_holds;
+use common::{assert_chain_holds, assert_wrong_run_holds};
 use vorruda_host::corpus::{self, Expected};
 use vorruda_host::joining::{Joined, Listings, Pairs};
 use vorruda_host::judge::Ending;
@@ -29,7 +29,7 @@ fn found(first: &str, second: &str) -> (Listings, Pairs) {
     let Joined::Pairs(pairs) = joined else {
         panic!("no pairs are found");
     };
-    (listings, pairs)
+    (listings, *pairs)
 }
 
 const LOAD: &str = "x := null\nwhile any\nnew(t)\nt.next := x\nx := t\nend\nmark 0\n\n\
@@ -41,6 +41,7 @@ const EDIT: &str = "y := x.next\nx.next := y\nmark 0\n\nforbidden\nmark 0  x at 
 fn listings_end_as_their_names_say() {
     let mut certified = 0;
     let mut wrong = 0;
+    let mut beyond = 0;
     for [first, second] in corpus::joined().unwrap() {
         let (name, expected) = (first.name, first.expected);
         assert_eq!(second.expected, expected, "{name}");
@@ -59,10 +60,17 @@ fn listings_end_as_their_names_say() {
                 assert!(listings.handed_over(&judged.ending).is_some(), "{name}");
                 wrong += 1;
             }
+            (_, Ending::Beyond { chain, .. }) => {
+                assert_eq!(expected, Expected::Beyond, "{name}");
+                assert_chain_holds(&listings.whole.job, chain, &name);
+                assert!(listings.handed_over(&judged.ending).is_some(), "{name}");
+                beyond += 1;
+            }
             _ => panic!("{name}: neither"),
         }
     }
-    assert!(certified >= 3 && wrong >= 2, "{certified} and {wrong}");
+    let counted = (certified, wrong, beyond);
+    assert_eq!(counted, (3, 2, 1));
 }
 
 /// By the library, the reference and the baseline; and no run of both over small heaps is wrong.

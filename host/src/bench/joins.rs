@@ -7,10 +7,9 @@ use crate::baseline;
 use crate::corpus;
 use crate::joining::{Joined, Listings};
 use crate::library::{self, Join};
-use crate::pairs::{Joint, Pair};
-use crate::reference::certificate::Cover;
+use crate::pairs::{only_forbidding, Joint, Pair};
 use crate::reference::checker::{accept, Start};
-use crate::reference::job::{Job, Located, MOST_FORBIDDEN, MOST_STATES};
+use crate::reference::job::{Job, MOST_FORBIDDEN, MOST_STATES};
 use crate::reference::shape::{Shape, MOST_CELLS};
 use crate::reference::version::Version;
 
@@ -92,30 +91,10 @@ fn behind(pair: &Pair) -> Option<Joint> {
         certificate: pair.certificate.clone(),
     };
     Some(Joint {
-        first: listing(read.job.version, at(start).collect()),
+        first: only_forbidding(read.job.version, at(start).collect(), 1),
         second,
         state: 0,
     })
-}
-
-/// The pair that forbids these shapes at state 0 and does nothing from state 1.
-fn listing(version: Version, shapes: Vec<Shape>) -> Pair {
-    let cover = |(member, shape): (usize, &Shape)| Cover {
-        member,
-        images: (0..shape.cells()).collect(),
-    };
-    let covers = shapes.iter().enumerate().map(cover).collect();
-    let located = |shape| Located { state: 0, shape };
-    let forbidden: Vec<Located> = shapes.into_iter().map(located).collect();
-    let job = Job {
-        version,
-        variables: forbidden[0].shape.variables.len() as u64,
-        states: 2,
-        start: 1,
-        transitions: Vec::new(),
-        forbidden: forbidden.clone(),
-    };
-    Pair::of(&job, forbidden, covers)
 }
 
 /// As many shapes owed as can be, alike but for their last links, and listed in the opposite order.
@@ -128,11 +107,9 @@ fn most() -> Joint {
     };
     let owed: Vec<Shape> = (0..MOST_FORBIDDEN).map(shape).collect();
     let listed = owed.iter().rev().cloned().collect();
-    let mut second = listing(Version::One, owed);
-    second.job[3] = 0;
     Joint {
-        first: listing(Version::One, listed),
-        second,
+        first: only_forbidding(Version::One, listed, 1),
+        second: only_forbidding(Version::One, owed, 0),
         state: 0,
     }
 }

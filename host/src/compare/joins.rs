@@ -5,9 +5,8 @@ use std::ops::RangeInclusive;
 
 use super::{lent, told, told_as, Tally};
 use crate::library::Join;
-use crate::pairs::{damaged_copies, joints, Joint, Pair, Pairs, ValuedPairs};
+use crate::pairs::{damaged_copies, joints, only_forbidding, Joint, Pair, Pairs, ValuedPairs};
 use crate::random::Random;
-use crate::reference::certificate::Cover;
 use crate::reference::checker::{accept, Accepted, Start};
 use crate::reference::facts::Fact;
 use crate::reference::job::{Job, Located};
@@ -136,10 +135,8 @@ fn read(joint: &Joint) -> (Accepted, Accepted) {
     let [first, second] = joint.files();
     let right = "a pair that isn't refused is right";
     (
-        accept(first.0, first.1, Start::Empty).ok().expect(right),
-        accept(second.0, second.1, Start::HandedOver)
-            .ok()
-            .expect(right),
+        accept(first.0, first.1, Start::Empty).expect(right),
+        accept(second.0, second.1, Start::HandedOver).expect(right),
     )
 }
 
@@ -193,33 +190,12 @@ fn alike_but_for_cells() -> Vec<Joint> {
     let with_fact = Shape::of_codes(&[0], &[0]).with_facts(vec![Fact::below(0, 0)]);
     let shapes = [Shape::of_codes(&[0], &[0, 1, 0, 0]), with_fact];
     let joint = |listed: &Shape, owed: &Shape| Joint {
-        first: forbidding(listed, 2, 1),
-        second: forbidding(owed, 1, 0),
+        first: only_forbidding(Version::Two, vec![listed.clone()], 1),
+        second: only_forbidding(Version::Two, vec![owed.clone()], 0),
         state: 0,
     };
     let of_listed = |listed| shapes.iter().map(move |owed| joint(listed, owed));
     shapes.iter().flat_map(of_listed).collect()
-}
-
-/// A pair that forbids a shape at state 0 and does nothing.
-fn forbidding(shape: &Shape, states: u64, start: u64) -> Pair {
-    let located = Located {
-        state: 0,
-        shape: shape.clone(),
-    };
-    let job = Job {
-        version: Version::Two,
-        variables: shape.variables.len() as u64,
-        states,
-        start,
-        transitions: Vec::new(),
-        forbidden: vec![located.clone()],
-    };
-    let by_itself = Cover {
-        member: 0,
-        images: (0..shape.cells()).collect(),
-    };
-    Pair::of(&job, vec![located], vec![by_itself])
 }
 
 /// The joint with other states, with damaged pairs, with the pairs exchanged, and with those of another.

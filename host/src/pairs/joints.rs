@@ -418,3 +418,23 @@ fn repeat_owed(random: &mut Random, second: &mut Draft) {
     certificate.members.push(member);
     certificate.covers.extend(covers);
 }
+
+/// The pair that forbids these shapes at state 0, and does nothing from the start, 0 or 1.
+pub fn only_forbidding(version: Version, shapes: Vec<Shape>, start: u64) -> Pair {
+    let cover = |(member, shape): (usize, &Shape)| Cover {
+        member,
+        images: (0..shape.cells()).collect(),
+    };
+    let covers = shapes.iter().enumerate().map(cover).collect();
+    let located = |shape| Located { state: 0, shape };
+    let forbidden: Vec<Located> = shapes.into_iter().map(located).collect();
+    let job = Job {
+        version,
+        variables: forbidden[0].shape.variables.len() as u64,
+        states: 2,
+        start,
+        transitions: Vec::new(),
+        forbidden: forbidden.clone(),
+    };
+    Pair::of(&job, forbidden, covers)
+}

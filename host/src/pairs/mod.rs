@@ -25,7 +25,7 @@ use broken::broken;
 use damage::damaged;
 use deletes::deletes;
 use joints::joint;
-pub use joints::Joint;
+pub use joints::{only_forbidding, Joint};
 use many_facts::many_facts;
 use near::near;
 use series::series;
