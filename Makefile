@@ -5,7 +5,8 @@
 # make try ROUTINE=name-or-file     from a routine as text to a verdict; without ROUTINE, the routines there are;
 #                                   with CERTIFICATE=file the verdict on a certificate of one's own, ROUTINE being text or a job's bytes;
 #                                   with THEN=name-or-file two listings as one, the second behind the first
-# make report ROUTINE=name-or-file  a page to look at; without ROUTINE, or with a folder, a table and a page for each routine
+# make report ROUTINE=name-or-file  a page to look at; without ROUTINE, or with a folder, a table and a page for each routine;
+#                                   with THEN=name-or-file one page of two listings as one
 # make release FOLDER=folder        the verdict on each routine's job.bin and cert.bin below a folder, and the release sheet
 # make bench                        the benchmarks
 
@@ -37,7 +38,7 @@ try:
 
 report:
 	@scripts/lib.sh
-	@scripts/tool.sh report $(if $(ROUTINE),"$(ROUTINE)")
+	@scripts/tool.sh report $(if $(ROUTINE),"$(ROUTINE)") $(if $(THEN),then "$(THEN)")
 
 release:
 	@scripts/release.sh "$(FOLDER)"

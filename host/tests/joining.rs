@@ -247,3 +247,38 @@ fn the_command_tells_which_part_goes_wrong() {
     let output = try_two(&["load_insert.first", "then"]);
     assert_eq!(output.status.code(), Some(2));
 }
+
+/// The page of two listings as one.
+fn page_of(name: &str) -> String {
+    let folder = PathBuf::from(env!("CARGO_TARGET_TMPDIR")).join("joined_pages");
+    let [first, second] = [format!("{name}.first"), format!("{name}.second")];
+    let output = Command::new(env!("CARGO_BIN_EXE_report"))
+        .args([&first, "then", &second])
+        .arg(&folder)
+        .output()
+        .unwrap();
+    let page = folder.join(format!("{first}_then_{second}.html"));
+    assert_eq!(printed(&output), format!("{}\n", page.display()));
+    fs::read_to_string(page).unwrap()
+}
+
+#[test]
+fn pages_show_both_and_the_claim() {
+    let page = page_of("load_insert");
+    for part in [
+        "<h2>Joined</h2>",
+        "No run of load_insert.first and then load_insert.second, on lists of any length",
+        "refused 8 at",
+        "<h2>Owed at the hand-over</h2>",
+        "A run that reaches mark 0 (line 5 of the second)",
+        "<h1>load_insert.second</h1>",
+        "y := x.next",
+    ] {
+        assert!(page.contains(part), "{part}");
+    }
+    let page = page_of("wrong_load_ring");
+    for part in ["Wrong: ", "line 9 of the first", "line 8 of the second"] {
+        assert!(page.contains(part), "{part}");
+    }
+    assert!(!page.contains("Joined"));
+}

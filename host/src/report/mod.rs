@@ -7,10 +7,12 @@ mod fault;
 mod graph;
 mod html;
 mod index_page;
+mod joined_page;
 mod routine_page;
 mod svg;
 
 pub use index_page::{index_page, Row};
+pub use joined_page::joined_page;
 pub use routine_page::routine_page;
 
 use std::time::Duration;

@@ -111,7 +111,7 @@ pub fn routine_page(name: &str, routine: &Routine, judged: &Judged) -> String {
 }
 
 /// The verdict, for who reads no further.
-fn banner(class: &str, heading: &str, text: &str) -> String {
+pub fn banner(class: &str, heading: &str, text: &str) -> String {
     format!(
         "<section class=\"banner {class}\">\n<h2>{}</h2>\n<p>{}</p>\n</section>\n",
         escape(heading),
@@ -142,7 +142,7 @@ fn certified(
 }
 
 /// A run with a title, for what isn't forbidden.
-fn titled_run(routine: &Routine, title: &str, run: &Run) -> String {
+pub fn titled_run(routine: &Routine, title: &str, run: &Run) -> String {
     format!(
         "<h2>{}</h2>\n<p>A run of {}. {OF_RUNS}.{}</p>\n{}",
         escape(title),
@@ -316,7 +316,7 @@ fn counts(routine: &Routine, judged: &Judged) -> String {
 }
 
 /// The listing with the numbers of its lines; nothing for a routine of transitions.
-fn listing(routine: &Routine) -> String {
+pub fn listing(routine: &Routine) -> String {
     let lines = routine.states.iter().zip(&routine.statements);
     let lines: String = lines
         .map(|(line, statement)| format!("{line:<9}{}\n", escape(statement)))
@@ -347,7 +347,7 @@ fn states(routine: &Routine, run: &[usize]) -> String {
 }
 
 /// The forbidden shapes, a row for each line of the routine at a state.
-fn forbidden(routine: &Routine) -> String {
+pub fn forbidden(routine: &Routine) -> String {
     let shapes = routine.job.forbidden.iter().map(|bad| &bad.shape);
     let mut text = format!(
         "<h2>What is forbidden</h2>\n<p>{OF_SHAPES}{}</p>\n",
