@@ -39,12 +39,21 @@ pub fn more(joined: f64, alone: f64) -> f64 {
     100.0 * (joined / alone - 1.0)
 }
 
-/// What is measured: the listings of the corpus that are taken as one; each routine of the corpus, as if
-/// it started where it has most members, behind a job that lists what it owes; and as much as can be owed.
+/// What is measured: the listings of the corpus that are taken as one; each routine of the corpus behind a
+/// job that lists what it owes, as if it started where it has fewest members, and where it has most; and
+/// as much as can be owed.
 pub struct Cases {
     pub listings: Vec<Case>,
-    pub behind: Vec<Case>,
+    pub behind_fewest: Vec<Case>,
+    pub behind_most: Vec<Case>,
     pub most: Vec<Case>,
+}
+
+/// Where a routine of the corpus is thought to start.
+#[derive(Clone, Copy)]
+enum StartAt {
+    FewestMembers,
+    MostMembers,
 }
 
 impl Cases {
@@ -57,10 +66,14 @@ impl Cases {
                 listings.push(Case::new(name, pairs.joint(both.hand_over)));
             }
         }
-        let behind = corpus.iter().filter_map(behind);
+        let behind = |start| {
+            let joints = corpus.iter().filter_map(|pair| behind(pair, start));
+            joints.map(|joint| Case::new("", joint)).collect()
+        };
         Ok(Cases {
             listings,
-            behind: behind.map(|joint| Case::new("", joint)).collect(),
+            behind_fewest: behind(StartAt::FewestMembers),
+            behind_most: behind(StartAt::MostMembers),
             most: vec![Case::new(
                 "64 owed shapes of 12 cells, in another order",
                 most(),
@@ -70,13 +83,18 @@ impl Cases {
 
     /// All cases, in the order in which they are measured.
     pub fn all(&mut self) -> impl Iterator<Item = &mut Case> {
-        let groups = [&mut self.listings, &mut self.behind, &mut self.most];
+        let groups = [
+            &mut self.listings,
+            &mut self.behind_fewest,
+            &mut self.behind_most,
+            &mut self.most,
+        ];
         groups.into_iter().flatten()
     }
 }
 
-/// A pair that starts where it has most members, behind a job that lists them and does nothing.
-fn behind(pair: &Pair) -> Option<Joint> {
+/// A pair that starts where it has some members, behind a job that lists them and does nothing.
+fn behind(pair: &Pair, start: StartAt) -> Option<Joint> {
     let read = accept(&pair.job, &pair.certificate, Start::HandedOver).ok()?;
     let at = |state: u64| {
         let members = read.members.iter().map(|member| &member.located);
@@ -84,8 +102,12 @@ fn behind(pair: &Pair) -> Option<Joint> {
         here.map(|member| member.shape.clone())
     };
     let counted = (0..read.job.states).map(|state| (at(state).count(), state));
-    let most = MOST_FORBIDDEN as usize;
-    let (_, start) = counted.filter(|&(count, _)| count <= most).max()?;
+    let listed = 1..=MOST_FORBIDDEN as usize;
+    let counted = counted.filter(|(count, _)| listed.contains(count));
+    let (_, start) = match start {
+        StartAt::FewestMembers => counted.min()?,
+        StartAt::MostMembers => counted.max()?,
+    };
     let second = Pair {
         job: Job { start, ..read.job }.bytes(),
         certificate: pair.certificate.clone(),
@@ -183,7 +205,10 @@ mod tests {
         let corpus: Vec<Pair> = crate::pairs::accepted_pairs(Version::One, 7)
             .take(20)
             .collect();
-        let all: Vec<Joint> = corpus.iter().filter_map(behind).chain([most()]).collect();
+        let starts = [StartAt::FewestMembers, StartAt::MostMembers].into_iter();
+        let all =
+            starts.flat_map(|start| corpus.iter().filter_map(move |pair| behind(pair, start)));
+        let all: Vec<Joint> = all.chain([most()]).collect();
         let mut owed = 0;
         for joint in joints(&pairs(all.iter())) {
             let [first, second] = joint.files();

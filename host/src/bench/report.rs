@@ -258,18 +258,17 @@ fn joined(cases: &joins::Cases) {
     for case in &cases.listings {
         row_joined(&case.name, std::slice::from_ref(case));
     }
-    let name = "**the corpus in all, each behind a job that lists what it owes**";
-    row_joined(name, &cases.behind);
-    let more = |case: &&joins::Case| joins::more(case.joined.proved, case.alone);
-    let worst = cases
-        .behind
-        .iter()
-        .max_by(|x, y| more(x).total_cmp(&more(y)));
-    if let Some(case) = worst {
-        row_joined(
-            "of these the one that takes most more",
-            std::slice::from_ref(case),
-        );
+    for (owed, behind) in [
+        ("little", &cases.behind_fewest),
+        ("much", &cases.behind_most),
+    ] {
+        row_joined(&format!("**the corpus in all, {owed} of it owed**"), behind);
+        let more = |case: &&joins::Case| joins::more(case.joined.proved, case.alone);
+        let worst = behind.iter().max_by(|x, y| more(x).total_cmp(&more(y)));
+        if let Some(case) = worst {
+            let name = "of these the one that takes most more";
+            row_joined(name, std::slice::from_ref(case));
+        }
     }
     for case in &cases.most {
         row_joined(&case.name, std::slice::from_ref(case));
