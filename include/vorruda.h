@@ -38,6 +38,7 @@
 #define VORRUDA_READ_NUMBER_OUT   2
 #define VORRUDA_WRITE_NUMBERS_OUT 1
 #define VORRUDA_VERDICT_OUT       4
+#define VORRUDA_JOIN_OUT          8
 #define VORRUDA_TALLY_VERDICT_OUT 4
 #define VORRUDA_TALLY_REPORT_OUT  2
 #define VORRUDA_FORBID_OUT        1 /* each vorruda_forbid_* */
@@ -205,6 +206,40 @@ uint32_t vorruda_check(const uint8_t *job, size_t job_len, const uint8_t *cert, 
  * 10); 0 for a length or for versions that differ (20). out has four entries. */
 uint32_t vorruda_verdict(const uint8_t *job, size_t job_len, const uint8_t *cert, size_t cert_len,
                          uint64_t *out, size_t out_len);
+
+/* ---- Two jobs as one ---------------------------------------------------------------------------
+ *
+ * A first job, as one that loads, comes to an end at one of its states, the hand-over, which is also
+ * the start of a second one, as one that edits; otherwise their states are apart. The second starts
+ * with whatever heap the first leaves, so the empty heap may satisfy its members at the start. They
+ * are owed instead: the first job has to list each of them among its own forbidden shapes, at the
+ * hand-over and equal number for number, facts as listed (none in a file of version 1).
+ *
+ * Where two pairs are joined, no run of both jobs as one, from the empty heap at the first's start
+ * and over heaps of any size, meets a shape that the second forbids at the state the run is then in,
+ * the hand-over being its start, nor one that the first forbids at any of its states but the
+ * hand-over. The second may lead back to the hand-over; the first has no transition from there.
+ *
+ * Tried after the checks of both pairs, in this order: */
+
+#define VORRUDA_JOIN_STATE      24 /* the hand-over is no state of the first job */
+#define VORRUDA_JOIN_VARIABLES  25 /* the jobs have different numbers of variables */
+#define VORRUDA_JOIN_TRANSITION 26 /* the first job has a transition from the hand-over, be it to itself */
+#define VORRUDA_JOIN_OWED       27 /* the first job doesn't list an owed shape at the hand-over */
+
+/* Joins two pairs at a state of the first; all four files are only read. The first pair is checked as
+ * by vorruda_check, and then the second without VORRUDA_START_MEMBER. Each may be of either version.
+ *   0: joined. out[0] to out[3] are the counts of the first pair as vorruda_verdict tells them,
+ *      out[4] to out[7] those of the second.
+ *   VORRUDA_JOB_LENGTH to VORRUDA_CERT_LEFT, VORRUDA_VERSIONS_DIFFER: a pair is refused. out[0] is 1
+ *      for the first pair and 2 for the second, out[1] the place in its file, out[2] the rule and
+ *      out[3] the name for VORRUDA_COVER and else 0; out[4] to out[7] are 0.
+ *   VORRUDA_JOIN_STATE to VORRUDA_JOIN_OWED: each pair is right, but not both together; out[0] to
+ *      out[7] are 0.
+ * out has eight entries. The call needs less than 8 KiB of stack. */
+uint32_t vorruda_join(const uint8_t *job1, size_t job1_len, const uint8_t *cert1, size_t cert1_len,
+                      const uint8_t *job2, size_t job2_len, const uint8_t *cert2, size_t cert2_len,
+                      uint32_t state, uint64_t *out, size_t out_len);
 
 /* ---- Tally ------------------------------------------------------------------------------------
  *

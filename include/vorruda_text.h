@@ -33,7 +33,10 @@ static inline const char *vorruda_text(uint32_t number)
     case 19: return "the listing has more than 8 names or 64 states";
     case 20: return "job and certificate are of different versions";
     case 23: return "a count or a sum of the tally would pass 4,294,967,295";
-    /* 24 to 27, of two routines that are joined, go here. */
+    case 24: return "the hand-over is no state of the first job";
+    case 25: return "the jobs to join have different numbers of variables";
+    case 26: return "the first job has a transition from the hand-over";
+    case 27: return "a shape that the second owes is not listed by the first at the hand-over";
     case 28: return "the list has no such block";
     case 29: return "# isn't met from the head: it or a link is at *, or there is a ring";
     case 31: return "more than 64 forbidden shapes";

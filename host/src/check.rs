@@ -1,24 +1,25 @@
 //! The proved checker, for the tools that a person uses.
 
 use crate::library;
-use crate::verdict::{Broken, Counts, Refusal, Verdict};
+use crate::verdict::{Counts, Files, JoinVerdict, Refusal, Verdict};
 
 /// The verdict on two buffers.
 pub fn check(job: &[u8], certificate: &[u8]) -> Verdict {
     let mut out = [0; 4];
     match library::verdict(job, certificate, &mut out) {
-        0 => Verdict::Accepted(Counts {
-            bads: out[0],
-            members: out[1],
-            covers: out[2],
-            links: out[3],
-        }),
-        number => Verdict::Refused(Refusal {
-            number,
-            place: out[0] as usize,
-            broken: Broken::of_numbers(out[1], out[2]),
-        }),
+        0 => Verdict::Accepted(Counts::of_numbers(out)),
+        number => {
+            let [place, rule, name, _] = out;
+            Verdict::Refused(Refusal::of_numbers(number, [place, rule, name]))
+        }
     }
+}
+
+/// The verdict on two pairs joined at a state of the first.
+pub fn join(first: Files, second: Files, state: u32) -> JoinVerdict {
+    let mut out = [0; 8];
+    let number = library::join(first, second, state, &mut out);
+    JoinVerdict::of_told(number, &out)
 }
 
 #[cfg(test)]

@@ -64,14 +64,36 @@ fn files(folder: &Path) -> Result<Vec<PathBuf>, String> {
     Ok(files)
 }
 
+/// The listings of `joined` that are taken as one, by name: NAME.first and NAME.second.
+pub fn joined() -> Result<Vec<[Entry; 2]>, String> {
+    let files = read_folder(&folder().join(JOINED))?.into_iter();
+    let mut entries = files.map(|file| file.entry);
+    let mut all = Vec::new();
+    while let Some(first) = entries.next() {
+        let (first, second) = (first?, entries.next().ok_or(NOT_TWO)??);
+        let name = first.name.strip_suffix(".first");
+        match name.is_some() && name == second.name.strip_suffix(".second") {
+            true => all.push([first, second]),
+            false => return Err(format!("{}, {}: {NOT_TWO}", first.name, second.name)),
+        }
+    }
+    Ok(all)
+}
+
+/// The folder of the corpus with listings that are taken as one.
+const JOINED: &str = "joined";
+const NOT_TWO: &str = "listings that are taken as one are named NAME.first and NAME.second";
+
 /// The routine of the corpus with this name where there is one, else that of the file.
 pub fn find(name: &str) -> Result<Entry, String> {
-    let known = folder().join(format!("{name}.routine"));
+    let alone = folder().join(format!("{name}.routine"));
+    let joined = folder().join(JOINED).join(format!("{name}.listing"));
+    let mut known = [alone, joined].into_iter();
     let file = Path::new(name);
-    match (known.is_file(), file.exists()) {
-        (true, _) => entry(&known),
-        (false, true) => entry(file),
-        (false, false) => Err(unknown(name)?),
+    match (known.find(|path| path.is_file()), file.exists()) {
+        (Some(known), _) => entry(&known),
+        (None, true) => entry(file),
+        (None, false) => Err(unknown(name)?),
     }
 }
 

@@ -3,6 +3,8 @@
 
 use std::ptr;
 
+use crate::verdict::Files;
+
 #[link(name = "vorruda", kind = "static")]
 extern "C" {
     fn vorruda_read_number(
@@ -55,6 +57,19 @@ extern "C" {
         tally_len: usize,
         text: *mut u8,
         len: usize,
+        out: *mut u64,
+        out_len: usize,
+    ) -> u32;
+    fn vorruda_join(
+        job1: *const u8,
+        job1_len: usize,
+        cert1: *const u8,
+        cert1_len: usize,
+        job2: *const u8,
+        job2_len: usize,
+        cert2: *const u8,
+        cert2_len: usize,
+        state: u32,
         out: *mut u64,
         out_len: usize,
     ) -> u32;
@@ -172,6 +187,34 @@ pub fn verdict(job: &[u8], certificate: &[u8], out: &mut [u64]) -> u32 {
             job.len(),
             lent(certificate),
             certificate.len(),
+            lent_mut(out),
+            out.len(),
+        )
+    }
+}
+
+/// Two pairs joined: the first, the second, the state of the first, and out.
+pub type Join = fn(Files, Files, u32, &mut [u64]) -> u32;
+
+/// Joins two pairs at a state of the first.
+pub fn join(
+    (job1, certificate1): Files,
+    (job2, certificate2): Files,
+    state: u32,
+    out: &mut [u64],
+) -> u32 {
+    // SAFETY: each pointer goes with the length of the slice that it came from.
+    unsafe {
+        vorruda_join(
+            lent(job1),
+            job1.len(),
+            lent(certificate1),
+            certificate1.len(),
+            lent(job2),
+            job2.len(),
+            lent(certificate2),
+            certificate2.len(),
+            state,
             lent_mut(out),
             out.len(),
         )

@@ -1,4 +1,4 @@
-//! Verdicts on a job and a certificate.
+//! Verdicts on a job and a certificate, and on two such pairs joined.
 
 use std::fmt;
 
@@ -80,6 +80,21 @@ impl Refusal {
         }
     }
 
+    /// What a number, and those of place, rule and name beside it, tell.
+    pub fn of_numbers(number: u32, [place, rule, name]: [u64; 3]) -> Refusal {
+        Refusal {
+            number,
+            place: place as usize,
+            broken: Broken::of_numbers(rule, name),
+        }
+    }
+
+    /// The numbers of place, rule and name, the last two 0 but for 9.
+    pub fn numbers(&self) -> [u64; 3] {
+        let [rule, name] = self.broken.map_or([0, 0], Broken::numbers);
+        [self.place as u64, rule, name]
+    }
+
     /// 9, for the cover at a place.
     pub fn of_cover(place: usize, broken: Broken) -> Refusal {
         Refusal {
@@ -98,6 +113,22 @@ pub struct Counts {
     pub members: u64,
     pub covers: u64,
     pub links: u64,
+}
+
+impl Counts {
+    /// The counts in the order in which they are told.
+    pub fn numbers(&self) -> [u64; 4] {
+        [self.bads, self.members, self.covers, self.links]
+    }
+
+    pub fn of_numbers([bads, members, covers, links]: [u64; 4]) -> Counts {
+        Counts {
+            bads,
+            members,
+            covers,
+            links,
+        }
+    }
 }
 
 #[derive(Clone, Copy, Debug, PartialEq, Eq)]
@@ -121,11 +152,102 @@ impl Verdict {
     /// The four values that are told beside the number.
     pub fn told(&self) -> [u64; 4] {
         match self {
-            Verdict::Accepted(counts) => [counts.bads, counts.members, counts.covers, counts.links],
+            Verdict::Accepted(counts) => counts.numbers(),
             Verdict::Refused(refusal) => {
-                let [rule, name] = refusal.broken.map_or([0, 0], Broken::numbers);
-                [refusal.place as u64, rule, name, 0]
+                let [place, rule, name] = refusal.numbers();
+                [place, rule, name, 0]
             }
+        }
+    }
+}
+
+/// A job and a certificate.
+pub type Files<'a> = (&'a [u8], &'a [u8]);
+
+/// The verdict on two pairs joined at a state of the first.
+#[derive(Clone, Copy, Debug, PartialEq, Eq)]
+pub enum JoinVerdict {
+    /// With the counts of the first and of the second.
+    Joined(Counts, Counts),
+    /// A pair, 1 or 2, is refused.
+    PairRefused(u64, Refusal),
+    /// Each pair is right, but not the two together.
+    Mismatched(Mismatch),
+}
+
+/// Why two pairs that are right can't be joined, by number, in the order in which it is tried.
+#[derive(Clone, Copy, Debug, PartialEq, Eq)]
+pub enum Mismatch {
+    /// The first job has no such state.
+    State = 24,
+    /// The jobs have different numbers of variables.
+    Variables = 25,
+    /// The first job has a transition from the hand-over.
+    Transition = 26,
+    /// A member of the second at its start isn't forbidden by the first at the hand-over.
+    Owed = 27,
+}
+
+impl Mismatch {
+    pub const ALL: [Mismatch; 4] = [
+        Mismatch::State,
+        Mismatch::Variables,
+        Mismatch::Transition,
+        Mismatch::Owed,
+    ];
+}
+
+impl JoinVerdict {
+    /// 0 or the refusal's number.
+    pub fn number(&self) -> u32 {
+        match self {
+            JoinVerdict::Joined(..) => 0,
+            JoinVerdict::PairRefused(_, refusal) => refusal.number,
+            JoinVerdict::Mismatched(mismatch) => *mismatch as u32,
+        }
+    }
+
+    /// The eight values that are told beside the number.
+    pub fn told(&self) -> [u64; 8] {
+        let mut told = [0; 8];
+        match self {
+            JoinVerdict::Joined(first, second) => {
+                told[..4].copy_from_slice(&first.numbers());
+                told[4..].copy_from_slice(&second.numbers());
+            }
+            JoinVerdict::PairRefused(pair, refusal) => {
+                told[0] = *pair;
+                told[1..4].copy_from_slice(&refusal.numbers());
+            }
+            JoinVerdict::Mismatched(_) => {}
+        }
+        told
+    }
+
+    /// The verdict that a number and the values beside it tell.
+    pub fn of_told(number: u32, told: &[u64; 8]) -> JoinVerdict {
+        let [a, b, c, d, second @ ..] = *told;
+        if number == 0 {
+            let first = Counts::of_numbers([a, b, c, d]);
+            return JoinVerdict::Joined(first, Counts::of_numbers(second));
+        }
+        let mut mismatches = Mismatch::ALL.into_iter();
+        match mismatches.find(|&known| known as u32 == number) {
+            Some(mismatch) => JoinVerdict::Mismatched(mismatch),
+            None => JoinVerdict::PairRefused(a, Refusal::of_numbers(number, [b, c, d])),
+        }
+    }
+}
+
+impl fmt::Display for JoinVerdict {
+    fn fmt(&self, f: &mut fmt::Formatter) -> fmt::Result {
+        match self {
+            JoinVerdict::Joined(first, second) => {
+                let [first, second] = [*first, *second].map(Verdict::Accepted);
+                write!(f, "joined; the first {first}, the second {second}")
+            }
+            JoinVerdict::PairRefused(pair, refusal) => write!(f, "pair {pair} {refusal}"),
+            JoinVerdict::Mismatched(mismatch) => write!(f, "refused {}", *mismatch as u32),
         }
     }
 }

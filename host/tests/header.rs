@@ -71,7 +71,7 @@ type Call = fn(&mut [u64]);
 const JOB: [u8; 15] = [2, 1, 2, 0, 1, 0, 6, 1, 0, 1, 1, 1, 0, 1, 0];
 const CERTIFICATE: [u8; 7] = [2, 1, 1, 0, 1, 0, 0];
 
-const CALLS: [(&str, Call); 9] = [
+const CALLS: [(&str, Call); 10] = [
     ("READ_NUMBER_OUT", |out| {
         library::read_number(&[5], 0, out);
     }),
@@ -80,6 +80,9 @@ const CALLS: [(&str, Call); 9] = [
     }),
     ("VERDICT_OUT", |out| {
         library::verdict(&JOB, &CERTIFICATE, out);
+    }),
+    ("JOIN_OUT", |out| {
+        library::join((&JOB, &CERTIFICATE), (&JOB, &CERTIFICATE), 0, out);
     }),
     ("TALLY_VERDICT_OUT", |out| {
         library::tally_verdict(&JOB, &CERTIFICATE, &mut [0; 35], out);

@@ -1,21 +1,26 @@
 //! The verdict on a job and a certificate, fast.
 
 use super::embedding::{broken, follow, variables_agree, Images, ENDS, NO_IMAGES};
-use super::job::{Entry, Job};
+use super::job::{Entry, Job, NO_STATE};
 use super::predecessor::each_predecessor;
 use super::reader::{Reader, Stopped};
 use super::shape::{Located, Shape, CELL};
 use super::values;
 use crate::reference::certificate::MOST_MEMBERS;
-use crate::reference::checker::MOST_BYTES;
+use crate::reference::checker::{Start, MOST_BYTES};
 use crate::reference::version::Version;
 use crate::verdict::{Broken, Counts, Refusal, Verdict};
 
 /// The verdict on two buffers.
 pub fn check(job: &[u8], certificate: &[u8]) -> Verdict {
+    check_from(job, certificate, Start::Empty)
+}
+
+/// The same, 8 only where the job starts with the empty heap.
+pub fn check_from(job: &[u8], certificate: &[u8], start: Start) -> Verdict {
     match is_of_version_2(job) {
-        true => values::check(job, certificate),
-        false => verdict(job, certificate, count),
+        true => values::check(job, certificate, start),
+        false => verdict(job, certificate, start, count),
     }
 }
 
@@ -47,6 +52,7 @@ pub struct Counted {
 pub fn verdict<S: Entry>(
     job: &[u8],
     certificate: &[u8],
+    start: Start,
     check: impl FnOnce(&Job<S>, &[u8]) -> Result<Counted, Refusal>,
 ) -> Verdict {
     let accept = || {
@@ -54,8 +60,11 @@ pub fn verdict<S: Entry>(
         check_length(certificate, 2)?;
         let mut reader = Reader::new(job, 3, 4);
         // The job stays where it is read to.
-        let job = Job::read(&mut reader);
-        let job = job.as_ref().map_err(|&Stopped| reader.refusal)?;
+        let mut job = Job::read(&mut reader);
+        let job = job.as_mut().map_err(|&mut Stopped| reader.refusal)?;
+        if start == Start::HandedOver {
+            job.start = NO_STATE;
+        }
         let counted = check(job, certificate)?;
         Ok(Counts {
             bads: job.forbidden.len() as u64,

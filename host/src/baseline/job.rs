@@ -5,6 +5,9 @@ use crate::reference::job::{MOST_FORBIDDEN, MOST_STATES, MOST_TRANSITIONS, MOST_
 use crate::reference::operation::Operation;
 use crate::reference::version::Version;
 
+/// No job has this state.
+pub const NO_STATE: u8 = u8::MAX;
+
 /// A shape at a state, as a checker keeps it.
 pub trait Entry: Sized {
     /// The version of the files that have such entries.

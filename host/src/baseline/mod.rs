@@ -6,6 +6,7 @@ pub mod block_list;
 pub mod checker;
 pub mod embedding;
 mod job;
+pub mod join;
 pub mod listing;
 pub mod number;
 pub mod operations;

@@ -9,14 +9,16 @@ use std::path::Path;
 use std::process::{Command, Stdio};
 
 use super::suite::{read_pairs, write_pairs, Suite};
-use super::{block_lists, calls, check_quickly, tallies, Cost, Work};
+use super::{block_lists, calls, check_quickly, joins, tallies, Cost, Work};
 
 /// The argument with which the process does the measured work.
 pub const ARGUMENT: &str = "measured";
 
-/// The file with the suite's pairs, and the one with those of the corpus alone.
+/// The file with the suite's pairs, the one with those of the corpus alone, and the one with those that
+/// are joined.
 const PAIRS: &str = "pairs.bin";
 const CORPUS: &str = "corpus.bin";
+const JOINED: &str = "joined.bin";
 
 /// Callgrind finds it by this name.
 #[no_mangle]
@@ -27,10 +29,10 @@ fn vorruda_measured(work: &dyn Fn()) {
 }
 
 /// What is counted in a run: an empty work, then each pair in turn, then the calls of the block list and
-/// of the tally, then the other calls.
+/// of the tally, the joins, then the other calls.
 pub fn run(folder: &Path) -> Result<(), String> {
     let read = |file| read_pairs(&folder.join(file)).map_err(|error| error.to_string());
-    let (pairs, corpus) = (read(PAIRS)?, read(CORPUS)?);
+    let (pairs, corpus, joined) = (read(PAIRS)?, read(CORPUS)?, read(JOINED)?);
     vorruda_measured(&|| ());
     for pair in &pairs {
         measure(&Work::of_pair(pair));
@@ -41,6 +43,10 @@ pub fn run(folder: &Path) -> Result<(), String> {
     }
     for case in tallies::Cases::new(corpus).all() {
         measure(&case.work);
+    }
+    for joint in joins::joints(&joined) {
+        measure(&joins::work(&joint));
+        measure_call(&joins::alone(&joint));
     }
     for (_, work) in calls::works() {
         measure(&work);
@@ -61,17 +67,20 @@ fn measure_call(call: &dyn Fn()) {
 
 const TOO_LITTLE: &str = "callgrind counted too little";
 
-/// Counts the instructions of each pair of the suite and of the calls of the block list and of the
-/// tally, and gives those of the other calls.
+/// Counts the instructions of each pair of the suite, of the calls of the block list and of the tally and
+/// of the joins, and gives those of the other calls.
 pub fn count(
     suite: &mut Suite,
     lists: &mut [block_lists::Case],
     tallies: &mut tallies::Cases,
+    joins: &mut joins::Cases,
     folder: &Path,
 ) -> Result<Vec<Cost>, String> {
     let pairs = suite.cases().map(|case| &case.pair);
     write_pairs(&folder.join(PAIRS), pairs).map_err(|error| error.to_string())?;
     write_pairs(&folder.join(CORPUS), &suite.corpus_pairs()).map_err(|error| error.to_string())?;
+    let joined = joins::pairs(joins.all().map(|case| &case.joint));
+    write_pairs(&folder.join(JOINED), &joined).map_err(|error| error.to_string())?;
     let counts = callgrind(folder)?;
     let (empty, counts) = counts.split_first().ok_or("callgrind counted nothing")?;
     let mut counts = counts.iter().map(|count| count - empty);
@@ -85,6 +94,10 @@ pub fn count(
     }
     for case in tallies.all() {
         case.instructions = cost(&mut counts).ok_or(TOO_LITTLE)?;
+    }
+    for case in joins.all() {
+        case.joined = cost(&mut counts).ok_or(TOO_LITTLE)?;
+        case.alone = counts.next().ok_or(TOO_LITTLE)?;
     }
     Ok(std::iter::from_fn(|| cost(&mut counts)).collect())
 }

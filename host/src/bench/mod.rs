@@ -5,6 +5,7 @@ pub mod broken;
 pub mod calls;
 pub mod growth;
 pub mod instructions;
+pub mod joins;
 pub mod refused;
 pub mod report;
 pub mod suite;

@@ -1,7 +1,7 @@
 //! The tables, in markdown.
 
 use super::suite::{Case, Suite};
-use super::{block_lists, calls, tallies, time, Cost, Work};
+use super::{block_lists, calls, joins, tallies, time, Cost, Work};
 use crate::baseline::checker::check;
 use crate::text::thousands;
 use crate::verdict::Verdict;
@@ -15,6 +15,7 @@ pub fn print(
     suite: &mut Suite,
     lists: &[block_lists::Case],
     tallies: &tallies::Cases,
+    joins: &joins::Cases,
     calls: &[Cost],
 ) {
     summary(suite);
@@ -44,6 +45,8 @@ pub fn print(
     block_list(lists);
     println!("\n### The tally\n");
     tally(tallies);
+    println!("\n### Two pairs joined\n");
+    joined(joins);
     println!("\n### The other calls\n");
     other_calls(calls);
 }
@@ -246,6 +249,42 @@ fn row_of_tally(case: &tallies::Case) {
         case.name,
         instructions(case.instructions),
         time.ratio(),
+    );
+}
+
+/// Each against the checks of both pairs alone, and against the baseline.
+fn joined(cases: &joins::Cases) {
+    heading("| pairs | instructions | two checks | more | baseline | ratio |");
+    for case in &cases.listings {
+        row_joined(&case.name, std::slice::from_ref(case));
+    }
+    for (owed, behind) in [
+        ("little", &cases.behind_fewest),
+        ("much", &cases.behind_most),
+    ] {
+        row_joined(&format!("**the corpus in all, {owed} of it owed**"), behind);
+        let more = |case: &&joins::Case| joins::more(case.joined.proved, case.alone);
+        let worst = behind.iter().max_by(|x, y| more(x).total_cmp(&more(y)));
+        if let Some(case) = worst {
+            let name = "of these the one that takes most more";
+            row_joined(name, std::slice::from_ref(case));
+        }
+    }
+    for case in &cases.most {
+        row_joined(&case.name, std::slice::from_ref(case));
+    }
+}
+
+fn row_joined(name: &str, cases: &[joins::Case]) {
+    let all: Cost = cases.iter().map(|case| case.joined).sum();
+    let alone: f64 = cases.iter().map(|case| case.alone).sum();
+    println!(
+        "| {name} | {} | {} | {:.2} % | {} | {:.2} |",
+        thousands(all.proved as u64),
+        thousands(alone as u64),
+        joins::more(all.proved, alone),
+        thousands(all.baseline as u64),
+        all.ratio(),
     );
 }
 

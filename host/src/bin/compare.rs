@@ -9,9 +9,9 @@ use std::process::ExitCode;
 use vorruda_host::compare::listings::Translate;
 use vorruda_host::compare::verdicts::Checker;
 use vorruda_host::compare::{
-    block_lists, listings, lists, numbers, ready, steps, tallies, verdicts, Tally,
+    block_lists, joins, listings, lists, numbers, ready, steps, tallies, verdicts, Tally,
 };
-use vorruda_host::library::TallyCalls;
+use vorruda_host::library::{Join, TallyCalls};
 use vorruda_host::list_library::{self, Calls};
 use vorruda_host::{baseline, check, library};
 
@@ -53,6 +53,12 @@ const TALLIES: [(&str, TallyCalls); 2] = [
     ("the baseline's tally", baseline::tally::CALLS),
 ];
 
+/// The joins that are compared with it.
+const JOINS: [(&str, Join); 2] = [
+    ("joins", library::join),
+    ("the baseline's joins", baseline::join::join),
+];
+
 const PAIRS: u64 = 100_000;
 const SEED: u64 = 0x0009_5eed;
 
@@ -80,6 +86,7 @@ fn tallies() -> Result<Vec<Tally>, String> {
     let all = calls.into_iter().chain(steps::compare());
     let all = all.chain(block_lists::compare(&BLOCK_LISTS));
     let all = all.chain(tallies::compare(&TALLIES, seed));
+    let all = all.chain(joins::compare(&JOINS, seed));
     Ok(all.chain(listings).chain(verdicts).collect())
 }
 

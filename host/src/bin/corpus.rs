@@ -1,19 +1,27 @@
-//! Searches and checks every routine of the corpus, prints the table of them, and fails where one
-//! ends otherwise than its name says.
+//! Searches and checks every routine of the corpus, and the listings that are taken as one, prints the
+//! tables of them, and fails where one ends otherwise than its name says.
 
 use std::process::ExitCode;
 
 use vorruda_host::corpus::{self, Entry, Expected};
+use vorruda_host::joining::{Joined, Listings};
 use vorruda_host::judge::judge;
+use vorruda_host::verdict::JoinVerdict;
 
 fn main() -> ExitCode {
-    let entries = match corpus::read() {
-        Ok(entries) => entries,
+    match tables() {
+        Ok(0) => ExitCode::SUCCESS,
+        Ok(_) => ExitCode::FAILURE,
         Err(what) => {
             eprintln!("{what}");
-            return ExitCode::from(2);
+            ExitCode::from(2)
         }
-    };
+    }
+}
+
+/// Prints both tables; how many end otherwise than expected.
+fn tables() -> Result<usize, String> {
+    let entries = corpus::read()?;
     println!(
         "| routine | variables | states | transitions | forbidden | members | covers | job bytes | \
          certificate bytes | verdict |"
@@ -34,7 +42,55 @@ fn main() -> ExitCode {
         of(Expected::Wrong),
         of(Expected::Beyond),
     );
-    ExitCode::from(u8::from(unexpected > 0))
+    Ok(unexpected + table_of_two()?)
+}
+
+/// Prints the table of listings that are taken as one; how many end otherwise than expected.
+fn table_of_two() -> Result<usize, String> {
+    println!(
+        "\n| two listings | variables | states | forbidden | owed | members | covers | verdict |"
+    );
+    println!("|---|---|---|---|---|---|---|---|");
+    let mut unexpected = 0;
+    let all = corpus::joined()?;
+    let count = all.len();
+    for [first, second] in all {
+        let name = first.name.trim_end_matches(".first").to_string();
+        let listings = Listings::of(first.routine, second.routine)?;
+        let (judged, joined) = listings.judge();
+        let [of_first, of_second] = [&listings.first.job, &listings.second.job];
+        let (columns, ending) = match joined {
+            Joined::Pairs(pairs) => match pairs.verdict {
+                JoinVerdict::Joined(first, second) => (
+                    format!(
+                        "{} | {} and {} | {} and {} | joined",
+                        pairs.owed.len(),
+                        first.members,
+                        second.members,
+                        first.covers,
+                        second.covers,
+                    ),
+                    judged.expected(),
+                ),
+                verdict => (format!("- | - | - | {verdict}"), None),
+            },
+            _ => (
+                format!("- | - | - | {}", judged.ending.words()),
+                judged.expected(),
+            ),
+        };
+        println!(
+            "| {name} | {} | {} and {} | {} and {} | {columns} |",
+            of_first.variables,
+            of_first.states,
+            of_second.states,
+            of_first.forbidden.len(),
+            of_second.forbidden.len(),
+        );
+        unexpected += usize::from(ending != Some(first.expected));
+    }
+    println!("\n{count} of two listings; {unexpected} not as expected");
+    Ok(unexpected)
 }
 
 /// Prints a routine's row.

@@ -2,17 +2,19 @@
 //! a byte read or written beside them, and compares their answers with the reference.
 //!
 //! `memcheck [PAIRS [SEED]]`: how many random pairs, as many with a cover that breaks rules, as many
-//! with deletes, and as many of version 2 if the library takes them; and from which seed.
+//! with deletes, and as many of version 2 if the library takes them; as many pairs of pairs to join; and
+//! from which seed.
 
 use std::env;
 use std::process::ExitCode;
 
 use vorruda_host::compare::ready::forbid_in_library;
 use vorruda_host::listings::{edges, Listings};
-use vorruda_host::pairs::{broken_pairs, delete_pairs, Pair, Pairs, ValuedPairs};
+use vorruda_host::pairs::{broken_pairs, delete_pairs, joints, Joint, Pair, Pairs, ValuedPairs};
 use vorruda_host::random::Random;
 use vorruda_host::reference::block_list::{self, answer, chained};
 use vorruda_host::reference::heap::Heap;
+use vorruda_host::reference::join;
 use vorruda_host::reference::listing::{translate, MARKS};
 use vorruda_host::reference::ready::{forbid, Set};
 use vorruda_host::reference::tally::{self, NUMBERS};
@@ -47,6 +49,8 @@ fn main() -> ExitCode {
     let values = ValuedPairs::new(seed).take(pairs as usize);
     let checked = checked.chain(deletes).chain(kinds).chain(values);
     let checked = checked.enumerate().map(check).count();
+    let joined = joints(seed).take(pairs as usize);
+    let joined = joined.enumerate().map(join_two).count();
     let mut random = Random::new(seed);
     (0..LISTS).for_each(|_| numbers(&mut random));
     steps(&mut random);
@@ -55,7 +59,7 @@ fn main() -> ExitCode {
     let listings = at_limits.chain(Listings::new(seed).take(LISTINGS));
     let listings = listings.enumerate().map(listing).count();
     println!(
-        "{checked} pairs, each also with a tally, {LISTS} lists, {STEPS} steps, {LIST_CALLS} calls of the block list, \
+        "{checked} pairs, each also with a tally, {joined} joins, {LISTS} lists, {STEPS} steps, {LIST_CALLS} calls of the block list, \
          {listings} listings: as the reference"
     );
     ExitCode::SUCCESS
@@ -78,6 +82,29 @@ fn check((turn, Pair { job, certificate }): (usize, Pair)) {
     ready(&job, Set::NotList { variable, state }, turn);
     ready(&job, Set::LostBlock { variable, state }, turn);
     ready(&job, Set::BadSteps, turn);
+}
+
+/// Two pairs joined, all at once, and each in turn without its last byte.
+fn join_two((turn, joint): (usize, Joint)) {
+    let [first, second] = joint
+        .files()
+        .map(|(job, certificate)| (exact(job), exact(certificate)));
+    let whole = (first.0.len(), first.1.len(), second.0.len(), second.1.len());
+    let cut = [
+        whole,
+        (whole.0 - 1, whole.1, whole.2, whole.3),
+        (whole.0, whole.1 - 1, whole.2, whole.3),
+        (whole.0, whole.1, whole.2 - 1, whole.3),
+        (whole.0, whole.1, whole.2, whole.3 - 1),
+    ];
+    for (job1, certificate1, job2, certificate2) in cut {
+        let first = (exact(&first.0[..job1]), exact(&first.1[..certificate1]));
+        let second = (exact(&second.0[..job2]), exact(&second.1[..certificate2]));
+        let files = ((&first.0[..], &first.1[..]), (&second.0[..], &second.1[..]));
+        let mut out = exact(&[0; 9][..turn % 10]);
+        let number = library::join(files.0, files.1, joint.state, &mut out);
+        assert_eq!(number, join::join(files.0, files.1, joint.state).number());
+    }
 }
 
 /// The verdict taken into a tally that is short, exact, longer or full, and its report, in room that is

@@ -1,7 +1,8 @@
 //! Writes pages to look at, and prints which one to open.
 //!
 //! `report [ROUTINE [FOLDER]]`: a file, the name of a routine of the corpus, or a folder of
-//! routines, of which a table is made too; without it, the corpus. The pages go to the folder, or
+//! routines, of which a table is made too; without it, the corpus. `report FIRST then SECOND [FOLDER]`:
+//! one page of two listings as one. The pages go to the folder, or
 //! to build/report; those of a folder of routines to one of the same name in there. The exit status
 //! is 2 where a routine can't be read, but the pages of the others are written, or where a page
 //! can't be written.
@@ -11,8 +12,9 @@ use std::process::ExitCode;
 use std::{env, fs};
 
 use vorruda_host::corpus::{self, Entry, File};
+use vorruda_host::joining::Listings;
 use vorruda_host::judge::{judge, Judged};
-use vorruda_host::report::{index_page, routine_page, Row};
+use vorruda_host::report::{index_page, joined_page, routine_page, Row};
 
 /// Where pages go unless a folder is named.
 const USUAL: &str = "build/report";
@@ -29,7 +31,13 @@ fn main() -> ExitCode {
         [] => write_folder("The corpus", &corpus::folder(), Path::new(USUAL)),
         [what] => usual_folder(what).and_then(|folder| write(what, &folder)),
         [what, folder] => write(what, Path::new(folder)),
-        _ => Err("usage: report [ROUTINE [FOLDER]]".to_string()),
+        [first, then, second] if then == "then" => write_two([first, second], Path::new(USUAL)),
+        [first, then, second, folder] if then == "then" => {
+            write_two([first, second], Path::new(folder))
+        }
+        _ => {
+            Err("usage: report [ROUTINE [FOLDER]] or report FIRST then SECOND [FOLDER]".to_string())
+        }
     };
     let mistakes = match written {
         Ok(Written { page, mistakes }) => {
@@ -67,6 +75,20 @@ fn write(what: &str, into: &Path) -> Result<Written, String> {
     let (page, _) = write_routine(&corpus::find(what)?, into)?;
     Ok(Written {
         page,
+        mistakes: Vec::new(),
+    })
+}
+
+/// The page of two listings as one.
+fn write_two(names: [&str; 2], into: &Path) -> Result<Written, String> {
+    let [first, second] = names.map(corpus::find);
+    let (first, second) = (first?, second?);
+    let names = [&first.name[..], &second.name];
+    let listings = Listings::of(first.routine, second.routine)?;
+    let (judged, joined) = listings.judge();
+    let page = joined_page(names, &listings, &judged, &joined);
+    Ok(Written {
+        page: write_page(into, &names.join("_then_"), &page)?,
         mistakes: Vec::new(),
     })
 }

@@ -1,5 +1,5 @@
-//! Measures the stack that a call takes: of the checker, alone and with a tally, over the corpus, the
-//! costliest pairs, every kind of operation and random pairs; of a tally's report; of the translation
+//! Measures the stack that a call takes: of the checker, alone, with a tally and joining, over the corpus,
+//! the costliest pairs, every kind of operation and random pairs; of a tally's report; of the translation
 //! over listings at all limits and random ones; of the block list's calls over lists of every length
 //! and a ring. Fails where the header promises less.
 
@@ -12,7 +12,7 @@ use vorruda_host::bench::suite::Suite;
 use vorruda_host::bench::tallies::{tally_of, LONGEST};
 use vorruda_host::list_library::Edit;
 use vorruda_host::listings::{edges, Listings};
-use vorruda_host::pairs::Pair;
+use vorruda_host::pairs::{joints, Joint, Pair};
 use vorruda_host::reference::heap::{Heap, Place};
 use vorruda_host::reference::listing::MARKS;
 use vorruda_host::reference::stepper::{bytes_of, values_of, CELLS};
@@ -20,8 +20,9 @@ use vorruda_host::reference::tally::NUMBERS;
 use vorruda_host::stack::depth;
 use vorruda_host::{library, list_library};
 
-/// How many random listings are measured.
+/// How many random listings and pairs of pairs are measured.
 const LISTINGS: usize = 500;
+const JOINTS: usize = 500;
 const SEED: u64 = 0x0013_5eed;
 
 fn main() -> ExitCode {
@@ -46,10 +47,12 @@ const HEADER: &str = "vorruda.h";
 const LIST_HEADER: &str = "vorruda_list.h";
 
 /// The most that the calls took, each with what its header promises.
-fn measured() -> Result<[(&'static str, usize, usize); 5], String> {
+fn measured() -> Result<[(&'static str, usize, usize); 6], String> {
     let mut suite = Suite::new()?;
     let of_checker = suite.cases().map(|case| of_pair(&case.pair)).max();
     let of_tally = suite.cases().map(|case| of_taking_in(&case.pair)).max();
+    let of_both = suite.cases().map(|case| of_join(&twice(&case.pair))).max();
+    let of_joints = joints(SEED).take(JOINTS).map(|joint| of_join(&joint)).max();
     let listings = edges()
         .into_iter()
         .chain(Listings::new(SEED).take(LISTINGS));
@@ -73,6 +76,11 @@ fn measured() -> Result<[(&'static str, usize, usize); 5], String> {
             "a tally's report",
             of_report(&tally_of(LONGEST)),
             promised(HEADER, "vorruda_tally_report(")?,
+        ),
+        (
+            "a join",
+            of_both.max(of_joints).ok_or("there is no pair")?,
+            promised(HEADER, "vorruda_join(")?,
         ),
         (
             "the translation",
@@ -109,6 +117,22 @@ fn of_taking_in(Pair { job, certificate }: &Pair) -> usize {
     let mut tally = [0; NUMBERS];
     depth(|| {
         library::tally_verdict(job, certificate, &mut tally, &mut [0; 4]);
+    })
+}
+
+/// A pair joined with itself.
+fn twice(pair: &Pair) -> Joint {
+    Joint {
+        first: pair.clone(),
+        second: pair.clone(),
+        state: 0,
+    }
+}
+
+fn of_join(joint: &Joint) -> usize {
+    let [first, second] = joint.files();
+    depth(|| {
+        library::join(first, second, joint.state, &mut [0; 8]);
     })
 }
 

@@ -2,9 +2,10 @@
 //!
 //! `try ROUTINE [FOLDER]`: a file, or the name of a routine of the corpus. With a folder, job.bin and
 //! cert.bin are written there. `try ROUTINE CERT.bin` and `try JOB.bin CERT.bin` check a certificate
-//! of one's own and tell what a cover breaks that doesn't hold. The exit status is 0 where the
-//! certificate is accepted, 1 where there is none or it is refused, 2 for a mistake in the file.
-//! `try` alone lists the routines of the corpus.
+//! of one's own and tell what a cover breaks that doesn't hold. `try FIRST then SECOND [FOLDER]` takes
+//! two listings as one, and writes job1.bin, cert1.bin, job2.bin and cert2.bin. The exit status is 0
+//! where the certificate is accepted, or both are joined, 1 where there is none or it is refused, 2 for
+//! a mistake in a file. `try` alone lists the routines of the corpus.
 
 use std::fmt::Write as _;
 use std::io::{self, Write as _};
@@ -17,18 +18,21 @@ use vorruda_host::check::check;
 use vorruda_host::corpus;
 use vorruda_host::draw;
 use vorruda_host::excluded;
+use vorruda_host::joining::{self, Joined, Listings};
 use vorruda_host::judge::{judge, Ending};
 use vorruda_host::outlook::{Outlook, Warning};
+use vorruda_host::pairs::Pair;
 use vorruda_host::reference::certificate::Certificate;
-use vorruda_host::reference::job::Job;
+use vorruda_host::reference::job::{Job, MOST_FORBIDDEN};
 use vorruda_host::refused_cover::RefusedCover;
 use vorruda_host::routine::Routine;
 use vorruda_host::search::first_look;
 use vorruda_host::search::run::WrongRun;
 use vorruda_host::text::counted;
-use vorruda_host::verdict::Verdict;
+use vorruda_host::verdict::{JoinVerdict, Verdict};
 
-const USAGE: &str = "usage: try [ROUTINE [FOLDER]], try ROUTINE CERT.bin or try JOB.bin CERT.bin";
+const USAGE: &str = "usage: try [ROUTINE [FOLDER]], try FIRST then SECOND [FOLDER], \
+                     try ROUTINE CERT.bin or try JOB.bin CERT.bin";
 
 /// What is printed, and the exit status.
 type Answer = (String, ExitCode);
@@ -38,6 +42,9 @@ fn main() -> ExitCode {
     let answer = match &arguments[..] {
         [] => list(),
         [name] if !is_bytes(name) => try_one(name, None),
+        [first, then, second, folder @ ..] if then == "then" && folder.len() < 2 => {
+            try_two([first, second], folder.first().map(Path::new))
+        }
         [name, certificate] if is_bytes(certificate) => try_certificate(name, certificate),
         [name, folder] if !is_bytes(name) => try_one(name, Some(Path::new(folder))),
         _ => Err(USAGE.to_string()),
@@ -61,6 +68,12 @@ fn list() -> Result<Answer, String> {
     for entry in corpus::read()? {
         text += &format!("  {:<24} {}\n", entry.name, entry.routine.title);
     }
+    text += "\nTwo listings to try as one, the first and then the second.\n\n";
+    for [first, second] in corpus::joined()? {
+        for entry in [first, second] {
+            text += &format!("  {:<24} {}\n", entry.name, entry.routine.title);
+        }
+    }
     Ok((text, ExitCode::SUCCESS))
 }
 
@@ -79,6 +92,93 @@ fn try_one(name: &str, folder: Option<&Path>) -> Result<Answer, String> {
     warn(&mut text, &routine, &judged.outlook).expect("a string takes all");
     tell(&mut text, name, &routine, ending).expect("a string takes all");
     Ok((text, status))
+}
+
+/// Two listings as one.
+fn try_two(names: [&str; 2], folder: Option<&Path>) -> Result<Answer, String> {
+    let [first, second] = names.map(corpus::find);
+    let listings = Listings::of(first?.routine, second?.routine)?;
+    let (judged, joined) = listings.judge();
+    let [first, second] = names;
+    let mut text = heading(first, &listings.first) + &heading(second, &listings.second);
+    warn(&mut text, &listings.whole, &judged.outlook).expect("a string takes all");
+    let mut status = ExitCode::FAILURE;
+    let told = match &joined {
+        Joined::Pairs(pairs) => {
+            if let Some(folder) = folder {
+                write_pairs(pairs, folder)?;
+            }
+            if let JoinVerdict::Joined(..) = pairs.verdict {
+                status = ExitCode::SUCCESS;
+            }
+            tell_pairs(&mut text, names, &listings, pairs)
+        }
+        Joined::TooMany(count) => writeln!(
+            text,
+            "Not joined: with what the second owes at its start the first would forbid {count} shapes; \
+             {MOST_FORBIDDEN} are allowed."
+        ),
+        Joined::Neither => tell_neither(&mut text, names, &listings, &judged.ending),
+    };
+    told.expect("a string takes all");
+    Ok((text, status))
+}
+
+/// Tells the verdicts on two pairs, what is owed, and what then can't happen.
+fn tell_pairs(
+    text: &mut String,
+    [first, second]: [&str; 2],
+    listings: &Listings,
+    pairs: &joining::Pairs,
+) -> std::fmt::Result {
+    let [of_first, of_second] = pairs.alone();
+    writeln!(text, "{first}, which forbids what is owed too: {of_first}")?;
+    writeln!(text, "{second} alone, from the empty heap: {of_second}")?;
+    let owed = counted(pairs.owed.len(), "shape");
+    writeln!(
+        text,
+        "Owed at the hand-over, {} (state {}): {owed}. {first} doesn't hand over a heap with one of them ({}).\n",
+        listings.first.states[listings.hand_over as usize],
+        listings.hand_over,
+        draw::key(&pairs.owed),
+    )?;
+    for shape in &pairs.owed {
+        for line in draw::shape(shape, &listings.first.variables) {
+            writeln!(text, "       {line}")?;
+        }
+        writeln!(text)?;
+    }
+    writeln!(text, "{}", pairs.verdict)?;
+    match pairs.verdict {
+        JoinVerdict::Joined(..) => {
+            let both = format!("{first} and then {second} as one");
+            writeln!(text, "{}", excluded::sentence(&both, &listings.whole))
+        }
+        _ => Ok(()),
+    }
+}
+
+/// Tells why two listings as one have no certificate, and which of the two it is.
+fn tell_neither(
+    text: &mut String,
+    [first, second]: [&str; 2],
+    listings: &Listings,
+    ending: &Ending,
+) -> std::fmt::Result {
+    match listings.handed_over(ending) {
+        Some(lines) => {
+            writeln!(
+                text,
+                "Not joined: {first} may hand this over, with which {second} goes wrong:\n"
+            )?;
+            for line in lines {
+                writeln!(text, "       {line}")?;
+            }
+            writeln!(text)?;
+        }
+        None => writeln!(text, "Not joined, for what {first} does:")?,
+    }
+    tell(text, "both as one", &listings.whole, ending)
 }
 
 /// Whether a file is to be taken as the bytes of a job or a certificate.
@@ -219,6 +319,18 @@ fn tell_wrong(text: &mut String, routine: &Routine, wrong: &WrongRun) -> std::fm
     )?;
     for line in draw::shape(&bad.shape, &routine.variables) {
         writeln!(text, "       {line}")?;
+    }
+    Ok(())
+}
+
+/// Writes job1.bin, cert1.bin, job2.bin and cert2.bin.
+fn write_pairs(pairs: &joining::Pairs, folder: &Path) -> Result<(), String> {
+    let drafts = [(1, &pairs.first), (2, &pairs.second)];
+    for (number, draft) in drafts {
+        let Pair { job, certificate } = draft.pair();
+        fs::write(folder.join(format!("job{number}.bin")), job)
+            .and_then(|()| fs::write(folder.join(format!("cert{number}.bin")), certificate))
+            .map_err(|error| format!("{}: {error}", folder.display()))?;
     }
     Ok(())
 }

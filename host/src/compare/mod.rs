@@ -1,6 +1,7 @@
 //! The proved library against the reference, on many inputs.
 
 pub mod block_lists;
+pub mod joins;
 pub mod listings;
 pub mod lists;
 pub mod numbers;
@@ -14,6 +15,9 @@ use std::fmt::Debug;
 
 /// What an array holds before a call, so that a touched entry shows.
 pub const UNTOUCHED: u64 = 0xa5a5_a5a5_a5a5_a5a5;
+
+/// So many entries that aren't lent stand ahead of those that are and behind them.
+const BESIDE: usize = 3;
 
 /// How many differences are shown before the rest is left out.
 const SHOWN: usize = 10;
@@ -73,4 +77,29 @@ impl Tally {
         }
         missing == 0 && self.differences == 0
     }
+}
+
+/// What is lent, between entries that aren't.
+fn between<T: Copy>(other: T, lent: &[T]) -> Vec<T> {
+    [&[other; BESIDE], lent, &[other; BESIDE]].concat()
+}
+
+/// The part that is lent.
+fn lent<T>(whole: &mut [T]) -> &mut [T] {
+    let end = whole.len() - BESIDE;
+    &mut whole[BESIDE..end]
+}
+
+/// Room for so many values that are told.
+fn told(out_len: usize) -> Vec<u64> {
+    between(UNTOUCHED, &vec![UNTOUCHED; out_len])
+}
+
+/// The same with these values, where it is long enough for them.
+fn told_as(values: &[u64], out_len: usize) -> Vec<u64> {
+    let mut out = told(out_len);
+    if let Some(room) = lent(&mut out).get_mut(..values.len()) {
+        room.copy_from_slice(values);
+    }
+    out
 }

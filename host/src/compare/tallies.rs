@@ -2,7 +2,7 @@
 
 use std::ops::RangeInclusive;
 
-use super::{Tally, UNTOUCHED};
+use super::{between, lent, told, told_as, Tally};
 use crate::extremes::extremes;
 use crate::library::TallyCalls;
 use crate::pairs::{broken_pairs, Pair, Pairs, ValuedPairs};
@@ -24,10 +24,7 @@ const OUT_LENGTHS: RangeInclusive<usize> = 0..=5;
 /// The longest report.
 const MOST_BYTES: usize = 56;
 
-/// So many entries that aren't lent stand ahead of those that are and behind them.
-const BESIDE: usize = 3;
-
-/// What these entries hold, and the room for a text ahead of a call.
+/// What entries beside the lent ones hold, and the room for a text ahead of a call.
 const OTHER_NUMBER: u32 = 0xa5a5_a5a5;
 const OTHER_BYTE: u8 = 0x5a;
 
@@ -209,31 +206,6 @@ fn reported(report: &Result<Vec<u8>, Short>) -> String {
     };
     let words: Vec<&str> = text.split(' ').collect();
     format!("share {}, covers {}", sort(words[1]), sort(words[3]))
-}
-
-/// What is lent, between entries that aren't.
-fn between<T: Copy>(other: T, lent: &[T]) -> Vec<T> {
-    [&[other; BESIDE], lent, &[other; BESIDE]].concat()
-}
-
-/// The part that is lent.
-fn lent<T>(whole: &mut [T]) -> &mut [T] {
-    let end = whole.len() - BESIDE;
-    &mut whole[BESIDE..end]
-}
-
-/// Room for so many values that are told.
-fn told(out_len: usize) -> Vec<u64> {
-    between(UNTOUCHED, &vec![UNTOUCHED; out_len])
-}
-
-/// The same with these values, where it is long enough for them.
-fn told_as(values: &[u64], out_len: usize) -> Vec<u64> {
-    let mut out = told(out_len);
-    if let Some(room) = lent(&mut out).get_mut(..values.len()) {
-        room.copy_from_slice(values);
-    }
-    out
 }
 
 /// The length of a tally's report.
@@ -421,7 +393,7 @@ impl Tallies {
                     let words = || format!("{length} verdicts from {begun:?}");
                     of.lists.add(outcome, &expected, &answer, words);
                 }
-                shuffle(&mut self.random, &mut list);
+                self.random.shuffle(&mut list);
             }
         }
     }
@@ -543,10 +515,4 @@ fn sums(tally: &[u32], more: u64) -> [u64; 2] {
         sum(&tally[..1]) + more,
         sum(&tally[1..2]) + sum(&tally[4..]) + more,
     ]
-}
-
-fn shuffle<T>(random: &mut Random, list: &mut [T]) {
-    for place in 1..list.len() {
-        list.swap(place, random.below(place + 1));
-    }
 }

@@ -132,7 +132,7 @@ pub fn random_operation(random: &mut Random, version: Version, variables: usize)
     }
 }
 
-fn random_shape(random: &mut Random, variables: usize) -> reference::Shape {
+pub fn random_shape(random: &mut Random, variables: usize) -> reference::Shape {
     let cells = up_to(random, &[0, 1, 2, 4], reference::MOST_CELLS as usize);
     let mut codes = |count: usize| -> Vec<u64> {
         (0..count)

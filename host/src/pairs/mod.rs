@@ -6,6 +6,7 @@ mod codes;
 mod damage;
 mod deletes;
 mod facts;
+mod joints;
 mod many_facts;
 mod near;
 mod series;
@@ -18,24 +19,47 @@ use crate::reference::cover::owed;
 use crate::reference::job::{Job, Located};
 use crate::reference::shape::Shape;
 use crate::reference::version::Version;
+use crate::verdict::Files;
 use accepted::accepted;
 use broken::broken;
 use damage::damaged;
 use deletes::deletes;
+use joints::joint;
+pub use joints::{only_forbidding, Joint};
 use many_facts::many_facts;
 use near::near;
 use series::series;
-use valued::{valued, Valued};
+use valued::valued;
 use valued_damage::damaged_values;
 
 /// The bytes of a job and of a certificate.
-#[derive(Clone, Debug)]
+#[derive(Clone, Debug, PartialEq, Eq)]
 pub struct Pair {
     pub job: Vec<u8>,
     pub certificate: Vec<u8>,
 }
 
+/// A job and a certificate, before they are bytes.
+#[derive(Clone)]
+pub struct Draft {
+    pub job: Job,
+    pub certificate: Certificate,
+}
+
+impl Draft {
+    pub fn pair(&self) -> Pair {
+        Pair {
+            job: self.job.bytes(),
+            certificate: self.certificate.bytes(),
+        }
+    }
+}
+
 impl Pair {
+    pub fn files(&self) -> Files<'_> {
+        (&self.job, &self.certificate)
+    }
+
     /// The bytes of a job and of a certificate with these members and covers.
     pub fn of(job: &Job, members: Vec<Located>, covers: Vec<Cover>) -> Pair {
         let certificate = Certificate {
@@ -108,7 +132,7 @@ impl Iterator for Pairs {
 /// An endless, deterministic supply of pairs of version 2.
 pub struct ValuedPairs {
     random: Random,
-    accepted: Valued,
+    accepted: Draft,
     left: usize,
 }
 
@@ -180,4 +204,10 @@ pub fn series_pairs(seed: u64) -> impl Iterator<Item = Pair> {
 pub fn delete_pairs(seed: u64) -> impl Iterator<Item = Pair> {
     let mut random = Random::new(seed);
     (0..).map(move |turn| deletes(&mut random, turn))
+}
+
+/// Endless pairs of pairs to join, of all versions, right or wrong in one thing or two.
+pub fn joints(seed: u64) -> impl Iterator<Item = Joint> {
+    let mut random = Random::new(seed);
+    std::iter::repeat_with(move || joint(&mut random))
 }

@@ -4,7 +4,7 @@
 use super::accepted::{random_operation, up_to};
 use super::codes::Codes;
 use super::facts::{find_images, random_facts, without_cell};
-use super::{anything, Pair};
+use super::{anything, Draft};
 use crate::random::Random;
 use crate::reference::certificate::{Certificate, Cover};
 use crate::reference::checker::{empty_heap_satisfies, MOST_BYTES};
@@ -14,22 +14,6 @@ use crate::reference::operation::{Operation, VALUE_KINDS};
 use crate::reference::predecessor::predecessors;
 use crate::reference::shape::{Shape, MOST_CELLS};
 use crate::reference::version::Version;
-
-/// A job and a certificate of version 2, before they are bytes.
-#[derive(Clone)]
-pub struct Valued {
-    pub job: Job,
-    pub certificate: Certificate,
-}
-
-impl Valued {
-    pub fn pair(&self) -> Pair {
-        Pair {
-            job: self.job.bytes(),
-            certificate: self.certificate.bytes(),
-        }
-    }
-}
 
 /// How large a pair is wanted.
 struct Size {
@@ -62,7 +46,7 @@ const LARGE: Size = Size {
 };
 
 /// A pair that is accepted. Jobs are tried until one has a certificate of the size drawn.
-pub fn valued(random: &mut Random) -> Valued {
+pub fn valued(random: &mut Random) -> Draft {
     let size = match random.below(40) {
         0 => LARGE,
         1..=15 => MEDIUM,
@@ -75,9 +59,9 @@ pub fn valued(random: &mut Random) -> Valued {
     }
 }
 
-fn valued_of(random: &mut Random, size: &Size) -> Option<Valued> {
+fn valued_of(random: &mut Random, size: &Size) -> Option<Draft> {
     let mut job = random_job(random, size);
-    let (members, covers) = closed_members(random, &job, size)?;
+    let (members, covers) = closed_members(random, &job, size.particular, size.most_covers)?;
     job.start = safe_start(random, &job, &members)?;
     let certificate = Certificate {
         version: Version::Two,
@@ -87,7 +71,7 @@ fn valued_of(random: &mut Random, size: &Size) -> Option<Valued> {
     let fits = certificate.covers.len() >= size.fewest_covers
         && certificate.bytes().len() <= MOST_BYTES
         && job.bytes().len() <= MOST_BYTES;
-    fits.then_some(Valued { job, certificate })
+    fits.then_some(Draft { job, certificate })
 }
 
 fn random_job(random: &mut Random, size: &Size) -> Job {
@@ -132,7 +116,7 @@ fn operation_on_values(random: &mut Random, variables: usize) -> Operation {
     operation
 }
 
-fn random_shape(random: &mut Random, variables: usize) -> Shape {
+pub fn random_shape(random: &mut Random, variables: usize) -> Shape {
     let cells = up_to(random, &[0, 1, 2, 4, 4, 12], MOST_CELLS as usize);
     let mut codes = Codes::random(random, variables, cells);
     for place in codes.variables.iter_mut().chain(&mut codes.links) {
@@ -144,16 +128,18 @@ fn random_shape(random: &mut Random, variables: usize) -> Shape {
     codes.located(0).shape
 }
 
-/// Members closed under predecessors, with their covers. Nothing where more would be needed.
-fn closed_members(
+/// Members closed under predecessors, with their covers, for a job of either version. Up to so many
+/// members not every heap satisfies. Nothing where more covers would be needed.
+pub fn closed_members(
     random: &mut Random,
     job: &Job,
-    size: &Size,
+    particular: usize,
+    most_covers: usize,
 ) -> Option<(Vec<Located>, Vec<Cover>)> {
     let mut closing = Closing {
-        particular: 1 + random.below(size.particular),
+        particular: 1 + random.below(particular),
         random,
-        most_covers: size.most_covers,
+        most_covers,
         members: Vec::new(),
         covers: Vec::new(),
     };
@@ -247,7 +233,7 @@ fn simpler(random: &mut Random, mut shape: Shape) -> Shape {
 }
 
 /// A state at which the empty heap satisfies no member.
-fn safe_start(random: &mut Random, job: &Job, members: &[Located]) -> Option<u64> {
+pub fn safe_start(random: &mut Random, job: &Job, members: &[Located]) -> Option<u64> {
     let is_safe = |&state: &u64| {
         let mut here = members.iter().filter(|member| member.state == state);
         !here.any(|member| empty_heap_satisfies(&member.shape))
@@ -275,7 +261,7 @@ mod tests {
         let mut most_facts = 0;
         let mut contradictory = 0;
         for _ in 0..900 {
-            let Valued { job, certificate } = valued(&mut random);
+            let Draft { job, certificate } = valued(&mut random);
             let verdict = check(&job.bytes(), &certificate.bytes());
             let Verdict::Accepted(counts) = verdict else {
                 panic!("{verdict}: {job:?} {certificate:?}");

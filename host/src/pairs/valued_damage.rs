@@ -2,14 +2,13 @@
 
 use super::damage::damaged;
 use super::facts::{in_order, random_fact};
-use super::valued::Valued;
-use super::Pair;
+use super::{Draft, Pair};
 use crate::random::Random;
 use crate::reference::facts::Fact;
 use crate::reference::shape::Shape;
 
 /// The pair with one damage, of bytes as that of any pair or of facts or versions.
-pub fn damaged_values(random: &mut Random, valued: &Valued) -> Pair {
+pub fn damaged_values(random: &mut Random, valued: &Draft) -> Pair {
     match random.below(8) {
         0 => other_version(random, valued.pair()),
         1..=4 => with_other_facts(random, valued.clone()).pair(),
@@ -31,7 +30,7 @@ fn other_version(random: &mut Random, mut pair: Pair) -> Pair {
 }
 
 /// Facts of one shape, of a member more often than not, are changed.
-fn with_other_facts(random: &mut Random, mut valued: Valued) -> Valued {
+fn with_other_facts(random: &mut Random, mut valued: Draft) -> Draft {
     let located = match random.below(3) {
         0 => &mut valued.job.forbidden,
         _ => &mut valued.certificate.members,

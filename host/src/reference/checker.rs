@@ -10,18 +10,38 @@ use crate::verdict::{Counts, Refusal, Verdict};
 
 pub const MOST_BYTES: usize = 65_536;
 
-/// The verdict on two buffers.
-pub fn check(job: &[u8], certificate: &[u8]) -> Verdict {
-    accept(job, certificate).into()
+/// What the heap is with which a job's runs start.
+#[derive(Clone, Copy, Debug, PartialEq, Eq)]
+pub enum Start {
+    /// It is empty, so that no member there may be satisfied by the empty heap.
+    Empty,
+    /// Another job hands it over, and owes that no member there is satisfied.
+    HandedOver,
 }
 
-fn accept(job: &[u8], certificate: &[u8]) -> Result<Counts, Refusal> {
+/// A pair that is accepted, as it was read, with its counts.
+pub struct Accepted {
+    pub job: Job,
+    pub members: Vec<MemberRead>,
+    pub counts: Counts,
+}
+
+/// The verdict on two buffers.
+pub fn check(job: &[u8], certificate: &[u8]) -> Verdict {
+    let accepted = accept(job, certificate, Start::Empty);
+    accepted.map(|pair| pair.counts).into()
+}
+
+/// The pair of two buffers, or its refusal; 8 only where the job starts with the empty heap.
+pub fn accept(job: &[u8], certificate: &[u8], start: Start) -> Result<Accepted, Refusal> {
     check_length(job, 1)?;
     check_length(certificate, 2)?;
     let job = Job::read(job)?;
     let mut reader = Reader::of_certificate(certificate);
     let members = read_members(&mut reader, &job)?;
-    check_start(&job, &members)?;
+    if start == Start::Empty {
+        check_start(&job, &members)?;
+    }
     let mut covers = 0;
     let mut links = 0;
     for cover in read_covers(&mut reader, &job, &members) {
@@ -33,11 +53,16 @@ fn accept(job: &[u8], certificate: &[u8]) -> Result<Counts, Refusal> {
         links += cover.map().links() as u64;
     }
     reader.end(10)?;
-    Ok(Counts {
+    let counts = Counts {
         bads: job.forbidden.len() as u64,
         members: members.len() as u64,
         covers,
         links,
+    };
+    Ok(Accepted {
+        job,
+        members,
+        counts,
     })
 }
 

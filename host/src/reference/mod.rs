@@ -8,6 +8,7 @@ pub mod embedding;
 pub mod facts;
 pub mod heap;
 pub mod job;
+pub mod join;
 pub mod listing;
 pub mod number;
 pub mod operation;

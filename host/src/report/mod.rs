@@ -8,6 +8,7 @@ mod forbidden;
 mod graph;
 mod html;
 mod index_page;
+mod joined_page;
 mod listing;
 mod never;
 mod parts;
@@ -16,6 +17,7 @@ mod steps;
 mod svg;
 
 pub use index_page::{index_page, Row};
+pub use joined_page::joined_page;
 pub use routine_page::routine_page;
 
 use std::time::Duration;

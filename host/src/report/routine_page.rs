@@ -140,7 +140,7 @@ fn banner(class: &str, heading: &str, below: &str) -> String {
 }
 
 /// A verdict in words alone.
-fn said_banner(class: &str, heading: &str, text: &str) -> String {
+pub fn said_banner(class: &str, heading: &str, text: &str) -> String {
     banner(class, heading, &format!("<p>{}</p>\n", prose(text)))
 }
 
@@ -169,7 +169,7 @@ fn certified(name: &str, routine: &Routine, certificate: &Certificate, verdict: 
 
 /// A run with a title, for what isn't forbidden, with the lines beside it; the one that it comes to is
 /// marked with words and a colour.
-fn titled_run(
+pub fn titled_run(
     routine: &Routine,
     title: &str,
     run: &Run,

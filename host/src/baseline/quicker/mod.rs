@@ -15,6 +15,7 @@ use self::places::Places;
 use super::checker::{self, is_of_version_2, verdict, Counted};
 use super::job::Job;
 use super::reader::{Reader, Stopped};
+use crate::reference::checker::Start;
 use crate::verdict::Verdict;
 
 /// The verdict on two buffers; on those of version 2 the other baseline's.
@@ -22,7 +23,7 @@ pub fn check(job: &[u8], certificate: &[u8]) -> Verdict {
     if is_of_version_2(job) {
         return checker::check(job, certificate);
     }
-    verdict(job, certificate, |job, certificate| {
+    verdict(job, certificate, Start::Empty, |job, certificate| {
         let mut reader = Reader::new(certificate, 6, 7);
         count(job, &mut reader).map_err(|Stopped| reader.refusal)
     })

@@ -11,6 +11,7 @@ use super::embedding::Images;
 use super::job::{Entry, Job};
 use super::reader::{Reader, Stopped};
 use super::shape::{Located, Shape, CELL, CELLS};
+use crate::reference::checker::Start;
 use crate::reference::facts::MOST_FACTS;
 use crate::reference::version::Version;
 use crate::verdict::{Broken, Rule, Verdict};
@@ -57,10 +58,10 @@ impl Entry for Valued {
     }
 }
 
-/// The verdict on two buffers.
+/// The verdict on two buffers, 8 only where the job starts with the empty heap.
 #[inline(never)]
-pub fn check(job: &[u8], certificate: &[u8]) -> Verdict {
-    verdict(job, certificate, |job, certificate| {
+pub fn check(job: &[u8], certificate: &[u8], start: Start) -> Verdict {
+    verdict(job, certificate, start, |job, certificate| {
         let mut covers = Covers::new(certificate);
         covers
             .check_all(job)
