@@ -3,6 +3,7 @@ use mathlib.Core.List.{List, _∷_}
 use mathlib.Core.Path.{_≡_, refl, sym, ap, _∙_}
 use Prim.Native.Nat.{_+_, _-_, _≤_}
 use native.Mathlib.Omega.{arith}
+use Rattle.shape.specs.Shape.{Shape}
 use Rattle.run.specs.Run.{Located}
 use Rattle.layout.specs.Entries.{EntryInRange, entryEnd, locatedAt, entriesAt, EntriesIn}
 use Rattle.layout.proofs.Whole.{end-told, entry-whole}
@@ -15,8 +16,9 @@ use Rattle.joint.proofs.is_listed.Tie as tie
 
 abbrev Inv-loop : tie.InvT-loop
 Inv-loop job first bads variables state cert member at₀ i₀ at i =
+    let owed = locatedAt cert variables member .shape in
     (i ≤ bads) × EntriesIn job variables at (bads - i)
-    × (listedAmong state (entriesAt job variables at (bads - i)) (locatedAt cert variables member .shape) ≡ listedAmong state (entriesAt job variables first bads) (locatedAt cert variables member .shape))
+    × (listedAmong state (entriesAt job variables at (bads - i)) owed ≡ listedAmong state (entriesAt job variables first bads) owed)
 
 abbrev μ-loop : tie.MeasureT-loop
 μ-loop job first bads variables state cert member at₀ i₀ at i = bads - i
@@ -26,11 +28,23 @@ abbrev μ-loop : tie.MeasureT-loop
 abbrev begun : tie.At-loop Inv-loop μ-loop → tie.Start Inv-loop μ-loop
 begun l = l .before .before .before
 
--- the entry at the place, and those after it
+-- the shape that is owed
+abbrev owed : tie.Start Inv-loop μ-loop → Shape
+owed s = locatedAt (s .args .cert .now) (s .args .variables) (s .args .member) .shape
+
+-- the forbidden shape at the place, and those after it
+abbrev there : tie.At-loop Inv-loop μ-loop → Located
+there l = let a = begun l .args in locatedAt (a .job .now) (a .variables) (l .loop .at)
+
+abbrev later : tie.At-loop Inv-loop μ-loop → List Located
+later l = let a = begun l .args in entriesAt (a .job .now) (a .variables) (entryEnd (a .job .now) (a .variables) (l .loop .at)) (a .bads - (l .loop .i + 1))
+
+-- their entries are in range
 entries : (i : tie.In-loop Inv-loop μ-loop)
     → let a = begun (i .before) .args in
     let l = i .before .loop in
-    EntryInRange (a .job .now) (a .variables) (l .at) × EntriesIn (a .job .now) (a .variables) (entryEnd (a .job .now) (a .variables) (l .at)) (a .bads - (l .i + 1))
+    EntryInRange (a .job .now) (a .variables) (l .at)
+    × EntriesIn (a .job .now) (a .variables) (entryEnd (a .job .now) (a .variables) (l .at)) (a .bads - (l .i + 1))
 entries i =
     let a = begun (i .before) .args in
     let l = i .before .loop in
@@ -38,11 +52,9 @@ entries i =
 
 -- the answer is that on the shape there and those after it
 rest : (i : tie.In-loop Inv-loop μ-loop)
-    → let a = begun (i .before) .args in
-    let l = i .before .loop in
-    let s = locatedAt (a .cert .now) (a .variables) (a .member) .shape in
-    listedAmong (a .state) (locatedAt (a .job .now) (a .variables) (l .at) ∷ entriesAt (a .job .now) (a .variables) (entryEnd (a .job .now) (a .variables) (l .at)) (a .bads - (l .i + 1))) s
-    ≡ listedAmong (a .state) (entriesAt (a .job .now) (a .variables) (a .first) (a .bads)) s
+    → let l = i .before in
+    let a = begun l .args in
+    listedAmong (a .state) (there l ∷ later l) (owed (begun l)) ≡ listedAmong (a .state) (entriesAt (a .job .now) (a .variables) (a .first) (a .bads)) (owed (begun l))
 rest i =
     let a = begun (i .before) .args in
     let l = i .before .loop in
@@ -75,9 +87,7 @@ returns : tie.Need-returns Inv-loop μ-loop
 returns c =
     let i = c .before .before in
     let l = i .before in
-    let a = begun l .args in
-    let e = sym (c .before .forbids .ensures) ∙ c .if1 .taken in
-    listed-here (a .state) (locatedAt (a .cert .now) (a .variables) (a .member) .shape) (locatedAt (a .job .now) (a .variables) (l .loop .at)) (entriesAt (a .job .now) (a .variables) (entryEnd (a .job .now) (a .variables) (l .loop .at)) (a .bads - (l .loop .i + 1))) e ∙ rest i
+    listed-here (begun l .args .state) (owed (begun l)) (there l) (later l) (sym (c .before .forbids .ensures) ∙ c .if1 .taken) ∙ rest i
 
 entry-end-requires : tie.Need-entry-end-requires Inv-loop μ-loop
 entry-end-requires c κs = tt
@@ -93,15 +103,15 @@ loop-again c =
     let o = c .before in
     let i = o .before .before in
     let l = i .before in
-    let a = begun l .args in
-    let e = sym (o .before .forbids .ensures) ∙ o .if1 .left in
-    rw (next c) (omega (arith, i .loop-test .taken), entries i .1, listed-later (a .state) (locatedAt (a .cert .now) (a .variables) (a .member) .shape) (locatedAt (a .job .now) (a .variables) (l .loop .at)) (entriesAt (a .job .now) (a .variables) (entryEnd (a .job .now) (a .variables) (l .loop .at)) (a .bads - (l .loop .i + 1))) e ∙ rest i)
+    let passed = listed-later (begun l .args .state) (owed (begun l)) (there l) (later l) (sym (o .before .forbids .ensures) ∙ o .if1 .left) in
+    rw (next c) (omega (arith, i .loop-test .taken), entries i .1, passed ∙ rest i)
 
 returns-2 : tie.Need-returns-2 Inv-loop μ-loop
 returns-2 c =
     let l = c .before in
     let a = begun l .args in
-    ap (λ (bads : List Located). listedAmong (a .state) bads (locatedAt (a .cert .now) (a .variables) (a .member) .shape)) (sym (entries-end (a .bads) (l .loop .i) (omega arith) (a .job .now) (a .variables) (l .loop .at))) ∙ l .loop .inv .2
+    let none = entries-end (a .bads) (l .loop .i) (omega arith) (a .job .now) (a .variables) (l .loop .at) in
+    ap (λ (bads : List Located). listedAmong (a .state) bads (owed (begun l))) (sym none) ∙ l .loop .inv .2
 
 pub is-listed-spec : {M : Type 1} → statement M
 is-listed-spec =

@@ -20,13 +20,15 @@ returns : tie.Need-returns
 returns c =
     let o = c .before .before .before in
     let a = o .before .before .before .before .before .args in
-    promised (a .job1 .now) (a .cert1 .now) (a .job2 .now) (a .cert2 .now) (a .state) _ (first-refused (a .job1 .now) (a .cert1 .now) (a .job2 .now) (a .cert2 .now) (a .state) _ (o .check .ensures .0) _ _ (c .before .v .given .1))
+    promised (a .job1 .now) (a .cert1 .now) (a .job2 .now) (a .cert2 .now) (a .state) _
+    (first-refused (a .job1 .now) (a .cert1 .now) (a .job2 .now) (a .cert2 .now) (a .state) _ (o .check .ensures .0) _ _ (c .before .v .given .1))
 
 returns-2 : tie.Need-returns-2
 returns-2 c =
     let o = c .before .before .before .before in
     let a = o .before .before .before .before .before .args in
-    promised (a .job1 .now) (a .cert1 .now) (a .job2 .now) (a .cert2 .now) (a .state) _ (first-accepted (a .job1 .now) (a .cert1 .now) (a .job2 .now) (a .cert2 .now) (a .state) _ (o .check .ensures .0) _ (c .before .before .v2 .given .1) (c .join-second .result) (c .join-second .ensures))
+    promised (a .job1 .now) (a .cert1 .now) (a .job2 .now) (a .cert2 .now) (a .state) _
+    (first-accepted (a .job1 .now) (a .cert1 .now) (a .job2 .now) (a .cert2 .now) (a .state) _ (o .check .ensures .0) _ (c .before .before .v2 .given .1) (c .join-second .result) (c .join-second .ensures))
 
 pub join-spec : {M : Type 1} → statement M
 join-spec =

@@ -39,8 +39,11 @@ join-members-requires : tie.Need-join-members-requires
 join-members-requires c κs =
     let o = second-read c in
     let s = begun (first-read o) in
-    let a = s .args in
-    (answered (a .job1 .now) _ _ (c .before .before .before .before .before .r .given .1) (first-read o .read-job .ensures), answered (a .job2 .now) _ _ (c .before .q .given .1) (o .read-job2 .ensures), s .pre .1)
+    let a = s .args in (
+      answered (a .job1 .now) _ _ (c .before .before .before .before .before .r .given .1) (first-read o .read-job .ensures),
+      answered (a .job2 .now) _ _ (c .before .q .given .1) (o .read-job2 .ensures),
+      s .pre .1,
+    )
 
 returns : tie.Need-returns
 returns c =

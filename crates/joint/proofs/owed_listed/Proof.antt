@@ -6,9 +6,10 @@ use Prim.Native.Nat.{ℕ, _-_}
 use native.Mathlib.Omega.{arith}
 use borrow.Author.Tests.{not-true, not-false}
 use lib.ListN.{length, getD}
+use Rattle.lists.specs.List.{allOf}
 use Rattle.lists.specs.Test.{allFrom}
 use Rattle.lists.proofs.Test.{all-mapped, all-passed, all-failed, all-done}
-use Rattle.layout.specs.Entries.{locatedAt, entriesAt}
+use Rattle.layout.specs.Entries.{locatedAt, entriesAt, membersAt}
 use Rattle.reader.specs.declared.Header.{Header}
 use Rattle.joint.specs.Answer.{isSettled}
 use borrow.Author.Needs.{needs}
@@ -27,6 +28,26 @@ Inv-loop job h state cert starts start i₀ i =
 
 abbrev μ-loop : tie.MeasureT-loop
 μ-loop job h state cert starts start i₀ i = length starts - i
+
+-- ---- moments on the way
+
+abbrev begun : tie.At-loop Inv-loop μ-loop → tie.Start Inv-loop μ-loop
+begun l = l .before .before .before .before
+
+-- the test of the member at an index, and of a member
+abbrev settledIn : tie.Start Inv-loop μ-loop → ℕ → Bool
+settledIn s = let a = s .args in settledAt (a .job .now) (a .h) (a .state) (a .cert .now) (a .starts .now) (a .start)
+
+-- the tests at all indices are those of all members
+all-members : (s : tie.Start Inv-loop μ-loop)
+    → let a = s .args in
+    allFrom (length (a .starts .now)) 0 (settledIn s)
+    ≡ allOf (isSettled (a .state) (entriesAt (a .job .now) (a .h .variables) (a .h .«bads_at») (a .h .bads)) (a .start)) (membersAt (a .cert .now) (a .h .variables) (a .starts .now))
+all-members s =
+    let a = s .args in
+    all-mapped (isSettled (a .state) (entriesAt (a .job .now) (a .h .variables) (a .h .«bads_at») (a .h .bads)) (a .start)) (locatedAt (a .cert .now) (a .h .variables)) (a .starts .now)
+
+-- ---- what is to be shown
 
 loop-holds : tie.Need-loop-holds Inv-loop μ-loop
 loop-holds c =
@@ -51,10 +72,11 @@ is-settled-requires c κs =
 
 returns : tie.Need-returns Inv-loop μ-loop
 returns c =
-    let l = c .before .before .before .before in
-    let a = c .before .before .before .before .before .before .before .before .args in
-    sym (all-failed (settledAt (a .job .now) (a .h) (a .state) (a .cert .now) (a .starts .now) (a .start)) (length (a .starts .now)) (l .loop .i) (c .before .before .before .loop-test .taken) (sym (c .before .is-settled .ensures) ∙ not-true _ (c .if1 .taken)))
-    ∙ l .loop .inv ∙ all-mapped (isSettled (a .state) (entriesAt (a .job .now) (a .h .variables) (a .h .«bads_at») (a .h .bads)) (a .start)) (locatedAt (a .cert .now) (a .h .variables)) (a .starts .now)
+    let i = c .before .before .before in
+    let l = i .before in
+    let s = begun l in
+    sym (all-failed (settledIn s) (length (s .args .starts .now)) (l .loop .i) (i .loop-test .taken) (sym (c .before .is-settled .ensures) ∙ not-true _ (c .if1 .taken)))
+    ∙ l .loop .inv ∙ all-members s
 
 add-i : tie.Need-add-i Inv-loop μ-loop
 add-i c = search needs
@@ -64,16 +86,17 @@ loop-less c = search needs
 
 loop-again : tie.Need-loop-again Inv-loop μ-loop
 loop-again c =
-    let l = c .before .before .before .before in
-    let a = c .before .before .before .before .before .before .before .before .args in
-    sym (all-passed (settledAt (a .job .now) (a .h) (a .state) (a .cert .now) (a .starts .now) (a .start)) (length (a .starts .now)) (l .loop .i) (c .before .before .before .loop-test .taken) (sym (c .before .is-settled .ensures) ∙ not-false _ (c .if1 .left)))
+    let i = c .before .before .before in
+    let l = i .before in
+    let s = begun l in
+    sym (all-passed (settledIn s) (length (s .args .starts .now)) (l .loop .i) (i .loop-test .taken) (sym (c .before .is-settled .ensures) ∙ not-false _ (c .if1 .left)))
     ∙ l .loop .inv
 
 returns-2 : tie.Need-returns-2 Inv-loop μ-loop
 returns-2 c =
     let l = c .before in
-    let a = c .before .before .before .before .before .args in
-    sym (all-done (settledAt (a .job .now) (a .h) (a .state) (a .cert .now) (a .starts .now) (a .start)) (length (a .starts .now)) (l .loop .i) (omega arith)) ∙ l .loop .inv ∙ all-mapped (isSettled (a .state) (entriesAt (a .job .now) (a .h .variables) (a .h .«bads_at») (a .h .bads)) (a .start)) (locatedAt (a .cert .now) (a .h .variables)) (a .starts .now)
+    let s = begun l in
+    sym (all-done (settledIn s) (length (s .args .starts .now)) (l .loop .i) (omega arith)) ∙ l .loop .inv ∙ all-members s
 
 pub owed-listed-spec : {M : Type 1} → statement M
 owed-listed-spec =

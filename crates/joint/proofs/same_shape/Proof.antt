@@ -82,7 +82,8 @@ returns : tie.Need-returns
 returns c =
     let s = c .before .before .before .before .before .before .before .before .before .before in
     let a = s .args in
-    vars-differ (a .bytes .now) (a .at) (a .others .now) (a .other) (a .variables) (s .pre .0) (s .pre .1) (s .pre .2) (a .at + 2 + a .variables - (a .at + 2)) (a .other + 2 + a .variables - (a .other + 2)) (omega arith) (omega arith) _ (c .before .same-bytes .ensures) (not-true _ (c .if1 .taken))
+    vars-differ (a .bytes .now) (a .at) (a .others .now) (a .other) (a .variables) (s .pre .0) (s .pre .1) (s .pre .2)
+    (a .at + 2 + a .variables - (a .at + 2)) (a .other + 2 + a .variables - (a .other + 2)) (omega arith) (omega arith) _ (c .before .same-bytes .ensures) (not-true _ (c .if1 .taken))
 
 sub-same-bytes-3 : tie.Need-sub-same-bytes-3
 sub-same-bytes-3 c = search needs
@@ -111,8 +112,10 @@ returns-2 c =
     let b = e .before in
     let s = begun b in
     let a = s .args in
-    links-differ (a .bytes .now) (a .at) (a .others .now) (a .other) (a .variables) (s .pre .0) (s .pre .1) (s .pre .2) (a .at + 2 + a .variables - (a .at + 2)) (a .other + 2 + a .variables - (a .other + 2)) (omega arith) (omega arith) _ (b .same-bytes .ensures) (not-false _ (e .if1 .left))
-    (a .at + 2 + a .variables + counted b .wide .result - (a .at + 2 + a .variables)) (a .other + 2 + a .variables + counted₂ b .wide2 .result - (a .other + 2 + a .variables))
+    links-differ (a .bytes .now) (a .at) (a .others .now) (a .other) (a .variables) (s .pre .0) (s .pre .1) (s .pre .2)
+    (a .at + 2 + a .variables - (a .at + 2)) (a .other + 2 + a .variables - (a .other + 2)) (omega arith) (omega arith) _ (b .same-bytes .ensures) (not-false _ (e .if1 .left))
+    (a .at + 2 + a .variables + counted b .wide .result - (a .at + 2 + a .variables))
+    (a .other + 2 + a .variables + counted₂ b .wide2 .result - (a .other + 2 + a .variables))
     (omega (arith, counted b .wide .ensures .0)) (omega (arith, counted₂ b .wide2 .ensures .0)) _ (c .before .same-bytes2 .ensures) (not-true _ (c .if2 .taken))
 
 fact-span-requires : tie.Need-fact-span-requires
@@ -151,9 +154,12 @@ returns-3 c =
     let a = s .args in
     let x = c .before .before .before .before .fact-span .ensures in
     let y = c .before .before .before .fact-span2 .ensures in
-    facts-tell (a .bytes .now) (a .at) (a .others .now) (a .other) (a .variables) (s .pre .0) (s .pre .1) (s .pre .2) (a .at + 2 + a .variables - (a .at + 2)) (a .other + 2 + a .variables - (a .other + 2)) (omega arith) (omega arith) _ (b .same-bytes .ensures) (not-false _ (e .if1 .left))
-    (a .at + 2 + a .variables + counted b .wide .result - (a .at + 2 + a .variables)) (a .other + 2 + a .variables + counted₂ b .wide2 .result - (a .other + 2 + a .variables))
-    (omega (arith, counted b .wide .ensures .0)) (omega (arith, counted₂ b .wide2 .ensures .0)) _ (f .before .same-bytes2 .ensures) (not-false _ (f .if2 .left)) _ (c .same-bytes3 .ensures ∙ ap₂ sameNumbers (x .2) (y .2))
+    facts-tell (a .bytes .now) (a .at) (a .others .now) (a .other) (a .variables) (s .pre .0) (s .pre .1) (s .pre .2)
+    (a .at + 2 + a .variables - (a .at + 2)) (a .other + 2 + a .variables - (a .other + 2)) (omega arith) (omega arith) _ (b .same-bytes .ensures) (not-false _ (e .if1 .left))
+    (a .at + 2 + a .variables + counted b .wide .result - (a .at + 2 + a .variables))
+    (a .other + 2 + a .variables + counted₂ b .wide2 .result - (a .other + 2 + a .variables))
+    (omega (arith, counted b .wide .ensures .0)) (omega (arith, counted₂ b .wide2 .ensures .0)) _ (f .before .same-bytes2 .ensures) (not-false _ (f .if2 .left)) _
+    (c .same-bytes3 .ensures ∙ ap₂ sameNumbers (x .2) (y .2))
 
 pub same-shape-spec : {M : Type 1} → statement M
 same-shape-spec =
