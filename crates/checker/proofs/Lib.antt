@@ -1,3 +1,4 @@
+pub mod Pairs
 pub mod Members
 pub mod CoverPlace
 pub mod Lists

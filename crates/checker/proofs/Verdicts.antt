@@ -18,7 +18,7 @@ use Rattle.format.specs.JobBytes.{SafeBytes}
 use Rattle.format.specs.Job.{readWholeJob}
 use Rattle.format.specs.JobNumbers.{JobFile}
 use Rattle.format.specs.Parser.{Reason, refusal, Parsed, parsed, fault, Parser, onward, each, certificateBuffer, jobBuffer, end}
-use Rattle.format.specs.Verdict.{noState, Counts, Verdict, accepted, refused, conclude, readCertificate, fits, verdictAt, verdict, readBoth}
+use Rattle.format.specs.Verdict.{Counts, Verdict, accepted, refused, conclude, readCertificate, fits, verdictAt, verdict, readBoth}
 use Rattle.format.proofs.Exact.{exact, exact-at}
 use Rattle.format.proofs.Guarantee.{safe-bytes}
 use Rattle.reader.specs.Job.{JobRead}
@@ -92,6 +92,20 @@ module _ (cert : List ℕ) (j : Job) (ms : List Located) (at : ℕ) (g : Checked
     covers-taken bads members h bads-is members-is = rw (reached .1, le-leb (length cert) (t .at) h, bads-is, members-is, reached .0) refl
 
 -- ---- the certificate
+
+-- the members that are counted are all of them
+pub members-counted : (cert : List ℕ) (j : Job) (ms : List Located) (at : ℕ) (c : Counts) → accepted c ≡ conclude (readCovers cert j ms at) → c .members ≡ length ms
+unfolding readCovers
+members-counted cert j ms at c = by-links (each (readCover (certificateBuffer cert) ms) (owed j ms) at)
+  where
+    by-end : (links : ℕ) (r : Parsed (Unit {0})) → accepted c ≡ conclude (onward r (λ u next. parsed (countsOf j ms links) next)) → c .members ≡ length ms
+    by-end links (parsed u next) e = let same : c ≡ countsOf j ms links = cc in ap (λ (k : Counts). k .members) same
+    by-end links (fault why place) e = let z : _≡_ {A = ℕ} 0 1 = cc in absurd (omega arith)
+
+    by-links : (r : Parsed (List ℕ)) → accepted c ≡ conclude (onward r (λ ls place. onward (end (certificateBuffer cert) place) (λ u next. parsed (countsOf j ms (sum ls)) next)))
+        → c .members ≡ length ms
+    by-links (parsed ls next) e = by-end (sum ls) (end (certificateBuffer cert) next) e
+    by-links (fault why place) e = let z : _≡_ {A = ℕ} 0 1 = cc in absurd (omega arith)
 
 pub bounds : (job cert : List ℕ) (h : Header) → JobRead job h → length cert ≤ 65536 → Bounds cert (h .variables) (h .states)
 bounds job cert h d fits = record { variables-range = d .variables; states-most = d .states .1; fits = fits }
@@ -174,7 +188,7 @@ module _ (job cert : List ℕ) where
     ),
   )
 
-  -- and `check_second`, which judges no member by the empty heap
-  pub promised-second : (v : Verdict) → v ≡ verdictAt noState job cert
-      → (v ≡ verdictAt noState job cert) × ((c : Counts) → (v ≡ accepted c) ↔ ConditionsAt noState job cert c)
-  promised-second v e = (e, λ c. (λ is. exact-at noState job cert c .0 (sym e ∙ is), λ d. e ∙ exact-at noState job cert c .1 d))
+  -- and `check_pair`, wherever 8 is judged
+  pub promised-pair : (tested : JobFile → ℕ) (v : Verdict) → v ≡ verdictAt tested job cert
+      → (v ≡ verdictAt tested job cert) × ((c : Counts) → (v ≡ accepted c) ↔ ConditionsAt tested job cert c)
+  promised-pair tested v e = (e, λ c. (λ is. exact-at tested job cert c .0 (sym e ∙ is), λ d. e ∙ exact-at tested job cert c .1 d))

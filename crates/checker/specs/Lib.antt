@@ -1,3 +1,4 @@
+pub mod Pairs
 pub mod Checking
 pub mod Placing
 pub mod Jobs

@@ -14,10 +14,6 @@ use Rattle.joining.specs.Joined.{Joint, joined}
 use Rattle.joining.specs.Joins.{Ends, OwedListed, Joins}
 use Rattle.joining.specs.Join.{Joining, both, pair-refused, joint-refused, jointOf}
 
--- "The second is checked without 8": its pair is to be accepted, with some counts
-abbrev pub AcceptableSecond : List ℕ → List ℕ → Type 0
-AcceptableSecond job certificate = (counts : Counts) × ConditionsAt noState job certificate counts
-
 module _ (job₁ cert₁ job₂ cert₂ : List ℕ) (state : ℕ) where
   -- both pairs are to be accepted, the second without 8
   pub record Pairs (counts₁ counts₂ : Counts) : Type 0 where

@@ -1,18 +1,12 @@
 // Two jobs joined at a hand-over state: one answer for the bytes of both pairs and the state.
-use checker::check;
-use checker::check_second;
+use checker::PairVerdict;
+use checker::check_pair;
 use layout::entry_end;
 use layout::fact_span;
-use layout::version_of;
 use number::wide;
 use reader::Header;
-use reader::JobAnswer;
-use reader::MembersAnswer;
-use reader::read_job;
-use reader::read_members;
 use verdict::Counts;
 use verdict::Refusal;
-use verdict::Verdict;
 ghost use mathlib.Core.Bool.{not, _&&_};
 ghost use mathlib.Core.List.{List};
 ghost use mathlib.Core.Logic.{_↔_};
@@ -23,10 +17,9 @@ ghost use lib.ListN.{length, getD};
 ghost use Rattle.lists.specs.List.{allOf};
 ghost use Rattle.lists.specs.Test.{allFrom};
 ghost use Rattle.checker.specs.Jobs.{fileIn};
-ghost use Rattle.format.specs.JobBytes.{SafeBytes};
 ghost use Rattle.format.specs.Parser.{parsed};
 ghost use Rattle.format.specs.Verdict.{noState, verdictAt};
-ghost use Rattle.joining.specs.Conditions.{AcceptableSecond, JoinMeans, SafeJoined};
+ghost use Rattle.joining.specs.Conditions.{JoinMeans, SafeJoined};
 ghost use Rattle.joining.specs.Join.{Joining, jointOf, sameNumbers, sameShape, jointRefusal, readJoint, afterPairs, afterSecond, join as joinDue};
 ghost use Rattle.joint.specs.Answer.{joiningOf, refusalOr, listedAmong, isSettled};
 ghost use Rattle.joint.specs.declared.JoinAnswer.the-variants.{Both};
@@ -205,55 +198,6 @@ fn joint_refusal(
     0
 }
 
-// The same, once both jobs are read. The second pair is accepted, so its members are not refused.
-fn join_members(
-    job1: &[u8],
-    first: Header,
-    job2: &[u8],
-    second: Header,
-    cert2: &[u8],
-    state: usize,
-) -> u8
-    requires { ⌜ (JobRead (now job1) first) × (JobRead (now job2) second) × (AcceptableSecond (now job2) (now cert2)) ⌝ }
-    ensures { λ r. ⌜ ((next : ℕ) × (readJoint (now (job1 .entry)) (now (job2 .entry)) (now (cert2 .entry)) state ≡ parsed (refusalOr r) next)) ⌝ }
-{
-    let mut starts = [0u16; 512];
-    let version = version_of(job2);
-    let r = read_members(
-        cert2,
-        version,
-        second.variables,
-        second.states,
-        second.states,
-        &mut starts,
-    );
-    match r {
-        MembersAnswer::Refused(_, _) => 0,
-        MembersAnswer::Members(members, _) => {
-            let all = &starts[..];
-            joint_refusal(job1, first, second, cert2, &all[..members], state)
-        }
-    }
-}
-
-// The same for the bytes of two pairs that are accepted, so that neither job is refused.
-fn join_jobs(job1: &[u8], job2: &[u8], cert2: &[u8], state: usize) -> u8
-    requires { ⌜ (SafeBytes (now job1)) × (AcceptableSecond (now job2) (now cert2)) ⌝ }
-    ensures { λ r. ⌜ ((next : ℕ) × (readJoint (now (job1 .entry)) (now (job2 .entry)) (now (cert2 .entry)) state ≡ parsed (refusalOr r) next)) ⌝ }
-{
-    let r = read_job(job1);
-    match r {
-        JobAnswer::Refused(_, _) => 0,
-        JobAnswer::Job(first) => {
-            let q = read_job(job2);
-            match q {
-                JobAnswer::Refused(_, _) => 0,
-                JobAnswer::Job(second) => join_members(job1, first, job2, second, cert2, state),
-            }
-        }
-    }
-}
-
 // The answer where both pairs are accepted.
 fn tell(a: Counts, b: Counts, refusal: u8) -> JoinAnswer
     ensures { λ r. ⌜ ((next : ℕ) → joiningOf r ≡ afterPairs (countsTold a) (countsTold b) (parsed (refusalOr refusal) next)) ⌝ }
@@ -265,14 +209,30 @@ fn tell(a: Counts, b: Counts, refusal: u8) -> JoinAnswer
 }
 
 // The answer where the first pair is accepted.
-fn join_second(job1: &[u8], a: Counts, job2: &[u8], cert2: &[u8], state: usize) -> JoinAnswer
-    requires { ⌜ SafeBytes (now job1) ⌝ }
+fn join_second(
+    job1: &[u8],
+    first: Header,
+    a: Counts,
+    job2: &[u8],
+    cert2: &[u8],
+    state: usize,
+) -> JoinAnswer
+    requires { ⌜ JobRead (now job1) first ⌝ }
     ensures { λ r. ⌜ joiningOf r ≡ afterSecond (countsTold a) (verdictAt noState (now (job2 .entry)) (now (cert2 .entry))) (readJoint (now (job1 .entry)) (now (job2 .entry)) (now (cert2 .entry)) state) ⌝ }
 {
-    let v = check_second(job2, cert2);
+    let mut starts = [0u16; 512];
+    let v = check_pair(job2, cert2, false, &mut starts);
     match v {
-        Verdict::Refused(why, place) => JoinAnswer::PairRefused(2, why, place),
-        Verdict::Accepted(b) => tell(a, b, join_jobs(job1, job2, cert2, state)),
+        PairVerdict::Refused(why, place) => JoinAnswer::PairRefused(2, why, place),
+        PairVerdict::Accepted(b, second) => {
+            let members = b.members as usize;
+            let all = &starts[..];
+            tell(
+                a,
+                b,
+                joint_refusal(job1, first, second, cert2, &all[..members], state),
+            )
+        }
     }
 }
 
@@ -283,9 +243,10 @@ pub fn join(job1: &[u8], cert1: &[u8], job2: &[u8], cert2: &[u8], state: usize) 
     ensures means { λ r. ⌜ ((j : Joining) → (joiningOf r ≡ j) ↔ JoinMeans (now (job1 .entry)) (now (cert1 .entry)) (now (job2 .entry)) (now (cert2 .entry)) state j) ⌝ }
     ensures safe { λ r. ⌜ ((a b : CountsAnswer) → r ≡ Both a b → SafeJoined (now (job1 .entry)) (now (job2 .entry)) state) ⌝ }
 {
-    let v = check(job1, cert1);
+    let mut starts = [0u16; 512];
+    let v = check_pair(job1, cert1, true, &mut starts);
     match v {
-        Verdict::Refused(why, place) => JoinAnswer::PairRefused(1, why, place),
-        Verdict::Accepted(a) => join_second(job1, a, job2, cert2, state),
+        PairVerdict::Refused(why, place) => JoinAnswer::PairRefused(1, why, place),
+        PairVerdict::Accepted(a, first) => join_second(job1, first, a, job2, cert2, state),
     }
 }

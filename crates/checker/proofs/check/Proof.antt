@@ -52,8 +52,8 @@ enum-known-r-2 c = search needs
 
 check-certificate-requires : tie.Need-check-certificate-requires
 check-certificate-requires c κs =
-    let o = c .before .before .before in
-    (rw (c .before .r2 .given .1) at (o .read-job .ensures), fits-most (begun (o .before) .args .cert .now) (cert-fits (o .before)))
+    let o = c .before .before .before .before in
+    (rw (c .before .before .r2 .given .1) at (o .read-job .ensures), fits-most (begun (o .before) .args .cert .now) (cert-fits (o .before)))
 
 returns-3 : tie.Need-returns-3
 returns-3 c =
@@ -64,12 +64,12 @@ returns-3 c =
 
 returns-4 : tie.Need-returns-4
 returns-4 c =
-    let v = c .before .before .r2 .given in
-    let o = c .before .before .before .before in
+    let v = c .before .before .before .r2 .given in
+    let o = c .before .before .before .before .before in
     let i = o .before in
     let a = begun i .args in
     promised (a .job .now) (a .cert .now) _
-    (c .check-certificate .ensures ∙ job-read startOf (a .job .now) (a .cert .now) (job-fits (i .before .before)) (cert-fits i) (v .0 .0) (rw (v .1) at (o .read-job .ensures)))
+    (c .check-certificate .ensures .0 ∙ job-read startOf (a .job .now) (a .cert .now) (job-fits (i .before .before)) (cert-fits i) (v .0 .0) (rw (v .1) at (o .read-job .ensures)))
 
 pub check-spec : {M : Type 1} → statement M
 check-spec =

@@ -5,8 +5,12 @@ use native.Mathlib.Omega.{arith}
 use lib.Seq.{length-take-le}
 use Rattle.format.specs.Parser.{parsed, certificateBuffer}
 use Rattle.format.specs.Verdict.{conclude}
-use Rattle.reader.specs.Members.{readTested, Bounds, MembersRead}
+use Rattle.layout.specs.Entries.{versionOf}
+use Rattle.reader.specs.Members.{memberPlaces, withPlaces, readTested, Bounds, MembersRead}
 use Rattle.checker.specs.Jobs.{fileIn, readCovers}
+use Rattle.checker.specs.Pairs.{placed}
+use Rattle.verdict.specs.Verdict.{countsTold, verdictOf}
+use Rattle.checker.proofs.Pairs.{not-accepted, members-kept}
 use Rattle.checker.proofs.Verdicts.{bounds, certificate-refused, certificate-members}
 use borrow.Author.Needs.{needs}
 use Rattle.checker.proofs.check_certificate.Statement.{statement}
@@ -34,6 +38,16 @@ members c = rw (c .before .r2 .given .1) at (c .before .before .before .read-mem
 limits : (s : tie.Start) → Bounds (s .args .cert .now) (s .args .h .variables) (s .args .h .states)
 limits s = bounds (s .args .job .now) (s .args .cert .now) (s .args .h) (s .pre .0) (s .pre .1)
 
+-- the places by the job's version
+placed-by : (s : tie.Start) {version : ℕ}
+    → let a = s .args in
+    version ≡ versionOf (a .job .now)
+    → withPlaces (memberPlaces (certificateBuffer (a .cert .now)) version (a .h .variables) (a .h .states)) (a .starts .now)
+    ≡ placed (a .cert .now) (fileIn (a .job .now) (a .h)) (a .starts .now)
+placed-by s e =
+    let a = s .args in
+    ap (λ (v : ℕ). withPlaces (memberPlaces (certificateBuffer (a .cert .now)) v (a .h .variables) (a .h .states)) (a .starts .now)) e
+
 -- ---- what is to be shown
 
 version-of-requires : tie.Need-version-of-requires
@@ -48,17 +62,14 @@ enum-known-r c = search needs
 enum-known-r-2 : tie.Need-enum-known-r-2
 enum-known-r-2 c = search needs
 
-slice-aggregate-all : tie.Need-slice-aggregate-all
-slice-aggregate-all c = sym (members (c .before) .size)
-
 slice-aggregate-check-covers : tie.Need-slice-aggregate-check-covers
 slice-aggregate-check-covers c =
-    let m = members (c .before .before) in
+    let m = members (c .before .before .before) in
     sym (length-take-le _ _ (omega (arith, m .size, m .number-range .1)))
 
 check-covers-requires : tie.Need-check-covers-requires
 check-covers-requires c κs =
-    let told = c .before .before in
+    let told = c .before .before .before in
     let m = members told in
     let s = begun (read told) in
     (s .pre .0, m .table-is (limits s), m .inside, s .pre .1)
@@ -67,21 +78,30 @@ returns : tie.Need-returns
 returns c =
     let o = c .before .before .before in
     let a = begun o .args in
-    certificate-refused (a .cert .now) (fileIn (a .job .now) (a .h)) (a .tested) _ _ (rw (c .before .r .given .1, o .before .before .version-of .ensures) at (o .read-members .ensures .0))
+    let version = o .before .before .version-of .ensures in (
+      certificate-refused (a .cert .now) (fileIn (a .job .now) (a .h)) (a .tested) _ _ (rw (c .before .r .given .1, version) at (o .read-members .ensures .0)),
+      (λ k e. absurd (not-accepted e), o .read-members .ensures .1 ∙ placed-by (begun o) version),
+    )
 
 returns-2 : tie.Need-returns-2
 returns-2 c =
-    let told = c .before .before .before in
+    let told = c .before .before .before .before in
     let m = members told in
     let next = told .before .r2 .given .0 .1 .0 in
-    let s = begun (read told) in
+    let o = read told in
+    let s = begun o in
     let a = s .args in
     let f = fileIn (a .job .now) (a .h) in
-    c .check-covers .ensures
-    ∙ ap conclude (ap (λ ms. readCovers (a .cert .now) (f .job) ms next) (sym (m .members-are (limits s)))
-    ∙ certificate-members (a .cert .now) f (a .tested) (m .members) next
-    (subst (λ (w : ℕ). readTested (certificateBuffer (a .cert .now)) w (a .h .variables) (a .h .states) (a .tested) 0 ≡ parsed (m .members) next)
-    (read told .before .before .version-of .ensures) (m .read)))
+    let version = o .before .before .version-of .ensures in (
+      c .check-covers .ensures
+          ∙ ap conclude (ap (λ ms. readCovers (a .cert .now) (f .job) ms next) (sym (m .members-are (limits s)))
+          ∙ certificate-members (a .cert .now) f (a .tested) (m .members) next
+          (subst (λ (w : ℕ). readTested (certificateBuffer (a .cert .now)) w (a .h .variables) (a .h .states) (a .tested) 0 ≡ parsed (m .members) next) version (m .read))),
+      (
+        λ k e. members-kept (a .job .now) (a .cert .now) (a .h) (f .job) (a .tested) _ _ next _ (countsTold k) version m (sym (ap verdictOf e) ∙ c .check-covers .ensures),
+        o .read-members .ensures .1 ∙ placed-by (begun o) version,
+      ),
+    )
 
 pub check-certificate-spec : {M : Type 1} → statement M
 check-certificate-spec =
@@ -91,7 +111,6 @@ check-certificate-spec =
     read-members-requires
     enum-known-r
     enum-known-r-2
-    slice-aggregate-all
     slice-aggregate-check-covers
     check-covers-requires
     returns
