@@ -316,6 +316,31 @@ mod tests {
     }
 
     #[test]
+    fn joins_are_told_and_read_back() {
+        let counts = |first: u64| Counts::of_numbers([first, first + 1, first + 2, first + 3]);
+        let joined = JoinVerdict::Joined(counts(1), counts(5));
+        let elsewhere = Broken {
+            rule: Rule::Variable,
+            name: 1,
+        };
+        let refused = JoinVerdict::PairRefused(2, Refusal::of_cover(5, elsewhere));
+        let mismatched = Mismatch::ALL.map(JoinVerdict::Mismatched);
+        for (verdict, number, told) in [
+            (joined, 0, [1, 2, 3, 4, 5, 6, 7, 8]),
+            (refused, 9, [2, 5, 3, 1, 0, 0, 0, 0]),
+            (mismatched[0], 24, [0; 8]),
+            (mismatched[1], 25, [0; 8]),
+            (mismatched[2], 26, [0; 8]),
+            (mismatched[3], 27, [0; 8]),
+        ] {
+            assert_eq!((verdict.number(), verdict.told()), (number, told));
+            assert_eq!(JoinVerdict::of_told(number, &told), verdict);
+        }
+        assert_eq!(refused.to_string(), "pair 2 refused 9 at 5 rule 3 of 1");
+        assert_eq!(mismatched[3].to_string(), "refused 27");
+    }
+
+    #[test]
     fn rules_are_numbered_from_1_to_6() {
         for rule in 1..=6 {
             let broken = Broken::of_numbers(rule, 13).expect("there is such a rule");

@@ -219,6 +219,22 @@ fn the_command_tells_and_writes_both() {
     );
 }
 
+/// The second sets what it uses, so nothing is owed.
+#[test]
+fn the_command_tells_that_nothing_is_owed() {
+    let folder = PathBuf::from(env!("CARGO_TARGET_TMPDIR"));
+    let second = folder.join("owes_nothing.listing");
+    let text = "new(y)\ny.next := null\nmark 0\n\nforbidden\nmark 0  y at #\n";
+    fs::write(&second, text).unwrap();
+    let output = try_two(&["load_clear.first", "then", second.to_str().unwrap()]);
+    let text = printed(&output);
+    assert_eq!(output.status.code(), Some(0), "{text}");
+    assert!(
+        text.contains("after line 7 (state 7): nothing.\njoined; "),
+        "{text}"
+    );
+}
+
 #[test]
 fn the_command_tells_which_part_goes_wrong() {
     let output = try_two(&[
@@ -241,6 +257,12 @@ fn the_command_tells_which_part_goes_wrong() {
     assert_eq!(output.status.code(), Some(1), "{text}");
     assert!(text.contains("Not joined, for what "), "{text}");
     assert!(text.contains("That is at line 2 of the first, `mark 0`"));
+
+    let output = try_two(&["beyond_load_copy.first", "then", "beyond_load_copy.second"]);
+    let text = printed(&output);
+    assert_eq!(output.status.code(), Some(1), "{text}");
+    let owed = "and beyond_load_copy.second owes it:\n\n       [1 x] -> *\n";
+    assert!(text.contains(owed), "{text}");
 
     let output = try_two(&["load_insert.second", "then", "queue"]);
     assert_eq!(output.status.code(), Some(2));

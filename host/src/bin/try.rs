@@ -134,14 +134,21 @@ fn tell_pairs(
     let [of_first, of_second] = pairs.alone();
     writeln!(text, "{first}, which forbids what is owed too: {of_first}")?;
     writeln!(text, "{second} alone, from the empty heap: {of_second}")?;
-    let owed = counted(pairs.owed.len(), "shape");
-    writeln!(
+    let state = &listings.first.states[listings.hand_over as usize];
+    write!(
         text,
-        "Owed at the hand-over, {} (state {}): {owed}. {first} doesn't hand over a heap with one of them ({}).\n",
-        listings.first.states[listings.hand_over as usize],
-        listings.hand_over,
-        draw::key(&pairs.owed),
+        "Owed at the hand-over, {state} (state {}): ",
+        listings.hand_over
     )?;
+    match pairs.owed.len() {
+        0 => writeln!(text, "nothing.")?,
+        count => writeln!(
+            text,
+            "{}. {first} doesn't hand over a heap with one of them ({}).\n",
+            counted(count, "shape"),
+            draw::key(&pairs.owed),
+        )?,
+    }
     for shape in &pairs.owed {
         for line in draw::shape(shape, &listings.first.variables) {
             writeln!(text, "       {line}")?;
@@ -165,12 +172,15 @@ fn tell_neither(
     listings: &Listings,
     ending: &Ending,
 ) -> std::fmt::Result {
+    let handed_over = match ending {
+        Ending::Beyond { .. } => {
+            format!("{first} can't be certified never to hand this over, and {second} owes it")
+        }
+        _ => format!("{first} may hand this over, with which {second} goes wrong"),
+    };
     match listings.handed_over(ending) {
         Some(lines) => {
-            writeln!(
-                text,
-                "Not joined: {first} may hand this over, with which {second} goes wrong:\n"
-            )?;
+            writeln!(text, "Not joined: {handed_over}:\n")?;
             for line in lines {
                 writeln!(text, "       {line}")?;
             }
