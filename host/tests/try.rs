@@ -118,9 +118,12 @@ fn a_limit_says_what_can_be_done() {
     let (status, text) = tried(&[path.to_str().unwrap()]);
     assert_eq!(status, 1, "{text}");
     for said in [
-        "\nNo certificate found: 544 members are needed, 512 are allowed.\n",
+        "\nNo certificate found: 521 members are needed, 512 are allowed.\n",
         "\nNo run was found that meets what is forbidden, among ",
         "\nWhat to do: forbid the lines in two routines that are otherwise the same, ",
+        "\nWhat was tried:\n  members as needed: more than 1000 shapes are needed\n",
+        "\n  general members, facts first, by heaps of 5 cells and 4 values: 745 members are needed, ",
+        "\n  general members, all together, by heaps of 7 cells and 3 values: 521 members are needed, ",
     ] {
         assert!(text.contains(said), "{said}\n{text}");
     }

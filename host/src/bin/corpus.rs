@@ -1,18 +1,37 @@
 //! Searches and checks every routine of the corpus, prints the table of them, and fails where one
-//! ends otherwise than its name says.
+//! ends otherwise than its name says. `corpus table1` prints docs/TABLE1.md instead.
 
+use std::env;
 use std::process::ExitCode;
 
 use vorruda_host::corpus::{self, Entry, Expected};
 use vorruda_host::judge::judge;
+use vorruda_host::table1;
 
 fn main() -> ExitCode {
+    let arguments: Vec<String> = env::args().skip(1).collect();
+    match &arguments.iter().map(String::as_str).collect::<Vec<_>>()[..] {
+        [] => print_corpus(),
+        ["table1"] => match table1::page() {
+            Ok(page) => {
+                print!("{page}");
+                ExitCode::SUCCESS
+            }
+            Err(what) => mistake(&what),
+        },
+        _ => mistake("usage: corpus [table1]"),
+    }
+}
+
+fn mistake(what: &str) -> ExitCode {
+    eprintln!("{what}");
+    ExitCode::from(2)
+}
+
+fn print_corpus() -> ExitCode {
     let entries = match corpus::read() {
         Ok(entries) => entries,
-        Err(what) => {
-            eprintln!("{what}");
-            return ExitCode::from(2);
-        }
+        Err(what) => return mistake(&what),
     };
     println!(
         "| routine | variables | states | transitions | forbidden | members | covers | job bytes | \
