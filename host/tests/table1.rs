@@ -49,9 +49,8 @@ fn ten_are_right_and_two_are_not() {
     }
 }
 
-/// By not more than one member in ten.
 #[test]
-fn the_order_of_what_is_forbidden_changes_little() {
+fn the_order_of_what_is_forbidden_changes_nothing() {
     let mut random = Random::new(0x3d_5eed);
     for (name, job) in right() {
         let as_told = members(name, &job);
@@ -60,9 +59,7 @@ fn the_order_of_what_is_forbidden_changes_little() {
         let mut mixed = job;
         mixed.forbidden.sort_by_cached_key(|_| random.word());
         for other in [turned, mixed] {
-            let found = members(name, &other);
-            let difference = 10 * as_told.abs_diff(found);
-            assert!(difference <= as_told, "{name}: {as_told}, then {found}");
+            assert_eq!(members(name, &other), as_told, "{name}");
         }
     }
 }

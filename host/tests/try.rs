@@ -31,7 +31,7 @@ fn a_certified_routine() {
     let (status, text) = tried(&["reverse"]);
     assert_eq!(status, 0, "{text}");
     assert!(
-        text.contains("\naccepted bads 17 members 116 covers 380 links 412\n"),
+        text.contains("\naccepted bads 17 members 114 covers 378 links 396\n"),
         "{text}"
     );
     let words = "\nNo run of reverse, on lists of any length, comes to this: at mark 0 (line ";
@@ -207,7 +207,7 @@ fn a_plain_listing() {
     let (status, text) = tried(&[example]);
     assert_eq!(status, 0, "{text}");
     let verdict =
-        ": Reverses the list x into y.\naccepted bads 16 members 115 covers 379 links 412\nNo run of ";
+        ": Reverses the list x into y.\naccepted bads 16 members 113 covers 377 links 396\nNo run of ";
     assert!(text.contains(verdict), "{text}");
     let words = "reverse.listing, on lists of any length, comes to this: at mark 0 (line 14), y is no \
                  list that ends at null, or a block is lost beside y; anywhere, a link is followed or \
