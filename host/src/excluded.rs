@@ -46,7 +46,11 @@ fn words(origin: &Origin) -> Option<String> {
         "ring" => format!("{of} leads into a ring"),
         "no ring" => format!("{of} is on no ring"),
         "shared" => format!("{of} share a block"),
+        "lost block shared" => format!("a block is lost beside {of}"),
         "not sorted" => format!("{of} is out of order"),
+        "not falling" => format!("{of} is not sorted downwards"),
+        "not sorted round" => format!("the ring from {of} on is out of order"),
+        "not falling round" => format!("the ring from {of} on is not sorted downwards"),
         _ => format!("`{}`", origin.text),
     })
 }

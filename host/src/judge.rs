@@ -9,10 +9,11 @@ use crate::outlook::Outlook;
 use crate::reference::certificate::Certificate;
 use crate::reference::job::Job;
 use crate::routine::Routine;
+use crate::search::attempts::Tried;
 use crate::search::chain::Chain;
 use crate::search::look::Look;
 use crate::search::run::{Bound, WrongRun};
-use crate::search::{first_look, search_behind, Limit, Outcome};
+use crate::search::{first_look, search_telling, Limit, Outcome};
 use crate::verdict::Verdict;
 
 /// How a job ends.
@@ -40,9 +41,14 @@ pub struct Judged {
 }
 
 pub fn judge(routine: &Routine) -> Judged {
+    judge_telling(routine, &mut |_| ())
+}
+
+/// The same; each attempt to find a certificate is told as it ends.
+pub fn judge_telling(routine: &Routine, tell: &mut dyn FnMut(Tried)) -> Judged {
     let begin = Instant::now();
     let look = first_look(&routine.job);
-    let ending = ending(&routine.job, &look);
+    let ending = ending(&routine.job, &look, tell);
     let wrong = match &ending {
         Ending::Wrong(wrong) => Some(wrong),
         _ => None,
@@ -54,8 +60,8 @@ pub fn judge(routine: &Routine) -> Judged {
     }
 }
 
-fn ending(job: &Job, look: &Look) -> Ending {
-    match search_behind(job, look) {
+fn ending(job: &Job, look: &Look, tell: &mut dyn FnMut(Tried)) -> Ending {
+    match search_telling(job, look, tell) {
         Outcome::Certified(certificate) => {
             let verdict = check(&job.bytes(), &certificate.bytes());
             Ending::Certified(certificate, verdict)

@@ -28,6 +28,7 @@ pub mod routine;
 pub mod search;
 pub mod stack;
 pub mod sweep;
+pub mod table1;
 pub mod text;
 pub mod value_extremes;
 pub mod verdict;

@@ -253,9 +253,21 @@ fn mistakes_in_what_is_forbidden() {
         ),
         (
             "steps",
+            "end lost block shared: x",
+            "line 12, column 26: expected two variables",
+        ),
+        (
+            "steps",
+            "end not sorted round x",
+            "line 12, column 5: `not sorted round`: a ready set without its colon: expected `not \
+             sorted round: x`",
+        ),
+        (
+            "steps",
             "end sorted: x",
             "line 12, column 5: `sorted`: expected a ready set, one of no \
-             list, lost block, ring, no ring, shared, not sorted",
+             list, lost block shared, lost block, ring, no ring, shared, not sorted round, not \
+             sorted, not falling round, not falling",
         ),
         (
             "steps",

@@ -1,15 +1,27 @@
 //! Searches and checks every routine of the corpus, and the listings that are taken as one, prints the
-//! tables of them, and fails where one ends otherwise than its name says.
+//! tables of them, and fails where one ends otherwise than its name says. `corpus table1` prints
+//! docs/TABLE1.md instead.
 
+use std::env;
 use std::process::ExitCode;
 
 use vorruda_host::corpus::{self, Entry, Expected};
 use vorruda_host::joining::{Joined, Listings};
 use vorruda_host::judge::judge;
+use vorruda_host::table1;
 use vorruda_host::verdict::JoinVerdict;
 
 fn main() -> ExitCode {
-    match tables() {
+    let arguments: Vec<String> = env::args().skip(1).collect();
+    let done = match &arguments.iter().map(String::as_str).collect::<Vec<_>>()[..] {
+        [] => tables(),
+        ["table1"] => table1::page().map(|page| {
+            print!("{page}");
+            0
+        }),
+        _ => Err("usage: corpus [table1]".to_string()),
+    };
+    match done {
         Ok(0) => ExitCode::SUCCESS,
         Ok(_) => ExitCode::FAILURE,
         Err(what) => {

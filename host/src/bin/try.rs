@@ -8,7 +8,7 @@
 //! a mistake in a file. `try` alone lists the routines of the corpus.
 
 use std::fmt::Write as _;
-use std::io::{self, Write as _};
+use std::io::{self, IsTerminal as _, Write as _};
 use std::path::Path;
 use std::process::ExitCode;
 use std::{env, fs};
@@ -19,13 +19,14 @@ use vorruda_host::corpus;
 use vorruda_host::draw;
 use vorruda_host::excluded;
 use vorruda_host::joining::{self, Joined, Listings};
-use vorruda_host::judge::{judge, Ending};
+use vorruda_host::judge::{judge_telling, Ending};
 use vorruda_host::outlook::{Outlook, Warning};
 use vorruda_host::pairs::Pair;
 use vorruda_host::reference::certificate::Certificate;
 use vorruda_host::reference::job::{Job, MOST_FORBIDDEN};
 use vorruda_host::refused_cover::RefusedCover;
 use vorruda_host::routine::Routine;
+use vorruda_host::search::attempts::Tried;
 use vorruda_host::search::first_look;
 use vorruda_host::search::run::WrongRun;
 use vorruda_host::text::counted;
@@ -79,7 +80,13 @@ fn list() -> Result<Answer, String> {
 
 fn try_one(name: &str, folder: Option<&Path>) -> Result<Answer, String> {
     let routine = corpus::find(name)?.routine;
-    let judged = judge(&routine);
+    let mut tried = Vec::new();
+    show("searching");
+    let judged = judge_telling(&routine, &mut |attempt| {
+        show(&attempt.to_string());
+        tried.push(attempt);
+    });
+    show("");
     let ending = &judged.ending;
     if let (Some(folder), Ending::Certified(certificate, _)) = (folder, ending) {
         write(&routine, certificate, folder)?;
@@ -91,6 +98,9 @@ fn try_one(name: &str, folder: Option<&Path>) -> Result<Answer, String> {
     let mut text = heading(name, &routine);
     warn(&mut text, &routine, &judged.outlook).expect("a string takes all");
     tell(&mut text, name, &routine, ending).expect("a string takes all");
+    if let Ending::Undecided(..) = ending {
+        tell_tried(&mut text, &tried).expect("a string takes all");
+    }
     Ok((text, status))
 }
 
@@ -189,6 +199,21 @@ fn tell_neither(
         None => writeln!(text, "Not joined, for what {first} does:")?,
     }
     tell(text, "both as one", &listings.whole, ending)
+}
+
+/// Shows on a terminal how far the search is, in a line that is written over.
+fn show(what: &str) {
+    if io::stderr().is_terminal() {
+        eprint!("\r\x1b[K{what}");
+    }
+}
+
+/// Tells what was tried for a certificate and where each attempt stopped.
+fn tell_tried(text: &mut String, tried: &[Tried]) -> std::fmt::Result {
+    writeln!(text, "What was tried:")?;
+    tried
+        .iter()
+        .try_for_each(|attempt| writeln!(text, "  {attempt}"))
 }
 
 /// Whether a file is to be taken as the bytes of a job or a certificate.

@@ -7,14 +7,19 @@ use super::{ready, sets, shape_text};
 use crate::reference::shape::Shape;
 use crate::text::nearest;
 
-/// The ready sets of [`sets`] that are of variables at a state.
-const SETS: [&str; 6] = [
+/// The ready sets of [`sets`] that are of variables at a state; one whose name begins with another's comes
+/// ahead of it.
+const SETS: [&str; 10] = [
     "no list",
+    "lost block shared",
     "lost block",
     "ring",
     "no ring",
     "shared",
+    "not sorted round",
     "not sorted",
+    "not falling round",
+    "not falling",
 ];
 
 /// The shapes that the words forbid. A mistake's right line is without the state.
@@ -69,10 +74,14 @@ fn ready_set(mut set: Words, mut names: Words, variables: &Names) -> Result<Vec<
         ("no ring", &[x]) => Ok(sets::no_ring(variables, x)),
         ("shared", &[x, y]) => Ok(sets::shared(variables, x, y)),
         ("not sorted", &[x]) => Ok(sets::not_sorted(variables, x)),
+        ("not sorted round", &[x]) => Ok(sets::not_sorted_round(variables, x)),
+        ("not falling", &[x]) => Ok(sets::not_falling(variables, x)),
+        ("not falling round", &[x]) => Ok(sets::not_falling_round(variables, x)),
+        ("lost block shared", &[x, y]) => Ok(sets::lost_block_shared(variables, x, y)),
         ("lost block", [_, ..]) => Ok(sets::lost_block(variables, &from)),
         (known, _) if SETS.contains(&known) => {
             let what = match known {
-                "shared" => "expected two variables",
+                "shared" | "lost block shared" => "expected two variables",
                 "lost block" => "expected one or more variables",
                 _ => "expected one variable",
             };

@@ -4,7 +4,7 @@ use std::collections::VecDeque;
 
 use super::before::{each_before, forbidden};
 use super::explore::{Exploration, Extent, Step};
-use super::generalise::generalise;
+use super::generalise::{generalise, Order};
 use super::images::{features, find_images, Features};
 use super::shape::{Located, Shape};
 use super::smaller::without_lost;
@@ -43,10 +43,10 @@ pub struct Obstruction {
 
 /// Which shapes are taken for members: those that have to be covered, or more general ones, as far as
 /// the reached heaps allow.
-#[derive(Clone, Copy, PartialEq, Eq)]
+#[derive(Clone, Copy, Debug, PartialEq, Eq)]
 pub enum Members {
     AsNeeded,
-    General,
+    General(Order),
 }
 
 /// A set of entries that grows until it is closed.
@@ -88,10 +88,13 @@ impl<'a, 'e> Closure<'a, 'e> {
         }
     }
 
-    /// Adds members until all is covered or one is needed that is reached.
+    /// Adds members until all is covered or one is needed that is reached. Forbidden shapes are taken
+    /// in an order of their own, so that nothing hangs on the job's.
     fn grow(&mut self) -> Result<(), Obstacle> {
         let mut waiting = VecDeque::new();
-        for bad in forbidden(self.job) {
+        let mut bads = forbidden(self.job);
+        bads.sort_by_key(|bad| (bad.state, bad.shape));
+        for bad in bads {
             waiting.extend(self.cover(&bad, None)?);
         }
         waiting.extend((0..self.entries.len()).filter(|&number| self.entries[number].live));
@@ -164,7 +167,7 @@ impl<'a, 'e> Closure<'a, 'e> {
             })));
         }
         let general = match self.members {
-            Members::General => self.generalised(state, shape),
+            Members::General(order) => self.generalised(state, shape, order),
             Members::AsNeeded => shape,
         };
         if u64::from(general.places.cells) > MOST_CELLS {
@@ -178,14 +181,14 @@ impl<'a, 'e> Closure<'a, 'e> {
 
     /// A shape as general as the explored heaps tell: it has fewer cells than they may have, and none
     /// satisfies it, nor would with a few lost cells beside it, unless it is about such cells.
-    fn generalised(&self, state: u8, shape: Shape) -> Shape {
+    fn generalised(&self, state: u8, shape: Shape, order: Order) -> Shape {
         let Extent { cells, lost, .. } = self.reached.extent;
         let is_satisfied = |shape: &Shape| self.reached.satisfying(state, shape).is_some();
         let lost = match is_satisfied(&without_lost(&shape, lost)) {
             true => 0,
             false => lost,
         };
-        generalise(shape, |simpler| {
+        generalise(shape, order, |simpler| {
             simpler.places.cells < cells && !is_satisfied(&without_lost(simpler, lost))
         })
     }
@@ -217,8 +220,14 @@ impl<'a, 'e> Closure<'a, 'e> {
         number
     }
 
+    /// The members of the live entries.
+    pub fn live_members(&self) -> Vec<Located> {
+        let live = self.entries.iter().filter(|entry| entry.live);
+        live.map(|entry| entry.member).collect()
+    }
+
     /// The live entries whose member covers a shape.
-    pub fn covering<'s>(
+    fn covering<'s>(
         &'s self,
         covered: &'s Located,
     ) -> impl Iterator<Item = usize> + use<'s, 'a, 'e> {

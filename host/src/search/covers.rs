@@ -3,17 +3,11 @@
 use std::convert::Infallible;
 
 use super::before::{each_before, forbidden};
-use super::closure::Closure;
 use super::images::find_images;
 use super::shape::Located;
 use crate::baseline::shape::CELL;
 use crate::reference::certificate::{Certificate, Cover};
 use crate::reference::job::{self, Job};
-
-/// The certificate whose members are the entries of a closed set that are needed.
-pub fn certificate(job: &Job, closure: &Closure) -> Certificate {
-    certificate_of(job, &needed_members(job, closure))
-}
 
 /// The certificate with these members, which cover all that has to be covered.
 pub fn certificate_of(job: &Job, members: &[Located]) -> Certificate {
@@ -34,33 +28,6 @@ fn for_each_before(job: &Job, member: &Located, mut see: impl FnMut(&Located)) {
         see(covered);
         Ok(())
     });
-}
-
-/// The members that covers need, beginning with those of the forbidden shapes.
-fn needed_members(job: &Job, closure: &Closure) -> Vec<Located> {
-    let mut chosen = Vec::new();
-    for bad in forbidden(job) {
-        choose(closure, &mut chosen, &bad);
-    }
-    let mut next = 0;
-    while next < chosen.len() {
-        let member = closure.entries[chosen[next]].member;
-        for_each_before(job, &member, |covered| {
-            choose(closure, &mut chosen, covered)
-        });
-        next += 1;
-    }
-    let members = chosen.iter().map(|&entry| closure.entries[entry].member);
-    members.collect()
-}
-
-/// Adds an entry that covers a shape, unless one that does is chosen already.
-fn choose(closure: &Closure, chosen: &mut Vec<usize>, covered: &Located) {
-    let covering: Vec<usize> = closure.covering(covered).collect();
-    if !covering.iter().any(|entry| chosen.contains(entry)) {
-        let first = covering.first();
-        chosen.push(*first.expect("a closed set covers its predecessors"));
-    }
 }
 
 fn covers(job: &Job, members: &[Located]) -> Vec<Cover> {

@@ -1,11 +1,13 @@
 //! A search for certificates. Nobody has to trust it: what it finds is checked.
 
+pub mod attempts;
 pub mod before;
 pub mod chain;
 mod closure;
 pub mod covers;
 mod explore;
 mod facts;
+mod fewer;
 pub mod flat_heap;
 pub mod generalise;
 pub mod images;
@@ -25,9 +27,9 @@ use crate::reference::checker::MOST_BYTES;
 use crate::reference::job::Job;
 use crate::reference::shape::MOST_CELLS;
 use crate::reference::version::Version;
-use chain::{chain, Chain};
-use closure::{Closure, Members, Obstacle};
-use explore::{Exploration, Extent};
+use attempts::{certificate, Failure, Tried};
+use chain::Chain;
+use explore::Extent;
 use look::{Distance, Look};
 use run::{Bound, WrongRun};
 
@@ -103,10 +105,6 @@ const fn extent_with_values(cells: u8, values: usize) -> Extent {
     }
 }
 
-/// How many shapes are taken in at most, as they are needed and in an attempt to generalise.
-const MOST_NEEDED: usize = 1_000;
-const MOST_GENERAL: usize = 2_000;
-
 /// How many heaps are looked at for a run at first, and where there is no certificate.
 const FIRST_HEAPS: usize = 10_000;
 const MOST_HEAPS: usize = 200_000;
@@ -114,7 +112,7 @@ const MOST_HEAPS: usize = 200_000;
 /// Looks for a run that meets what is forbidden, and where the first heaps show none for a certificate.
 /// Where there is none of that either, more heaps are looked at.
 pub fn search(job: &Job) -> Outcome {
-    search_behind(job, &first_look(job))
+    search_telling(job, &first_look(job), &mut |_| ())
 }
 
 /// The heaps that are looked at first.
@@ -127,12 +125,12 @@ fn distance(job: &Job, heaps: usize) -> Distance {
     Distance { values, heaps }
 }
 
-/// Searches behind the first look.
-pub fn search_behind(job: &Job, look: &Look) -> Outcome {
+/// Searches behind the first look. Each attempt to find a certificate is told as it ends.
+pub fn search_telling(job: &Job, look: &Look, tell: &mut dyn FnMut(Tried)) -> Outcome {
     if let Some(wrong) = look.wrong_run() {
         return Outcome::Wrong(wrong);
     }
-    let failure = match certificate(job, &extents(job)) {
+    let failure = match certificate(job, &extents(job), tell) {
         Ok(certificate) => return Outcome::Certified(certificate),
         Err(failure) => failure,
     };
@@ -166,66 +164,4 @@ fn extents(job: &Job) -> [Extent; 4] {
         Version::One => EXTENTS,
         Version::Two => EXTENTS_WITH_VALUES,
     }
-}
-
-/// Why there is no certificate.
-enum Failure {
-    /// There is none, because of this chain.
-    Impossible(Chain),
-    /// None was found within a limit.
-    Limit(Limit),
-}
-
-/// Looks for a certificate, with the needed shapes as members and with members as general as ever
-/// larger heaps allow, and takes the shorter one.
-fn certificate(job: &Job, extents: &[Extent]) -> Result<Certificate, Failure> {
-    let (plain, mut least) = match attempt(job, extents[0], Members::AsNeeded, MOST_NEEDED) {
-        Err(Failure::Limit(limit)) => (None, limit),
-        done => (Some(done?), Limit::Cells),
-    };
-    for &extent in extents {
-        match attempt(job, extent, Members::General, MOST_GENERAL) {
-            Err(Failure::Limit(limit)) => least = least.min(limit),
-            done => return Ok(shorter(plain, done?)),
-        }
-    }
-    plain.ok_or(Failure::Limit(least))
-}
-
-fn shorter(plain: Option<Certificate>, general: Certificate) -> Certificate {
-    match plain {
-        Some(plain) if plain.bytes().len() < general.bytes().len() => plain,
-        _ => general,
-    }
-}
-
-/// Looks for a certificate with at most so many shapes taken in.
-fn attempt(
-    job: &Job,
-    extent: Extent,
-    members: Members,
-    most: usize,
-) -> Result<Certificate, Failure> {
-    let mut reached = Exploration::of_runs(job, extent).widened();
-    let mut closure = Closure::new(job, &mut reached, members, most);
-    let limit = match closure.close() {
-        Ok(()) => return within_limits(covers::certificate(job, &closure)).map_err(Failure::Limit),
-        Err(Obstacle::Reached(obstruction)) => {
-            return Err(Failure::Impossible(chain(job, &reached, &obstruction)))
-        }
-        Err(Obstacle::TooMany) => Limit::Shapes(most),
-        Err(Obstacle::TooManyCells) => Limit::Cells,
-    };
-    Err(Failure::Limit(limit))
-}
-
-fn within_limits(certificate: Certificate) -> Result<Certificate, Limit> {
-    let (members, bytes) = (certificate.members.len(), certificate.bytes().len());
-    if members as u64 > MOST_MEMBERS {
-        return Err(Limit::Members(members));
-    }
-    if bytes > MOST_BYTES {
-        return Err(Limit::Bytes(bytes));
-    }
-    Ok(certificate)
 }
