@@ -101,6 +101,8 @@ function check(name, look, page) {
   const fault = what => faults.push(`${name}, ${look.name}: ${what}`);
   if (name === "index.html") {
     if (page.querySelectorAll("tbody tr").length !== pages.length - 1) fault("not all routines");
+    const verdicts = [...page.querySelectorAll(".verdict")];
+    if (verdicts.some(verdict => verdict.getBoundingClientRect().right > look.width)) fault("a verdict is cut off");
   } else if (page.querySelectorAll("svg.graph").length !== 1) {
     fault("no picture of the states");
   }

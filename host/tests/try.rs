@@ -38,6 +38,29 @@ fn a_certified_routine() {
     assert!(text.contains(words), "{text}");
 }
 
+/// What README.md shows of a command, `...` standing for what it leaves out, is what is printed.
+#[test]
+fn the_readme_shows_what_is_printed() {
+    let root = concat!(env!("CARGO_MANIFEST_DIR"), "/..");
+    let readme = fs::read_to_string(format!("{root}/README.md")).unwrap();
+    let words = |text: &str| text.split_whitespace().collect::<Vec<_>>().join(" ");
+    let mut commands = readme.split("    $ make try ROUTINE=").skip(1).peekable();
+    assert!(commands.peek().is_some(), "README.md shows no command");
+    for block in commands {
+        let mut lines = block.lines();
+        let name = lines.next().expect("a name behind ROUTINE=");
+        let shown = lines.take_while(|line| line.is_empty() || line.starts_with("    "));
+        let shown: Vec<&str> = shown.collect();
+        let mut command = Command::new(env!("CARGO_BIN_EXE_try"));
+        let output = command.arg(name).current_dir(root).output().unwrap();
+        let printed = words(&String::from_utf8(output.stdout).unwrap());
+        for part in shown.join("\n").split("...") {
+            let part = words(part);
+            assert!(printed.contains(&part), "{name}: {part}\n{printed}");
+        }
+    }
+}
+
 #[test]
 fn a_wrong_routine_shows_a_run() {
     let (status, text) = tried(&["wrong_delete_linked"]);

@@ -74,7 +74,7 @@ pub fn index_page(title: &str, rows: &[Row]) -> String {
     let body = format!(
         "<h1>{}</h1>\n<p class=\"lead\">{}: {}.</p>\n\
          <div class=\"wide\">\n<table>\n<thead>\n<tr>\
-         <th>routine</th><th>what it does</th><th>verdict</th>\
+         <th>routine</th><th>verdict</th><th>what it does</th>\
          <th class=\"number\">members</th><th class=\"number\">covers</th>\
          <th class=\"number\">time, ms</th>\
          </tr>\n</thead>\n<tbody>\n{}</tbody>\n</table>\n</div>\n\
@@ -104,7 +104,7 @@ fn table_row(row: &Row) -> String {
     let answer = Answer::of(row);
     let [members, covers, time] = counts;
     format!(
-        "<tr><td>{name}</td><td>{what}</td><td><span class=\"verdict {}\">{}</span></td>\
+        "<tr><td>{name}</td><td><span class=\"verdict {}\">{}</span></td><td>{what}</td>\
          <td class=\"number\">{members}</td><td class=\"number\">{covers}</td>\
          <td class=\"number\">{time}</td></tr>\n",
         answer.class(),
