@@ -226,7 +226,8 @@ fn a_folder_with_a_mistaken_file() {
                   rules, 0 not found, 1 mistaken file.</p>";
     assert!(index.contains(totals), "{index}");
     assert_eq!(index.matches("<tr><td>").count(), 4);
-    let row = "<tr><td>faulty</td><td><pre>";
+    let row =
+        "<tr><td>faulty</td><td><span class=\"verdict bad\">mistaken file</span></td><td><pre>";
     assert!(index.contains(row), "{index}");
     assert!(!folder.join("faulty.html").exists());
     for name in ["reverse", "wrong_delete_linked", "beyond_delete_first"] {
