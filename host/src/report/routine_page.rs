@@ -47,15 +47,16 @@ pub fn routine_page(name: &str, routine: &Routine, judged: &Judged) -> String {
         );
     }
     let warnings = judged.outlook.warnings(routine);
-    for Warning { what, meaning, run } in &warnings {
-        let figure = run.map_or(String::new(), |run| {
-            Steps::of(routine, run, None).last_figure()
-        });
-        let text = format!("<p>{}</p>\n{figure}", prose(meaning));
-        body += &banner("open", &format!("Warning: {what}"), &text);
-    }
+    let warned: String = warnings
+        .iter()
+        .map(|warning| warned(routine, warning))
+        .collect();
     let Told { verdict, below } = told(name, routine, &judged.ending);
-    body += &format!("{verdict}<p class=\"lead\">{OF_PICTURES}</p>\n{below}");
+    let boxes = match judged.ending {
+        Ending::Wrong(_) => verdict + &warned,
+        _ => warned + &verdict,
+    };
+    body += &format!("{boxes}<p class=\"lead\">{OF_PICTURES}</p>\n{below}");
     body += &other_runs(routine, judged, &warnings);
     body += &format!(
         "<p>Looking forward went over {}.</p>\n",
@@ -71,6 +72,15 @@ pub fn routine_page(name: &str, routine: &Routine, judged: &Judged) -> String {
     }
     body += &states(routine, run);
     page(&format!("{name} - Vorruda"), &body)
+}
+
+/// The box of a warning, which stands ahead of the verdict; what is wrong goes first.
+fn warned(routine: &Routine, Warning { what, meaning, run }: &Warning) -> String {
+    let figure = run.map_or(String::new(), |run| {
+        Steps::of(routine, run, None).last_figure()
+    });
+    let text = format!("<p>{}</p>\n{figure}", prose(meaning));
+    banner("open", &format!("Warning: {what}"), &text)
 }
 
 /// How a routine ends: the box at the top of the page, and what explains it.
