@@ -9,49 +9,49 @@ use native.Mathlib.Decide.{ℕ_discrete}
 use native.Mathlib.Omega.{arith}
 use lib.Dec.{eqb}
 use lib.ListN.{length, length-map, get_or}
-use Rattle.lists.specs.List.{◌∈◌, concatMap}
-use Rattle.lists.proofs.List.{mem-concatMap}
-use Rattle.lists.proofs.Reflect.{r-eq, r-or, cond_cases, cond-true, cond-false}
-use Rattle.heap.specs.Codes.{varIn}
+use Rattle.lists.specs.List.{◌∈◌, concat_map}
+use Rattle.lists.proofs.List.{mem_concat_map}
+use Rattle.lists.proofs.Reflect.{r_eq, r_or, cond_cases, cond_true, cond_false}
+use Rattle.heap.specs.Codes.{var_in}
 use Rattle.heap.specs.Heap.{Heap, IsCell, update}
 use Rattle.heap.specs.Operation.{delete, dangled, after}
 use Rattle.heap.specs.Place.{nowhere, dangling}
 use Rattle.graph.specs.Graph.{Chain, Graph, Embeds}
-use Rattle.graph.proofs.Chain.{chain-step, chain-agree}
-use Rattle.graph.proofs.Extend.{extend-unlinked}
-use Rattle.graph.proofs.Paths.{path-linked, place-off-path}
-use Rattle.graph.proofs.Proper.{Proper, IsPlace, Closed, dangling-place, distinct-places}
-use Rattle.heap.proofs.Update.{update_same, update_other, update-cases}
+use Rattle.graph.proofs.Chain.{chain_step, chain_agree}
+use Rattle.graph.proofs.Extend.{extend_unlinked}
+use Rattle.graph.proofs.Paths.{path_linked, place_off_path}
+use Rattle.graph.proofs.Proper.{Proper, IsPlace, Closed, dangling_place, distinct_places}
+use Rattle.heap.proofs.Update.{update_same, update_other, update_cases}
 use Rattle.facts.specs.Facts.{Follows}
-use Rattle.shape.specs.Placing.{setVarIn, fresh, grow}
-use Rattle.shape.specs.Shape.{Shape, varAt, link_at, size, shapeGraph, heapGraph, SatisfiesOne}
-use Rattle.facts.proofs.Meets.{meets-kept}
-use Rattle.shape.proofs.Laws.{shape-proper, link-map, link-unlinked, length-snoc, var-set-same, var-set-other}
+use Rattle.shape.specs.Placing.{set_var_in, fresh, grow}
+use Rattle.shape.specs.Shape.{Shape, var_at, link_at, size, shape_graph, heap_graph, SatisfiesOne}
+use Rattle.facts.proofs.Meets.{meets_kept}
+use Rattle.shape.proofs.Laws.{shape_proper, link_map, link_unlinked, length_snoc, var_set_same, var_set_other}
 use Rattle.run.specs.WellFormed.{WellFormed}
-use Rattle.run.proofs.WellFormed.{heap-proper, after-formed}
-use Rattle.backward.specs.Predecessors.{forget, forgetLinks, stood, varsBefore, withVars, before}
-use Rattle.backward.proofs.Both.{value-kept}
+use Rattle.run.proofs.WellFormed.{heap_proper, after_formed}
+use Rattle.backward.specs.Predecessors.{forget, forget_links, stood, vars_before, with_vars, before}
+use Rattle.backward.proofs.Both.{value_kept}
 
-pub forget-below : (k p : ℕ) → p < k → forget p < k
-forget-below k p b = cond_cases (λ q. q < k) (r-eq p dangling) (λ _. omega arith) (λ _. b)
+pub forget_below : (k p : ℕ) → p < k → forget p < k
+forget_below k p b = cond_cases (λ q. q < k) (r_eq p dangling) (λ _. omega arith) (λ _. b)
 
-forget-other : (p : ℕ) → p ≢ dangling → forget p ≡ p
-forget-other p n = cond_cases (λ q. q ≡ p) (r-eq p dangling) (λ e. absurd (n e)) (λ _. refl)
+forget_other : (p : ℕ) → p ≢ dangling → forget p ≡ p
+forget_other p n = cond_cases (λ q. q ≡ p) (r_eq p dangling) (λ e. absurd (n e)) (λ _. refl)
 
 -- what is not forgotten was not at *
-forget-kept : (p : ℕ) → forget p ≢ nowhere → (p ≢ dangling) × (forget p ≡ p)
-forget-kept p = cond_cases (λ q. q ≢ nowhere → (p ≢ dangling) × (q ≡ p)) (r-eq p dangling) (λ _ z. absurd (z refl)) (λ n z. (n, refl))
+forget_kept : (p : ℕ) → forget p ≢ nowhere → (p ≢ dangling) × (forget p ≡ p)
+forget_kept p = cond_cases (λ q. q ≢ nowhere → (p ≢ dangling) × (q ≡ p)) (r_eq p dangling) (λ _ z. absurd (z refl)) (λ n z. (n, refl))
 
 -- ---- the cases in their order: "The lowest such variable changes slowest, 'already' first"
 
-pub cases-dangling : (c : ℕ) (ps : List ℕ)
-    → varsBefore c (dangling ∷ ps) ≡ map (λ qs. dangling ∷ qs) (varsBefore c ps) ++ map (λ qs. c ∷ qs) (varsBefore c ps)
-cases-dangling c ps = ap (λ l. map (λ qs. dangling ∷ qs) (varsBefore c ps) ++ l) (append-nil (map (λ qs. c ∷ qs) (varsBefore c ps)))
+pub cases_dangling : (c : ℕ) (ps : List ℕ)
+    → vars_before c (dangling ∷ ps) ≡ map (λ qs. dangling ∷ qs) (vars_before c ps) ++ map (λ qs. c ∷ qs) (vars_before c ps)
+cases_dangling c ps = ap (λ l. map (λ qs. dangling ∷ qs) (vars_before c ps) ++ l) (append-nil (map (λ qs. c ∷ qs) (vars_before c ps)))
 
-pub cases_other : (c p : ℕ) (ps : List ℕ) → p ≢ dangling → varsBefore c (p ∷ ps) ≡ map (λ qs. p ∷ qs) (varsBefore c ps)
+pub cases_other : (c p : ℕ) (ps : List ℕ) → p ≢ dangling → vars_before c (p ∷ ps) ≡ map (λ qs. p ∷ qs) (vars_before c ps)
 cases_other c p ps n =
-    ap (concatMap (λ q. map (λ qs. q ∷ qs) (varsBefore c ps))) (cond-false (eqb p dangling) _ _ (λ t. n ((r-eq p dangling).holds t)))
-    ∙ append-nil (map (λ qs. p ∷ qs) (varsBefore c ps))
+    ap (concat_map (λ q. map (λ qs. q ∷ qs) (vars_before c ps))) (cond_false (eqb p dangling) _ _ (λ t. n ((r_eq p dangling).holds t)))
+    ∙ append-nil (map (λ qs. p ∷ qs) (vars_before c ps))
 
 -- ---- one case for all variables: `case i p` is where the one with index i, now at p, stood
 
@@ -60,12 +60,12 @@ chosen case [] = []
 chosen case (p ∷ ps) = case 0 p ∷ chosen (λ i. case (suc i)) ps
 
 -- it is listed, if that of each variable is
-chosen-listed : (c : ℕ) (case : ℕ → ℕ → ℕ) (l : List ℕ) → ((i p : ℕ) → case i p ∈ stood c p) → chosen case l ∈ varsBefore c l
+chosen_listed : (c : ℕ) (case : ℕ → ℕ → ℕ) (l : List ℕ) → ((i p : ℕ) → case i p ∈ stood c p) → chosen case l ∈ vars_before c l
 unfolding chosen
-chosen-listed c case [] h = Memᴰ.head refl
-chosen-listed c case (p ∷ ps) h =
-    mem-concatMap (λ q. map (λ qs. q ∷ qs) (varsBefore c ps)) (case 0 p ∷ chosen (λ i. case (suc i)) ps) (h 0 p)
-    (Memᴰ.map (λ qs. case 0 p ∷ qs) (chosen-listed c (λ i. case (suc i)) ps (λ i. h (suc i))))
+chosen_listed c case [] h = Memᴰ.head refl
+chosen_listed c case (p ∷ ps) h =
+    mem_concat_map (λ q. map (λ qs. q ∷ qs) (vars_before c ps)) (case 0 p ∷ chosen (λ i. case (suc i)) ps) (h 0 p)
+    (Memᴰ.map (λ qs. case 0 p ∷ qs) (chosen_listed c (λ i. case (suc i)) ps (λ i. h (suc i))))
 
 chosen_at : (case : ℕ → ℕ → ℕ) (l : List ℕ) (i : ℕ) → ((i : ℕ) → case i nowhere ≡ nowhere) → get_or (chosen case l) i nowhere ≡ case i (get_or l i nowhere)
 unfolding chosen
@@ -73,9 +73,9 @@ chosen_at case [] i z = sym (z i)
 chosen_at case (p ∷ ps) zero z = refl
 chosen_at case (p ∷ ps) (suc i) z = chosen_at (λ i. case (suc i)) ps i (λ i. z (suc i))
 
-pub step-delete : (h : Heap) (s : Shape) (f : ℕ → ℕ) → WellFormed (length s.vars) h → Closed (shapeGraph s) → (a : ℕ) → a ≢ 0 → a ≤ length s.vars
-    → IsCell h (h.var a) → Embeds (shapeGraph s) (heapGraph (after (delete a) 0 h)) f → SatisfiesOne h (before (delete a) s)
-step-delete h s f w cl a nz la l0 e = (t, listed, (f₁, record { images = e₁.images; vars = vars; paths = e₁.paths; facts = e₁.facts }))
+pub step_delete : (h : Heap) (s : Shape) (f : ℕ → ℕ) → WellFormed (length s.vars) h → Closed (shape_graph s) → (a : ℕ) → a ≢ 0 → a ≤ length s.vars
+    → IsCell h (h.var a) → Embeds (shape_graph s) (heap_graph (after (delete a) 0 h)) f → SatisfiesOne h (before (delete a) s)
+step_delete h s f w cl a nz la l0 e = (t, listed, (f₁, record { images = e₁.images; vars = vars; paths = e₁.paths; facts = e₁.facts }))
   where
     -- the cell that goes, and the fresh cell of the shape, which stands for it
     y : ℕ
@@ -91,10 +91,10 @@ step-delete h s f w cl a nz la l0 e = (t, listed, (f₁, record { images = e₁.
     h' = after (delete a) 0 h
 
     w' : WellFormed (length s.vars) h'
-    w' = after-formed (length s.vars) (delete a) 0 h (nz, la) w l0
+    w' = after_formed (length s.vars) (delete a) 0 h (nz, la) w l0
 
-    wp : Proper (heapGraph h')
-    wp = heap-proper h' w'.low
+    wp : Proper (heap_graph h')
+    wp = heap_proper h' w'.low
 
     gone : h'.link y ≡ nowhere
     gone = update_same (λ c. dangled y (h.link c)) y nowhere y refl
@@ -102,90 +102,90 @@ step-delete h s f w cl a nz la l0 e = (t, listed, (f₁, record { images = e₁.
     -- ---- cells and links, in graphs without variables: g₀ without the cell k, and g₁ with it, where a stands at k
 
     s₀ : Shape
-    s₀ = forgetLinks s
+    s₀ = forget_links s
 
     g₀ : Graph
-    g₀ = record { Cell = (shapeGraph s₀).Cell; link = link_at s₀; var = λ v. nowhere; fact = Follows s.facts }
+    g₀ = record { Cell = (shape_graph s₀).Cell; link = link_at s₀; var = λ v. nowhere; fact = Follows s.facts }
 
     g₁ : Graph
-    g₁ = record { Cell = (shapeGraph (grow s₀)).Cell; link = link_at (grow s₀); var = update (λ v. nowhere) a k; fact = Follows s.facts }
+    g₁ = record { Cell = (shape_graph (grow s₀)).Cell; link = link_at (grow s₀); var = update (λ v. nowhere) a k; fact = Follows s.facts }
 
     -- the links of s₀ are those of s that are not at *
     link₀ : (c : ℕ) → link_at s₀ c ≡ forget (link_at s c)
-    link₀ = link-map forget (forget-other nowhere (omega arith)) s.links
+    link₀ = link_map forget (forget_other nowhere (omega arith)) s.links
 
-    was-link : (c : ℕ) → link_at s₀ c ≢ nowhere → (link_at s c ≢ nowhere) × (link_at s c ≢ dangling) × (link_at s₀ c ≡ link_at s c)
-    was-link c z = let (p, q) = forget-kept (link_at s c) (λ i. z (link₀ c ∙ i)) in let o = link₀ c ∙ q in (λ i. z (o ∙ i), p, o)
+    was_link : (c : ℕ) → link_at s₀ c ≢ nowhere → (link_at s c ≢ nowhere) × (link_at s c ≢ dangling) × (link_at s₀ c ≡ link_at s c)
+    was_link c z = let (p, q) = forget_kept (link_at s c) (λ i. z (link₀ c ∙ i)) in let o = link₀ c ∙ q in (λ i. z (o ∙ i), p, o)
 
     same_size : size s₀ ≡ size s
     same_size = length-map s.links forget
 
-    up : (c : ℕ) → (shapeGraph s).Cell c → g₀.Cell c
+    up : (c : ℕ) → (shape_graph s).Cell c → g₀.Cell c
     up c (i, j) = (i, omega (arith, same_size))
 
-    back : (c : ℕ) → g₀.Cell c → (shapeGraph s).Cell c
+    back : (c : ℕ) → g₀.Cell c → (shape_graph s).Cell c
     back c (i, j) = (i, omega (arith, same_size))
 
     cl₀ : Closed g₀
     cl₀ =
         record {
-          var-place = λ v z. absurd (z refl);
-          link-place = λ c z.
-              let (n, _, o) = was-link c z in
-              subst (IsPlace g₀) (sym o) (λ i j. up (link_at s c) (cl.link-place c n i j));
-          fact-cells = λ k p q i. let (m, n) = cl.fact-cells k p q i in (up p m, up q n);
+          var_place = λ v z. absurd (z refl);
+          link_place = λ c z.
+              let (n, _, o) = was_link c z in
+              subst (IsPlace g₀) (sym o) (λ i j. up (link_at s c) (cl.link_place c n i j));
+          fact_cells = λ k p q i. let (m, n) = cl.fact_cells k p q i in (up p m, up q n);
         }
 
     -- only * goes to *
-    not-dangling : (p : ℕ) → IsPlace (shapeGraph s) p → p ≢ dangling → f p ≢ dangling
-    not-dangling p i n z =
-        n (distinct-places (shapeGraph s) (heapGraph h') f wp e.images p dangling i (dangling-place (shapeGraph s)) (z ∙ sym e.images.dangling-fixed))
+    not_dangling : (p : ℕ) → IsPlace (shape_graph s) p → p ≢ dangling → f p ≢ dangling
+    not_dangling p i n z =
+        n (distinct_places (shape_graph s) (heap_graph h') f wp e.images p dangling i (dangling_place (shape_graph s)) (z ∙ sym e.images.dangling_fixed))
 
     -- what is not at * after the delete, stood there before
     place_kept : (p : ℕ) → dangled y p ≢ dangling → dangled y p ≡ p
-    place_kept p = update-cases (λ q. q ≢ dangling → q ≡ p) (λ q. q) y dangling p (λ _ z. absurd (z refl)) (λ _ _. refl)
+    place_kept p = update_cases (λ q. q ≢ dangling → q ≡ p) (λ q. q) y dangling p (λ _ z. absurd (z refl)) (λ _ _. refl)
 
-    link-kept : (x : ℕ) → h'.link x ≢ nowhere → h'.link x ≢ dangling → h'.link x ≡ h.link x
-    link-kept x =
-        update-cases (λ q. q ≢ nowhere → q ≢ dangling → q ≡ h.link x) (λ c. dangled y (h.link c)) y nowhere x (λ _ z. absurd (z refl))
+    link_kept : (x : ℕ) → h'.link x ≢ nowhere → h'.link x ≢ dangling → h'.link x ≡ h.link x
+    link_kept x =
+        update_cases (λ q. q ≢ nowhere → q ≢ dangling → q ≡ h.link x) (λ c. dangled y (h.link c)) y nowhere x (λ _ z. absurd (z refl))
         (λ _ _. place_kept (h.link x))
 
-    cell-kept : (x : ℕ) → IsCell h' x → IsCell h x
-    cell-kept x =
-        update-cases (λ q. q ≢ nowhere → IsCell h x) (λ c. dangled y (h.link c)) y nowhere x (λ _ z. absurd (z refl))
+    cell_kept : (x : ℕ) → IsCell h' x → IsCell h x
+    cell_kept x =
+        update_cases (λ q. q ≢ nowhere → IsCell h x) (λ c. dangled y (h.link c)) y nowhere x (λ _ z. absurd (z refl))
         (λ _ z i. z (ap (dangled y) i ∙ if_neg (ℕ_discrete nowhere y) (let q = w.low y l0 in omega arith) dangling nowhere))
 
     -- no step of a path whose end is not * goes to *
     step_kept : (c : ℕ) (n : link_at s c ≢ nowhere) → link_at s c ≢ dangling → (x : ℕ) → x ∈ (f c ∷ e.paths.between c) → h'.link x ≢ dangling
-    step_kept c n n2 x m z = go (chain-step h'.link (f c) (e.paths.between c) (f (link_at s c)) (e.paths.path c n) x m)
+    step_kept c n n2 x m z = go (chain_step h'.link (f c) (e.paths.between c) (f (link_at s c)) (e.paths.path c n) x m)
       where
         go : (h'.link x ∈ e.paths.between c) ⊎ (h'.link x ≡ f (link_at s c)) → ⊥
         go (inl i) =
-            place-off-path (shapeGraph s) (heapGraph h') f wp cl e c n dangling (dangling-place (shapeGraph s))
-            (Memᴰ.cast (e.images.dangling-fixed ∙ sym z) i)
-        go (inr i) = not-dangling (link_at s c) (cl.link-place c n) n2 (sym i ∙ z)
+            place_off_path (shape_graph s) (heap_graph h') f wp cl e c n dangling (dangling_place (shape_graph s))
+            (Memᴰ.cast (e.images.dangling_fixed ∙ sym z) i)
+        go (inr i) = not_dangling (link_at s c) (cl.link_place c n) n2 (sym i ∙ z)
 
-    e₀ : Embeds g₀ (heapGraph h) f
+    e₀ : Embeds g₀ (heap_graph h) f
     e₀ =
         record {
           images = record {
-            null-fixed = e.images.null-fixed;
-            dangling-fixed = e.images.dangling-fixed;
-            cells = λ c k. cell-kept (f c) (e.images.cells c (back c k));
+            null_fixed = e.images.null_fixed;
+            dangling_fixed = e.images.dangling_fixed;
+            cells = λ c k. cell_kept (f c) (e.images.cells c (back c k));
             distinct = λ c d k l. e.images.distinct c d (back c k) (back d l);
           };
           vars = λ u z. absurd (z refl);
           paths = record {
             between = e.paths.between;
             path = λ c z.
-                let (n, n2, o) = was-link c z in
+                let (n, n2, o) = was_link c z in
                 subst (λ (p : ℕ). Chain h.link (f c) (e.paths.between c) (f p)) (sym o)
-                (chain-agree h'.link h.link (f c) (e.paths.between c) (f (link_at s c))
-                (λ x m. link-kept x (path-linked (shapeGraph s) (heapGraph h') f wp cl e c n x m) (step_kept c n n2 x m)) (e.paths.path c n));
-            no-image = λ c x d z m k. e.paths.no-image c x d (was-link c z).0 m (back d k);
-            unshared = λ c d x z z'. e.paths.unshared c d x (was-link c z).0 (was-link d z').0;
+                (chain_agree h'.link h.link (f c) (e.paths.between c) (f (link_at s c))
+                (λ x m. link_kept x (path_linked (shape_graph s) (heap_graph h') f wp cl e c n x m) (step_kept c n n2 x m)) (e.paths.path c n));
+            no_image = λ c x d z m k. e.paths.no_image c x d (was_link c z).0 m (back d k);
+            unshared = λ c d x z z'. e.paths.unshared c d x (was_link c z).0 (was_link d z').0;
           };
-          facts = λ k p q i. meets-kept h.value h'.value k (f p) (f q) (value-kept h.value y (f p)) (value-kept h.value y (f q)) (e.facts k p q i);
+          facts = λ k p q i. meets_kept h.value h'.value k (f p) (f q) (value_kept h.value y (f p)) (value_kept h.value y (f q)) (e.facts k p q i);
         }
 
     cells₁ : (c : ℕ) → g₁.Cell c → (c ≡ k) ⊎ g₀.Cell c
@@ -193,15 +193,15 @@ step-delete h s f w cl a nz la l0 e = (t, listed, (f₁, record { images = e₁.
       where
         go : Dec (c ≡ k) → (c ≡ k) ⊎ g₀.Cell c
         go (yes z) = inl z
-        go (no n) = inr (i, omega (arith, same_size, length-snoc s₀.links nowhere))
+        go (no n) = inr (i, omega (arith, same_size, length_snoc s₀.links nowhere))
 
     -- y is a cell of h, but no image and on no path
-    e₁ : Embeds g₁ (heapGraph h) f₁
+    e₁ : Embeds g₁ (heap_graph h) f₁
     e₁ =
-        extend-unlinked g₀ g₁ (heapGraph h) f k y (record { low = λ c m. m.0; linked = (shape-proper s₀).linked }) (heap-proper h w.low) cl₀ e₀
+        extend_unlinked g₀ g₁ (heap_graph h) f k y (record { low = λ c m. m.0; linked = (shape_proper s₀).linked }) (heap_proper h w.low) cl₀ e₀
         (λ (i, j). absurd (omega (arith, same_size))) (omega arith) cells₁ l0 (λ d m z. e.images.cells d (back d m) (ap h'.link z ∙ gone)) (λ _ _ _ i. i)
-        (link-unlinked s₀.links)
-        (λ c z m. path-linked (shapeGraph s) (heapGraph h') f wp cl e c (was-link c z).0 y (Memᴰ.tail m) gone) a
+        (link_unlinked s₀.links)
+        (λ c z m. path_linked (shape_graph s) (heap_graph h') f wp cl e c (was_link c z).0 y (Memᴰ.tail m) gone) a
         (update_same (λ v. nowhere) a k a refl) (λ u n. update_other (λ v. nowhere) a k u n) refl
 
     -- ---- variables: one that is now at * has the case of the deleted cell if it stood there in h, and else was at * already
@@ -209,74 +209,74 @@ step-delete h s f w cl a nz la l0 e = (t, listed, (f₁, record { images = e₁.
     case : ℕ → ℕ → ℕ
     case i p = ite (ℕ_discrete p dangling) (ite (ℕ_discrete (h.var (suc i)) y) k dangling) p
 
-    case-other : (i p : ℕ) → p ≢ dangling → case i p ≡ p
-    case-other i p n = if_neg (ℕ_discrete p dangling) n _ p
+    case_other : (i p : ℕ) → p ≢ dangling → case i p ≡ p
+    case_other i p n = if_neg (ℕ_discrete p dangling) n _ p
 
-    case-dangling : (i p : ℕ) → p ≡ dangling → case i p ≡ ite (ℕ_discrete (h.var (suc i)) y) k dangling
-    case-dangling i p z = if_pos (ℕ_discrete p dangling) z _ p
+    case_dangling : (i p : ℕ) → p ≡ dangling → case i p ≡ ite (ℕ_discrete (h.var (suc i)) y) k dangling
+    case_dangling i p z = if_pos (ℕ_discrete p dangling) z _ p
 
-    case-listed : (i p : ℕ) → case i p ∈ stood k p
-    case-listed i p =
-        cond_cases (λ l. case i p ∈ l) (r-eq p dangling)
+    case_listed : (i p : ℕ) → case i p ∈ stood k p
+    case_listed i p =
+        cond_cases (λ l. case i p ∈ l) (r_eq p dangling)
         (λ z.
-        subst (λ q. q ∈ (dangling ∷ k ∷ [])) (sym (case-dangling i p z))
-        (update-cases (λ q. q ∈ (dangling ∷ k ∷ [])) (λ _. dangling) y k (h.var (suc i)) (λ _. Memᴰ.tail (Memᴰ.head refl)) (λ _. Memᴰ.head refl)))
-        (λ n. Memᴰ.head (case-other i p n))
+        subst (λ q. q ∈ (dangling ∷ k ∷ [])) (sym (case_dangling i p z))
+        (update_cases (λ q. q ∈ (dangling ∷ k ∷ [])) (λ _. dangling) y k (h.var (suc i)) (λ _. Memᴰ.tail (Memᴰ.head refl)) (λ _. Memᴰ.head refl)))
+        (λ n. Memᴰ.head (case_other i p n))
 
     -- the variables as predecessors takes them, a at the fresh cell, and then by their cases
     vars₁ : List ℕ
-    vars₁ = setVarIn a k s.vars
+    vars₁ = set_var_in a k s.vars
 
     t : Shape
-    t = withVars (grow s₀) (chosen case vars₁)
+    t = with_vars (grow s₀) (chosen case vars₁)
 
-    var-t : (i : ℕ) → varAt t (suc i) ≡ case i (varIn vars₁ (suc i))
-    var-t i = chosen_at case vars₁ i (λ i. case-other i nowhere (omega arith))
+    var_t : (i : ℕ) → var_at t (suc i) ≡ case i (var_in vars₁ (suc i))
+    var_t i = chosen_at case vars₁ i (λ i. case_other i nowhere (omega arith))
 
     -- a is at * after the delete
-    at_a : varAt s a ≢ nowhere → varAt s a ≡ dangling
+    at_a : var_at s a ≢ nowhere → var_at s a ≡ dangling
     at_a i =
-        distinct-places (shapeGraph s) (heapGraph h') f wp e.images (varAt s a) dangling (cl.var-place a i) (dangling-place (shapeGraph s))
-        (sym (e.vars a i) ∙ if_pos (ℕ_discrete y y) refl dangling y ∙ sym e.images.dangling-fixed)
+        distinct_places (shape_graph s) (heap_graph h') f wp e.images (var_at s a) dangling (cl.var_place a i) (dangling_place (shape_graph s))
+        (sym (e.vars a i) ∙ if_pos (ℕ_discrete y y) refl dangling y ∙ sym e.images.dangling_fixed)
 
     listed : t ∈ before (delete a) s
     listed =
         subst (λ l. t ∈ l)
-        (sym (cond-true (eqb (varAt s a) nowhere || eqb (varAt s a) dangling) _ _ ((r-or (r-eq (varAt s a) nowhere) (r-eq (varAt s a) dangling)).tests at_a)))
-        (Memᴰ.map (withVars (grow s₀)) (chosen-listed k case vars₁ case-listed))
+        (sym (cond_true (eqb (var_at s a) nowhere || eqb (var_at s a) dangling) _ _ ((r_or (r_eq (var_at s a) nowhere) (r_eq (var_at s a) dangling)).tests at_a)))
+        (Memᴰ.map (with_vars (grow s₀)) (chosen_listed k case vars₁ case_listed))
 
     at_new : f₁ k ≡ y
     at_new = update_same f k y k refl
 
-    at_place : (p : ℕ) → IsPlace (shapeGraph s) p → f₁ p ≡ f p
+    at_place : (p : ℕ) → IsPlace (shape_graph s) p → f₁ p ≡ f p
     at_place p i = update_other f k y p (λ z. let (_, b) = i (omega arith) (omega arith) in absurd (omega arith))
 
     -- another variable than a, at p in s, stood in h where its case says
-    stands : (i p : ℕ) → varAt s (suc i) ≡ p → case i p ≢ nowhere → h.var (suc i) ≡ f₁ (case i p)
+    stands : (i p : ℕ) → var_at s (suc i) ≡ p → case i p ≢ nowhere → h.var (suc i) ≡ f₁ (case i p)
     stands i p z n = go (ℕ_discrete p dangling)
       where
-        now : varAt s (suc i) ≢ nowhere → dangled y (h.var (suc i)) ≡ f p
+        now : var_at s (suc i) ≢ nowhere → dangled y (h.var (suc i)) ≡ f p
         now m = e.vars (suc i) m ∙ ap f z
 
         go : Dec (p ≡ dangling) → h.var (suc i) ≡ f₁ (case i p)
         go (yes d) =
-            rw (case-dangling i p d)
-            (update-cases (λ q. h.var (suc i) ≡ f₁ q) (λ _. dangling) y k (h.var (suc i)) (λ j. j ∙ sym at_new)
+            rw (case_dangling i p d)
+            (update_cases (λ q. h.var (suc i) ≡ f₁ q) (λ _. dangling) y k (h.var (suc i)) (λ j. j ∙ sym at_new)
             (λ m.
             sym (if_neg (ℕ_discrete (h.var (suc i)) y) m dangling (h.var (suc i)))
-            ∙ now (omega arith) ∙ ap f d ∙ sym (at_place dangling (dangling-place (shapeGraph s)))))
+            ∙ now (omega arith) ∙ ap f d ∙ sym (at_place dangling (dangling_place (shape_graph s)))))
         go (no d) =
-            let q = case-other i p d in
-            let m : varAt s (suc i) ≢ nowhere = λ j. n (q ∙ sym z ∙ j) in
-            let pl : IsPlace (shapeGraph s) p = rw z at (cl.var-place (suc i) m) in
-            sym (place_kept (h.var (suc i)) (λ j. not-dangling p pl d (sym (now m) ∙ j))) ∙ now m ∙ sym (at_place p pl) ∙ ap f₁ (sym q)
+            let q = case_other i p d in
+            let m : var_at s (suc i) ≢ nowhere = λ j. n (q ∙ sym z ∙ j) in
+            let pl : IsPlace (shape_graph s) p = rw z at (cl.var_place (suc i) m) in
+            sym (place_kept (h.var (suc i)) (λ j. not_dangling p pl d (sym (now m) ∙ j))) ∙ now m ∙ sym (at_place p pl) ∙ ap f₁ (sym q)
 
-    vars : (u : ℕ) → varAt t u ≢ nowhere → h.var u ≡ f₁ (varAt t u)
-    vars zero z = w.null-fixed ∙ sym e₁.images.null-fixed
-    vars (suc i) z = rw (var-t i) (go (ℕ_discrete (suc i) a))
+    vars : (u : ℕ) → var_at t u ≢ nowhere → h.var u ≡ f₁ (var_at t u)
+    vars zero z = w.null_fixed ∙ sym e₁.images.null_fixed
+    vars (suc i) z = rw (var_t i) (go (ℕ_discrete (suc i) a))
       where
-        go : Dec (suc i ≡ a) → h.var (suc i) ≡ f₁ (case i (varIn vars₁ (suc i)))
+        go : Dec (suc i ≡ a) → h.var (suc i) ≡ f₁ (case i (var_in vars₁ (suc i)))
         go (yes o) =
-            let q : varIn vars₁ (suc i) ≡ k = ap (varIn vars₁) o ∙ var-set-same a k s.vars nz la in
-            ap h.var o ∙ sym at_new ∙ ap f₁ (sym (ap (case i) q ∙ case-other i k (omega arith)))
-        go (no o) = stands i (varIn vars₁ (suc i)) (sym (var-set-other a k s.vars (suc i) o)) (λ j. z (var-t i ∙ j))
+            let q : var_in vars₁ (suc i) ≡ k = ap (var_in vars₁) o ∙ var_set_same a k s.vars nz la in
+            ap h.var o ∙ sym at_new ∙ ap f₁ (sym (ap (case i) q ∙ case_other i k (omega arith)))
+        go (no o) = stands i (var_in vars₁ (suc i)) (sym (var_set_other a k s.vars (suc i) o)) (λ j. z (var_t i ∙ j))

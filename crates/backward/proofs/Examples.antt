@@ -2,7 +2,7 @@
 use mathlib.Core.List.{List, [], ◌∷◌}
 use mathlib.Core.Path.{◌≡◌, refl}
 use Prim.Native.Nat.{ℕ}
-use Rattle.heap.specs.Operation.{new, delete, belowValue, copy, larger, read}
+use Rattle.heap.specs.Operation.{new, delete, below_value, copy, larger, read}
 use Rattle.heap.specs.Value.{below, equals}
 use Rattle.facts.specs.Facts.{Fact}
 use Rattle.shape.specs.Shape.{Shape}
@@ -19,22 +19,22 @@ two_cases : predecessors (delete 1) (shape (2 ∷ 2 ∷ []) [] []) ≡ shape (3 
 two_cases = refl
 
 -- the new fact is added and closed
-test-adds : predecessors (belowValue 1 2) (shape (3 ∷ 4 ∷ []) (0 ∷ 0 ∷ []) [])
+test_adds : predecessors (below_value 1 2) (shape (3 ∷ 4 ∷ []) (0 ∷ 0 ∷ []) [])
     ≡ shape (3 ∷ 4 ∷ []) (0 ∷ 0 ∷ []) (fact below 3 4 ∷ fact equals 3 3 ∷ fact equals 4 4 ∷ []) ∷ []
-test-adds = refl
+test_adds = refl
 
 -- a predecessor that puts a cell below itself is dropped, before the written cell's facts go
-dropped-first : predecessors (larger 1 2) (shape (3 ∷ 4 ∷ []) (0 ∷ 0 ∷ []) (fact below 3 4 ∷ [])) ≡ []
-dropped-first = refl
+dropped_first : predecessors (larger 1 2) (shape (3 ∷ 4 ∷ []) (0 ∷ 0 ∷ []) (fact below 3 4 ∷ [])) ≡ []
+dropped_first = refl
 
 -- one cell for both operands
-copy-one-cell : predecessors (copy 1 2) (shape (3 ∷ 3 ∷ []) (0 ∷ 0 ∷ []) (fact below 3 4 ∷ []))
+copy_one_cell : predecessors (copy 1 2) (shape (3 ∷ 3 ∷ []) (0 ∷ 0 ∷ []) (fact below 3 4 ∷ []))
     ≡ shape (3 ∷ 3 ∷ []) (0 ∷ 0 ∷ []) (fact below 3 4 ∷ fact equals 3 3 ∷ fact equals 4 4 ∷ []) ∷ []
-copy-one-cell = refl
+copy_one_cell = refl
 
-larger-one-cell : predecessors (larger 1 2) (shape (3 ∷ 3 ∷ []) (0 ∷ 0 ∷ []) (fact below 3 4 ∷ []))
+larger_one_cell : predecessors (larger 1 2) (shape (3 ∷ 3 ∷ []) (0 ∷ 0 ∷ []) (fact below 3 4 ∷ []))
     ≡ shape (3 ∷ 3 ∷ []) (0 ∷ 0 ∷ []) (fact equals 3 3 ∷ fact equals 4 4 ∷ []) ∷ []
-larger-one-cell = refl
+larger_one_cell = refl
 
 -- what is known of other cells by way of the written one stays
 by_way : predecessors (read 1) (shape (4 ∷ []) (0 ∷ 0 ∷ 0 ∷ []) (fact below 3 4 ∷ fact below 4 5 ∷ []))

@@ -15,9 +15,9 @@ prepend p none = none
 prepend p (some xs) = some (p ∷ xs)
 
 -- that list, if # is met within k links. # and * have no link, so past * every place is nowhere.
-unfoldable pub cellsFrom : (ℕ → ℕ) → ℕ → ℕ → Option (List ℕ)
-cellsFrom link zero p = cond (eqb p null) (some []) none
-cellsFrom link (suc k) p = let rest = cellsFrom link k (link p) in cond (eqb p null) (some []) (prepend p rest)
+unfoldable pub cells_from : (ℕ → ℕ) → ℕ → ℕ → Option (List ℕ)
+cells_from link zero p = cond (eqb p null) (some []) none
+cells_from link (suc k) p = let rest = cells_from link k (link p) in cond (eqb p null) (some []) (prepend p rest)
 
 -- where the first of the cells is, # if there is none
 abbrev pub head_of : List ℕ → ℕ
@@ -45,8 +45,8 @@ holding xs h = record { link = chained xs h.link; var = three h.var (head_of xs)
 abbrev pub put_in : ℕ → ℕ → List ℕ → List ℕ
 put_in n x xs = take n xs ++ (x ∷ drop n xs)
 
-abbrev pub takenOut : ℕ → List ℕ → List ℕ
-takenOut i xs = take i xs ++ drop (suc i) xs
+abbrev pub taken_out : ℕ → List ℕ → List ℕ
+taken_out i xs = take i xs ++ drop (suc i) xs
 
 -- the cell numbered i from 0
 abbrev pub cell_at : ℕ → List ℕ → ℕ
@@ -60,4 +60,4 @@ abbrev pub inserted : ℕ → ℕ → List ℕ → Heap → Heap
 inserted n x xs h = holding (put_in n x xs) (write h x none)
 
 abbrev pub removed : ℕ → List ℕ → Heap → Heap
-removed i xs h = holding (takenOut i xs) (without h (cell_at i xs))
+removed i xs h = holding (taken_out i xs) (without h (cell_at i xs))

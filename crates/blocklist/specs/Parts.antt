@@ -6,31 +6,31 @@ use Rattle.stepper.specs.declared.Outcome.{Outcome}
 use Rattle.stepper.specs.declared.Outcome.TheVariants.{Moved, Blocked, Refused}
 use Rattle.stepper.specs.declared.StepRefusal.TheVariants as step-refusal
 use Rattle.stepper.specs.declared.Stepped.{Stepped}
-use Rattle.blocklist.specs.Answers.{ready, handsBack}
+use Rattle.blocklist.specs.Answers.{ready, hands_back}
 use Rattle.blocklist.specs.declared.Edit.{Edit}
 use Rattle.blocklist.specs.declared.Edit.TheVariants as edit
 use Rattle.blocklist.specs.declared.Edited.{Edited}
 use Rattle.blocklist.specs.declared.ListRefusal.{ListRefusal}
 use Rattle.blocklist.specs.declared.ListRefusal.TheVariants.{IllFormed, Full}
 
-abbrev pub refusedAs : Heap64 → ListRefusal → Edited
-refusedAs t r = handsBack t (cond (ready t) r IllFormed)
+abbrev pub refused_as : Heap64 → ListRefusal → Edited
+refused_as t r = hands_back t (cond (ready t) r IllFormed)
 
 -- what becomes of an edit by the outcome of its steps, none of which is blocked
-abbrev pub editOf : Outcome → Edit
-editOf Moved = edit.Done
-editOf Blocked = edit.Refused IllFormed
-editOf (Refused step-refusal.IllFormed) = edit.Refused IllFormed
-editOf (Refused step-refusal.BadOperation) = edit.Refused IllFormed
-editOf (Refused step-refusal.Full) = edit.Refused Full
+abbrev pub edit_of : Outcome → Edit
+edit_of Moved = edit.Done
+edit_of Blocked = edit.Refused IllFormed
+edit_of (Refused step-refusal.IllFormed) = edit.Refused IllFormed
+edit_of (Refused step-refusal.BadOperation) = edit.Refused IllFormed
+edit_of (Refused step-refusal.Full) = edit.Refused Full
 
-abbrev pub editedAs : Heap64 → Heap64 → Edit → Edited
-editedAs t after edit.Done = record { heap = after; edit = edit.Done }
-editedAs t after (edit.Refused r) = handsBack t r
+abbrev pub edited_as : Heap64 → Heap64 → Edit → Edited
+edited_as t after edit.Done = record { heap = after; edit = edit.Done }
+edited_as t after (edit.Refused r) = hands_back t r
 
 -- r is the answer to an edit whose steps are these turns
 abbrev pub EditedBy : Heap64 → List ℕ → Edited → Type 0
-EditedBy t turns r = (s : Stepped) × StepsInTurn t turns s × (r ≡ editedAs t s.heap (editOf s.outcome))
+EditedBy t turns r = (s : Stepped) × StepsInTurn t turns s × (r ≡ edited_as t s.heap (edit_of s.outcome))
 
 -- ---- the turns. The first is one of variable 3: it is refused just where there are fewer than three variables
 
@@ -42,21 +42,21 @@ abbrev pub once : ℕ → ℕ → ℕ → ℕ
 once = times 1
 
 -- 3 := null, 2 := null: all of a count, and the end of an edit
-abbrev pub restTurns : List ℕ
-restTurns = once 3 3 0 ∷ once 3 2 0 ∷ []
+abbrev pub rest_turns : List ℕ
+rest_turns = once 3 3 0 ∷ once 3 2 0 ∷ []
 
 -- new(3), 3.next := 1, 1 := 3: a cell is put in front; n times 3 := 3.next: the one after which it belongs; 2 := 3.next, 3.next := 1: the rest is held, and
 -- the ring closed; 3 := 1, 1 := 1.next, 3.next := 2: the head is where it was, and the ring open; 3 := null, 2 := null
-abbrev pub insertTurns : ℕ → List ℕ
-insertTurns n =
-    once 6 3 0 ∷ once 5 3 1 ∷ once 3 1 3 ∷ times n 4 3 3 ∷ once 4 2 3 ∷ once 5 3 1 ∷ once 3 3 1 ∷ once 4 1 1 ∷ once 5 3 2 ∷ restTurns
+abbrev pub insert_turns : ℕ → List ℕ
+insert_turns n =
+    once 6 3 0 ∷ once 5 3 1 ∷ once 3 1 3 ∷ times n 4 3 3 ∷ once 4 2 3 ∷ once 5 3 1 ∷ once 3 3 1 ∷ once 4 1 1 ∷ once 5 3 2 ∷ rest_turns
 
 -- 3 := 1, 1 := 1.next, delete(3): the first goes; 3 := null, 2 := null
-abbrev pub firstTurns : List ℕ
-firstTurns = once 3 3 1 ∷ once 4 1 1 ∷ once 7 3 0 ∷ restTurns
+abbrev pub first_turns : List ℕ
+first_turns = once 3 3 1 ∷ once 4 1 1 ∷ once 7 3 0 ∷ rest_turns
 
 -- 3 := 1; i times 3 := 3.next: the one before the cell that goes; 2 := 3.next, 3.next := 1: its link keeps the head; 1 := 2, 2 := 2.next, delete(1): the cell
 -- goes, the rest is held; 1 := 3.next, 3.next := 2: the head is where it was, and the rest linked; 3 := null, 2 := null
-abbrev pub afterTurns : ℕ → List ℕ
-afterTurns i =
-    once 3 3 1 ∷ times i 4 3 3 ∷ once 4 2 3 ∷ once 5 3 1 ∷ once 3 1 2 ∷ once 4 2 2 ∷ once 7 1 0 ∷ once 4 1 3 ∷ once 5 3 2 ∷ restTurns
+abbrev pub after_turns : ℕ → List ℕ
+after_turns i =
+    once 3 3 1 ∷ times i 4 3 3 ∷ once 4 2 3 ∷ once 5 3 1 ∷ once 3 1 2 ∷ once 4 2 2 ∷ once 7 1 0 ∷ once 4 1 3 ∷ once 5 3 2 ∷ rest_turns

@@ -5,7 +5,7 @@ use Rattle.heap.specs.Heap.{Heap}
 use Rattle.heap.specs.Operation.{dangled}
 use Rattle.heap.specs.Place.{nowhere, null}
 use Rattle.lists.specs.List.{◌∈◌}
-use Rattle.blocklist.specs.BlockList.{Lists, put_in, takenOut}
+use Rattle.blocklist.specs.BlockList.{Lists, put_in, taken_out}
 
 -- "changes nothing but variables 2 and 3; these end at #"
 pub record OnlyRests (h k : Heap) : Type 0 where
@@ -31,9 +31,9 @@ pub record PutsIn (n x : ℕ) (xs : List ℕ) (h k : Heap) : Type 0 where
 
 -- the cell x, numbered i from 0 among the cells xs, is taken out
 pub record TakesOut (i x : ℕ) (xs : List ℕ) (h k : Heap) : Type 0 where
-  pub was-in : x ∈ xs
+  pub was_in : x ∈ xs
   -- "after a remove, with the n-th gone, its cell free again and the rest in their order"
-  pub cells : Lists k.link (k.var 1) (takenOut i xs)
+  pub cells : Lists k.link (k.var 1) (taken_out i xs)
   pub free : k.link x ≡ nowhere
   pub no_value : k.value x ≡ none
   -- "the old cells that stay keep their values, other cells and variables are as they were, save what delete turns to *"

@@ -1,8 +1,8 @@
 // A list of blocks in a stepper's heap: cells from variable 1, the head. The heap is read here, and changed by the stepper's steps alone, which walk
 // with variables 2 and 3.
 ghost use Rattle.std.specs.Prelude.{◌≡◌, ◌≤◌};
-ghost use Rattle.blocklist.specs.Answers.{refusalNumber, blocks, lengthTold, Counts, Inserts, Removes};
-ghost use Rattle.blocklist.specs.Parts.{refusedAs, editOf, EditedBy, insertTurns, firstTurns, afterTurns};
+ghost use Rattle.blocklist.specs.Answers.{refusal_number, blocks, length_told, Counts, Inserts, Removes};
+ghost use Rattle.blocklist.specs.Parts.{refused_as, edit_of, EditedBy, insert_turns, first_turns, after_turns};
 
 use place::{FIRST_CELL, NULL};
 use stepper::{Heap64, Outcome, StepRefusal};
@@ -46,7 +46,7 @@ pub struct Edited {
 
 // What a host is told.
 pub fn refusal_number(refusal: ListRefusal) -> u32
-    ensures { result ≡ refusalNumber refusal }
+    ensures { result ≡ refusal_number refusal }
 {
     match refusal {
         ListRefusal::IllFormed => 13,
@@ -58,7 +58,7 @@ pub fn refusal_number(refusal: ListRefusal) -> u32
 
 // How many cells are met from the head, in any heap: links are followed up to #, at most 64.
 fn length_of(heap: Heap64) -> Length
-    ensures { result ≡ lengthTold (blocks heap) }
+    ensures { result ≡ length_told (blocks heap) }
 {
     let mut code = heap.vars[0].code;
     let mut n: u32 = 0;
@@ -84,7 +84,7 @@ fn length_of(heap: Heap64) -> Length
 
 // The heap handed back with a refusal, or with 13 where that comes first: 3 = 3 is refused just where the heap is ill formed or has no third variable.
 fn refused(heap: Heap64, refusal: ListRefusal) -> Edited
-    ensures { result ≡ refusedAs heap refusal }
+    ensures { result ≡ refused_as heap refusal }
 {
     let tested = heap.step(1, 3, 3, 0);
     let outcome = tested.outcome;
@@ -106,7 +106,7 @@ fn refused(heap: Heap64, refusal: ListRefusal) -> Edited
 
 // What became of an edit by the outcome of its steps. None of them is blocked.
 fn edit_of(outcome: Outcome) -> Edit
-    ensures { result ≡ editOf outcome }
+    ensures { result ≡ edit_of outcome }
 {
     match outcome {
         Outcome::Moved => Edit::Done,
@@ -177,7 +177,7 @@ pub fn count(heap: Heap64) -> Counted
 // A cell is put in after the n-th.
 fn put_in(heap: Heap64, n: u32) -> Edited
     requires { n ≤ 64 }
-    ensures { EditedBy heap (insertTurns n) result }
+    ensures { EditedBy heap (insert_turns n) result }
 {
     let turns = [
         0x1630, // new(3)
@@ -211,7 +211,7 @@ pub fn insert(heap: Heap64, n: u32) -> Edited
 
 // The first cell goes.
 fn take_first(heap: Heap64) -> Edited
-    ensures { EditedBy heap firstTurns result }
+    ensures { EditedBy heap first_turns result }
 {
     let turns = [
         0x1331, // 3 := 1
@@ -226,7 +226,7 @@ fn take_first(heap: Heap64) -> Edited
 // The cell after the one i links from the first goes.
 fn take_after(heap: Heap64, i: u32) -> Edited
     requires { i ≤ 64 }
-    ensures { EditedBy heap (afterTurns i) result }
+    ensures { EditedBy heap (after_turns i) result }
 {
     let turns = [
         0x1331, // 3 := 1

@@ -1,16 +1,16 @@
 // The calls for C that carry files between version 1 and 2: include/vorruda.h declares them.
 ghost use Rattle.std.specs.Prelude.{◌≡◌, length};
 ghost use Rattle.number.specs.CallResult.{lent};
-ghost use Rattle.carrying.specs.Answers.{numberTold, valueTold, fileTold, toldOfJob, toldOfCertificate};
+ghost use Rattle.carrying.specs.Answers.{number_told, value_told, file_told, told_of_job, told_of_certificate};
 ghost use Rattle.versions.specs.Carries.{AlikeIn};
-ghost use Rattle.versions.specs.Carry.{carryJob, carryCertificate, jobResult, certificateResult, outputAfter};
+ghost use Rattle.versions.specs.Carry.{carry_job, carry_certificate, job_result, certificate_result, output_after};
 
 use carrying::{CarryAnswer, Way, carry_certificate, carry_job};
 use lending::lend;
 
 // Document 02's number of an answer.
 fn number_of(answer: CarryAnswer) -> u32
-    ensures { result ≡ numberTold answer }
+    ensures { result ≡ number_told answer }
 {
     match answer {
         CarryAnswer::Filled(_) => 0,
@@ -24,7 +24,7 @@ fn number_of(answer: CarryAnswer) -> u32
 
 // The bytes filled, the place or the length needed.
 fn value_of(answer: CarryAnswer) -> u64
-    ensures { result ≡ valueTold answer }
+    ensures { result ≡ value_told answer }
 {
     match answer {
         CarryAnswer::Filled(k) => k as u64,
@@ -38,7 +38,7 @@ fn value_of(answer: CarryAnswer) -> u64
 
 // 1 where the place is in the certificate, else 0.
 fn file_of(answer: CarryAnswer) -> u64
-    ensures { result ≡ fileTold answer }
+    ensures { result ≡ file_told answer }
 {
     match answer {
         CarryAnswer::Filled(_) => 0,
@@ -52,8 +52,8 @@ fn file_of(answer: CarryAnswer) -> u64
 
 // Hands the value of an answer on a job to the host; gives its number.
 fn tell_job(answer: CarryAnswer, out: &mut [u64]) -> u32
-    ensures number { result ≡ (toldOfJob answer).code }
-    ensures values { out.new ≡ lent (toldOfJob answer).values out.old }
+    ensures number { result ≡ (told_of_job answer).code }
+    ensures values { out.new ≡ lent (told_of_job answer).values out.old }
 {
     let values = [value_of(answer)];
     lend(&values, out);
@@ -62,8 +62,8 @@ fn tell_job(answer: CarryAnswer, out: &mut [u64]) -> u32
 
 // The same of an answer on a certificate, with the file that the place is in.
 fn tell_certificate(answer: CarryAnswer, out: &mut [u64]) -> u32
-    ensures number { result ≡ (toldOfCertificate answer).code }
-    ensures values { out.new ≡ lent (toldOfCertificate answer).values out.old }
+    ensures number { result ≡ (told_of_certificate answer).code }
+    ensures values { out.new ≡ lent (told_of_certificate answer).values out.old }
 {
     let values = [value_of(answer), file_of(answer)];
     lend(&values, out);
@@ -73,9 +73,9 @@ fn tell_certificate(answer: CarryAnswer, out: &mut [u64]) -> u32
 // A job of version 1 written in version 2.
 #[unsafe(no_mangle)]
 pub extern "C" fn vorruda_job_up(job: &[u8], bytes: &mut [u8], out: &mut [u64]) -> u32
-    ensures number { result ≡ (jobResult (carryJob 1 2 job.now (length bytes.old))).code }
-    ensures bytes { bytes.new ≡ outputAfter (carryJob 1 2 job.now (length bytes.old)) bytes.old }
-    ensures values { out.new ≡ lent (jobResult (carryJob 1 2 job.now (length bytes.old))).values out.old }
+    ensures number { result ≡ (job_result (carry_job 1 2 job.now (length bytes.old))).code }
+    ensures bytes { bytes.new ≡ output_after (carry_job 1 2 job.now (length bytes.old)) bytes.old }
+    ensures values { out.new ≡ lent (job_result (carry_job 1 2 job.now (length bytes.old))).values out.old }
 {
     let answer = carry_job(job, Way::Up, bytes);
     tell_job(answer, out)
@@ -84,9 +84,9 @@ pub extern "C" fn vorruda_job_up(job: &[u8], bytes: &mut [u8], out: &mut [u64]) 
 // A job of version 2 written in version 1.
 #[unsafe(no_mangle)]
 pub extern "C" fn vorruda_job_down(job: &[u8], bytes: &mut [u8], out: &mut [u64]) -> u32
-    ensures number { result ≡ (jobResult (carryJob 2 1 job.now (length bytes.old))).code }
-    ensures bytes { bytes.new ≡ outputAfter (carryJob 2 1 job.now (length bytes.old)) bytes.old }
-    ensures values { out.new ≡ lent (jobResult (carryJob 2 1 job.now (length bytes.old))).values out.old }
+    ensures number { result ≡ (job_result (carry_job 2 1 job.now (length bytes.old))).code }
+    ensures bytes { bytes.new ≡ output_after (carry_job 2 1 job.now (length bytes.old)) bytes.old }
+    ensures values { out.new ≡ lent (job_result (carry_job 2 1 job.now (length bytes.old))).values out.old }
 {
     let answer = carry_job(job, Way::Down, bytes);
     tell_job(answer, out)
@@ -100,9 +100,9 @@ pub extern "C" fn vorruda_certificate_up(
     bytes: &mut [u8],
     out: &mut [u64],
 ) -> u32
-    ensures number { result ≡ (certificateResult (carryCertificate 1 2 job.now cert.now (length bytes.old))).code }
-    ensures bytes { bytes.new ≡ outputAfter (carryCertificate 1 2 job.now cert.now (length bytes.old)) bytes.old }
-    ensures values { out.new ≡ lent (certificateResult (carryCertificate 1 2 job.now cert.now (length bytes.old))).values out.old }
+    ensures number { result ≡ (certificate_result (carry_certificate 1 2 job.now cert.now (length bytes.old))).code }
+    ensures bytes { bytes.new ≡ output_after (carry_certificate 1 2 job.now cert.now (length bytes.old)) bytes.old }
+    ensures values { out.new ≡ lent (certificate_result (carry_certificate 1 2 job.now cert.now (length bytes.old))).values out.old }
     ensures accepted { result ≡ 0 → AlikeIn 1 2 job.now cert.now bytes.old bytes.new }
 {
     let answer = carry_certificate(job, cert, Way::Up, bytes);
@@ -117,9 +117,9 @@ pub extern "C" fn vorruda_certificate_down(
     bytes: &mut [u8],
     out: &mut [u64],
 ) -> u32
-    ensures number { result ≡ (certificateResult (carryCertificate 2 1 job.now cert.now (length bytes.old))).code }
-    ensures bytes { bytes.new ≡ outputAfter (carryCertificate 2 1 job.now cert.now (length bytes.old)) bytes.old }
-    ensures values { out.new ≡ lent (certificateResult (carryCertificate 2 1 job.now cert.now (length bytes.old))).values out.old }
+    ensures number { result ≡ (certificate_result (carry_certificate 2 1 job.now cert.now (length bytes.old))).code }
+    ensures bytes { bytes.new ≡ output_after (carry_certificate 2 1 job.now cert.now (length bytes.old)) bytes.old }
+    ensures values { out.new ≡ lent (certificate_result (carry_certificate 2 1 job.now cert.now (length bytes.old))).values out.old }
     ensures accepted { result ≡ 0 → AlikeIn 2 1 job.now cert.now bytes.old bytes.new }
 {
     let answer = carry_certificate(job, cert, Way::Down, bytes);

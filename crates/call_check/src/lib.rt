@@ -4,7 +4,7 @@ ghost use Rattle.format.specs.Conditions.{Conditions, Acceptable};
 ghost use Rattle.format.specs.JobBytes.{SafeBytes};
 ghost use Rattle.format.specs.Verdict.{Counts, accepted, verdict};
 ghost use Rattle.number.specs.CallResult.{lent};
-ghost use Rattle.verdict.specs.Verdict.{verdictResult};
+ghost use Rattle.verdict.specs.Verdict.{verdict_result};
 ghost use Rattle.call_check.specs.Links.{LinksBounded};
 
 use telling::{tell, verdict_number};
@@ -13,7 +13,7 @@ use telling::{tell, verdict_number};
 // run guarantee.
 #[unsafe(no_mangle)]
 pub extern "C" fn vorruda_check(job: &[u8], cert: &[u8]) -> u32
-    ensures number { result ≡ (verdictResult (verdict job.now cert.now)).code }
+    ensures number { result ≡ (verdict_result (verdict job.now cert.now)).code }
     ensures accepted { (result ≡ 0) ↔ Acceptable job.now cert.now }
     ensures safe { result ≡ 0 → SafeBytes job.now }
 {
@@ -24,9 +24,9 @@ pub extern "C" fn vorruda_check(job: &[u8], cert: &[u8]) -> u32
 // Of an accepted pair the links told are at most 14 for each cover.
 #[unsafe(no_mangle)]
 pub extern "C" fn vorruda_verdict(job: &[u8], cert: &[u8], out: &mut [u64]) -> u32
-    ensures number { result ≡ (verdictResult (verdict job.now cert.now)).code }
-    ensures values { out.new ≡ lent (verdictResult (verdict job.now cert.now)).values out.old }
-    ensures counts { (c : Counts) → Conditions job.now cert.now c → out.new ≡ lent (verdictResult (accepted c)).values out.old }
+    ensures number { result ≡ (verdict_result (verdict job.now cert.now)).code }
+    ensures values { out.new ≡ lent (verdict_result (verdict job.now cert.now)).values out.old }
+    ensures counts { (c : Counts) → Conditions job.now cert.now c → out.new ≡ lent (verdict_result (accepted c)).values out.old }
     ensures links { LinksBounded result out.old out.new }
     ensures accepted { (result ≡ 0) ↔ Acceptable job.now cert.now }
     ensures safe { result ≡ 0 → SafeBytes job.now }

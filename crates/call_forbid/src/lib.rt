@@ -1,16 +1,16 @@
 // The calls for C that write a job again with the usual forbidden shapes: include/vorruda.h declares them.
 ghost use Rattle.std.specs.Prelude.{◌≡◌, length};
 ghost use Rattle.number.specs.CallResult.{lent};
-ghost use Rattle.forbidden.specs.Written.{not-list, lost-block, bad-steps, rewrite, rewriteResult, outputAfter, ReadyIn};
-ghost use Rattle.forbidding.specs.Answers.{answerResult};
+ghost use Rattle.forbidden.specs.Written.{not_list, lost_block, bad_steps, rewrite, rewrite_result, output_after, ReadyIn};
+ghost use Rattle.forbidding.specs.Answers.{answer_result};
 
 use forbidding::{Asked, Rewritten};
 use lending::lend;
 
 // Hands the value of an answer to the host; gives its number.
 fn tell(answer: Rewritten, out: &mut [u64]) -> u32
-    ensures code { result ≡ (answerResult answer).code }
-    ensures values { out.new ≡ lent (answerResult answer).values out.old }
+    ensures code { result ≡ (answer_result answer).code }
+    ensures values { out.new ≡ lent (answer_result answer).values out.old }
 {
     match answer {
         Rewritten::Filled(k) => {
@@ -50,10 +50,10 @@ pub extern "C" fn vorruda_forbid_not_list(
     bytes: &mut [u8],
     out: &mut [u64],
 ) -> u32
-    ensures code { result ≡ (rewriteResult (rewrite job.now (not-list variable state) (length bytes.old))).code }
-    ensures bytes { bytes.new ≡ outputAfter (rewrite job.now (not-list variable state) (length bytes.old)) bytes.old }
-    ensures values { out.new ≡ lent (rewriteResult (rewrite job.now (not-list variable state) (length bytes.old))).values out.old }
-    ensures ready { result ≡ 0 → ReadyIn job.now (not-list variable state) bytes.old bytes.new }
+    ensures code { result ≡ (rewrite_result (rewrite job.now (not_list variable state) (length bytes.old))).code }
+    ensures bytes { bytes.new ≡ output_after (rewrite job.now (not_list variable state) (length bytes.old)) bytes.old }
+    ensures values { out.new ≡ lent (rewrite_result (rewrite job.now (not_list variable state) (length bytes.old))).values out.old }
+    ensures ready { result ≡ 0 → ReadyIn job.now (not_list variable state) bytes.old bytes.new }
 {
     let asked = Asked::NotList(variable as usize, state as usize);
     let answer = forbidding::rewrite_job(job, asked, bytes);
@@ -69,10 +69,10 @@ pub extern "C" fn vorruda_forbid_lost_block(
     bytes: &mut [u8],
     out: &mut [u64],
 ) -> u32
-    ensures code { result ≡ (rewriteResult (rewrite job.now (lost-block variable state) (length bytes.old))).code }
-    ensures bytes { bytes.new ≡ outputAfter (rewrite job.now (lost-block variable state) (length bytes.old)) bytes.old }
-    ensures values { out.new ≡ lent (rewriteResult (rewrite job.now (lost-block variable state) (length bytes.old))).values out.old }
-    ensures ready { result ≡ 0 → ReadyIn job.now (lost-block variable state) bytes.old bytes.new }
+    ensures code { result ≡ (rewrite_result (rewrite job.now (lost_block variable state) (length bytes.old))).code }
+    ensures bytes { bytes.new ≡ output_after (rewrite job.now (lost_block variable state) (length bytes.old)) bytes.old }
+    ensures values { out.new ≡ lent (rewrite_result (rewrite job.now (lost_block variable state) (length bytes.old))).values out.old }
+    ensures ready { result ≡ 0 → ReadyIn job.now (lost_block variable state) bytes.old bytes.new }
 {
     let asked = Asked::LostBlock(variable as usize, state as usize);
     let answer = forbidding::rewrite_job(job, asked, bytes);
@@ -82,10 +82,10 @@ pub extern "C" fn vorruda_forbid_lost_block(
 // The same with "step through null" and "step through dangling", for all transitions.
 #[unsafe(no_mangle)]
 pub extern "C" fn vorruda_forbid_bad_steps(job: &[u8], bytes: &mut [u8], out: &mut [u64]) -> u32
-    ensures code { result ≡ (rewriteResult (rewrite job.now bad-steps (length bytes.old))).code }
-    ensures bytes { bytes.new ≡ outputAfter (rewrite job.now bad-steps (length bytes.old)) bytes.old }
-    ensures values { out.new ≡ lent (rewriteResult (rewrite job.now bad-steps (length bytes.old))).values out.old }
-    ensures ready { result ≡ 0 → ReadyIn job.now bad-steps bytes.old bytes.new }
+    ensures code { result ≡ (rewrite_result (rewrite job.now bad_steps (length bytes.old))).code }
+    ensures bytes { bytes.new ≡ output_after (rewrite job.now bad_steps (length bytes.old)) bytes.old }
+    ensures values { out.new ≡ lent (rewrite_result (rewrite job.now bad_steps (length bytes.old))).values out.old }
+    ensures ready { result ≡ 0 → ReadyIn job.now bad_steps bytes.old bytes.new }
 {
     let answer = forbidding::rewrite_job(job, Asked::BadSteps, bytes);
     tell(answer, out)

@@ -2,7 +2,7 @@
 ghost use Rattle.std.specs.Prelude.{◌↔◌, ◌≡◌};
 ghost use Rattle.joining.specs.Conditions.{JoinMeans, SafeJoined};
 ghost use Rattle.joining.specs.Join.{Joining, join as joinDue};
-ghost use Rattle.joint.specs.Answer.{joiningOf, joinResult, Joinable};
+ghost use Rattle.joint.specs.Answer.{joining_of, join_result, Joinable};
 ghost use Rattle.number.specs.CallResult.{lent};
 
 use joint::{JoinAnswer, join};
@@ -11,7 +11,7 @@ use lending::lend;
 // Tells a host the answer's number and, in an array that it lends, both sets of counts; or the pair, the place, the broken rule, its name and zeros;
 // beside 24 to 27 zeros.
 fn tell(answer: JoinAnswer, out: &mut [u64]) -> u32
-    ensures { (result ≡ (joinResult (joiningOf answer)).code) × (out.new ≡ lent (joinResult (joiningOf answer)).values out.old) }
+    ensures { (result ≡ (join_result (joining_of answer)).code) × (out.new ≡ lent (join_result (joining_of answer)).values out.old) }
 {
     match answer {
         JoinAnswer::Both(a, b) => {
@@ -54,9 +54,9 @@ pub extern "C" fn vorruda_join(
     state: u32,
     out: &mut [u64],
 ) -> u32
-    ensures number { result ≡ (joinResult (joinDue job1.now cert1.now job2.now cert2.now state)).code }
-    ensures values { out.new ≡ lent (joinResult (joinDue job1.now cert1.now job2.now cert2.now state)).values out.old }
-    ensures means { (j : Joining) → JoinMeans job1.now cert1.now job2.now cert2.now state j → (result ≡ (joinResult j).code) × (out.new ≡ lent (joinResult j).values out.old) }
+    ensures number { result ≡ (join_result (joinDue job1.now cert1.now job2.now cert2.now state)).code }
+    ensures values { out.new ≡ lent (join_result (joinDue job1.now cert1.now job2.now cert2.now state)).values out.old }
+    ensures means { (j : Joining) → JoinMeans job1.now cert1.now job2.now cert2.now state j → (result ≡ (join_result j).code) × (out.new ≡ lent (join_result j).values out.old) }
     ensures accepted { (result ≡ 0) ↔ Joinable job1.now cert1.now job2.now cert2.now state }
     ensures safe { result ≡ 0 → SafeJoined job1.now job2.now state }
 {

@@ -1,11 +1,11 @@
 // The calls for C of the tally: include/vorruda.h declares them.
 ghost use Rattle.std.specs.Prelude.{◌≡◌, length};
-ghost use Rattle.call_tally.specs.Answers.{tallyResult, reportResult, reportOutput};
+ghost use Rattle.call_tally.specs.Answers.{tally_result, report_result, report_output};
 ghost use Rattle.format.specs.Conditions.{Acceptable};
 ghost use Rattle.format.specs.JobBytes.{SafeBytes};
 ghost use Rattle.format.specs.Verdict.{verdict};
 ghost use Rattle.number.specs.CallResult.{lent};
-ghost use Rattle.tally.specs.Numbers.{numbersAfter};
+ghost use Rattle.tally.specs.Numbers.{numbers_after};
 
 use lending::lend;
 use sheet::report;
@@ -20,9 +20,9 @@ pub extern "C" fn vorruda_tally_verdict(
     tally: &mut [u32],
     out: &mut [u64],
 ) -> u32
-    ensures number { result ≡ (tallyResult (verdict job.now cert.now) tally.old).code }
-    ensures tally { tally.new ≡ numbersAfter (verdict job.now cert.now) tally.old }
-    ensures values { out.new ≡ lent (tallyResult (verdict job.now cert.now) tally.old).values out.old }
+    ensures number { result ≡ (tally_result (verdict job.now cert.now) tally.old).code }
+    ensures tally { tally.new ≡ numbers_after (verdict job.now cert.now) tally.old }
+    ensures values { out.new ≡ lent (tally_result (verdict job.now cert.now) tally.old).values out.old }
     ensures full { result ≡ 23 → tally.new ≡ tally.old }
     ensures accepted { result ≡ 0 → Acceptable job.now cert.now }
     ensures safe { result ≡ 0 → SafeBytes job.now }
@@ -43,9 +43,9 @@ pub extern "C" fn vorruda_tally_verdict(
 // Writes the release sheet of a tally.
 #[unsafe(no_mangle)]
 pub extern "C" fn vorruda_tally_report(tally: &[u32], text: &mut [u8], out: &mut [u64]) -> u32
-    ensures number { result ≡ (reportResult tally.now (length text.old)).code }
-    ensures text { text.new ≡ reportOutput tally.now text.old }
-    ensures values { out.new ≡ lent (reportResult tally.now (length text.old)).values out.old }
+    ensures number { result ≡ (report_result tally.now (length text.old)).code }
+    ensures text { text.new ≡ report_output tally.now text.old }
+    ensures values { out.new ≡ lent (report_result tally.now (length text.old)).values out.old }
 {
     if tally.len() < NUMBERS {
         lend(&[35, 1], out);

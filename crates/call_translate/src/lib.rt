@@ -2,16 +2,16 @@
 ghost use Rattle.std.specs.Prelude.{◌≡◌, length};
 ghost use Rattle.number.specs.CallResult.{lent};
 ghost use Rattle.listing.specs.Promise.{PromisedIn};
-ghost use Rattle.listing.specs.Written.{translate, translateResult, bytesAfter, marksAfter};
-ghost use Rattle.translating.specs.Work.{faultNumber};
-ghost use Rattle.translating.specs.Answer.{answerResult};
+ghost use Rattle.listing.specs.Written.{translate, translate_result, bytes_after, marks_after};
+ghost use Rattle.translating.specs.Work.{fault_number};
+ghost use Rattle.translating.specs.Answer.{answer_result};
 
 use lending::lend;
 use translating::{Fault, Translation};
 
 // The number of a refusal at a line.
 fn fault_number(fault: Fault) -> u32
-    ensures { result ≡ faultNumber fault }
+    ensures { result ≡ fault_number fault }
 {
     match fault {
         Fault::Grammar => 17,
@@ -22,8 +22,8 @@ fn fault_number(fault: Fault) -> u32
 
 // Hands the value of an answer to the host; gives its number.
 fn tell(answer: Translation, out: &mut [u64]) -> u32
-    ensures code { result ≡ (answerResult answer).code }
-    ensures values { out.new ≡ lent (answerResult answer).values out.old }
+    ensures code { result ≡ (answer_result answer).code }
+    ensures values { out.new ≡ lent (answer_result answer).values out.old }
 {
     match answer {
         Translation::Filled(k) => {
@@ -52,10 +52,10 @@ pub extern "C" fn vorruda_translate(
     marks: &mut [u8],
     out: &mut [u64],
 ) -> u32
-    ensures code { result ≡ (translateResult (translate text.now (length bytes.old))).code }
-    ensures bytes { bytes.new ≡ bytesAfter (translate text.now (length bytes.old)) bytes.old }
-    ensures marks { marks.new ≡ marksAfter (translate text.now (length bytes.old)) marks.old }
-    ensures values { out.new ≡ lent (translateResult (translate text.now (length bytes.old))).values out.old }
+    ensures code { result ≡ (translate_result (translate text.now (length bytes.old))).code }
+    ensures bytes { bytes.new ≡ bytes_after (translate text.now (length bytes.old)) bytes.old }
+    ensures marks { marks.new ≡ marks_after (translate text.now (length bytes.old)) marks.old }
+    ensures values { out.new ≡ lent (translate_result (translate text.now (length bytes.old))).values out.old }
     ensures promise { result ≡ 0 → PromisedIn text.now bytes.old marks.old bytes.new marks.new }
 {
     let answer = translating::translate(text, bytes, marks);

@@ -7,43 +7,43 @@ use native.Mathlib.Decide.{ℕ_discrete}
 use native.Mathlib.Omega.{arith}
 use borrow.Author.Tests.{eq-eqb, ne_eqb}
 use lib.ListN.{length, drop, drop_of_length-le}
-use Rattle.lists.specs.List.{Every, concatMap}
+use Rattle.lists.specs.List.{Every, concat_map}
 use Rattle.number.specs.NumberList.{encode}
 use Rattle.number.specs.Range.{AtMost}
-use Rattle.number.proofs.Encoding.{encode-append}
+use Rattle.number.proofs.Encoding.{encode_append}
 use Rattle.number.proofs.RoundTrip.{stands}
 use Rattle.format.specs.Conditions.{MembersInRange}
 use Rattle.format.specs.JobBytes.{Between, LocatedInRange, JobInRange}
-use Rattle.format.specs.JobNumbers.{JobFile, locatedNumbers}
-use Rattle.format.specs.Numbers.{memberNumbers, coverNumbers, certificateNumbers}
-use Rattle.format.specs.Parser.{parsed, certificateBuffer}
-use Rattle.format.proofs.Files.{located-exact}
-use Rattle.format.proofs.Parsing.{many-exact}
-use Rattle.format.proofs.Sequence.{Reads, more, one, reads_first, reads-split, reads-inside, decode-reads}
-use Rattle.layout.specs.Entries.{versionOf, EntriesIn}
+use Rattle.format.specs.JobNumbers.{JobFile, located_numbers}
+use Rattle.format.specs.Numbers.{member_numbers, cover_numbers, certificate_numbers}
+use Rattle.format.specs.Parser.{parsed, certificate_buffer}
+use Rattle.format.proofs.Files.{located_exact}
+use Rattle.format.proofs.Parsing.{many_exact}
+use Rattle.format.proofs.Sequence.{Reads, more, one, reads_first, reads_split, reads_inside, decode_reads}
+use Rattle.layout.specs.Entries.{version_of, EntriesIn}
 use Rattle.reader.proofs.Bytes.{single}
-use Rattle.reader.proofs.Standing.{entries-read}
-use Rattle.versions.specs.Carry.{CertificateFile, readCertificateOf, newInMembers, Carried, sized, unlessNew}
-use Rattle.versions.proofs.New.{none-in-members, up-members}
-use Rattle.versions.proofs.Reading.{certificate-of-sound}
-use Rattle.carrying.specs.Answers.{placeAfter, unlessFound}
-use Rattle.carrying.specs.Bytes.{newCount, membersPlace, fileCarried, PlainEntries}
-use Rattle.carrying.proofs.Loops.{no-count}
-use Rattle.carrying.proofs.Numbers.{reads-encode, counts-are, file-carried}
+use Rattle.reader.proofs.Standing.{entries_read}
+use Rattle.versions.specs.Carry.{CertificateFile, read_certificate_of, new_in_members, Carried, sized, unless_new}
+use Rattle.versions.proofs.New.{none_in_members, up_members}
+use Rattle.versions.proofs.Reading.{certificate_of_sound}
+use Rattle.carrying.specs.Answers.{place_after, unless_found}
+use Rattle.carrying.specs.Bytes.{new_count, members_place, file_carried, PlainEntries}
+use Rattle.carrying.proofs.Loops.{no_count}
+use Rattle.carrying.proofs.Numbers.{reads_encode, counts_are, file_carried_lem}
 
 -- where the parts of a certificate of version v stand
 pub record Parts (v : ℕ) (variables states : ℕ) (cert : List ℕ) (c : CertificateFile) : Type 0 where
   pub number : Between 1 512 (length c.members)
-  pub in-range : Every (LocatedInRange v variables states) c.members
-  pub ahead : Reads cert 0 (v ∷ length c.members ∷ []) (membersPlace (length c.members))
+  pub in_range : Every (LocatedInRange v variables states) c.members
+  pub ahead : Reads cert 0 (v ∷ length c.members ∷ []) (members_place (length c.members))
   pub after : ℕ
-  pub members : Reads cert (membersPlace (length c.members)) (concatMap (locatedNumbers v) c.members) after
+  pub members : Reads cert (members_place (length c.members)) (concat_map (located_numbers v) c.members) after
   pub last : ℕ
-  pub covers : Reads cert after (concatMap coverNumbers c.covers) last
+  pub covers : Reads cert after (concat_map cover_numbers c.covers) last
   pub whole : length cert ≤ last
 
 module _ (f : JobFile) (ok : JobInRange f) (cert : List ℕ) (limit : AtMost 255 cert) (c : CertificateFile) (next : ℕ)
-    (e : readCertificateOf f.version (certificateBuffer cert) f 0 ≡ parsed c next) where
+    (e : read_certificate_of f.version (certificate_buffer cert) f 0 ≡ parsed c next) where
   abbrev variables : ℕ
   variables = f.job.variables
 
@@ -54,24 +54,24 @@ module _ (f : JobFile) (ok : JobInRange f) (cert : List ℕ) (limit : AtMost 255
   count = length c.members
 
   abbrev first : ℕ
-  first = membersPlace count
+  first = members_place count
 
-  parts : Parts f.version variables states cert c × (versionOf cert ≡ f.version)
+  parts : Parts f.version variables states cert c × (version_of cert ≡ f.version)
   parts =
-      let i = certificate-of-sound f cert c next e in
+      let i = certificate_of_sound f cert c next e in
       let ms = c.members in
-      let (last, r, whole) = decode-reads cert (certificateNumbers f.version ms c.covers) i.reads in
-      let (after, rm, rc) = reads-split (memberNumbers f.version ms) r in
+      let (last, r, whole) = decode_reads cert (certificate_numbers f.version ms c.covers) i.reads in
+      let (after, rm, rc) = reads_split (member_numbers f.version ms) r in
       let (a, g₁, r₁) = reads_first rm in
       let (b, g₂, r₂) = reads_first r₁ in
       let t = single cert 0 f.version a g₁ (omega (arith, ok.version.1)) in
       let there : b ≡ first = omega (arith, (stands cert a count b g₂ limit).after, t.after) in (
         record {
-          number = i.members-range.number;
-          in-range = i.members-range.members;
+          number = i.members_range.number;
+          in_range = i.members_range.members;
           ahead = subst (Reads cert 0 (f.version ∷ count ∷ [])) there (more g₁ (one g₂));
           after = after;
-          members = subst (λ (p : ℕ). Reads cert p (concatMap (locatedNumbers f.version) ms) after) there r₂;
+          members = subst (λ (p : ℕ). Reads cert p (concat_map (located_numbers f.version) ms) after) there r₂;
           last = last;
           covers = rc;
           whole = whole;
@@ -79,79 +79,79 @@ module _ (f : JobFile) (ok : JobInRange f) (cert : List ℕ) (limit : AtMost 255
         sym t.value,
       )
 
-  pub version-is : versionOf cert ≡ f.version
-  version-is = parts.1
+  pub version_is : version_of cert ≡ f.version
+  version_is = parts.1
 
-  p : Parts (versionOf cert) variables states cert c
-  p = subst (λ (v : ℕ). Parts v variables states cert c) (sym version-is) parts.0
+  p : Parts (version_of cert) variables states cert c
+  p = subst (λ (v : ℕ). Parts v variables states cert c) (sym version_is) parts.0
 
   few : states ≤ 64
   few = ok.states.1
 
-  pub first-inside : first ≤ length cert
-  first-inside = reads-inside p.ahead (omega arith)
+  pub first_inside : first ≤ length cert
+  first_inside = reads_inside p.ahead (omega arith)
 
-  pub members-few : count ≤ 512
-  members-few = p.number.1
+  pub members_few : count ≤ 512
+  members_few = p.number.1
 
-  pub members-in : EntriesIn cert variables first count
-  members-in =
-      let s = certificateBuffer cert in
-      (entries-read s variables states few count first c.members p.after first-inside
-      ((many-exact s (located-exact (versionOf cert) s variables states) count).complete first c.members p.after p.members (refl, p.in-range))
+  pub members_in : EntriesIn cert variables first count
+  members_in =
+      let s = certificate_buffer cert in
+      (entries_read s variables states few count first c.members p.after first_inside
+      ((many_exact s (located_exact (version_of cert) s variables states) count).complete first c.members p.after p.members (refl, p.in_range))
       ).entries
 
   -- ---- 21
 
-  pub new_is : newCount cert variables first count ≡ placeAfter (newInMembers f.version c.members)
-  new_is = go (ℕ_discrete (versionOf cert) 2)
+  pub new_is : new_count cert variables first count ≡ place_after (new_in_members f.version c.members)
+  new_is = go (ℕ_discrete (version_of cert) 2)
     where
-      go : Dec (versionOf cert ≡ 2) → newCount cert variables first count ≡ placeAfter (newInMembers f.version c.members)
+      go : Dec (version_of cert ≡ 2) → new_count cert variables first count ≡ place_after (new_in_members f.version c.members)
       go (yes second) =
-          rw (eq-eqb (versionOf cert) 2 second)
-          (sym (counts-are variables states few (certificateBuffer cert) limit c.members first p.after p.members p.in-range second
-          (versionOf cert ∷ count ∷ [])
-          (omega (arith, (reads-encode p.ahead limit).1)))
-          ∙ ap (λ (v : ℕ). placeAfter (newInMembers v c.members)) version-is)
+          rw (eq-eqb (version_of cert) 2 second)
+          (sym (counts_are variables states few (certificate_buffer cert) limit c.members first p.after p.members p.in_range second
+          (version_of cert ∷ count ∷ [])
+          (omega (arith, (reads_encode p.ahead limit).1)))
+          ∙ ap (λ (v : ℕ). place_after (new_in_members v c.members)) version_is)
       go (no n) =
-          let oks : MembersInRange f c.members = record { number = parts.0.number; members = parts.0.in-range } in
-          rw (ne_eqb (versionOf cert) 2 n)
-          (sym (ap placeAfter ((none-in-members f.version c.members).1 (up-members f c.members ok oks (λ z. n (version-is ∙ z))))))
+          let oks : MembersInRange f c.members = record { number = parts.0.number; members = parts.0.in_range } in
+          rw (ne_eqb (version_of cert) 2 n)
+          (sym (ap place_after ((none_in_members f.version c.members).1 (up_members f c.members ok oks (λ z. n (version_is ∙ z))))))
 
   -- ---- where nothing is new
 
-  module _ (old : newCount cert variables first count ≡ none) where
-    plain-members : PlainEntries cert variables first count
-    plain-members = no-count cert variables first count members-in old
+  module _ (old : new_count cert variables first count ≡ none) where
+    plain_members : PlainEntries cert variables first count
+    plain_members = no_count cert variables first count members_in old
 
-    pub certificate-carried : (w : ℕ) → w < 128 → fileCarried w cert variables first count ≡ encode (certificateNumbers w c.members c.covers)
-    certificate-carried w small =
-        let covers : List ℕ = concatMap coverNumbers c.covers in
+    pub certificate_carried : (w : ℕ) → w < 128 → file_carried w cert variables first count ≡ encode (certificate_numbers w c.members c.covers)
+    certificate_carried w small =
+        let covers : List ℕ = concat_map cover_numbers c.covers in
         let v = ok.version in
         let ended : drop p.last cert ≡ [] = drop_of_length-le cert p.whole in
         let rest : drop p.after cert ≡ encode covers =
-        (reads-encode p.covers limit).0 ∙ ap (λ (l : List ℕ). encode covers ++ l) ended ∙ append-nil (encode covers) in
-        file-carried variables states few (certificateBuffer cert) limit (count ∷ []) first c.members p.after w small (omega (arith, version-is)) p.ahead
-        p.members p.in-range plain-members
-        ∙ ap (λ (l : List ℕ). encode (memberNumbers w c.members) ++ l) rest
-        ∙ sym (encode-append (memberNumbers w c.members) covers)
+        (reads_encode p.covers limit).0 ∙ ap (λ (l : List ℕ). encode covers ++ l) ended ∙ append-nil (encode covers) in
+        file_carried_lem variables states few (certificate_buffer cert) limit (count ∷ []) first c.members p.after w small (omega (arith, version_is)) p.ahead
+        p.members p.in_range plain_members
+        ∙ ap (λ (l : List ℕ). encode (member_numbers w c.members) ++ l) rest
+        ∙ sym (encode_append (member_numbers w c.members) covers)
 
   -- ---- the answer on the members
 
-  found-told : (file : ℕ) (x : Option (List ℕ)) (rest : Carried) → unlessNew file x rest ≡ unlessFound file (placeAfter x) rest
-  found-told file none rest = refl
-  found-told file (some before) rest = refl
+  found_told : (file : ℕ) (x : Option (List ℕ)) (rest : Carried) → unless_new file x rest ≡ unless_found file (place_after x) rest
+  found_told file none rest = refl
+  found_told file (some before) rest = refl
 
-  pub members-due : (w room : ℕ) → w < 128
-      → unlessNew 1 (newInMembers f.version c.members) (sized room (encode (certificateNumbers w c.members c.covers)))
-      ≡ unlessFound 1 (newCount cert variables first count) (sized room (fileCarried w cert variables first count))
-  members-due w room small =
-      found-told 1 (newInMembers f.version c.members) _
-      ∙ ap (λ (x : Option ℕ). unlessFound 1 x (sized room (encode (certificateNumbers w c.members c.covers)))) (sym new_is)
-      ∙ go (newCount cert variables first count) refl
+  pub members_due : (w room : ℕ) → w < 128
+      → unless_new 1 (new_in_members f.version c.members) (sized room (encode (certificate_numbers w c.members c.covers)))
+      ≡ unless_found 1 (new_count cert variables first count) (sized room (file_carried w cert variables first count))
+  members_due w room small =
+      found_told 1 (new_in_members f.version c.members) _
+      ∙ ap (λ (x : Option ℕ). unless_found 1 x (sized room (encode (certificate_numbers w c.members c.covers)))) (sym new_is)
+      ∙ go (new_count cert variables first count) refl
     where
-      go : (x : Option ℕ) → newCount cert variables first count ≡ x
-          → unlessFound 1 x (sized room (encode (certificateNumbers w c.members c.covers)))
-          ≡ unlessFound 1 x (sized room (fileCarried w cert variables first count))
-      go none old = ap (sized room) (sym (certificate-carried old w small))
+      go : (x : Option ℕ) → new_count cert variables first count ≡ x
+          → unless_found 1 x (sized room (encode (certificate_numbers w c.members c.covers)))
+          ≡ unless_found 1 x (sized room (file_carried w cert variables first count))
+      go none old = ap (sized room) (sym (certificate_carried old w small))
       go (some place) old = refl

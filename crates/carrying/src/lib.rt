@@ -1,14 +1,14 @@
 // Carries jobs and certificates between version 1 and 2.
 ghost use Rattle.std.specs.Prelude.{true, ◌++◌, ◌≡◌, ◌+◌, ◌*◌, ◌≤◌, ◌<◌, length, replicate};
-ghost use Rattle.checker.specs.Jobs.{fileIn};
-ghost use Rattle.format.specs.Parser.{parsed, certificateBuffer, within};
+ghost use Rattle.checker.specs.Jobs.{file_in};
+ghost use Rattle.format.specs.Parser.{parsed, certificate_buffer, within};
 ghost use Rattle.format.specs.Verdict.{fits};
-ghost use Rattle.layout.specs.Entries.{versionOf, EntriesIn};
+ghost use Rattle.layout.specs.Entries.{version_of, EntriesIn};
 ghost use Rattle.putting.specs.Put.{Put};
 ghost use Rattle.reader.specs.Job.{JobRead};
-ghost use Rattle.versions.specs.Carry.{readCertificateOf, newInJob, sized, carryRead, carryJob, carryBoth, carryCertificate};
-ghost use Rattle.carrying.specs.Answers.{versionBefore, versionAfter, lengthAfter, foundOf, placeAfter, unlessFound, Carries, CertificateRead};
-ghost use Rattle.carrying.specs.Bytes.{firstKind, firstCount, newCount, membersPlace, zerosIn, entriesCarried, fileCarried, PlainEntries};
+ghost use Rattle.versions.specs.Carry.{read_certificate_of, new_in_job, sized, carry_read, carry_job, carry_both, carry_certificate};
+ghost use Rattle.carrying.specs.Answers.{version_before, version_after, length_after, found_of, place_after, unless_found, Carries, CertificateRead};
+ghost use Rattle.carrying.specs.Bytes.{first_kind, first_count, new_count, members_place, zeros_in, entries_carried, file_carried, PlainEntries};
 
 use checker::{PairVerdict, check_pair};
 use layout::version_of;
@@ -55,7 +55,7 @@ fn fits(len: usize) -> bool
 
 // The version that a file gets.
 fn version_after(way: Way) -> u8
-    ensures { result ≡ versionAfter way }
+    ensures { result ≡ version_after way }
 {
     match way {
         Way::Up => 2,
@@ -65,7 +65,7 @@ fn version_after(way: Way) -> u8
 
 // How many bytes of 0 each entry has in that version for its facts; where it has none, it has one before.
 fn zeros_after(way: Way) -> usize
-    ensures { (result ≡ zerosIn (versionAfter way)) × (result + zerosIn (versionBefore way) ≡ 1) }
+    ensures { (result ≡ zeros_in (version_after way)) × (result + zeros_in (version_before way) ≡ 1) }
 {
     match way {
         Way::Up => 1,
@@ -76,7 +76,7 @@ fn zeros_after(way: Way) -> usize
 // The length of a file with so many entries in that version.
 fn length_after(way: Way, len: usize, count: usize) -> usize
     requires { (count ≤ len) × (len ≤ 65536) }
-    ensures { result ≡ lengthAfter way len count }
+    ensures { result ≡ length_after way len count }
 {
     match way {
         Way::Up => len + count,
@@ -87,7 +87,7 @@ fn length_after(way: Way, len: usize, count: usize) -> usize
 // The first kind above 7 in so many transitions.
 fn first_kind(job: &[u8], first: usize, count: usize) -> Found
     requires { first + 5 * count ≤ length job.now }
-    ensures { foundOf result ≡ firstKind job.now first count }
+    ensures { found_of result ≡ first_kind job.now first count }
 {
     let mut at = first;
     let mut i = 0;
@@ -103,8 +103,8 @@ fn first_kind(job: &[u8], first: usize, count: usize) -> Found
 
 // The first fact count above 0 in so many entries of a file of version 2.
 fn first_count(file: &[u8], variables: usize, first: usize, count: usize) -> Found
-    requires { (versionOf file.now ≡ 2) × (EntriesIn file.now variables first count) }
-    ensures { foundOf result ≡ firstCount file.now variables first count }
+    requires { (version_of file.now ≡ 2) × (EntriesIn file.now variables first count) }
+    ensures { found_of result ≡ first_count file.now variables first count }
 {
     let mut at = first;
     let mut i = 0;
@@ -139,8 +139,8 @@ fn put_entries(
     bytes: &mut [u8],
     at: usize,
 ) -> usize
-    requires { (zeros + zerosIn (versionOf file.now) ≡ 1) × (PlainEntries file.now variables first count) × (at + length (entriesCarried zeros file.now variables first count) ≤ length bytes.old) }
-    ensures { Put at bytes.old (entriesCarried zeros file.now variables first count) result bytes.new }
+    requires { (zeros + zeros_in (version_of file.now) ≡ 1) × (PlainEntries file.now variables first count) × (at + length (entries_carried zeros file.now variables first count) ≤ length bytes.old) }
+    ensures { Put at bytes.old (entries_carried zeros file.now variables first count) result bytes.new }
 {
     let mut from = first;
     let mut next = at;
@@ -163,8 +163,8 @@ fn put_file(
     way: Way,
     bytes: &mut [u8],
 ) -> usize
-    requires { (versionOf file.now ≡ versionBefore way) × (PlainEntries file.now variables first count) × (1 ≤ first) × (first ≤ length file.now) × (length (fileCarried (versionAfter way) file.now variables first count) ≤ length bytes.old) }
-    ensures { Put 0 bytes.old (fileCarried (versionAfter way) file.now variables first count) result bytes.new }
+    requires { (version_of file.now ≡ version_before way) × (PlainEntries file.now variables first count) × (1 ≤ first) × (first ≤ length file.now) × (length (file_carried (version_after way) file.now variables first count) ≤ length bytes.old) }
+    ensures { Put 0 bytes.old (file_carried (version_after way) file.now variables first count) result bytes.new }
 {
     let version = [version_after(way)];
     let start = put_all(bytes, 0, &version);
@@ -181,8 +181,8 @@ fn carry_file(
     way: Way,
     bytes: &mut [u8],
 ) -> CarryAnswer
-    requires { (versionOf file.now ≡ versionBefore way) × (PlainEntries file.now variables first count) × (1 ≤ first) × (first ≤ length file.now) × (length file.now ≤ 65536) }
-    ensures { Carries (sized (length bytes.old) (fileCarried (versionAfter way) file.now variables first count)) bytes.old result bytes.new }
+    requires { (version_of file.now ≡ version_before way) × (PlainEntries file.now variables first count) × (1 ≤ first) × (first ≤ length file.now) × (length file.now ≤ 65536) }
+    ensures { Carries (sized (length bytes.old) (file_carried (version_after way) file.now variables first count)) bytes.old result bytes.new }
 {
     let needed = length_after(way, file.len(), count);
     if 65536 < needed {
@@ -198,7 +198,7 @@ fn carry_file(
 // What a job has that version 1 does not: the first kind above 7; or else the first fact count above 0.
 fn new_in_job(job: &[u8], h: Header) -> Found
     requires { JobRead job.now h }
-    ensures { foundOf result ≡ placeAfter (newInJob (fileIn job.now h)) }
+    ensures { found_of result ≡ place_after (new_in_job (file_in job.now h)) }
 {
     if version_of(job) != 2 {
         return Found::Nothing;
@@ -212,8 +212,8 @@ fn new_in_job(job: &[u8], h: Header) -> Found
 
 // A job that was read, of the version that is carried: written in the other, or refused.
 fn carry_read(job: &[u8], h: Header, way: Way, bytes: &mut [u8]) -> CarryAnswer
-    requires { (JobRead job.now h) × (versionOf job.now ≡ versionBefore way) × (length job.now ≤ 65536) }
-    ensures { Carries (carryRead (versionAfter way) (length bytes.old) (parsed (fileIn job.now h) (length job.now))) bytes.old result bytes.new }
+    requires { (JobRead job.now h) × (version_of job.now ≡ version_before way) × (length job.now ≤ 65536) }
+    ensures { Carries (carry_read (version_after way) (length bytes.old) (parsed (file_in job.now h) (length job.now))) bytes.old result bytes.new }
 {
     let new = new_in_job(job, h);
     match new {
@@ -224,7 +224,7 @@ fn carry_read(job: &[u8], h: Header, way: Way, bytes: &mut [u8]) -> CarryAnswer
 
 // A job carried to the other version, or refused; a refusal leaves the output as it is.
 pub fn carry_job(job: &[u8], way: Way, bytes: &mut [u8]) -> CarryAnswer
-    ensures { Carries (carryJob (versionBefore way) (versionAfter way) job.now (length bytes.old)) bytes.old result bytes.new }
+    ensures { Carries (carry_job (version_before way) (version_after way) job.now (length bytes.old)) bytes.old result bytes.new }
 {
     if !fits(job.len()) {
         return CarryAnswer::Job(Refusal::JobLength, 0);
@@ -242,7 +242,7 @@ pub fn carry_job(job: &[u8], way: Way, bytes: &mut [u8]) -> CarryAnswer
 // The place of the first of so many members.
 fn members_at(count: usize) -> usize
     requires { count ≤ 512 }
-    ensures { result ≡ membersPlace count }
+    ensures { result ≡ members_place count }
 {
     if count < 128 {
         return 2;
@@ -253,7 +253,7 @@ fn members_at(count: usize) -> usize
 // The first fact count above 0 in so many entries, of which version 1 has none.
 fn new_count(file: &[u8], variables: usize, first: usize, count: usize) -> Found
     requires { EntriesIn file.now variables first count }
-    ensures { foundOf result ≡ newCount file.now variables first count }
+    ensures { found_of result ≡ new_count file.now variables first count }
 {
     if version_of(file) != 2 {
         return Found::Nothing;
@@ -269,8 +269,8 @@ fn carry_members(
     way: Way,
     bytes: &mut [u8],
 ) -> CarryAnswer
-    requires { (versionOf cert.now ≡ versionBefore way) × (EntriesIn cert.now variables (membersPlace count) count) × (count ≤ 512) × (membersPlace count ≤ length cert.now) × (length cert.now ≤ 65536) }
-    ensures { Carries (unlessFound 1 (newCount cert.now variables (membersPlace count) count) (sized (length bytes.old) (fileCarried (versionAfter way) cert.now variables (membersPlace count) count))) bytes.old result bytes.new }
+    requires { (version_of cert.now ≡ version_before way) × (EntriesIn cert.now variables (members_place count) count) × (count ≤ 512) × (members_place count ≤ length cert.now) × (length cert.now ≤ 65536) }
+    ensures { Carries (unless_found 1 (new_count cert.now variables (members_place count) count) (sized (length bytes.old) (file_carried (version_after way) cert.now variables (members_place count) count))) bytes.old result bytes.new }
 {
     let first = members_at(count);
     let new = new_count(cert, variables, first, count);
@@ -289,8 +289,8 @@ fn carry_pair(
     way: Way,
     bytes: &mut [u8],
 ) -> CarryAnswer
-    requires { (JobRead job.now h) × (CertificateRead cert.now (fileIn job.now h) count) × (versionOf job.now ≡ versionBefore way) × (length cert.now ≤ 65536) }
-    ensures { Carries (carryBoth (versionAfter way) (length bytes.old) (fileIn job.now h) (readCertificateOf (versionBefore way) (certificateBuffer cert.now) (fileIn job.now h) 0)) bytes.old result bytes.new }
+    requires { (JobRead job.now h) × (CertificateRead cert.now (file_in job.now h) count) × (version_of job.now ≡ version_before way) × (length cert.now ≤ 65536) }
+    ensures { Carries (carry_both (version_after way) (length bytes.old) (file_in job.now h) (read_certificate_of (version_before way) (certificate_buffer cert.now) (file_in job.now h) 0)) bytes.old result bytes.new }
 {
     let new = new_in_job(job, h);
     match new {
@@ -301,8 +301,8 @@ fn carry_pair(
 
 // A certificate beside a job that was read: read too, its covers unjudged, and then carried.
 fn carry_beside(job: &[u8], h: Header, cert: &[u8], way: Way, bytes: &mut [u8]) -> CarryAnswer
-    requires { (JobRead job.now h) × (versionOf job.now ≡ versionBefore way) × (fits job.now ≡ true) × (fits cert.now ≡ true) }
-    ensures { Carries (carryBoth (versionAfter way) (length bytes.old) (fileIn job.now h) (readCertificateOf (versionBefore way) (certificateBuffer cert.now) (fileIn job.now h) 0)) bytes.old result bytes.new }
+    requires { (JobRead job.now h) × (version_of job.now ≡ version_before way) × (fits job.now ≡ true) × (fits cert.now ≡ true) }
+    ensures { Carries (carry_both (version_after way) (length bytes.old) (file_in job.now h) (read_certificate_of (version_before way) (certificate_buffer cert.now) (file_in job.now h) 0)) bytes.old result bytes.new }
 {
     if version_of(cert) == version_after(way) {
         return CarryAnswer::Certificate(Refusal::CertificateRange, 0);
@@ -324,7 +324,7 @@ fn carry_beside(job: &[u8], h: Header, cert: &[u8], way: Way, bytes: &mut [u8]) 
 
 // A certificate carried to the other version, with its job of the version that it has, or refused; a refusal leaves the output as it is.
 pub fn carry_certificate(job: &[u8], cert: &[u8], way: Way, bytes: &mut [u8]) -> CarryAnswer
-    ensures { Carries (carryCertificate (versionBefore way) (versionAfter way) job.now cert.now (length bytes.old)) bytes.old result bytes.new }
+    ensures { Carries (carry_certificate (version_before way) (version_after way) job.now cert.now (length bytes.old)) bytes.old result bytes.new }
 {
     if !fits(job.len()) {
         return CarryAnswer::Job(Refusal::JobLength, 0);

@@ -4,11 +4,11 @@ use Rattle.std.specs.Prelude.{List, [], ◌∷◌, ◌≡◌, ℕ, length}
 use Rattle.std.proofs.Math.Option.{Option, none, some}
 use Rattle.heap.specs.Operation.{Op, operation}
 use Rattle.graph.specs.Graph.{Embeds}
-use Rattle.shape.specs.Shape.{Shape, shapeGraph}
+use Rattle.shape.specs.Shape.{Shape, shape_graph}
 use Rattle.backward.specs.Predecessors.{predecessors}
-use Rattle.cover.specs.Test.{imageMap}
-use Rattle.number.specs.Number.{number_at, readResult}
-use Rattle.format.specs.Parser.{refusal, broken-rule}
+use Rattle.cover.specs.Test.{image_map}
+use Rattle.number.specs.Number.{number_at, read_result}
+use Rattle.format.specs.Parser.{refusal, broken_rule}
 use Rattle.format.specs.Verdict.{verdict, accepted, refused}
 
 -- job J with a kind: "state 0, new of variable 1, state 1; forbidden there: variable 1 at #", where the kind is 6
@@ -18,25 +18,25 @@ J kind = 1 ∷ 1 ∷ 2 ∷ 0 ∷ 1 ∷ 0 ∷ kind ∷ 1 ∷ 0 ∷ 1 ∷ 1 ∷ 1 
 abbrev pub shape : List ℕ → List ℕ → Shape
 shape vars links = record { vars = vars; links = links; facts = [] }
 
-abbrev pub predecessorsNamed : Option Op → Shape → List Shape
-predecessorsNamed none s = []
-predecessorsNamed (some o) s = predecessors o s
+abbrev pub predecessors_named : Option Op → Shape → List Shape
+predecessors_named none s = []
+predecessors_named (some o) s = predecessors o s
 
 -- the predecessors by kind and operands
-abbrev pub predecessorsOf : ℕ → ℕ → ℕ → Shape → List Shape
-predecessorsOf kind a b s = predecessorsNamed (operation (length s.vars) kind a b) s
+abbrev pub predecessors_of : ℕ → ℕ → ℕ → Shape → List Shape
+predecessors_of kind a b s = predecessors_named (operation (length s.vars) kind a b) s
 
 -- "three cells, links from cell 0 to cell 2 and from 1 to 2, V = 1 and nothing placed"
-abbrev pub twoLinks : Shape
-twoLinks = shape (0 ∷ []) (5 ∷ 5 ∷ 0 ∷ [])
+abbrev pub two_links : Shape
+two_links = shape (0 ∷ []) (5 ∷ 5 ∷ 0 ∷ [])
 
 -- "two cells with a link from 0 to 1"
-abbrev pub oneLink : Shape
-oneLink = shape (0 ∷ []) (4 ∷ 0 ∷ [])
+abbrev pub one_link : Shape
+one_link = shape (0 ∷ []) (4 ∷ 0 ∷ [])
 
 -- "four cells with links from 0 to 2, 1 to 2, 2 to 3"
-abbrev pub fourCells : Shape
-fourCells = shape (0 ∷ []) (5 ∷ 5 ∷ 6 ∷ 0 ∷ [])
+abbrev pub four_cells : Shape
+four_cells = shape (0 ∷ []) (5 ∷ 5 ∷ 6 ∷ 0 ∷ [])
 
 -- "P1 J with `1 1 1 0 1 0`: accepted, counts 1, 1, 1." Document 02: "P1 prints `accepted bads 1 members 1 covers 1 links 0`".
 abbrev pub P1 : Type 0
@@ -44,7 +44,7 @@ P1 = verdict (J 6) (1 ∷ 1 ∷ 1 ∷ 0 ∷ 1 ∷ 0 ∷ []) ≡ accepted (record
 
 -- "P2 J with `1 1 1 0 2 0`: 9 at 5." Document 02: "`refused 9 at 5 rule 3 of 1` for P2".
 abbrev pub P2 : Type 0
-P2 = verdict (J 6) (1 ∷ 1 ∷ 1 ∷ 0 ∷ 2 ∷ 0 ∷ []) ≡ refused (broken-rule 3 1) 5
+P2 = verdict (J 6) (1 ∷ 1 ∷ 1 ∷ 0 ∷ 2 ∷ 0 ∷ []) ≡ refused (broken_rule 3 1) 5
 
 -- "P3 J with kind 3 for 6, and `1 1 1 0 1 0`: a predecessor needs a cover, so 6 at 6."
 abbrev pub P3 : Type 0
@@ -58,45 +58,45 @@ P4 = verdict (J 3) (1 ∷ 2 ∷ 1 ∷ 0 ∷ 1 ∷ 0 ∷ 0 ∷ 0 ∷ 0 ∷ []) �
 -- and 1)."
 abbrev pub P5 : Type 0
 P5 =
-    predecessorsOf 2 1 2 (shape (0 ∷ 0 ∷ []) [])
+    predecessors_of 2 1 2 (shape (0 ∷ 0 ∷ []) [])
     ≡ shape (1 ∷ 3 ∷ []) (0 ∷ []) ∷ shape (3 ∷ 1 ∷ []) (0 ∷ []) ∷ shape (3 ∷ 4 ∷ []) (0 ∷ 0 ∷ []) ∷ []
 
 -- "P6 kind 1: two."
 abbrev pub P6 : Type 0
-P6 = predecessorsOf 1 1 2 (shape (0 ∷ 0 ∷ []) []) ≡ shape (1 ∷ 1 ∷ []) [] ∷ shape (3 ∷ 3 ∷ []) (0 ∷ []) ∷ []
+P6 = predecessors_of 1 1 2 (shape (0 ∷ 0 ∷ []) []) ≡ shape (1 ∷ 1 ∷ []) [] ∷ shape (3 ∷ 3 ∷ []) (0 ∷ []) ∷ []
 
 -- "P7 kind 4, a = b = variable 1, which is at #, no cells: one predecessor, variable at cell 0, link to #."
 abbrev pub P7 : Type 0
-P7 = predecessorsOf 4 1 1 (shape (1 ∷ []) []) ≡ shape (3 ∷ []) (1 ∷ []) ∷ []
+P7 = predecessors_of 4 1 1 (shape (1 ∷ []) []) ≡ shape (3 ∷ []) (1 ∷ []) ∷ []
 
 -- "P8 kind 6, variable at cell 0 with link to cell 0: none."
 abbrev pub P8 : Type 0
-P8 = predecessorsOf 6 1 0 (shape (3 ∷ []) (3 ∷ [])) ≡ []
+P8 = predecessors_of 6 1 0 (shape (3 ∷ []) (3 ∷ [])) ≡ []
 
 -- "P9 with link to *: one, without cells."
 abbrev pub P9 : Type 0
-P9 = predecessorsOf 6 1 0 (shape (3 ∷ []) (2 ∷ [])) ≡ shape (0 ∷ []) [] ∷ []
+P9 = predecessors_of 6 1 0 (shape (3 ∷ []) (2 ∷ [])) ≡ shape (0 ∷ []) [] ∷ []
 
 -- "by images 0, 1, 3: shared path, doesn't embed."
 abbrev pub P10 : Type 0
-P10 = ¬ Embeds (shapeGraph twoLinks) (shapeGraph fourCells) (imageMap (0 ∷ 1 ∷ 3 ∷ []))
+P10 = ¬ Embeds (shape_graph two_links) (shape_graph four_cells) (image_map (0 ∷ 1 ∷ 3 ∷ []))
 
 -- "into the same four by images 0, 3: embeds."
 abbrev pub P11 : Type 0
-P11 = Embeds (shapeGraph oneLink) (shapeGraph fourCells) (imageMap (0 ∷ 3 ∷ []))
+P11 = Embeds (shape_graph one_link) (shape_graph four_cells) (image_map (0 ∷ 3 ∷ []))
 
 -- "P12 bytes 128 0: 3 at 0."
 abbrev pub P12 : Type 0
-P12 = readResult (number_at (128 ∷ 0 ∷ []) 0) ≡ record { code = 3; values = 0 ∷ 0 ∷ [] }
+P12 = read_result (number_at (128 ∷ 0 ∷ []) 0) ≡ record { code = 3; values = 0 ∷ 0 ∷ [] }
 
 -- Document 02, Wish 5: "With V = 2 and both at *, the predecessors become two." Variable 2 was at * already, or stood at the deleted cell.
 abbrev pub TwoDangling : Type 0
-TwoDangling = predecessorsOf 7 1 0 (shape (2 ∷ 2 ∷ []) []) ≡ shape (3 ∷ 2 ∷ []) (0 ∷ []) ∷ shape (3 ∷ 3 ∷ []) (0 ∷ []) ∷ []
+TwoDangling = predecessors_of 7 1 0 (shape (2 ∷ 2 ∷ []) []) ≡ shape (3 ∷ 2 ∷ []) (0 ∷ []) ∷ shape (3 ∷ 3 ∷ []) (0 ∷ []) ∷ []
 
 -- With V = 3, all at *, variable 2 deleted and a cell with a link to *: four; the link is forgotten, and variable 1 changes slowest.
 abbrev pub ThreeDangling : Type 0
 ThreeDangling =
-    predecessorsOf 7 2 0 (shape (2 ∷ 2 ∷ 2 ∷ []) (2 ∷ []))
+    predecessors_of 7 2 0 (shape (2 ∷ 2 ∷ 2 ∷ []) (2 ∷ []))
     ≡ shape (2 ∷ 4 ∷ 2 ∷ []) (0 ∷ 0 ∷ [])
     ∷ shape (2 ∷ 4 ∷ 4 ∷ []) (0 ∷ 0 ∷ [])
     ∷ shape (4 ∷ 4 ∷ 2 ∷ []) (0 ∷ 0 ∷ [])
@@ -105,8 +105,8 @@ ThreeDangling =
 
 -- P11 as a certificate, for a job that forbids the four cells: the path from cell 0 by way of cell 2 to cell 3 has two links. (No row of the
 -- document.)
-abbrev pub twoLinksFollowed : Type 0
-twoLinksFollowed =
+abbrev pub two_links_followed : Type 0
+two_links_followed =
     verdict (1 ∷ 1 ∷ 1 ∷ 0 ∷ 0 ∷ 1 ∷ 0 ∷ 4 ∷ 0 ∷ 5 ∷ 5 ∷ 6 ∷ 0 ∷ []) (1 ∷ 1 ∷ 0 ∷ 2 ∷ 0 ∷ 4 ∷ 0 ∷ 0 ∷ 0 ∷ 3 ∷ [])
     ≡ accepted (record { bads = 1; members = 1; covers = 1; links = 2 })
 

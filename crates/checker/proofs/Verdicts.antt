@@ -12,130 +12,130 @@ use Rattle.lists.proofs.Test.{and_right}
 use Rattle.lists.specs.List.{sum}
 use Rattle.run.specs.Run.{Located, Job}
 use Rattle.cover.specs.Cover.{owed}
-use Rattle.format.specs.Certificate.{Member, withoutPlaces, readMembers, testStart}
-use Rattle.format.specs.Conditions.{Conditions, ConditionsAt, countsOf}
+use Rattle.format.specs.Certificate.{Member, without_places, read_members, test_start}
+use Rattle.format.specs.Conditions.{Conditions, ConditionsAt, counts_of}
 use Rattle.format.specs.JobBytes.{SafeBytes}
-use Rattle.format.specs.Job.{readWholeJob}
+use Rattle.format.specs.Job.{read_whole_job}
 use Rattle.format.specs.JobNumbers.{JobFile}
-use Rattle.format.specs.Parser.{Reason, refusal, Parsed, parsed, fault, Parser, onward, each, certificateBuffer, jobBuffer, end}
-use Rattle.format.specs.Verdict.{start_of, Counts, Verdict, accepted, refused, conclude, readCertificate, fits, verdictAt, verdict, readBoth}
-use Rattle.format.proofs.Exact.{exact, exact-at}
-use Rattle.format.proofs.Guarantee.{safe-bytes}
+use Rattle.format.specs.Parser.{Reason, refusal, Parsed, parsed, fault, Parser, onward, each, certificate_buffer, job_buffer, end}
+use Rattle.format.specs.Verdict.{start_of, Counts, Verdict, accepted, refused, conclude, read_certificate, fits, verdict_at, verdict, read_both}
+use Rattle.format.proofs.Exact.{exact, exact_at}
+use Rattle.format.proofs.Guarantee.{safe_bytes}
 use Rattle.reader.specs.Job.{JobRead}
-use Rattle.reader.specs.Members.{Bounds, tested, readTested}
+use Rattle.reader.specs.Members.{Bounds, tested, read_tested}
 use Rattle.reader.specs.declared.Header.{Header}
-use Rattle.verdict.specs.Verdict.{reasonOf, countsTold, verdictOf}
+use Rattle.verdict.specs.Verdict.{reason_of, counts_told, verdict_of}
 use Rattle.verdict.specs.declared.Refusal.{Refusal}
 use Rattle.verdict.specs.declared.Counts.{Counts as CountsAnswer}
 use Rattle.verdict.specs.declared.Verdict.{Verdict as Answer}
 use Rattle.verdict.specs.declared.Verdict.TheVariants.{Accepted}
-use Rattle.checker.specs.Jobs.{fileIn, readCovers, readFor, verdictFor}
-use Rattle.checker.specs.Checking.{Tally, noCovers, takeAll, tally_of, checkedOf, taking, coverOf, coversOf}
+use Rattle.checker.specs.Jobs.{file_in, read_covers, read_for, verdict_for}
+use Rattle.checker.specs.Checking.{Tally, no_covers, take_all, tally_of, checked_of, taking, cover_of, covers_of}
 use Rattle.checker.specs.declared.checked.Checked.{Checked}
 use Rattle.checker.specs.declared.checked.Checked.TheVariants.{Upto, Refused}
 use Rattle.checker.specs.declared.checked.Position.{Position}
-use Rattle.checker.proofs.Checking.{more, take-each}
+use Rattle.checker.proofs.Checking.{more, take_each}
 
 -- ---- lengths
 
-pub fits-most : (s : List ℕ) → fits s ≡ true → length s ≤ 65536
-fits-most s e = let h = ltb-true (length s) 65537 (and_right (leb 1 (length s)) (ltb (length s) 65537) e) in omega arith
+pub fits_most : (s : List ℕ) → fits s ≡ true → length s ≤ 65536
+fits_most s e = let h = ltb-true (length s) 65537 (and_right (leb 1 (length s)) (ltb (length s) 65537) e) in omega arith
 
 -- ---- the covers
 
 module _ (judged : Bool) (cert : List ℕ) (j : Job) (ms : List Located) (at : ℕ) (g : Checked)
-    (taken : checkedOf g ≡ takeAll (coversOf cert (taking judged ms) (owed j ms)) noCovers at) where
+    (taken : checked_of g ≡ take_all (covers_of cert (taking judged ms) (owed j ms)) no_covers at) where
   -- what is read after the covers, given their links
   abbrev after : ℕ → Parser Counts
-  after links place = onward (end (certificateBuffer cert) place) (λ u next. parsed (countsOf j ms links) next)
+  after links place = onward (end (certificate_buffer cert) place) (λ u next. parsed (counts_of j ms links) next)
 
-  by-each : (r : Parsed (List ℕ)) → checkedOf g ≡ onward r (λ ls next. parsed (more (owed j ms) noCovers ls) next)
-      → ((why : Refusal) (place : ℕ) → g ≡ Refused why place → onward r (λ ls. after (sum ls)) ≡ fault (reasonOf why) place)
+  by_each : (r : Parsed (List ℕ)) → checked_of g ≡ onward r (λ ls next. parsed (more (owed j ms) no_covers ls) next)
+      → ((why : Refusal) (place : ℕ) → g ≡ Refused why place → onward r (λ ls. after (sum ls)) ≡ fault (reason_of why) place)
       × ((t : Position) → g ≡ Upto t → ((tally_of t).covers ≡ length (owed j ms)) × (onward r (λ ls. after (sum ls)) ≡ after (tally_of t).links t.at))
-  by-each (parsed ls next) e = (
-    (λ why place g-is. let z : ◌≡◌ {A = ℕ} 0 1 = cc (ap checkedOf g-is) in absurd (omega arith)),
-    (λ t g-is.
-        let f : ◌≡◌ {A = Parsed Tally} (parsed (tally_of t) t.at) (parsed (more (owed j ms) noCovers ls) next) = sym (ap checkedOf g-is) ∙ e in
-        let tally-is : tally_of t ≡ more (owed j ms) noCovers ls = cc in
-        let at-is : t.at ≡ next = cc in
-        let covers-is = ap (λ (n : Tally). n.covers) tally-is in
-        let links-is : (tally_of t).links ≡ sum ls = ap (λ (n : Tally). n.links) tally-is ∙ omega arith in
-        (covers-is ∙ omega arith, ap₂ after (sym links-is) (sym at-is))),
+  by_each (parsed ls next) e = (
+    (λ why place g_is. let z : ◌≡◌ {A = ℕ} 0 1 = cc (ap checked_of g_is) in absurd (omega arith)),
+    (λ t g_is.
+        let f : ◌≡◌ {A = Parsed Tally} (parsed (tally_of t) t.at) (parsed (more (owed j ms) no_covers ls) next) = sym (ap checked_of g_is) ∙ e in
+        let tally_is : tally_of t ≡ more (owed j ms) no_covers ls = cc in
+        let at_is : t.at ≡ next = cc in
+        let covers-is = ap (λ (n : Tally). n.covers) tally_is in
+        let links_is : (tally_of t).links ≡ sum ls = ap (λ (n : Tally). n.links) tally_is ∙ omega arith in
+        (covers-is ∙ omega arith, ap₂ after (sym links_is) (sym at_is))),
   )
-  by-each (fault reason place) e = (
-    (λ why q g-is.
-        let f : ◌≡◌ {A = Parsed Tally} (fault (reasonOf why) q) (fault reason place) = sym (ap checkedOf g-is) ∙ e in
-        let reason-is : reason ≡ reasonOf why = cc in
+  by_each (fault reason place) e = (
+    (λ why q g_is.
+        let f : ◌≡◌ {A = Parsed Tally} (fault (reason_of why) q) (fault reason place) = sym (ap checked_of g_is) ∙ e in
+        let reason_is : reason ≡ reason_of why = cc in
         let place_is : place ≡ q = cc in
-        ap₂ fault reason-is place_is),
-    (λ t g-is. let z : ◌≡◌ {A = ℕ} 0 1 = cc (ap checkedOf g-is) in absurd (omega arith)),
+        ap₂ fault reason_is place_is),
+    (λ t g_is. let z : ◌≡◌ {A = ℕ} 0 1 = cc (ap checked_of g_is) in absurd (omega arith)),
   )
 
-  pub covers-refused : (why : Refusal) (place : ℕ) → g ≡ Refused why place → refused (reasonOf why) place ≡ conclude (readCovers judged cert j ms at)
-  unfolding readCovers
-  covers-refused why place g-is =
-      let r = each (coverOf cert (taking judged ms)) (owed j ms) at in
-      sym (ap conclude ((by-each r (taken ∙ take-each (coverOf cert (taking judged ms)) (owed j ms) noCovers at)).0 why place g-is))
+  pub covers_refused : (why : Refusal) (place : ℕ) → g ≡ Refused why place → refused (reason_of why) place ≡ conclude (read_covers judged cert j ms at)
+  unfolding read_covers
+  covers_refused why place g_is =
+      let r = each (cover_of cert (taking judged ms)) (owed j ms) at in
+      sym (ap conclude ((by_each r (taken ∙ take_each (cover_of cert (taking judged ms)) (owed j ms) no_covers at)).0 why place g_is))
 
-  module _ (t : Position) (g-is : g ≡ Upto t) where
+  module _ (t : Position) (g_is : g ≡ Upto t) where
     -- all covers were taken
-    reached : ((tally_of t).covers ≡ length (owed j ms)) × (readCovers judged cert j ms at ≡ after (tally_of t).links t.at)
-    unfolding readCovers
-    reached = (by-each (each (coverOf cert (taking judged ms)) (owed j ms) at) (taken ∙ take-each (coverOf cert (taking judged ms)) (owed j ms) noCovers at)).1 t g-is
+    reached : ((tally_of t).covers ≡ length (owed j ms)) × (read_covers judged cert j ms at ≡ after (tally_of t).links t.at)
+    unfolding read_covers
+    reached = (by_each (each (cover_of cert (taking judged ms)) (owed j ms) at) (taken ∙ take_each (cover_of cert (taking judged ms)) (owed j ms) no_covers at)).1 t g_is
 
-    pub covers-left : t.at < length cert → refused (refusal 10) t.at ≡ conclude (readCovers judged cert j ms at)
+    pub covers_left : t.at < length cert → refused (refusal 10) t.at ≡ conclude (read_covers judged cert j ms at)
     unfolding end
-    covers-left h = rw (reached.1, lt-leb (length cert) t.at h) refl
+    covers_left h = rw (reached.1, lt-leb (length cert) t.at h) refl
 
-    pub covers-taken : (bads members : ℕ) → length cert ≤ t.at → bads ≡ length j.forbidden → members ≡ length ms
-        → accepted (record { bads = bads; members = members; covers = (tally_of t).covers; links = (tally_of t).links }) ≡ conclude (readCovers judged cert j ms at)
+    pub covers_taken : (bads members : ℕ) → length cert ≤ t.at → bads ≡ length j.forbidden → members ≡ length ms
+        → accepted (record { bads = bads; members = members; covers = (tally_of t).covers; links = (tally_of t).links }) ≡ conclude (read_covers judged cert j ms at)
     unfolding end
-    covers-taken bads members h bads-is members-is = rw (reached.1, le-leb (length cert) t.at h, bads-is, members-is, reached.0) refl
+    covers_taken bads members h bads-is members-is = rw (reached.1, le-leb (length cert) t.at h, bads-is, members-is, reached.0) refl
 
 -- ---- the certificate
 
 -- the members that are counted are all of them
-pub members-counted : (judged : Bool) (cert : List ℕ) (j : Job) (ms : List Located) (at : ℕ) (c : Counts) → accepted c ≡ conclude (readCovers judged cert j ms at)
+pub members_counted : (judged : Bool) (cert : List ℕ) (j : Job) (ms : List Located) (at : ℕ) (c : Counts) → accepted c ≡ conclude (read_covers judged cert j ms at)
     → c.members ≡ length ms
-unfolding readCovers
-members-counted judged cert j ms at c = by-links (each (coverOf cert (taking judged ms)) (owed j ms) at)
+unfolding read_covers
+members_counted judged cert j ms at c = by_links (each (cover_of cert (taking judged ms)) (owed j ms) at)
   where
-    by_end : (links : ℕ) (r : Parsed (Unit {0})) → accepted c ≡ conclude (onward r (λ u next. parsed (countsOf j ms links) next)) → c.members ≡ length ms
-    by_end links (parsed u next) e = let same : c ≡ countsOf j ms links = cc in ap (λ (k : Counts). k.members) same
+    by_end : (links : ℕ) (r : Parsed (Unit {0})) → accepted c ≡ conclude (onward r (λ u next. parsed (counts_of j ms links) next)) → c.members ≡ length ms
+    by_end links (parsed u next) e = let same : c ≡ counts_of j ms links = cc in ap (λ (k : Counts). k.members) same
     by_end links (fault why place) e = let z : ◌≡◌ {A = ℕ} 0 1 = cc in absurd (omega arith)
 
-    by-links : (r : Parsed (List ℕ)) → accepted c ≡ conclude (onward r (λ ls place. onward (end (certificateBuffer cert) place) (λ u next. parsed (countsOf j ms (sum ls)) next)))
+    by_links : (r : Parsed (List ℕ)) → accepted c ≡ conclude (onward r (λ ls place. onward (end (certificate_buffer cert) place) (λ u next. parsed (counts_of j ms (sum ls)) next)))
         → c.members ≡ length ms
-    by-links (parsed ls next) e = by_end (sum ls) (end (certificateBuffer cert) next) e
-    by-links (fault why place) e = let z : ◌≡◌ {A = ℕ} 0 1 = cc in absurd (omega arith)
+    by_links (parsed ls next) e = by_end (sum ls) (end (certificate_buffer cert) next) e
+    by_links (fault why place) e = let z : ◌≡◌ {A = ℕ} 0 1 = cc in absurd (omega arith)
 
 pub bounds : (job cert : List ℕ) (h : Header) → JobRead job h → length cert ≤ 65536 → Bounds cert h.variables h.states
-bounds job cert h d fits = record { variables-range = d.variables; states-most = d.states.1; fits = fits }
+bounds job cert h d fits = record { variables_range = d.variables; states_most = d.states.1; fits = fits }
 
 module _ (judged : Bool) (start : ℕ) (cert : List ℕ) (f : JobFile) where
   abbrev members : Parsed (List Member)
-  members = readTested (certificateBuffer cert) f.version f.job.variables f.states start 0
+  members = read_tested (certificate_buffer cert) f.version f.job.variables f.states start 0
 
-  pub certificate-refused : (why : Reason) (place : ℕ) → members ≡ fault why place → refused why place ≡ conclude (readFor judged start cert f)
-  unfolding readFor
-  certificate-refused why place e = rw e refl
+  pub certificate_refused : (why : Reason) (place : ℕ) → members ≡ fault why place → refused why place ≡ conclude (read_for judged start cert f)
+  unfolding read_for
+  certificate_refused why place e = rw e refl
 
-  pub certificate-members : (ms : List Member) (next : ℕ) → members ≡ parsed ms next
-      → readCovers judged cert f.job (withoutPlaces ms) next ≡ readFor judged start cert f
-  unfolding readFor
-  certificate-members ms next e = rw e refl
+  pub certificate_members : (ms : List Member) (next : ℕ) → members ≡ parsed ms next
+      → read_covers judged cert f.job (without_places ms) next ≡ read_for judged start cert f
+  unfolding read_for
+  certificate_members ms next e = rw e refl
 
 -- with covers judged it is what the definitions read: the members are read and tested, then the covers are
 module _ (start : ℕ) (cert : List ℕ) (f : JobFile) where
   abbrev covers : List Member → Parser Counts
-  covers ms = readCovers true cert f.job (withoutPlaces ms)
+  covers ms = read_covers true cert f.job (without_places ms)
 
-  certificate-judged : readFor true start cert f ≡ readCertificate start (certificateBuffer cert) f 0
-  unfolding readCertificate readTested readCovers readFor
-  certificate-judged = go (readMembers (certificateBuffer cert) f.version f.job.variables f.states 0)
+  certificate_judged : read_for true start cert f ≡ read_certificate start (certificate_buffer cert) f 0
+  unfolding read_certificate read_tested read_covers read_for
+  certificate_judged = go (read_members (certificate_buffer cert) f.version f.job.variables f.states 0)
     where
-      go : (r : Parsed (List Member)) → onward (onward r (tested start)) covers ≡ onward r (λ ms at. onward (each (testStart start) ms at) (λ us. covers ms))
-      go (parsed ms next) = tests (each (testStart start) ms next)
+      go : (r : Parsed (List Member)) → onward (onward r (tested start)) covers ≡ onward r (λ ms at. onward (each (test_start start) ms at) (λ us. covers ms))
+      go (parsed ms next) = tests (each (test_start start) ms next)
         where
           tests : (r : Parsed (List (Unit {0}))) → onward (onward r (λ us at. parsed ms at)) covers ≡ onward r (λ us. covers ms)
           tests (parsed us at) = refl
@@ -144,68 +144,68 @@ module _ (start : ℕ) (cert : List ℕ) (f : JobFile) where
 
 -- ---- the job
 
-pub file-is : (job : List ℕ) (h : Header) (d : JobRead job h) → d.file ≡ fileIn job h
-file-is job h d =
+pub file_is : (job : List ℕ) (h : Header) (d : JobRead job h) → d.file ≡ file_in job h
+file_is job h d =
     λ k. record {
-      version = d.version-is k;
-      states = d.states-are k;
+      version = d.version_is k;
+      states = d.states_are k;
       job =
           record {
-            variables = d.variables-are k;
+            variables = d.variables_are k;
             start = d.start_is k;
-            transitions = d.transitions-are k;
-            forbidden = d.forbidden-are k;
+            transitions = d.transitions_are k;
+            forbidden = d.forbidden_are k;
           };
     }
 
 module _ (judged : Bool) (tested : JobFile → ℕ) (job cert : List ℕ) where
-  pub job-length : fits job ≡ false → refused (refusal 1) 0 ≡ verdictFor judged tested job cert
-  unfolding verdictFor
-  job-length e = rw e refl
+  pub job_length : fits job ≡ false → refused (refusal 1) 0 ≡ verdict_for judged tested job cert
+  unfolding verdict_for
+  job_length e = rw e refl
 
-  module _ (job-fits : fits job ≡ true) where
-    pub certificate-length : fits cert ≡ false → refused (refusal 2) 0 ≡ verdictFor judged tested job cert
-    unfolding verdictFor
-    certificate-length e = rw (job-fits, e) refl
+  module _ (job_fits : fits job ≡ true) where
+    pub certificate_length : fits cert ≡ false → refused (refusal 2) 0 ≡ verdict_for judged tested job cert
+    unfolding verdict_for
+    certificate_length e = rw (job_fits, e) refl
 
-    module _ (cert-fits : fits cert ≡ true) where
-      pub job-refused : (why : Reason) (place : ℕ) → readWholeJob (jobBuffer job) 0 ≡ fault why place → refused why place ≡ verdictFor judged tested job cert
-      unfolding verdictFor
-      job-refused why place e = rw (job-fits, cert-fits, e) refl
+    module _ (cert_fits : fits cert ≡ true) where
+      pub job_refused : (why : Reason) (place : ℕ) → read_whole_job (job_buffer job) 0 ≡ fault why place → refused why place ≡ verdict_for judged tested job cert
+      unfolding verdict_for
+      job_refused why place e = rw (job_fits, cert_fits, e) refl
 
-      pub job_read : (h : Header) → JobRead job h → conclude (readFor judged (tested (fileIn job h)) cert (fileIn job h)) ≡ verdictFor judged tested job cert
-      unfolding verdictFor
-      job_read h d = rw (job-fits, cert-fits, d.read, file-is job h d) refl
+      pub job_read : (h : Header) → JobRead job h → conclude (read_for judged (tested (file_in job h)) cert (file_in job h)) ≡ verdict_for judged tested job cert
+      unfolding verdict_for
+      job_read h d = rw (job_fits, cert_fits, d.read, file_is job h d) refl
 
 module _ (job cert : List ℕ) where
   -- with covers judged it is the verdict
-  pub verdict-judged : (tested : JobFile → ℕ) → verdictFor true tested job cert ≡ verdictAt tested job cert
-  unfolding verdictFor verdictAt readBoth
-  verdict-judged tested =
-      ap (λ r. cond (fits job) (cond (fits cert) (conclude r) (refused (refusal 2) 0)) (refused (refusal 1) 0)) (go (readWholeJob (jobBuffer job) 0))
+  pub verdict_judged : (tested : JobFile → ℕ) → verdict_for true tested job cert ≡ verdict_at tested job cert
+  unfolding verdict_for verdict_at read_both
+  verdict_judged tested =
+      ap (λ r. cond (fits job) (cond (fits cert) (conclude r) (refused (refusal 2) 0)) (refused (refusal 1) 0)) (go (read_whole_job (job_buffer job) 0))
     where
-      go : (r : Parsed JobFile) → onward r (λ f next. readFor true (tested f) cert f) ≡ onward r (λ f next. readCertificate (tested f) (certificateBuffer cert) f 0)
-      go (parsed f next) = certificate-judged (tested f) cert f
+      go : (r : Parsed JobFile) → onward r (λ f next. read_for true (tested f) cert f) ≡ onward r (λ f next. read_certificate (tested f) (certificate_buffer cert) f 0)
+      go (parsed f next) = certificate_judged (tested f) cert f
       go (fault why place) = refl
 
   -- what `check` promises of the verdict: which it is, when it accepts, and that an accepted job is safe
-  pub promised : (r : Answer) → verdictOf r ≡ verdictFor true start_of job cert
-      → (verdictOf r ≡ verdict job cert)
-      × (((c : Counts) → (verdictOf r ≡ accepted c) ↔ Conditions job cert c) × ((c : CountsAnswer) → r ≡ Accepted c → SafeBytes job))
+  pub promised : (r : Answer) → verdict_of r ≡ verdict_for true start_of job cert
+      → (verdict_of r ≡ verdict job cert)
+      × (((c : Counts) → (verdict_of r ≡ accepted c) ↔ Conditions job cert c) × ((c : CountsAnswer) → r ≡ Accepted c → SafeBytes job))
   promised r d =
-      let e = d ∙ verdict-judged start_of in (
+      let e = d ∙ verdict_judged start_of in (
         e,
         (
           λ c. (λ is. (exact job cert c).0 (sym e ∙ is), λ d. e ∙ (exact job cert c).1 d),
-          λ c r-is. safe-bytes job cert (countsTold c) (sym e ∙ ap verdictOf r-is),
+          λ c r-is. safe_bytes job cert (counts_told c) (sym e ∙ ap verdict_of r-is),
         ),
       )
 
   -- and `check_pair`, wherever 8 is judged, and whether or not covers are
-  pub promised-pair : (judged : Bool) (tested : JobFile → ℕ) (v : Verdict) → v ≡ verdictFor judged tested job cert
-      → (v ≡ verdictFor judged tested job cert)
-      × ((judged ≡ true → v ≡ verdictAt tested job cert) × (judged ≡ true → (c : Counts) → (v ≡ accepted c) ↔ ConditionsAt tested job cert c))
-  promised-pair judged tested v d = (d, (is, λ e c. (λ a. (exact-at tested job cert c).0 (sym (is e) ∙ a), λ k. is e ∙ (exact-at tested job cert c).1 k)))
+  pub promised_pair : (judged : Bool) (tested : JobFile → ℕ) (v : Verdict) → v ≡ verdict_for judged tested job cert
+      → (v ≡ verdict_for judged tested job cert)
+      × ((judged ≡ true → v ≡ verdict_at tested job cert) × (judged ≡ true → (c : Counts) → (v ≡ accepted c) ↔ ConditionsAt tested job cert c))
+  promised_pair judged tested v d = (d, (is, λ e c. (λ a. (exact_at tested job cert c).0 (sym (is e) ∙ a), λ k. is e ∙ (exact_at tested job cert c).1 k)))
     where
-      is : judged ≡ true → v ≡ verdictAt tested job cert
-      is e = d ∙ ap (λ (b : Bool). verdictFor b tested job cert) e ∙ verdict-judged tested
+      is : judged ≡ true → v ≡ verdict_at tested job cert
+      is e = d ∙ ap (λ (b : Bool). verdict_for b tested job cert) e ∙ verdict_judged tested

@@ -2,14 +2,14 @@
 use Rattle.std.specs.Prelude.{Bool, cond, List, [], ◌∷◌, map, ◌≡◌, ℕ, suc, ◌+◌, ◌*◌, ◌/◌, ◌%◌, ◌≤◌, length}
 use Rattle.shape.specs.Shape.{Shape, size}
 use Rattle.run.specs.Run.{Located}
-use Rattle.factrows.specs.Rows.{noFacts, rowsTest}
-use Rattle.layout.specs.Entries.{versionOf}
+use Rattle.factrows.specs.Rows.{no_facts, rows_test}
+use Rattle.layout.specs.Entries.{version_of}
 use Rattle.undoing.specs.Rowed.{Rowed}
 use Rattle.cover.specs.Test.{closed_in}
-use Rattle.coverreader.specs.Reading.{readAlone}
-use Rattle.format.specs.Certificate.{readCoverBy}
-use Rattle.format.specs.Parser.{Parsed, parsed, fault, Parser, ◌>>=◌, return, certificateBuffer}
-use Rattle.verdict.specs.Verdict.{reasonOf}
+use Rattle.coverreader.specs.Reading.{read_alone}
+use Rattle.format.specs.Certificate.{read_cover_by}
+use Rattle.format.specs.Parser.{Parsed, parsed, fault, Parser, ◌>>=◌, return, certificate_buffer}
+use Rattle.verdict.specs.Verdict.{reason_of}
 use Rattle.checker.specs.declared.checked.Checked.{Checked}
 use Rattle.checker.specs.declared.checked.Checked.TheVariants.{Upto, Refused}
 use Rattle.checker.specs.declared.checked.Position.{Position}
@@ -19,28 +19,28 @@ pub record Tally : Type 0 where
   pub covers : ℕ
   pub links : ℕ
 
-abbrev pub noCovers : Tally
-noCovers = record { covers = 0; links = 0 }
+abbrev pub no_covers : Tally
+no_covers = record { covers = 0; links = 0 }
 
 -- one cover more, with its links
-abbrev pub oneMore : Tally → ℕ → Tally
-oneMore n links = record { covers = suc n.covers; links = n.links + links }
+abbrev pub one_more : Tally → ℕ → Tally
+one_more n links = record { covers = suc n.covers; links = n.links + links }
 
 -- takes covers, each as it is read and judged, and counts on
-unfoldable pub takeAll : List (Parser ℕ) → Tally → Parser Tally
-takeAll [] n = return n
-takeAll (p ∷ ps) n = do
+unfoldable pub take_all : List (Parser ℕ) → Tally → Parser Tally
+take_all [] n = return n
+take_all (p ∷ ps) n = do
   links ← p
-  takeAll ps (oneMore n links)
+  take_all ps (one_more n links)
 
 -- what is counted up to a position
 abbrev pub tally_of : Position → Tally
 tally_of t = record { covers = t.counted / 4294967296; links = t.counted % 4294967296 }
 
 -- how far the covers are checked, as the answer of a parser
-abbrev pub checkedOf : Checked → Parsed Tally
-checkedOf (Upto t) = parsed (tally_of t) t.at
-checkedOf (Refused r place) = fault (reasonOf r) place
+abbrev pub checked_of : Checked → Parsed Tally
+checked_of (Upto t) = parsed (tally_of t) t.at
+checked_of (Refused r place) = fault (reason_of r) place
 
 -- a cover has at least one byte, and its links are a number of 16 bits
 pub record Within (cert : List ℕ) (t : Position) : Type 0 where
@@ -56,7 +56,7 @@ StaysWithin cert (Refused r place) = Unit {0}
 
 -- g is how far these covers are taken, from t on
 abbrev pub Takes : List ℕ → List (Parser ℕ) → Position → Checked → Type 0
-Takes cert ps t g = (checkedOf g ≡ takeAll ps (tally_of t) t.at) × StaysWithin cert g
+Takes cert ps t g = (checked_of g ≡ take_all ps (tally_of t) t.at) × StaysWithin cert g
 
 -- a shape at a state
 abbrev pub located : ℕ → Shape → Located
@@ -71,31 +71,31 @@ abbrev pub taking : Bool → List Located → Taking
 taking judged ms = record { judged = judged; members = ms }
 
 -- a cover of a shape at a state, whose facts a test tells: judged, or only read
-abbrev pub coverBy : List ℕ → Taking → (ℕ → ℕ → ℕ → Bool) → Located → Parser ℕ
-coverBy cert ms among o =
-    cond ms.judged (readCoverBy (certificateBuffer cert) among ms.members o) (readAlone (certificateBuffer cert) ms.members (size o.shape))
+abbrev pub cover_by : List ℕ → Taking → (ℕ → ℕ → ℕ → Bool) → Located → Parser ℕ
+cover_by cert ms among o =
+    cond ms.judged (read_cover_by (certificate_buffer cert) among ms.members o) (read_alone (certificate_buffer cert) ms.members (size o.shape))
 
-abbrev pub coverOf : List ℕ → Taking → Located → Parser ℕ
-coverOf cert ms o = coverBy cert ms (closed_in o.shape) o
+abbrev pub cover_of : List ℕ → Taking → Located → Parser ℕ
+cover_of cert ms o = cover_by cert ms (closed_in o.shape) o
 
 -- a cover of each
-abbrev pub coversOf : List ℕ → Taking → List Located → List (Parser ℕ)
-coversOf cert ms os = map (coverOf cert ms) os
+abbrev pub covers_of : List ℕ → Taking → List Located → List (Parser ℕ)
+covers_of cert ms os = map (cover_of cert ms) os
 
 -- a cover of a shape at a state whose facts are in rows, and of each of them
-abbrev pub coverRowed : List ℕ → Taking → ℕ → Rowed → Parser ℕ
-coverRowed cert ms state o = coverBy cert ms (rowsTest o.rows) (located state o.shape)
+abbrev pub cover_rowed : List ℕ → Taking → ℕ → Rowed → Parser ℕ
+cover_rowed cert ms state o = cover_by cert ms (rows_test o.rows) (located state o.shape)
 
-abbrev pub coversRowed : List ℕ → Taking → ℕ → List Rowed → List (Parser ℕ)
-coversRowed cert ms state os = map (coverRowed cert ms state) os
+abbrev pub covers_rowed : List ℕ → Taking → ℕ → List Rowed → List (Parser ℕ)
+covers_rowed cert ms state os = map (cover_rowed cert ms state) os
 
 -- g is how far the covers of all these are checked, from t on
 abbrev pub ChecksAll : List ℕ → Taking → List Located → Position → Checked → Type 0
-ChecksAll cert ms os t g = Takes cert (coversOf cert ms os) t g
+ChecksAll cert ms os t g = Takes cert (covers_of cert ms os) t g
 
 abbrev pub Checks : List ℕ → Taking → ℕ → List Rowed → Position → Checked → Type 0
-Checks cert ms state os t g = Takes cert (coversRowed cert ms state os) t g
+Checks cert ms state os t g = Takes cert (covers_rowed cert ms state os) t g
 
 -- a certificate of version 1 has no facts, so that rows beside it are empty
 abbrev pub OwnVersion : List ℕ → List ℕ → Type 0
-OwnVersion cert rows = (versionOf cert ≡ 2 → ⊥) → rows ≡ noFacts
+OwnVersion cert rows = (version_of cert ≡ 2 → ⊥) → rows ≡ no_facts

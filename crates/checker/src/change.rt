@@ -1,7 +1,7 @@
 // Kinds 1 to 5, and 8 to 13, which change facts alone: the shape under work, changed in place.
 ghost use Rattle.std.specs.Prelude.{◌≡◌, ◌+◌, ◌≤◌, ◌<◌};
-ghost use Rattle.layout.specs.ShapeArray.{cellCount, operand_at};
-ghost use Rattle.shapes.specs.Change.{placedIn, undoneIn};
+ghost use Rattle.layout.specs.ShapeArray.{cell_count, operand_at};
+ghost use Rattle.shapes.specs.Change.{placed_in, undone_in};
 
 use kinds::{ASSIGN, STORE};
 use place::{FIRST_CELL, NOWHERE, NULL};
@@ -9,8 +9,8 @@ use place::{FIRST_CELL, NOWHERE, NULL};
 // Places operand x by choice k: 0 .. n - 1 a cell, n #, n + 1 a fresh cell, n + 2 + j a fresh cell in the middle of the link of cell j. Nothing
 // changes where it has a place.
 pub(crate) fn place_operand(s: &mut [u8; 28], x: u8, k: u8)
-    requires { (x ≤ 9) × (cellCount s.old ≤ 13) × (k < cellCount s.old + (2 + cellCount s.old)) }
-    ensures { s.new ≡ placedIn s.old x k }
+    requires { (x ≤ 9) × (cell_count s.old ≤ 13) × (k < cell_count s.old + (2 + cell_count s.old)) }
+    ensures { s.new ≡ placed_in s.old x k }
 {
     let n = s[0];
     let slot = 17 + x as usize;
@@ -43,7 +43,7 @@ pub(crate) fn place_operand(s: &mut [u8; 28], x: u8, k: u8)
 // What the operation changes is put back, both operands being placed. Where b is above the variables it is the helper of kind 4.
 pub(crate) fn undo(variables: usize, kind: u8, a: u8, b: u8, s: &mut [u8; 28])
     requires { (a ≤ 9) × (b ≤ 9) × (operand_at s.old a < 17) × (operand_at s.old b < 17) }
-    ensures { s.new ≡ undoneIn variables kind a b s.old }
+    ensures { s.new ≡ undone_in variables kind a b s.old }
 {
     if kind < ASSIGN {
         return;

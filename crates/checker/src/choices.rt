@@ -1,16 +1,16 @@
 // Kinds 8 to 13: covers of the predecessors, by the choices of the operand that is placed first and of the one that is placed last. Kinds 1 to 5 go the same
 // way, by loops of their own (`quickly`).
 ghost use Rattle.std.specs.Prelude.{true, ◌≡◌, ◌+◌, ◌≤◌, ◌<◌};
-ghost use Rattle.layout.specs.Members.{membersFrom};
-ghost use Rattle.factrows.specs.Rows.{cellNumber};
-ghost use Rattle.layout.specs.ShapeArray.{cellCount, operand_at, linksIn};
+ghost use Rattle.layout.specs.Members.{members_from};
+ghost use Rattle.factrows.specs.Rows.{cell_number};
+ghost use Rattle.layout.specs.ShapeArray.{cell_count, operand_at, links_in};
 ghost use Rattle.placing.specs.Choice.{put};
 ghost use Rattle.placing.specs.Retained.{changed};
-ghost use Rattle.placing.specs.Wanted.{fitsIn};
-ghost use Rattle.shapes.specs.Operands.{HoldsShape, shapeUnder, Working, OneToPlace, firstPlacedIn, lastOperandIn, wantedLastIn};
+ghost use Rattle.placing.specs.Wanted.{fits_in};
+ghost use Rattle.shapes.specs.Operands.{HoldsShape, shape_under, Working, OneToPlace, first_placed_in, last_operand_in, wanted_last_in};
 ghost use Rattle.checker.specs.Checking.{Within, Checks, taking};
-ghost use Rattle.checker.specs.Placing.{secondOperand, withHelper};
-ghost use Rattle.undoing.specs.Before.{choicesRowed, valuedBefore};
+ghost use Rattle.checker.specs.Placing.{second_operand, with_helper};
+ghost use Rattle.undoing.specs.Before.{choices_rowed, valued_before};
 
 use crate::change::{place_operand, undo};
 use crate::checked::{Checked, Position, Spot};
@@ -24,8 +24,8 @@ use undoing::undo_values;
 
 // The predecessor by choice k of the operand that is placed last, which is wanted, in place.
 pub(crate) fn undo_choice(spot: Spot, operand: u8, s: &mut [u8; 28], k: u8)
-    requires { (OneToPlace spot.variables spot.by.kind spot.by.a spot.by.b s.old) × (operand ≡ lastOperandIn spot.by.a spot.by.b s.old) × (k < cellCount s.old + (2 + cellCount s.old)) × (fitsIn (linksIn s.old) (wantedLastIn spot.by.kind spot.by.a spot.by.b s.old) k ≡ true) }
-    ensures { HoldsShape spot.variables s.new (changed spot.variables spot.by.kind spot.by.a spot.by.b (put operand (shapeUnder spot.variables spot.by.b s.old) k)) }
+    requires { (OneToPlace spot.variables spot.by.kind spot.by.a spot.by.b s.old) × (operand ≡ last_operand_in spot.by.a spot.by.b s.old) × (k < cell_count s.old + (2 + cell_count s.old)) × (fits_in (links_in s.old) (wanted_last_in spot.by.kind spot.by.a spot.by.b s.old) k ≡ true) }
+    ensures { HoldsShape spot.variables s.new (changed spot.variables spot.by.kind spot.by.a spot.by.b (put operand (shape_under spot.variables spot.by.b s.old) k)) }
 {
     place_operand(s, operand, k);
     undo(spot.variables, spot.by.kind, spot.by.a, spot.by.b, s);
@@ -34,7 +34,7 @@ pub(crate) fn undo_choice(spot: Spot, operand: u8, s: &mut [u8; 28], k: u8)
 // The number of the cell at which an operand stands; 14, which is in no fact, where it stands at none.
 fn cell_of(s: &[u8; 28], operand: u8) -> usize
     requires { operand ≤ 9 }
-    ensures { result ≡ cellNumber (operand_at s.now operand) }
+    ensures { result ≡ cell_number (operand_at s.now operand) }
 {
     let p = place_of(s, operand);
     if p.code < FIRST_CELL {
@@ -54,7 +54,7 @@ fn check_valued(
     judged: bool,
 ) -> Checked
     requires { (spot.by.a ≤ 9) × (spot.by.b ≤ 9) × (Within cert.now t) }
-    ensures { Checks cert.now (taking judged (membersFrom cert.now spot.variables starts.now)) spot.by.from (valuedBefore spot.variables spot.by.kind spot.by.a spot.by.b s.now facts.now) t result }
+    ensures { Checks cert.now (taking judged (members_from cert.now spot.variables starts.now)) spot.by.from (valued_before spot.variables spot.by.kind spot.by.a spot.by.b s.now facts.now) t result }
 {
     let mut rows = *facts;
     if !undo_values(
@@ -79,7 +79,7 @@ pub(crate) fn check_last_choices(
     judged: bool,
 ) -> Checked
     requires { (OneToPlace spot.variables spot.by.kind spot.by.a spot.by.b s.now) × (5 < spot.by.kind) × (Within cert.now from) }
-    ensures { Checks cert.now (taking judged (membersFrom cert.now spot.variables starts.now)) spot.by.from (choicesRowed spot.variables spot.by.kind spot.by.a spot.by.b s.now facts.now) from result }
+    ensures { Checks cert.now (taking judged (members_from cert.now spot.variables starts.now)) spot.by.from (choices_rowed spot.variables spot.by.kind spot.by.a spot.by.b s.now facts.now) from result }
 {
     let operand = last_operand(spot.by.a, spot.by.b, s);
     let wanted = wanted_of_last(spot.by.kind, spot.by.a, spot.by.b, s);
@@ -104,8 +104,8 @@ pub(crate) fn check_last_choices(
 
 // Places a by choice k, where both operands are nowhere.
 pub(crate) fn place_first(a: u8, b: u8, s: &mut [u8; 28], k: u8)
-    requires { (a ≤ 9) × (b ≤ 9) × (cellCount s.old ≤ 13) × (k < cellCount s.old + (2 + cellCount s.old)) }
-    ensures { s.new ≡ firstPlacedIn a b s.old k }
+    requires { (a ≤ 9) × (b ≤ 9) × (cell_count s.old ≤ 13) × (k < cell_count s.old + (2 + cell_count s.old)) }
+    ensures { s.new ≡ first_placed_in a b s.old k }
 {
     let x = place_of(s, a);
     let y = place_of(s, b);
@@ -125,7 +125,7 @@ pub(crate) fn check_first_choices(
     judged: bool,
 ) -> Checked
     requires { (Working 12 spot.variables spot.by.kind spot.by.a spot.by.b s.now) × (5 < spot.by.kind) × (Within cert.now from) }
-    ensures { Checks cert.now (taking judged (membersFrom cert.now spot.variables starts.now)) spot.by.from (choicesRowed spot.variables spot.by.kind spot.by.a spot.by.b s.now facts.now) from result }
+    ensures { Checks cert.now (taking judged (members_from cert.now spot.variables starts.now)) spot.by.from (choices_rowed spot.variables spot.by.kind spot.by.a spot.by.b s.now facts.now) from result }
 {
     let wanted = wanted_of_first(spot.by.a, spot.by.b, s);
     let c = choices_of(s[0], wanted);
@@ -150,7 +150,7 @@ pub(crate) fn check_first_choices(
 // The second operand as it is placed: b; the helper where kind 4 has one variable, and a for kind 13.
 fn second_operand(variables: usize, kind: u8, a: u8, b: u8) -> u8
     requires { variables ≤ 8 }
-    ensures { result ≡ secondOperand variables kind a b }
+    ensures { result ≡ second_operand variables kind a b }
 {
     if kind == LOAD {
         if a == b {
@@ -167,7 +167,7 @@ fn second_operand(variables: usize, kind: u8, a: u8, b: u8) -> u8
 // The transition with it.
 pub(crate) fn with_helper(spot: Spot) -> Spot
     requires { spot.variables ≤ 8 }
-    ensures { result ≡ record { variables = spot.variables; by = withHelper spot.variables spot.by } }
+    ensures { result ≡ record { variables = spot.variables; by = with_helper spot.variables spot.by } }
 {
     let by = Transition {
         from: spot.by.from,

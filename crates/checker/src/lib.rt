@@ -1,16 +1,16 @@
 // The checker: one verdict for the bytes of a job and of a certificate.
 ghost use Rattle.std.specs.Prelude.{true, false, List, ◌++◌, ◌↔◌, ◌≡◌, ℕ, ◌≤◌, length, take, drop};
-ghost use Rattle.checker.specs.Jobs.{fileIn, readCovers, readFor, verdictFor};
-ghost use Rattle.checker.specs.Pairs.{testedIf, pair_of, MembersKept, placed, placesRead, keptOf, keptIf};
+ghost use Rattle.checker.specs.Jobs.{file_in, read_covers, read_for, verdict_for};
+ghost use Rattle.checker.specs.Pairs.{tested_if, pair_of, MembersKept, placed, places_read, kept_of, kept_if};
 ghost use Rattle.checker.specs.declared.PairVerdict.TheVariants.{Accepted as PairAccepted};
 ghost use Rattle.format.specs.Conditions.{Conditions, ConditionsAt};
 ghost use Rattle.format.specs.JobBytes.{SafeBytes};
 ghost use Rattle.format.specs.Parser.{within};
-ghost use Rattle.format.specs.Verdict.{Counts as CountsDue, accepted, conclude, verdictAt, verdict};
-ghost use Rattle.layout.specs.Entries.{membersAt, Table};
+ghost use Rattle.format.specs.Verdict.{Counts as CountsDue, accepted, conclude, verdict_at, verdict};
+ghost use Rattle.layout.specs.Entries.{members_at, Table};
 ghost use Rattle.reader.specs.Job.{JobRead};
 ghost use Rattle.reader.specs.declared.Header.{Header as HeaderRead};
-ghost use Rattle.verdict.specs.Verdict.{verdictOf};
+ghost use Rattle.verdict.specs.Verdict.{verdict_of};
 ghost use Rattle.verdict.specs.declared.Counts.{Counts as CountsAnswer};
 ghost use Rattle.verdict.specs.declared.Verdict.TheVariants.{Accepted};
 
@@ -56,7 +56,7 @@ fn check_covers(
     judged: bool,
 ) -> Verdict
     requires { (JobRead job.now h) × (Table cert.now h.variables starts.now) × (at ≤ length cert.now) × (length cert.now ≤ 65536) }
-    ensures { verdictOf result ≡ conclude (readCovers judged cert.now (fileIn job.now h).job (membersAt cert.now h.variables starts.now) at) }
+    ensures { verdict_of result ≡ conclude (read_covers judged cert.now (file_in job.now h).job (members_at cert.now h.variables starts.now) at) }
 {
     let g = check_owed(job, h, cert, starts, at, judged);
     match g {
@@ -85,9 +85,9 @@ fn check_certificate(
     judged: bool,
 ) -> Verdict
     requires { (JobRead job.now h) × (length cert.now ≤ 65536) }
-    ensures verdict { verdictOf result ≡ conclude (readFor judged tested cert.now (fileIn job.now h)) }
+    ensures verdict { verdict_of result ≡ conclude (read_for judged tested cert.now (file_in job.now h)) }
     ensures kept { (c : CountsAnswer) → result ≡ Accepted c → MembersKept job.now cert.now h tested c.members starts.new }
-    ensures starts { starts.new ≡ placed cert.now (fileIn job.now h) starts.old }
+    ensures starts { starts.new ≡ placed cert.now (file_in job.now h) starts.old }
 {
     let version = version_of(job);
     let r = read_members(cert, version, h.variables, h.states, tested, starts);
@@ -103,8 +103,8 @@ fn check_certificate(
 // The verdict on a job and a certificate: accepted with these counts exactly if the conditions of document 01 hold with them. An accepted job is
 // safe.
 pub fn check(job: &[u8], cert: &[u8]) -> Verdict
-    ensures exact { verdictOf result ≡ verdict job.now cert.now }
-    ensures accepted { (c : CountsDue) → (verdictOf result ≡ accepted c) ↔ Conditions job.now cert.now c }
+    ensures exact { verdict_of result ≡ verdict job.now cert.now }
+    ensures accepted { (c : CountsDue) → (verdict_of result ≡ accepted c) ↔ Conditions job.now cert.now c }
     ensures safe { (c : CountsAnswer) → result ≡ Accepted c → SafeBytes job.now }
 {
     if !fits(job.len()) {
@@ -125,7 +125,7 @@ pub fn check(job: &[u8], cert: &[u8]) -> Verdict
 
 // The state at which 8 is judged: the start, or the first number that is no state, where no member is.
 fn tested_state(h: Header, tested: bool) -> usize
-    ensures { (job : List ℕ) → result ≡ testedIf tested (fileIn job h) }
+    ensures { (job : List ℕ) → result ≡ tested_if tested (file_in job h) }
 {
     if tested {
         return h.start;
@@ -135,7 +135,7 @@ fn tested_state(h: Header, tested: bool) -> usize
 
 // A verdict, with the job where it is accepted.
 fn with_job(v: Verdict, h: Header) -> PairVerdict
-    ensures { (pair_of result ≡ verdictOf v) × ((c : CountsAnswer) (g : HeaderRead) → result ≡ PairAccepted c g → (v ≡ Accepted c) × (g ≡ h)) }
+    ensures { (pair_of result ≡ verdict_of v) × ((c : CountsAnswer) (g : HeaderRead) → result ≡ PairAccepted c g → (v ≡ Accepted c) × (g ≡ h)) }
 {
     match v {
         Verdict::Accepted(counts) => PairVerdict::Accepted(counts, h),
@@ -158,7 +158,7 @@ fn copy_places(table: &[u16], count: usize, starts: &mut [u16])
 // Keeps the places of the members, where the certificate is accepted.
 fn keep_places(v: Verdict, table: &[u16; 512], starts: &mut [u16; 512])
     requires { (c : CountsAnswer) → v ≡ Accepted c → c.members ≤ 512 }
-    ensures kept { starts.new ≡ keptOf (verdictOf v) table.now starts.old }
+    ensures kept { starts.new ≡ kept_of (verdict_of v) table.now starts.old }
     ensures room { (c : CountsAnswer) → v ≡ Accepted c → length starts.old ≡ 512 }
 {
     match v {
@@ -176,11 +176,11 @@ pub fn check_pair(
     judged: bool,
     starts: &mut [u16; 512],
 ) -> PairVerdict
-    ensures exact { pair_of result ≡ verdictFor judged (testedIf tested) job.now cert.now }
-    ensures judged { judged ≡ true → pair_of result ≡ verdictAt (testedIf tested) job.now cert.now }
-    ensures accepted { judged ≡ true → (c : CountsDue) → (pair_of result ≡ accepted c) ↔ ConditionsAt (testedIf tested) job.now cert.now c }
+    ensures exact { pair_of result ≡ verdict_for judged (tested_if tested) job.now cert.now }
+    ensures judged { judged ≡ true → pair_of result ≡ verdict_at (tested_if tested) job.now cert.now }
+    ensures accepted { judged ≡ true → (c : CountsDue) → (pair_of result ≡ accepted c) ↔ ConditionsAt (tested_if tested) job.now cert.now c }
     ensures kept { (c : CountsAnswer) (h : HeaderRead) → result ≡ PairAccepted c h → JobRead job.now h × (tested ≡ false → MembersKept job.now cert.now h h.states c.members starts.new) }
-    ensures starts { starts.new ≡ keptIf tested (verdictFor judged (testedIf tested) job.now cert.now) (placesRead job.now cert.now) starts.old }
+    ensures starts { starts.new ≡ kept_if tested (verdict_for judged (tested_if tested) job.now cert.now) (places_read job.now cert.now) starts.old }
 {
     if !fits(job.len()) {
         return PairVerdict::Refused(Refusal::JobLength, 0);

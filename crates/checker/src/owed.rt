@@ -1,19 +1,19 @@
 // Checks the covers in their order: those of the forbidden shapes; then for each member, each transition into its state.
 ghost use Rattle.std.specs.Prelude.{true, ◌||◌, ◌&&◌, map, ◌≡◌, ◌+◌, ◌≤◌, ◌<◌, eqb, length, get_or};
-ghost use Rattle.lists.specs.List.{concatMap};
+ghost use Rattle.lists.specs.List.{concat_map};
 ghost use Rattle.heap.specs.Operation.{kind_of};
 ghost use Rattle.backward.specs.Predecessors.{before};
 ghost use Rattle.cover.specs.Cover.{owed};
-ghost use Rattle.checker.specs.Jobs.{toState, fileIn, owedBy};
-ghost use Rattle.checker.specs.Checking.{noCovers, takeAll, checkedOf, located, coversOf, Within, ChecksAll, OwnVersion, taking};
+ghost use Rattle.checker.specs.Jobs.{to_state, file_in, owed_by};
+ghost use Rattle.checker.specs.Checking.{no_covers, take_all, checked_of, located, covers_of, Within, ChecksAll, OwnVersion, taking};
 ghost use Rattle.shape.specs.Shape.{Shape};
 ghost use Rattle.undoing.specs.Rowed.{Settled, rowed};
-ghost use Rattle.factrows.specs.Rows.{noFacts, isConsistent};
-ghost use Rattle.layout.specs.Loading.{loadedFacts};
-ghost use Rattle.layout.specs.Members.{membersFrom};
+ghost use Rattle.factrows.specs.Rows.{no_facts, is_consistent};
+ghost use Rattle.layout.specs.Loading.{loaded_facts};
+ghost use Rattle.layout.specs.Members.{members_from};
 ghost use Rattle.kinds.specs.Kinds.{allowed};
-ghost use Rattle.layout.specs.ShapeArray.{cellCount, shapeIn, ShapeArray};
-ghost use Rattle.layout.specs.Entries.{locatedAt, entries_at, EntriesIn, membersAt, Table};
+ghost use Rattle.layout.specs.ShapeArray.{cell_count, shape_in, ShapeArray};
+ghost use Rattle.layout.specs.Entries.{located_at, entries_at, EntriesIn, members_at, Table};
 ghost use Rattle.layout.specs.Transitions.{op_of};
 ghost use Rattle.transitions.specs.Index.{IndexedFrom};
 ghost use Rattle.reader.specs.Job.{JobRead};
@@ -32,8 +32,8 @@ use verdict::Refusal;
 
 // Loads the facts of the forbidden shape at a place, and all that follows from them, into empty rows. A job of version 1 has none, and makes no call.
 fn load_rows(job: &[u8], at: usize, variables: usize, facts: &mut [u16; 28])
-    requires { facts.old ≡ noFacts }
-    ensures { facts.new ≡ loadedFacts job.now variables at }
+    requires { facts.old ≡ no_facts }
+    ensures { facts.new ≡ loaded_facts job.now variables at }
 {
     if version_of(job) == 2 {
         load_facts(job, at, variables, facts);
@@ -64,7 +64,7 @@ pub(crate) fn check_forbidden(
     judged: bool,
 ) -> Checked
     requires { (EntriesIn job.now h.variables h.bads_at h.bads) × (h.variables ≤ 8) × (Within cert.now from) }
-    ensures { ChecksAll cert.now (taking judged (membersFrom cert.now h.variables starts.now)) (entries_at job.now h.variables h.bads_at h.bads) from result }
+    ensures { ChecksAll cert.now (taking judged (members_from cert.now h.variables starts.now)) (entries_at job.now h.variables h.bads_at h.bads) from result }
 {
     let mut at = h.bads_at;
     let mut t = from;
@@ -110,8 +110,8 @@ fn check_transition(
     t: Position,
     judged: bool,
 ) -> Checked
-    requires { (allowed spot.variables spot.by.kind spot.by.a spot.by.b ≡ true) × (spot.variables ≤ 8) × (ShapeArray spot.variables s.now) × (cellCount s.now ≤ 12) × (OwnVersion cert.now facts.now) × (Within cert.now t) × ((whole : Shape) × Settled (rowed facts.now (shapeIn spot.variables s.now)) whole) }
-    ensures { (whole : Shape) → Settled (rowed facts.now (shapeIn spot.variables s.now)) whole → ChecksAll cert.now (taking judged (membersFrom cert.now spot.variables starts.now)) (map (located spot.by.from) (before (op_of (kind_of spot.by.kind) spot.by.a spot.by.b) whole)) t result }
+    requires { (allowed spot.variables spot.by.kind spot.by.a spot.by.b ≡ true) × (spot.variables ≤ 8) × (ShapeArray spot.variables s.now) × (cell_count s.now ≤ 12) × (OwnVersion cert.now facts.now) × (Within cert.now t) × ((whole : Shape) × Settled (rowed facts.now (shape_in spot.variables s.now)) whole) }
+    ensures { (whole : Shape) → Settled (rowed facts.now (shape_in spot.variables s.now)) whole → ChecksAll cert.now (taking judged (members_from cert.now spot.variables starts.now)) (map (located spot.by.from) (before (op_of (kind_of spot.by.kind) spot.by.a spot.by.b) whole)) t result }
 {
     if spot.by.kind <= STORE {
         let placed = with_helper(spot);
@@ -129,9 +129,9 @@ fn check_transition(
 
 // Loads the facts of the member at a place, and all that follows from them, into empty rows. Whether no cell is then below itself. Version 1 has none.
 fn settle_facts(cert: &[u8], at: usize, variables: usize, facts: &mut [u16; 28]) -> bool
-    requires { facts.old ≡ noFacts }
-    ensures is { result ≡ isConsistent (loadedFacts cert.now variables at) }
-    ensures facts { facts.new ≡ loadedFacts cert.now variables at }
+    requires { facts.old ≡ no_facts }
+    ensures is { result ≡ is_consistent (loaded_facts cert.now variables at) }
+    ensures facts { facts.new ≡ loaded_facts cert.now variables at }
 {
     if version_of(cert) != 2 {
         return true;
@@ -157,8 +157,8 @@ fn check_member(
     from: Position,
     judged: bool,
 ) -> Checked
-    requires { (JobRead job.now visit.h) × (IndexedFrom (toState job.now visit.h) visit.h.transitions 0 index.now) × (Table cert.now visit.h.variables starts.now) × (visit.member < length starts.now) × (Within cert.now from) }
-    ensures { ChecksAll cert.now (taking judged (membersFrom cert.now visit.h.variables starts.now)) (owedBy job.now visit.h (locatedAt cert.now visit.h.variables (get_or starts.now visit.member 0))) from result }
+    requires { (JobRead job.now visit.h) × (IndexedFrom (to_state job.now visit.h) visit.h.transitions 0 index.now) × (Table cert.now visit.h.variables starts.now) × (visit.member < length starts.now) × (Within cert.now from) }
+    ensures { ChecksAll cert.now (taking judged (members_from cert.now visit.h.variables starts.now)) (owed_by job.now visit.h (located_at cert.now visit.h.variables (get_or starts.now visit.member 0))) from result }
 {
     let h = visit.h;
     let m = visit.member;
@@ -200,8 +200,8 @@ pub(crate) fn check_members(
     from: Position,
     judged: bool,
 ) -> Checked
-    requires { (JobRead job.now h) × (IndexedFrom (toState job.now h) h.transitions 0 index.now) × (Table cert.now h.variables starts.now) × (Within cert.now from) }
-    ensures { ChecksAll cert.now (taking judged (membersFrom cert.now h.variables starts.now)) (concatMap (owedBy job.now h) (membersAt cert.now h.variables starts.now)) from result }
+    requires { (JobRead job.now h) × (IndexedFrom (to_state job.now h) h.transitions 0 index.now) × (Table cert.now h.variables starts.now) × (Within cert.now from) }
+    ensures { ChecksAll cert.now (taking judged (members_from cert.now h.variables starts.now)) (concat_map (owed_by job.now h) (members_at cert.now h.variables starts.now)) from result }
 {
     let mut t = from;
     let mut m = 0;
@@ -226,7 +226,7 @@ pub(crate) fn check_owed(
     judged: bool,
 ) -> Checked
     requires { (JobRead job.now h) × (Table cert.now h.variables starts.now) × (at ≤ length cert.now) × (length cert.now ≤ 65536) }
-    ensures { checkedOf result ≡ takeAll (coversOf cert.now (taking judged (membersAt cert.now h.variables starts.now)) (owed (fileIn job.now h).job (membersAt cert.now h.variables starts.now))) noCovers at }
+    ensures { checked_of result ≡ take_all (covers_of cert.now (taking judged (members_at cert.now h.variables starts.now)) (owed (file_in job.now h).job (members_at cert.now h.variables starts.now))) no_covers at }
 {
     // neither is ever so: said for the compiler, so that tests of it in the loops go
     if 8 < h.variables {

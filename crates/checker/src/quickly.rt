@@ -1,10 +1,10 @@
 // Kinds 1 to 5, which leave the facts: the loops of `choices`, with the quick test of a cover ahead of the exact one. The quick test is called from one place, so that
 // it is compiled into the loop there.
 ghost use Rattle.std.specs.Prelude.{◌≤◌};
-ghost use Rattle.layout.specs.Members.{membersFrom};
+ghost use Rattle.layout.specs.Members.{members_from};
 ghost use Rattle.shapes.specs.Operands.{Working, OneToPlace};
 ghost use Rattle.checker.specs.Checking.{Within, Checks, taking};
-ghost use Rattle.undoing.specs.Before.{choicesRowed};
+ghost use Rattle.undoing.specs.Before.{choices_rowed};
 
 use crate::checked::{COVER, Checked, Position, Spot};
 use crate::choices::{place_first, undo_choice};
@@ -24,7 +24,7 @@ pub(crate) fn check_last_quickly(
     judged: bool,
 ) -> Checked
     requires { (OneToPlace spot.variables spot.by.kind spot.by.a spot.by.b s.now) × (spot.by.kind ≤ 5) × (Within cert.now from) }
-    ensures { Checks cert.now (taking judged (membersFrom cert.now spot.variables starts.now)) spot.by.from (choicesRowed spot.variables spot.by.kind spot.by.a spot.by.b s.now facts.now) from result }
+    ensures { Checks cert.now (taking judged (members_from cert.now spot.variables starts.now)) spot.by.from (choices_rowed spot.variables spot.by.kind spot.by.a spot.by.b s.now facts.now) from result }
 {
     let operand = last_operand(spot.by.a, spot.by.b, s);
     let wanted = wanted_of_last(spot.by.kind, spot.by.a, spot.by.b, s);
@@ -66,7 +66,7 @@ pub(crate) fn check_first_quickly(
     judged: bool,
 ) -> Checked
     requires { (Working 12 spot.variables spot.by.kind spot.by.a spot.by.b s.now) × (spot.by.kind ≤ 5) × (Within cert.now from) }
-    ensures { Checks cert.now (taking judged (membersFrom cert.now spot.variables starts.now)) spot.by.from (choicesRowed spot.variables spot.by.kind spot.by.a spot.by.b s.now facts.now) from result }
+    ensures { Checks cert.now (taking judged (members_from cert.now spot.variables starts.now)) spot.by.from (choices_rowed spot.variables spot.by.kind spot.by.a spot.by.b s.now facts.now) from result }
 {
     let wanted = wanted_of_first(spot.by.a, spot.by.b, s);
     let c = choices_of(s[0], wanted);

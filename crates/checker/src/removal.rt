@@ -1,10 +1,10 @@
 // Kinds 6 (new) and 7 (delete): covers of the predecessors.
 ghost use Rattle.std.specs.Prelude.{cond, not, ◌&&◌, ◌≡◌, ◌≤◌, ◌<◌};
-ghost use Rattle.factrows.specs.Rows.{hasFact};
+ghost use Rattle.factrows.specs.Rows.{has_fact};
 ghost use Rattle.checker.specs.Checking.{Within, Checks, OwnVersion, taking};
-ghost use Rattle.undoing.specs.Before.{isTakenOut, rowsBefore, casesRowed};
-ghost use Rattle.layout.specs.Members.{membersFrom};
-ghost use Rattle.layout.specs.ShapeArray.{cellCount, ShapeArray};
+ghost use Rattle.undoing.specs.Before.{is_taken_out, rows_before, cases_rowed};
+ghost use Rattle.layout.specs.Members.{members_from};
+ghost use Rattle.layout.specs.ShapeArray.{cell_count, ShapeArray};
 
 use crate::checked::{Checked, Position, Spot};
 use crate::single::check_cover;
@@ -19,8 +19,8 @@ use undoing::take_out;
 // where the certificate is of version 1.
 fn undo_rows(cert: &[u8], kind: u8, prepared: &[u8; 28], k: usize, rows: &mut [u16; 28]) -> bool
     requires { OwnVersion cert.now rows.old }
-    ensures is { result ≡ not (isTakenOut kind prepared.now k && hasFact rows.old 1 k k) }
-    ensures rows { rows.new ≡ cond result (rowsBefore kind prepared.now rows.old k) rows.old }
+    ensures is { result ≡ not (is_taken_out kind prepared.now k && has_fact rows.old 1 k k) }
+    ensures rows { rows.new ≡ cond result (rows_before kind prepared.now rows.old k) rows.old }
 {
     if version_of(cert) != 2 {
         return true;
@@ -44,8 +44,8 @@ pub(crate) fn check_cases(
     from: Position,
     judged: bool,
 ) -> Checked
-    requires { (ShapeArray spot.variables s.now) × (cellCount s.now ≤ 12) × (1 ≤ spot.by.a) × (spot.by.a ≤ spot.variables) × (5 < spot.by.kind) × (spot.by.kind ≤ 7) × (OwnVersion cert.now facts.now) × (Within cert.now from) }
-    ensures { Checks cert.now (taking judged (membersFrom cert.now spot.variables starts.now)) spot.by.from (casesRowed spot.variables spot.by.kind spot.by.a s.now facts.now) from result }
+    requires { (ShapeArray spot.variables s.now) × (cell_count s.now ≤ 12) × (1 ≤ spot.by.a) × (spot.by.a ≤ spot.variables) × (5 < spot.by.kind) × (spot.by.kind ≤ 7) × (OwnVersion cert.now facts.now) × (Within cert.now from) }
+    ensures { Checks cert.now (taking judged (members_from cert.now spot.variables starts.now)) spot.by.from (cases_rowed spot.variables spot.by.kind spot.by.a s.now facts.now) from result }
 {
     let mut prepared = *s;
     let cases = prepare_cases(spot.variables, spot.by.kind, spot.by.a, &mut prepared);

@@ -1,11 +1,11 @@
 // Checking one cover.
 ghost use Rattle.std.specs.Prelude.{List, [], ◌∷◌, ◌≢◌, ◌≡◌, ℕ};
-ghost use Rattle.covering.specs.Answer.{coverAnswerOf};
+ghost use Rattle.covering.specs.Answer.{cover_answer_of};
 ghost use Rattle.format.specs.Parser.{parsed};
-ghost use Rattle.checker.specs.Checking.{Within, coverRowed, Checks, taking};
+ghost use Rattle.checker.specs.Checking.{Within, cover_rowed, Checks, taking};
 ghost use Rattle.undoing.specs.Rowed.{rowed};
-ghost use Rattle.layout.specs.ShapeArray.{shapeIn};
-ghost use Rattle.layout.specs.Members.{membersFrom};
+ghost use Rattle.layout.specs.ShapeArray.{shape_in};
+ghost use Rattle.layout.specs.Members.{members_from};
 
 use crate::checked::{COVER, Checked, Position, Spot};
 use covering::{CoverAnswer, QuickCover, exact_cover, quick_cover, read_alone};
@@ -20,7 +20,7 @@ pub(crate) fn judge_quickly(
     s: &[u8; 28],
     judged: bool,
 ) -> QuickCover
-    ensures { (facts : List ℕ) → result.next ≢ 0 → coverRowed cert.now (taking judged (membersFrom cert.now variables starts.now)) state (rowed facts (shapeIn variables s.now)) at ≡ parsed result.links result.next }
+    ensures { (facts : List ℕ) → result.next ≢ 0 → cover_rowed cert.now (taking judged (members_from cert.now variables starts.now)) state (rowed facts (shape_in variables s.now)) at ≡ parsed result.links result.next }
 {
     if judged {
         return quick_cover(cert, starts, variables, at, state, s);
@@ -39,7 +39,7 @@ pub(crate) fn check_cover(
     judged: bool,
 ) -> Checked
     requires { Within cert.now t }
-    ensures { Checks cert.now (taking judged (membersFrom cert.now spot.variables starts.now)) spot.by.from (rowed facts.now (shapeIn spot.variables s.now) ∷ []) t result }
+    ensures { Checks cert.now (taking judged (members_from cert.now spot.variables starts.now)) spot.by.from (rowed facts.now (shape_in spot.variables s.now) ∷ []) t result }
 {
     let r = if judged {
         exact_cover(cert, starts, spot.variables, t.at, spot.by.from, s, facts)

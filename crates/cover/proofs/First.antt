@@ -9,9 +9,9 @@ use native.Mathlib.Omega.{arith}
 use lib.Dec.{T}
 use Rattle.lists.specs.Test.{lowest}
 use Rattle.lists.proofs.Reflect.{Reflect}
-use Rattle.lists.proofs.Lowest.{Lowest, lowest-is}
+use Rattle.lists.proofs.Lowest.{Lowest, lowest_is}
 use Rattle.cover.specs.Rules.{First}
-use Rattle.cover.specs.Test.{Answer, holds, broken, Rule, or_else, firstBroken}
+use Rattle.cover.specs.Test.{Answer, holds, broken, Rule, or_else, first_broken}
 
 -- the rule's test decides where it is broken, and it is broken at nothing else
 pub record Decides (Broken : ℕ → Type 0) (x : Rule) : Type 0 where
@@ -40,21 +40,21 @@ module _ (Broken : ℕ → ℕ → Type 0) where
       go (yes z) = subst (λ (q : ℕ). ¬ Broken q k) (sym z) (h k)
       go (no n) = e q (omega arith) k
 
-  pub first-broken : (r : ℕ) (xs : List Rule) → Kept r → Rules r xs → Says Broken (firstBroken r xs)
-  first-broken r [] e d = λ q n. none-at q n (dec_lt q r)
+  pub first_broken_lem : (r : ℕ) (xs : List Rule) → Kept r → Rules r xs → Says Broken (first_broken r xs)
+  first_broken_lem r [] e d = λ q n. none_at q n (dec_lt q r)
     where
-      none-at : (q n : ℕ) → Dec (q < r) → ¬ Broken q n
-      none-at q n (yes b) = e q b n
-      none-at q n (no b) = d q (omega arith) n
-  first-broken r (x ∷ xs) e (d, ds) =
-      go (d e) (lowest x.number x.first x.test) (lowest-is x.test x.number x.first) (λ h. first-broken (suc r) xs (kept_next r e h) ds)
+      none_at : (q n : ℕ) → Dec (q < r) → ¬ Broken q n
+      none_at q n (yes b) = e q b n
+      none_at q n (no b) = d q (omega arith) n
+  first_broken_lem r (x ∷ xs) e (d, ds) =
+      go (d e) (lowest x.number x.first x.test) (lowest_is x.test x.number x.first) (λ h. first_broken_lem (suc r) xs (kept_next r e h) ds)
     where
       -- where the test holds, the rule is not broken
       sound : Decides (Broken r) x → (n : ℕ) → ((x.first ≤ n) → (n < x.first + x.number) → x.test n ≡ true) → ¬ Broken r n
       sound c n h k = let (a, b) = c.within n k in subst (λ (t : Bool). T (not t)) (h a b) ((c.decides n a b).tests k)
 
-      go : Decides (Broken r) x → (l : Option ℕ) → Lowest x.number x.first x.test l → (((k : ℕ) → ¬ Broken r k) → Says Broken (firstBroken (suc r) xs))
-          → Says Broken (or_else r l (firstBroken (suc r) xs))
+      go : Decides (Broken r) x → (l : Option ℕ) → Lowest x.number x.first x.test l → (((k : ℕ) → ¬ Broken r k) → Says Broken (first_broken (suc r) xs))
+          → Says Broken (or_else r l (first_broken (suc r) xs))
       go c none h rest = rest (λ k. sound c k (h k))
       go c (some n) (a, b, t, h) rest =
           record {
@@ -64,8 +64,8 @@ module _ (Broken : ℕ → ℕ → Type 0) where
           }
 
   -- there is one first
-  pub first-unique : (q r k n : ℕ) → First Broken q k → First Broken r n → broken q k ≡ broken r n
-  first-unique q r k n a b = go (ℕ_discrete q r) (dec_lt q r)
+  pub first_unique : (q r k n : ℕ) → First Broken q k → First Broken r n → broken q k ≡ broken r n
+  first_unique q r k n a b = go (ℕ_discrete q r) (dec_lt q r)
     where
       same : (n : ℕ) → First Broken q n → Dec (k ≡ n) → Dec (k < n) → k ≡ n
       same n b (yes z) l = z
@@ -81,8 +81,8 @@ module _ (Broken : ℕ → ℕ → Type 0) where
       go (no z) (no l) = absurd (a.earlier r (omega arith) n b.here)
 
   -- so an answer that says something true is the answer
-  pub says-exactly : (a b : Answer) → Says Broken a → Says Broken b → a ≡ b
-  says-exactly holds holds s t = refl
-  says-exactly holds (broken r n) s t = absurd (s r n t.here)
-  says-exactly (broken r n) holds s t = absurd (t r n s.here)
-  says-exactly (broken q k) (broken r n) s t = first-unique q r k n s t
+  pub says_exactly : (a b : Answer) → Says Broken a → Says Broken b → a ≡ b
+  says_exactly holds holds s t = refl
+  says_exactly holds (broken r n) s t = absurd (s r n t.here)
+  says_exactly (broken r n) holds s t = absurd (t r n s.here)
+  says_exactly (broken q k) (broken r n) s t = first_unique q r k n s t

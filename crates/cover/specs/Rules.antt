@@ -6,9 +6,9 @@ use Rattle.lists.specs.List.{◌∈◌}
 use Rattle.heap.specs.Place.{nowhere, cell}
 use Rattle.graph.specs.Graph.{Chain, Graph}
 use Rattle.facts.specs.Facts.{Fact}
-use Rattle.shape.specs.Shape.{shapeGraph}
+use Rattle.shape.specs.Shape.{shape_graph}
 use Rattle.run.specs.Run.{Located}
-use Rattle.cover.specs.Test.{imageMap}
+use Rattle.cover.specs.Test.{image_map}
 
 -- g is to embed in h by f
 module _ (g h : Graph) (f : ℕ → ℕ) where
@@ -25,7 +25,7 @@ module _ (g h : Graph) (f : ℕ → ℕ) where
   pub record Path (a : ℕ) (between : List ℕ) : Type 0 where
     pub linked : g.link a ≢ nowhere
     pub chain : Chain h.link (f a) between (f (g.link a))
-    pub no-image : (x d : ℕ) → x ∈ between → g.Cell d → x ≢ f d
+    pub no_image : (x d : ℕ) → x ∈ between → g.Cell d → x ≢ f d
 
   -- "a link that misses": cell i has a link, and there is no such path for it
   abbrev pub LinkMisses : ℕ → Type 0
@@ -43,17 +43,17 @@ module _ (g h : Graph) (f : ℕ → ℕ) where
 -- the rule with a number is broken at a name, in a cover of o by the member m
 pub data Breaks (m : Located) (images : List ℕ) (o : Located) : ℕ → ℕ → Type 0 where
   -- "1 wrong state", "for 1 the name is 0"
-  wrong-state : m.state ≢ o.state → Breaks m images o 1 0
+  wrong_state : m.state ≢ o.state → Breaks m images o 1 0
   -- "2 an image used twice"
-  image-twice : (i : ℕ) → ImageTwice (shapeGraph m.shape) (shapeGraph o.shape) (imageMap images) i → Breaks m images o 2 i
+  image_twice : (i : ℕ) → ImageTwice (shape_graph m.shape) (shape_graph o.shape) (image_map images) i → Breaks m images o 2 i
   -- "3 a variable elsewhere"
-  variable-elsewhere : (v : ℕ) → VariableElsewhere (shapeGraph m.shape) (shapeGraph o.shape) (imageMap images) v → Breaks m images o 3 v
+  variable_elsewhere : (v : ℕ) → VariableElsewhere (shape_graph m.shape) (shape_graph o.shape) (image_map images) v → Breaks m images o 3 v
   -- "4 a link that misses"
-  link-misses : (i : ℕ) → LinkMisses (shapeGraph m.shape) (shapeGraph o.shape) (imageMap images) i → Breaks m images o 4 i
+  link_misses : (i : ℕ) → LinkMisses (shape_graph m.shape) (shape_graph o.shape) (image_map images) i → Breaks m images o 4 i
   -- "5 a shared path"
-  shared-path : (i : ℕ) → SharedPath (shapeGraph m.shape) (shapeGraph o.shape) (imageMap images) i → Breaks m images o 5 i
+  shared_path : (i : ℕ) → SharedPath (shape_graph m.shape) (shape_graph o.shape) (image_map images) i → Breaks m images o 5 i
   -- Wish 6: "each fact listed for a member must be among the closed facts of the covered shape (else rule 6 ..)"
-  fact-missing : (i : ℕ) → FactMissing (shapeGraph m.shape) (shapeGraph o.shape) (imageMap images) m.shape.facts i → Breaks m images o 6 i
+  fact_missing : (i : ℕ) → FactMissing (shape_graph m.shape) (shape_graph o.shape) (image_map images) m.shape.facts i → Breaks m images o 6 i
 
 -- "The first in this order counts, and within it the lowest cell or variable, which is also named": the rule r is broken at n, and
 -- neither it at a lower name nor a rule before it

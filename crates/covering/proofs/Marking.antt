@@ -10,24 +10,24 @@ use native.Mathlib.Omega.{arith}
 use lib.Dec.{T}
 use lib.ListN.{length, get_or, take, set, length-append, get_or-append}
 use lib.Seq.{take-suc, take_all, get_or-append_seam, set-get_or}
-use Rattle.lists.proofs.Reflect.{Reflect, is_true, is_false, passes, r-eq, r-or, r-not, r-all}
+use Rattle.lists.proofs.Reflect.{Reflect, is_true, is_false, passes, r_eq, r_or, r_not, r_all}
 use Rattle.heap.specs.Place.{cell}
 use Rattle.cover.specs.Test.{stops}
-use Rattle.cover.proofs.Paths.{r-stops}
+use Rattle.cover.proofs.Paths.{r_stops}
 use Rattle.covering.specs.Images.{once}
 use Rattle.covering.specs.Marks.{mark, Marks}
-use Rattle.covering.proofs.Marks.{mark-free, marks-stop}
+use Rattle.covering.proofs.Marks.{mark_free, marks_stop}
 
-r-once : (images : List ℕ)
+r_once : (images : List ℕ)
     → Reflect ((i : ℕ) → i < length images → (j : ℕ) → j < length images → i ≢ j → get_or images i 0 ≢ get_or images j 0) (once images)
-r-once images =
-    r-all _ (length images) (λ i. r-all _ (length images) (λ j. r-or (r-eq i j) (r-not (r-eq (get_or images i 0) (get_or images j 0)))))
+r_once images =
+    r_all _ (length images) (λ i. r_all _ (length images) (λ j. r_or (r_eq i j) (r_not (r_eq (get_or images i 0) (get_or images j 0)))))
 
 -- a place that is not free is an image's
 module _ (images marks : List ℕ) (m : Marks images [] marks) (x : ℕ) (room : cell x < 28) where
-  marked-same : get_or marks (cell x) 0 ≢ 0 → (j : ℕ) × (j < length images) × (get_or images j 0 ≡ x)
-  marked-same n =
-      let (j, a, y) = (r-stops images (cell x)).holds (passes (stops images (cell x)) (stop (stops images (cell x)) refl)) (λ o. omega arith) in
+  marked_same : get_or marks (cell x) 0 ≢ 0 → (j : ℕ) × (j < length images) × (get_or images j 0 ≡ x)
+  marked_same n =
+      let (j, a, y) = (r_stops images (cell x)).holds (passes (stops images (cell x)) (stop (stops images (cell x)) refl)) (λ o. omega arith) in
       (j, a, omega arith)
     where
       stop : (b : Bool) → stops images (cell x) ≡ b → stops images (cell x) ≡ true
@@ -35,8 +35,8 @@ module _ (images marks : List ℕ) (m : Marks images [] marks) (x : ℕ) (room :
       stop false z = absurd (n (m.marked (cell x) room ∙ rw z refl))
 
 -- an image marked again
-pub marks-again : (images marks : List ℕ) (p : ℕ) → Marks images [] marks → p < 28 → get_or marks p 0 ≢ 0 → Marks images [] (set marks p 1)
-marks-again images marks p m b n =
+pub marks_again : (images marks : List ℕ) (p : ℕ) → Marks images [] marks → p < 28 → get_or marks p 0 ≢ 0 → Marks images [] (set marks p 1)
+marks_again images marks p m b n =
     let e : get_or marks p 0 ≡ 1 = go (stops images p) (m.marked p b) in
     rw (← e, set-get_or marks p 0) m
   where
@@ -49,33 +49,33 @@ pub record Marking (images marks : List ℕ) : Type 0 where
   pub marked : Marks images [] marks
   pub apart : (j k : ℕ) → j < k → k < length images → get_or images j 0 ≢ get_or images k 0
 
-pub marking-none : (marks : List ℕ) → Marks [] [] marks → Marking [] marks
-marking-none marks m = record { marked = m; apart = λ j k a b. absurd (omega arith) }
+pub marking_none : (marks : List ℕ) → Marks [] [] marks → Marking [] marks
+marking_none marks m = record { marked = m; apart = λ j k a b. absurd (omega arith) }
 
 module _ (images marks : List ℕ) (m : Marking images marks) where
-  pub marking-once : once images ≡ true
-  marking-once = is_true (once images) ((r-once images).tests (λ j a k c n. by_order j k a c n (dec_lt j k)))
+  pub marking_once : once images ≡ true
+  marking_once = is_true (once images) ((r_once images).tests (λ j a k c n. by_order j k a c n (dec_lt j k)))
     where
       by_order : (j k : ℕ) → j < length images → k < length images → j ≢ k → Dec (j < k) → get_or images j 0 ≢ get_or images k 0
       by_order j k a c n (yes o) = m.apart j k o c
       by_order j k a c n (no o) = λ z. m.apart k j (omega arith) a (sym z)
 
   module _ (x : ℕ) (room : cell x < 28) where
-    here-marked : get_or marks (cell x) 0 ≡ mark (stops images (cell x)) true
-    here-marked = m.marked.marked (cell x) room
+    here_marked : get_or marks (cell x) 0 ≡ mark (stops images (cell x)) true
+    here_marked = m.marked.marked (cell x) room
 
     -- one image more
-    pub marking-more : get_or marks (cell x) 0 ≡ 0 → Marking (images ++ (x ∷ [])) (set marks (cell x) 1)
-    marking-more z =
+    pub marking_more : get_or marks (cell x) 0 ≡ 0 → Marking (images ++ (x ∷ [])) (set marks (cell x) 1)
+    marking_more z =
         record {
-          marked = marks-stop images marks x m.marked room;
+          marked = marks_stop images marks x m.marked room;
           apart = λ j k a c. last j k a (omega (arith, length-append images (x ∷ []))) (ℕ_discrete k (length images));
         }
       where
         new : (j : ℕ) → j < length images → get_or images j 0 ≢ x
         new j a y =
-            let (u, _) = mark-free (stops images (cell x)) true (sym here-marked ∙ z) in
-            let t : T (stops images (cell x)) = (r-stops images (cell x)).tests (λ _. (j, a, ap cell (sym y))) in
+            let (u, _) = mark_free (stops images (cell x)) true (sym here_marked ∙ z) in
+            let t : T (stops images (cell x)) = (r_stops images (cell x)).tests (λ _. (j, a, ap cell (sym y))) in
             subst T u t
 
         inside : (j : ℕ) → j < length images → get_or (images ++ (x ∷ [])) j 0 ≡ get_or images j 0
@@ -95,8 +95,8 @@ pub record Marked (images marks : List ℕ) (apart : Bool) : Type 0 where
   pub differ : apart ≡ true → Apart images
   pub twice : apart ≡ false → ¬ Apart images
 
-pub marked-none : (marks : List ℕ) → Marks [] [] marks → Marked [] marks true
-marked-none marks m = record { marked = m; differ = λ _ j k a b. absurd (omega arith); twice = λ z. let v : ◌≡◌ {A = ℕ} 0 1 = cc in absurd (omega arith) }
+pub marked_none : (marks : List ℕ) → Marks [] [] marks → Marked [] marks true
+marked_none marks m = record { marked = m; differ = λ _ j k a b. absurd (omega arith); twice = λ z. let v : ◌≡◌ {A = ℕ} 0 1 = cc in absurd (omega arith) }
 
 fewer : (images : List ℕ) (x : ℕ) → Apart (images ++ (x ∷ [])) → Apart images
 fewer images x h j k a b =
@@ -111,35 +111,35 @@ module _ (images marks : List ℕ) (apart : Bool) (i : ℕ) (m : Marked (take i 
     coded : cell x < 28
     coded = omega arith
 
-    marked-too : Marks (take i images ++ (x ∷ [])) [] (set marks p 1)
-    marked-too = rw e (marks-stop (take i images) marks x m.marked coded)
+    marked_too : Marks (take i images ++ (x ∷ [])) [] (set marks p 1)
+    marked_too = rw e (marks_stop (take i images) marks x m.marked coded)
 
     -- no image was there
-    pub mark-new : get_or marks p 0 ≡ 0 → Marked (take (i + 1) images) (set marks p 1) apart
-    mark-new z =
+    pub mark_new : get_or marks p 0 ≡ 0 → Marked (take (i + 1) images) (set marks p 1) apart
+    mark_new z =
         rw (add-one i, take-suc images i 0 b)
         (record {
-          marked = marked-too;
-          differ = λ t. (marking-more (take i images) marks (record { marked = m.marked; apart = m.differ t }) x coded (rw e at z)).apart;
+          marked = marked_too;
+          differ = λ t. (marking_more (take i images) marks (record { marked = m.marked; apart = m.differ t }) x coded (rw e at z)).apart;
           twice = λ f h. m.twice f (fewer (take i images) x h);
         })
 
     -- one was there
-    pub mark-again : get_or marks p 0 ≢ 0 → Marked (take (i + 1) images) (set marks p 1) false
-    mark-again o =
+    pub mark_again : get_or marks p 0 ≢ 0 → Marked (take (i + 1) images) (set marks p 1) false
+    mark_again o =
         rw (add-one i, take-suc images i 0 b)
         (record {
-          marked = marked-too;
+          marked = marked_too;
           differ = λ z. let v : ◌≡◌ {A = ℕ} 0 1 = cc in absurd (omega arith);
           twice = λ _ h.
-              let (j, a, y) = marked-same (take i images) marks m.marked x coded (rw e at o) in
+              let (j, a, y) = marked_same (take i images) marks m.marked x coded (rw e at o) in
               h j (length (take i images)) a (omega (arith, length-append (take i images) (x ∷ [])))
               (get_or-append (take i images) (x ∷ []) 0 j a ∙ y ∙ sym (get_or-append_seam (take i images) x [] 0));
         })
 
-  pub mark-all : length images ≤ i → (apart ≡ once images) × Marks images [] marks
-  mark-all b = let k = rw (take_all i images b) at m in (by_answer apart refl k, k.marked)
+  pub mark_all : length images ≤ i → (apart ≡ once images) × Marks images [] marks
+  mark_all b = let k = rw (take_all i images b) at m in (by_answer apart refl k, k.marked)
     where
       by_answer : (a : Bool) → apart ≡ a → Marked images marks apart → apart ≡ once images
-      by_answer true z k = z ∙ sym (marking-once images marks (record { marked = k.marked; apart = k.differ z }))
-      by_answer false z k = z ∙ sym (is_false (once images) (λ t. k.twice z (λ j l a c. (r-once images).holds t j (omega arith) l c (omega arith))))
+      by_answer true z k = z ∙ sym (marking_once images marks (record { marked = k.marked; apart = k.differ z }))
+      by_answer false z k = z ∙ sym (is_false (once images) (λ t. k.twice z (λ j l a c. (r_once images).holds t j (omega arith) l c (omega arith))))

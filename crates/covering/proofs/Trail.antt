@@ -9,32 +9,32 @@ use native.Mathlib.Omega.{arith}
 use lib.Dec.{ltb}
 use lib.ListN.{length, length-append, get_or-eq_default}
 use Rattle.lists.specs.List.{◌∈◌, Distinct, disjoint}
-use Rattle.lists.proofs.List.{every-cons, every-snoc, distinct_snoc, pigeonhole}
-use Rattle.lists.proofs.Reflect.{is_false, passes, fails, r-lt, r-disjoint}
+use Rattle.lists.proofs.List.{every_cons, every_snoc, distinct_snoc, pigeonhole}
+use Rattle.lists.proofs.Reflect.{is_false, passes, fails, r_lt, r_disjoint}
 use Rattle.heap.specs.Codes.{link_in}
 use Rattle.heap.specs.Place.{nowhere, cell}
 use Rattle.heap.proofs.Codes.{CellOf}
-use Rattle.cover.specs.Test.{isImage, stops, walkEnd, walked}
-use Rattle.covering.specs.Marks.{endFrom, pathFrom}
+use Rattle.cover.specs.Test.{is_image, stops, walk_end, walked}
+use Rattle.covering.specs.Marks.{end_from, path_from}
 
 last_mem : (xs : List ℕ) (y : ℕ) → y ∈ (xs ++ (y ∷ []))
 last_mem xs y = Memᴰ.append_right xs (Memᴰ.head refl)
 
 module _ (images : List ℕ) where
   -- what is no end is a cell
-  pub free-low : (p : ℕ) → stops images p ≡ false → cell 0 ≤ p
-  free-low p e = go (ltb p (cell 0)) refl e
+  pub free_low : (p : ℕ) → stops images p ≡ false → cell 0 ≤ p
+  free_low p e = go (ltb p (cell 0)) refl e
     where
-      go : (b : Bool) → ltb p (cell 0) ≡ b → b || isImage images p ≡ false → cell 0 ≤ p
+      go : (b : Bool) → ltb p (cell 0) ≡ b → b || is_image images p ≡ false → cell 0 ≤ p
       go true i z = let u : true ≡ false = z in let v : ◌≡◌ {A = ℕ} 0 1 = cc in absurd (omega arith)
-      go false i z = let o : ¬ (p < cell 0) = λ b. fails (ltb p (cell 0)) i ((r-lt p (cell 0)).tests b) in omega arith
+      go false i z = let o : ¬ (p < cell 0) = λ b. fails (ltb p (cell 0)) i ((r_lt p (cell 0)).tests b) in omega arith
 
 -- a place past the cells has no link
-pub no-link : (links : List ℕ) (p : ℕ) → cell (length links) ≤ p → link_in links p ≡ nowhere
-no-link links zero o = refl
-no-link links (suc zero) o = refl
-no-link links (suc (suc zero)) o = refl
-no-link links (suc (suc (suc i))) o = get_or-eq_default links nowhere (omega arith)
+pub no_link : (links : List ℕ) (p : ℕ) → cell (length links) ≤ p → link_in links p ≡ nowhere
+no_link links zero o = refl
+no_link links (suc zero) o = refl
+no_link links (suc (suc zero)) o = refl
+no_link links (suc (suc (suc i))) o = get_or-eq_default links nowhere (omega arith)
 
 module _ (links images used : List ℕ) (from : ℕ) where
   abbrev link : ℕ → ℕ
@@ -47,8 +47,8 @@ module _ (links images used : List ℕ) (from : ℕ) where
   pub record Trail (path : List ℕ) (q : ℕ) : Type 0 where
     pub left : ℕ
     pub turns : left + length path ≡ length links
-    pub ends : endFrom links images from ≡ walkEnd link stop left q
-    pub passes : pathFrom links images from ≡ path ++ walked link stop left q
+    pub ends : end_from links images from ≡ walk_end link stop left q
+    pub passes : path_from links images from ≡ path ++ walked link stop left q
     pub distinct : Distinct path
     pub cells : (x : ℕ) → x ∈ path → CellOf (length links) x
     pub free : (x : ℕ) → x ∈ path → stop x ≡ false
@@ -56,8 +56,8 @@ module _ (links images used : List ℕ) (from : ℕ) where
     pub continues : (x : ℕ) → x ∈ path → (link x ∈ path) ⊎ (link x ≡ q)
     pub begins : (link from ∈ path) ⊎ (link from ≡ q)
 
-  pub trail-none : Trail [] (link from)
-  trail-none =
+  pub trail_none : Trail [] (link from)
+  trail_none =
       record {
         left = length links;
         turns = omega arith;
@@ -73,7 +73,7 @@ module _ (links images used : List ℕ) (from : ℕ) where
 
   module _ (path : List ℕ) (q : ℕ) (t : Trail path q) where
     -- a path round in a ring has no end
-    ring : q ∈ path → (k x : ℕ) → x ∈ path → walkEnd link stop k x ≡ nowhere
+    ring : q ∈ path → (k x : ℕ) → x ∈ path → walk_end link stop k x ≡ nowhere
     ring m zero x i = refl
     ring m (suc k) x i = rw (t.free x i) (ring m k (link x) (next (t.continues x i)))
       where
@@ -81,23 +81,23 @@ module _ (links images used : List ℕ) (from : ℕ) where
         next (inl j) = j
         next (inr e) = Memᴰ.cast e m
 
-    pub trail-past : cell (length links) ≤ q → stop q ≡ false → endFrom links images from ≡ nowhere
-    trail-past b e = t.ends ∙ go t.left
+    pub trail_past : cell (length links) ≤ q → stop q ≡ false → end_from links images from ≡ nowhere
+    trail_past b e = t.ends ∙ go t.left
       where
-        still : (k : ℕ) → walkEnd link stop k nowhere ≡ nowhere
+        still : (k : ℕ) → walk_end link stop k nowhere ≡ nowhere
         still zero = refl
         still (suc k) = refl
 
-        go : (k : ℕ) → walkEnd link stop k q ≡ nowhere
+        go : (k : ℕ) → walk_end link stop k q ≡ nowhere
         go zero = refl
-        go (suc k) = rw (e, no-link links q b) (still k)
+        go (suc k) = rw (e, no_link links q b) (still k)
 
     module _ (c : CellOf (length links) from) (s : stop from ≡ true) where
       -- from is an end, so that the path has fewer cells than the shape
       short : length path < length links
       short =
           pigeonhole (cell 0) (length links) (from ∷ path) ((λ m. fails (stop from) (t.free from m) (passes (stop from) s)), t.distinct)
-          (every-cons (λ x. (cell 0 ≤ x) × (x < cell 0 + length links)) (c.0, omega arith) (λ x m. let (a, b) = t.cells x m in (a, omega arith)))
+          (every_cons (λ x. (cell 0 ≤ x) × (x < cell 0 + length links)) (c.0, omega arith) (λ x m. let (a, b) = t.cells x m in (a, omega arith)))
 
       pub trail_more : q < cell (length links) → stop q ≡ false → ¬ (q ∈ path) → ¬ (q ∈ used) → Trail (path ++ (q ∷ [])) (link q)
       trail_more b e o u = go t.left refl
@@ -115,30 +115,30 @@ module _ (links images used : List ℕ) (from : ℕ) where
                 ends = t.ends ∙ rw (z, e) refl;
                 passes = t.passes ∙ rw (z, e) (sym (append_assoc path (q ∷ []) (walked link stop k (link q))));
                 distinct = distinct_snoc path q t.distinct o;
-                cells = every-snoc (CellOf (length links)) path t.cells (free-low images q e, b);
-                free = every-snoc (λ x. stop x ≡ false) path t.free e;
-                unused = every-snoc (λ x. ¬ (x ∈ used)) path t.unused u;
+                cells = every_snoc (CellOf (length links)) path t.cells (free_low images q e, b);
+                free = every_snoc (λ x. stop x ≡ false) path t.free e;
+                unused = every_snoc (λ x. ¬ (x ∈ used)) path t.unused u;
                 continues =
-                    every-snoc (λ x. (link x ∈ (path ++ (q ∷ []))) ⊎ (link x ≡ link q)) path (λ x m. widen (link x) (t.continues x m)) (inr refl);
+                    every_snoc (λ x. (link x ∈ (path ++ (q ∷ []))) ⊎ (link x ≡ link q)) path (λ x m. widen (link x) (t.continues x m)) (inr refl);
                 begins = widen (link from) t.begins;
               }
 
-      pub trail-found : stop q ≡ true → (endFrom links images from ≡ q) × (pathFrom links images from ≡ path)
-      trail-found e = go t.left refl
+      pub trail_found : stop q ≡ true → (end_from links images from ≡ q) × (path_from links images from ≡ path)
+      trail_found e = go t.left refl
         where
-          go : (l : ℕ) → t.left ≡ l → (endFrom links images from ≡ q) × (pathFrom links images from ≡ path)
+          go : (l : ℕ) → t.left ≡ l → (end_from links images from ≡ q) × (path_from links images from ≡ path)
           go zero z = absurd (omega (arith, short, t.turns))
           go (suc k) z = (t.ends ∙ rw (z, e) refl, t.passes ∙ rw (z, e) (append-nil path))
 
-      pub trail-lost : stop q ≡ false → (q ∈ path) ⊎ (q ∈ used)
-          → (endFrom links images from ≡ nowhere) ⊎ (disjoint (pathFrom links images from) used ≡ false)
-      trail-lost e (inl m) = inl (ring m (length links) (link from) (first t.begins))
+      pub trail_lost : stop q ≡ false → (q ∈ path) ⊎ (q ∈ used)
+          → (end_from links images from ≡ nowhere) ⊎ (disjoint (path_from links images from) used ≡ false)
+      trail_lost e (inl m) = inl (ring m (length links) (link from) (first t.begins))
         where
           first : (link from ∈ path) ⊎ (link from ≡ q) → link from ∈ path
           first (inl i) = i
           first (inr i) = Memᴰ.cast i m
-      trail-lost e (inr m) = inr (is_false (disjoint (pathFrom links images from) used) (λ d. (r-disjoint (pathFrom links images from) used).holds d q (go t.left refl) m))
+      trail_lost e (inr m) = inr (is_false (disjoint (path_from links images from) used) (λ d. (r_disjoint (path_from links images from) used).holds d q (go t.left refl) m))
         where
-          go : (l : ℕ) → t.left ≡ l → q ∈ pathFrom links images from
+          go : (l : ℕ) → t.left ≡ l → q ∈ path_from links images from
           go zero z = absurd (omega (arith, short, t.turns))
           go (suc k) z = rw (t.passes, z, e) (Memᴰ.append_right path (Memᴰ.head refl))

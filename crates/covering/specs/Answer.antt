@@ -3,27 +3,27 @@ use Rattle.std.specs.Prelude.{List, ◌≡◌, ℕ, ◌+◌, get_or}
 use Rattle.std.proofs.Math.Option.{Option}
 use Rattle.lists.specs.Test.{lowest}
 use Rattle.shape.specs.Shape.{Shape, size}
-use Rattle.cover.specs.Test.{linkMeets, pathUnshared, Answer, holds, broken, or_else}
+use Rattle.cover.specs.Test.{link_meets, path_unshared, Answer, holds, broken, or_else}
 use Rattle.layout.specs.Entries.{Whole}
-use Rattle.layout.specs.ShapeArray.{shapeIn}
+use Rattle.layout.specs.ShapeArray.{shape_in}
 use Rattle.coverreader.specs.declared.CoverRead.{CoverRead}
 use Rattle.coverreader.specs.declared.CoverRead.TheVariants.{Taken, Refused as NotRead}
 use Rattle.verdict.specs.declared.Broken.{Broken}
 use Rattle.verdict.specs.declared.Refusal.TheVariants.{CertificateLeft}
 use Rattle.format.specs.Parser.{Parsed, parsed, fault}
-use Rattle.verdict.specs.Verdict.{reasonOf}
+use Rattle.verdict.specs.Verdict.{reason_of}
 use Rattle.coverreader.specs.Images.{ImageCodes}
 use Rattle.covering.specs.declared.CoverAnswer.{CoverAnswer}
 use Rattle.covering.specs.declared.CoverAnswer.TheVariants.{Holds as CoverHolds, Refused}
 use Rattle.covering.specs.declared.rules.Answer.{Answer as Told}
 use Rattle.covering.specs.declared.rules.Answer.TheVariants.{Holds, Breaks}
 
-abbrev pub brokenOf : Broken → Answer
-brokenOf b = broken b.rule b.name
+abbrev pub broken_of : Broken → Answer
+broken_of b = broken b.rule b.name
 
 abbrev pub answer_of : Told → Answer
 answer_of (Holds links) = holds
-answer_of (Breaks b) = brokenOf b
+answer_of (Breaks b) = broken_of b
 
 -- the links that are told where it holds
 abbrev pub LinksTold : Told → ℕ → Type 0
@@ -31,22 +31,22 @@ LinksTold (Holds links) n = links ≡ n
 LinksTold (Breaks b) n = Unit {0}
 
 -- the answer on a cover, as that of a parser
-abbrev pub coverAnswerOf : CoverAnswer → Parsed ℕ
-coverAnswerOf (CoverHolds next links) = parsed links next
-coverAnswerOf (Refused r place) = fault (reasonOf r) place
+abbrev pub cover_answer_of : CoverAnswer → Parsed ℕ
+cover_answer_of (CoverHolds next links) = parsed links next
+cover_answer_of (Refused r place) = fault (reason_of r) place
 
 -- the answer on a cover that is not read
-abbrev pub withoutMember : CoverRead → CoverAnswer
-withoutMember (Taken m next) = Refused CertificateLeft next
-withoutMember (NotRead r place) = Refused r place
+abbrev pub without_member : CoverRead → CoverAnswer
+without_member (Taken m next) = Refused CertificateLeft next
+without_member (NotRead r place) = Refused r place
 
 -- a member stands whole at a place, and its cells have images in the shape in an array
 pub record Tested (cert : List ℕ) (variables start : ℕ) (codes s : List ℕ) : Type 0 where
   pub whole : Whole cert variables start
-  pub images : ImageCodes (get_or cert (start + 1) 0) (size (shapeIn variables s)) codes
+  pub images : ImageCodes (get_or cert (start + 1) 0) (size (shape_in variables s)) codes
 
 -- what the last three rules say: the two of paths, and that of facts, whose lowest cell is given
-abbrev pub lastAnswer : Shape → Shape → List ℕ → ℕ → Option ℕ → Answer
-lastAnswer member covered images count missing =
-    let shared = lowest count 0 (pathUnshared member covered images) in
-    or_else 4 (lowest count 0 (linkMeets member covered images)) (or_else 5 shared (or_else 6 missing holds))
+abbrev pub last_answer : Shape → Shape → List ℕ → ℕ → Option ℕ → Answer
+last_answer member covered images count missing =
+    let shared = lowest count 0 (path_unshared member covered images) in
+    or_else 4 (lowest count 0 (link_meets member covered images)) (or_else 5 shared (or_else 6 missing holds))

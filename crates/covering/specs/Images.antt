@@ -4,29 +4,29 @@ use Rattle.std.proofs.Math.Option.{none}
 use Rattle.lists.specs.Test.{all_from, lowest}
 use Rattle.heap.specs.Place.{nowhere, cell}
 use Rattle.shape.specs.Shape.{Shape}
-use Rattle.cover.specs.Test.{linkMeets, pathUnshared, linksFollowed}
+use Rattle.cover.specs.Test.{link_meets, path_unshared, links_followed}
 
 -- the image of a place by the array
-unfoldable pub imageIn : List ℕ → ℕ → ℕ
-imageIn codes p = cond (ltb p 15) (get_or codes p 0) (cell 0)
+unfoldable pub image_in : List ℕ → ℕ → ℕ
+image_in codes p = cond (ltb p 15) (get_or codes p 0) (cell 0)
 
 -- "no two cells have the same image": cell i and any other
-abbrev pub onceAt : List ℕ → ℕ → Bool
-onceAt images i = all_from (length images) 0 (λ j. eqb i j || not (eqb (get_or images i 0) (get_or images j 0)))
+abbrev pub once_at : List ℕ → ℕ → Bool
+once_at images i = all_from (length images) 0 (λ j. eqb i j || not (eqb (get_or images i 0) (get_or images j 0)))
 
 abbrev pub once : List ℕ → Bool
-once images = all_from (length images) 0 (onceAt images)
+once images = all_from (length images) 0 (once_at images)
 
 -- variable i + 1 fits, where the member's variables are the bytes from a place on and the covered shape is in an array
-abbrev pub varFitsIn : List ℕ → ℕ → List ℕ → List ℕ → ℕ → Bool
-varFitsIn cert first codes s i =
-    eqb (get_or cert (first + i) 0) nowhere || eqb (get_or s (i + 18) 0) (imageIn codes (get_or cert (first + i) 0))
+abbrev pub var_fits_in : List ℕ → ℕ → List ℕ → List ℕ → ℕ → Bool
+var_fits_in cert first codes s i =
+    eqb (get_or cert (first + i) 0) nowhere || eqb (get_or s (i + 18) 0) (image_in codes (get_or cert (first + i) 0))
 
 -- the path for the link of cell i ends where it should and shares no cell with that of a lower cell
-abbrev pub pathFits : Shape → Shape → List ℕ → ℕ → Bool
-pathFits member covered images i = linkMeets member covered images i && pathUnshared member covered images i
+abbrev pub path_fits : Shape → Shape → List ℕ → ℕ → Bool
+path_fits member covered images i = link_meets member covered images i && path_unshared member covered images i
 
 -- the paths of all cells, of which there are so many, fit, and so many links are followed
 pub record PathsFit (member covered : Shape) (images : List ℕ) (count links : ℕ) : Type 0 where
-  pub fit : lowest count 0 (pathFits member covered images) ≡ none
-  pub counted : links ≡ linksFollowed member covered images
+  pub fit : lowest count 0 (path_fits member covered images) ≡ none
+  pub counted : links ≡ links_followed member covered images

@@ -1,12 +1,12 @@
 // Whether images embed a member in a shape: the tests of images, variables, paths and facts, exact whatever the bytes are.
 ghost use Rattle.std.specs.Prelude.{[], ◌≡◌, ℕ, ◌+◌, ◌≤◌, ◌<◌, length};
-ghost use Rattle.lists.specs.Test.{lowest, numberOr};
+ghost use Rattle.lists.specs.Test.{lowest, number_or};
 ghost use Rattle.shape.specs.Shape.{Shape};
-ghost use Rattle.cover.specs.Test.{factsIn};
-ghost use Rattle.factrows.specs.Rows.{rowsTest};
-ghost use Rattle.layout.specs.Entries.{locatedAt, Whole};
-ghost use Rattle.coverreader.specs.Images.{imagesIn, ImageCodes};
-ghost use Rattle.covering.specs.Images.{imageIn, once, varFitsIn, pathFits, PathsFit};
+ghost use Rattle.cover.specs.Test.{facts_in};
+ghost use Rattle.factrows.specs.Rows.{rows_test};
+ghost use Rattle.layout.specs.Entries.{located_at, Whole};
+ghost use Rattle.coverreader.specs.Images.{images_in, ImageCodes};
+ghost use Rattle.covering.specs.Images.{image_in, once, var_fits_in, path_fits, PathsFit};
 ghost use Rattle.covering.specs.Marks.{Marks, Linking};
 
 use factrows::{first_missing, holds_all};
@@ -16,7 +16,7 @@ use number::wide;
 
 // The image of a place; that of a cell which the member lacks is cell 0.
 pub(crate) fn image_of(images: &[u8; 15], p: usize) -> u8
-    ensures { result ≡ imageIn images.now p }
+    ensures { result ≡ image_in images.now p }
 {
     if p < 15 {
         return images[p];
@@ -27,7 +27,7 @@ pub(crate) fn image_of(images: &[u8; 15], p: usize) -> u8
 // Marks the images, whatever was marked before. False where two are the same.
 pub(crate) fn mark_images(images: &[u8; 15], count: usize, marks: &mut [u8; 28]) -> bool
     requires { ImageCodes count 25 images.now }
-    ensures { (result ≡ once (imagesIn count images.now)) × Marks (imagesIn count images.now) [] marks.new }
+    ensures { (result ≡ once (images_in count images.now)) × Marks (images_in count images.now) [] marks.new }
 {
     clear(marks);
     let mut apart = true;
@@ -50,7 +50,7 @@ pub(crate) fn variable_elsewhere(
     s: &[u8; 28],
 ) -> usize
     requires { (first + count ≤ length cert.now) × (count ≤ 9) }
-    ensures { result ≡ numberOr count (lowest count 0 (varFitsIn cert.now first images.now s.now)) }
+    ensures { result ≡ number_or count (lowest count 0 (var_fits_in cert.now first images.now s.now)) }
 {
     let mut i = 0;
     while i < count {
@@ -84,7 +84,7 @@ pub(crate) fn follow_paths(
     s: &[u8; 28],
 ) -> PathsTest
     requires { (member : Shape) × (covered : Shape) × Linking member covered cert.now first count images.now marks.old s.now }
-    ensures { (member covered : Shape) → Linking member covered cert.now first count images.now marks.old s.now → (result.fails ≡ numberOr count (lowest count 0 (pathFits member covered (imagesIn count images.now)))) × (count ≤ result.fails → PathsFit member covered (imagesIn count images.now) count result.links) }
+    ensures { (member covered : Shape) → Linking member covered cert.now first count images.now marks.old s.now → (result.fails ≡ number_or count (lowest count 0 (path_fits member covered (images_in count images.now)))) × (count ≤ result.fails → PathsFit member covered (images_in count images.now) count result.links) }
 {
     let mut links = 0;
     let mut i = 0;
@@ -121,7 +121,7 @@ pub(crate) fn fact_missing(
     facts: &[u16; 28],
 ) -> usize
     requires { (Whole cert.now variables start) × ((n : ℕ) × ImageCodes cells n images.now) }
-    ensures { (covered : Shape) → result ≡ numberOr cells (lowest cells 0 (factsIn (locatedAt cert.now variables start).shape covered (imagesIn cells images.now) (rowsTest facts.now))) }
+    ensures { (covered : Shape) → result ≡ number_or cells (lowest cells 0 (facts_in (located_at cert.now variables start).shape covered (images_in cells images.now) (rows_test facts.now))) }
 {
     if version_of(cert) != 2 {
         return cells;

@@ -1,13 +1,13 @@
 // One cover, read and tested.
 ghost use Rattle.std.specs.Prelude.{Bool, true, ◌≢◌, ◌≡◌, ℕ, ◌+◌, ◌≤◌, length, get_or};
-ghost use Rattle.factrows.specs.Rows.{rowsTest};
-ghost use Rattle.format.specs.Certificate.{readCoverBy};
-ghost use Rattle.format.specs.Parser.{parsed, certificateBuffer};
-ghost use Rattle.layout.specs.Entries.{versionOf, linksEnd};
-ghost use Rattle.layout.specs.ShapeArray.{linksIn, shapeIn};
-ghost use Rattle.layout.specs.Members.{membersFrom};
-ghost use Rattle.coverreader.specs.Reading.{readAlone};
-ghost use Rattle.covering.specs.Answer.{withoutMember, coverAnswerOf};
+ghost use Rattle.factrows.specs.Rows.{rows_test};
+ghost use Rattle.format.specs.Certificate.{read_cover_by};
+ghost use Rattle.format.specs.Parser.{parsed, certificate_buffer};
+ghost use Rattle.layout.specs.Entries.{version_of, links_end};
+ghost use Rattle.layout.specs.ShapeArray.{links_in, shape_in};
+ghost use Rattle.layout.specs.Members.{members_from};
+ghost use Rattle.coverreader.specs.Reading.{read_alone};
+ghost use Rattle.covering.specs.Answer.{without_member, cover_answer_of};
 
 use crate::quick::images_embed;
 use crate::rules::{Answer, cover_answer};
@@ -29,7 +29,7 @@ pub enum CoverAnswer {
 
 // The refusal of a cover that is not read. It is not asked of one that is read, and would refuse what follows it.
 fn refused(read: CoverRead) -> CoverAnswer
-    ensures { result ≡ withoutMember read }
+    ensures { result ≡ without_member read }
 {
     match read {
         CoverRead::Taken(_, next) => CoverAnswer::Refused(Refusal::CertificateLeft, next),
@@ -47,7 +47,7 @@ pub fn exact_cover(
     s: &[u8; 28],
     facts: &[u16; 28],
 ) -> CoverAnswer
-    ensures { coverAnswerOf result ≡ readCoverBy (certificateBuffer cert.now) (rowsTest facts.now) (membersFrom cert.now variables starts.now) (record { state = state; shape = shapeIn variables s.now }) at }
+    ensures { cover_answer_of result ≡ read_cover_by (certificate_buffer cert.now) (rows_test facts.now) (members_from cert.now variables starts.now) (record { state = state; shape = shape_in variables s.now }) at }
 {
     let reading = read_cover(cert, starts, variables, at, s);
     let r = reading.answer;
@@ -71,7 +71,7 @@ pub fn read_alone(
     at: usize,
     s: &[u8; 28],
 ) -> CoverAnswer
-    ensures { coverAnswerOf result ≡ readAlone (certificateBuffer cert.now) (membersFrom cert.now variables starts.now) (length (linksIn s.now)) at }
+    ensures { cover_answer_of result ≡ read_alone (certificate_buffer cert.now) (members_from cert.now variables starts.now) (length (links_in s.now)) at }
 {
     let reading = read_cover(cert, starts, variables, at, s);
     let r = reading.answer;
@@ -94,7 +94,7 @@ const LEFT: QuickCover = QuickCover { next: 0, links: 0 };
 // Whether the member at a place, of so many cells, lists no fact: version 1 has none, in version 2 their number is behind the links.
 fn is_bare(cert: &[u8], start: usize, variables: usize, count: usize) -> bool
     requires { (variables ≤ 9) × (count ≡ get_or cert.now (start + 1) 0) × (count ≤ 12) × (start + 24 ≤ length cert.now) }
-    ensures { result ≡ true → versionOf cert.now ≡ 2 → get_or cert.now (linksEnd cert.now variables start) 0 ≡ 0 }
+    ensures { result ≡ true → version_of cert.now ≡ 2 → get_or cert.now (links_end cert.now variables start) 0 ≡ 0 }
 {
     if version_of(cert) != 2 {
         return true;
@@ -114,7 +114,7 @@ pub fn quick_cover(
     state: u8,
     s: &[u8; 28],
 ) -> QuickCover
-    ensures given { (among : ℕ → ℕ → ℕ → Bool) → result.next ≢ 0 → readCoverBy (certificateBuffer cert.now) among (membersFrom cert.now variables starts.now) (record { state = state; shape = shapeIn variables s.now }) at ≡ parsed result.links result.next }
+    ensures given { (among : ℕ → ℕ → ℕ → Bool) → result.next ≢ 0 → read_cover_by (certificate_buffer cert.now) among (members_from cert.now variables starts.now) (record { state = state; shape = shape_in variables s.now }) at ≡ parsed result.links result.next }
     ensures left { result.next ≡ 0 → result.links ≡ 0 }
 {
     if cert.len() < 14 {

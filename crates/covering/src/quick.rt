@@ -3,9 +3,9 @@ ghost use Rattle.std.specs.Prelude.{true, [], ◌≡◌, ◌+◌, ◌≤◌, len
 ghost use Rattle.std.proofs.Math.Option.{none};
 ghost use Rattle.lists.specs.Test.{lowest};
 ghost use Rattle.shape.specs.Shape.{Shape};
-ghost use Rattle.layout.specs.Entries.{locatedAt, Whole};
-ghost use Rattle.coverreader.specs.Images.{imagesIn, ImageCodes};
-ghost use Rattle.covering.specs.Images.{varFitsIn, PathsFit};
+ghost use Rattle.layout.specs.Entries.{located_at, Whole};
+ghost use Rattle.coverreader.specs.Images.{images_in, ImageCodes};
+ghost use Rattle.covering.specs.Images.{var_fits_in, PathsFit};
 ghost use Rattle.covering.specs.Marks.{Linking};
 ghost use Rattle.covering.specs.Quick.{ReadAndMarked, ImagesEmbed};
 
@@ -45,7 +45,7 @@ fn read_and_mark(
 // Whether each variable that the member places stands at the image of that place. False also where a place is no cell that a member may have.
 fn quick_vars(cert: &[u8], first: usize, count: usize, images: &[u8; 15], s: &[u8; 28]) -> bool
     requires { (first + count ≤ length cert.now) × (count ≤ 9) }
-    ensures { result ≡ true → lowest count 0 (varFitsIn cert.now first images.now s.now) ≡ none }
+    ensures { result ≡ true → lowest count 0 (var_fits_in cert.now first images.now s.now) ≡ none }
 {
     let mut i = 0;
     while i < count {
@@ -87,7 +87,7 @@ fn quick_links(
     s: &[u8; 28],
 ) -> QuickTest
     requires { (member : Shape) × (covered : Shape) × Linking member covered cert.now first count images.now marks.old s.now }
-    ensures { (member covered : Shape) → Linking member covered cert.now first count images.now marks.old s.now → result.accepts ≡ true → PathsFit member covered (imagesIn count images.now) count result.links }
+    ensures { (member covered : Shape) → Linking member covered cert.now first count images.now marks.old s.now → result.accepts ≡ true → PathsFit member covered (images_in count images.now) count result.links }
 {
     let mut links = 0;
     let mut i = 0;
@@ -127,7 +127,7 @@ pub(crate) fn images_embed(
     count: usize,
     s: &[u8; 28],
 ) -> QuickTest
-    requires { (Whole cert.now variables start) × ((locatedAt cert.now variables start).shape.facts ≡ []) × (count ≡ get_or cert.now (start + 1) 0) × (first + count ≤ length cert.now) }
+    requires { (Whole cert.now variables start) × ((located_at cert.now variables start).shape.facts ≡ []) × (count ≡ get_or cert.now (start + 1) 0) × (first + count ≤ length cert.now) }
     ensures { result.accepts ≡ true → ImagesEmbed cert.now start variables first count s.now result.links }
 {
     let all = &s[..];

@@ -1,15 +1,15 @@
 // The exact test of one cover, rule by rule in document 02's order, and what it names where a rule is broken.
 ghost use Rattle.std.specs.Prelude.{[], ◌≡◌, ℕ, ◌+◌, ◌<◌, get_or};
 ghost use Rattle.std.proofs.Math.Option.{Option, some};
-ghost use Rattle.lists.specs.Test.{lowest, numberOr};
+ghost use Rattle.lists.specs.Test.{lowest, number_or};
 ghost use Rattle.shape.specs.Shape.{Shape};
-ghost use Rattle.cover.specs.Test.{linkMeets, answerBy, linksFollowed};
-ghost use Rattle.factrows.specs.Rows.{rowsTest};
-ghost use Rattle.layout.specs.Entries.{locatedAt};
-ghost use Rattle.layout.specs.ShapeArray.{shapeIn};
-ghost use Rattle.covering.specs.Answer.{brokenOf, answer_of, LinksTold, Tested, lastAnswer};
-ghost use Rattle.coverreader.specs.Images.{imagesIn, ImageCodes};
-ghost use Rattle.covering.specs.Images.{onceAt, pathFits};
+ghost use Rattle.cover.specs.Test.{link_meets, answer_by, links_followed};
+ghost use Rattle.factrows.specs.Rows.{rows_test};
+ghost use Rattle.layout.specs.Entries.{located_at};
+ghost use Rattle.layout.specs.ShapeArray.{shape_in};
+ghost use Rattle.covering.specs.Answer.{broken_of, answer_of, LinksTold, Tested, last_answer};
+ghost use Rattle.coverreader.specs.Images.{images_in, ImageCodes};
+ghost use Rattle.covering.specs.Images.{once_at, path_fits};
 ghost use Rattle.covering.specs.Marks.{Marks, Linking};
 
 use crate::fitting::{fact_missing, follow_paths, image_of, mark_images, variable_elsewhere};
@@ -29,7 +29,7 @@ pub(crate) enum Answer {
 // Whether no other cell has the image of cell i.
 fn image_once(images: &[u8; 15], count: usize, i: usize) -> bool
     requires { ImageCodes count 25 images.now × (i < count) }
-    ensures { result ≡ onceAt (imagesIn count images.now) i }
+    ensures { result ≡ once_at (images_in count images.now) i }
 {
     let mut j = 0;
     while j < count {
@@ -46,7 +46,7 @@ fn image_once(images: &[u8; 15], count: usize, i: usize) -> bool
 // The lowest cell whose image another cell has too; as many as there are where none is so.
 fn image_twice(images: &[u8; 15], count: usize) -> usize
     requires { ImageCodes count 25 images.now }
-    ensures { result ≡ numberOr count (lowest count 0 (onceAt (imagesIn count images.now))) }
+    ensures { result ≡ number_or count (lowest count 0 (once_at (images_in count images.now))) }
 {
     let mut i = 0;
     while i < count {
@@ -68,7 +68,7 @@ fn link_misses(
     s: &[u8; 28],
 ) -> usize
     requires { (member : Shape) × (covered : Shape) × Linking member covered cert.now first count images.now marks.now s.now }
-    ensures { (member covered : Shape) → Linking member covered cert.now first count images.now marks.now s.now → result ≡ numberOr count (lowest count 0 (linkMeets member covered (imagesIn count images.now))) }
+    ensures { (member covered : Shape) → Linking member covered cert.now first count images.now marks.now s.now → result ≡ number_or count (lowest count 0 (link_meets member covered (images_in count images.now))) }
 {
     let mut i = 0;
     while i < count {
@@ -96,8 +96,8 @@ fn broken_path(
     s: &[u8; 28],
     i: usize,
 ) -> Broken
-    requires { (Tested cert.now variables start images.now s.now) × (Marks (imagesIn (get_or cert.now (start + 1) 0) images.now) [] marks.now) × (i < get_or cert.now (start + 1) 0) × (lowest (get_or cert.now (start + 1) 0) 0 (pathFits (locatedAt cert.now variables start).shape (shapeIn variables s.now) (imagesIn (get_or cert.now (start + 1) 0) images.now)) ≡ some i) }
-    ensures { (missing : Option ℕ) → brokenOf result ≡ lastAnswer (locatedAt cert.now variables start).shape (shapeIn variables s.now) (imagesIn (get_or cert.now (start + 1) 0) images.now) (get_or cert.now (start + 1) 0) missing }
+    requires { (Tested cert.now variables start images.now s.now) × (Marks (images_in (get_or cert.now (start + 1) 0) images.now) [] marks.now) × (i < get_or cert.now (start + 1) 0) × (lowest (get_or cert.now (start + 1) 0) 0 (path_fits (located_at cert.now variables start).shape (shape_in variables s.now) (images_in (get_or cert.now (start + 1) 0) images.now)) ≡ some i) }
+    ensures { (missing : Option ℕ) → broken_of result ≡ last_answer (located_at cert.now variables start).shape (shape_in variables s.now) (images_in (get_or cert.now (start + 1) 0) images.now) (get_or cert.now (start + 1) 0) missing }
 {
     let cells = wide(cert[start + 1]);
     let missed = link_misses(cert, start + 2 + variables, cells, images, marks, s);
@@ -124,8 +124,8 @@ pub(crate) fn cover_answer(
     facts: &[u16; 28],
 ) -> Answer
     requires { Tested cert.now variables start images.now s.now }
-    ensures answer { answer_of result ≡ answerBy (rowsTest facts.now) (locatedAt cert.now variables start) (imagesIn (get_or cert.now (start + 1) 0) images.now) (record { state = state; shape = shapeIn variables s.now }) }
-    ensures links { LinksTold result (linksFollowed (locatedAt cert.now variables start).shape (shapeIn variables s.now) (imagesIn (get_or cert.now (start + 1) 0) images.now)) }
+    ensures answer { answer_of result ≡ answer_by (rows_test facts.now) (located_at cert.now variables start) (images_in (get_or cert.now (start + 1) 0) images.now) (record { state = state; shape = shape_in variables s.now }) }
+    ensures links { LinksTold result (links_followed (located_at cert.now variables start).shape (shape_in variables s.now) (images_in (get_or cert.now (start + 1) 0) images.now)) }
 {
     if cert[start] != state {
         return Answer::Breaks(Broken {

@@ -12,33 +12,33 @@ use Rattle.number.specs.Number.{number_at}
 use Rattle.number.specs.declared.Read.TheVariants.{Number, Unreadable}
 use Rattle.lists.specs.Test.{lowest}
 use Rattle.shape.specs.Shape.{size}
-use Rattle.format.specs.Certificate.{readCoverBy}
-use Rattle.format.specs.Parser.{certificateBuffer, many}
-use Rattle.format.proofs.Parsing.{read-outside, read-complete}
+use Rattle.format.specs.Certificate.{read_cover_by}
+use Rattle.format.specs.Parser.{certificate_buffer, many}
+use Rattle.format.proofs.Parsing.{read_outside, read_complete}
 use Rattle.verdict.specs.declared.Reached.{Reached}
 use Rattle.verdict.specs.declared.Reached.TheVariants.{At, Refused}
 use Rattle.verdict.specs.declared.Refusal.{Refusal}
 use Rattle.verdict.specs.declared.Refusal.TheVariants.{CertificateUnreadable, CertificateRange, CoverFails}
-use Rattle.layout.specs.Entries.{locatedAt, is_whole}
-use Rattle.coverreader.proofs.ReadImages.{read-unreadable}
-use Rattle.coverreader.specs.Images.{imagesIn, noImages}
-use Rattle.layout.specs.Members.{memberAt, membersFrom}
-use Rattle.coverreader.specs.Reading.{imagesOf, ImagesRead, readAlone, CoverIs}
+use Rattle.layout.specs.Entries.{located_at, is_whole}
+use Rattle.coverreader.proofs.ReadImages.{read_unreadable}
+use Rattle.coverreader.specs.Images.{images_in, no_images}
+use Rattle.layout.specs.Members.{member_at, members_from}
+use Rattle.coverreader.specs.Reading.{images_of, ImagesRead, read_alone, CoverIs}
 use Rattle.coverreader.specs.declared.CoverRead.{CoverRead}
 use Rattle.coverreader.specs.declared.CoverRead.TheVariants.{Taken, Refused as NotRead}
 use Rattle.layout.proofs.Whole.{whole}
-use Rattle.coverreader.proofs.Elements.{element, no-element}
+use Rattle.coverreader.proofs.Elements.{element, no_element}
 
 module _ (cert : List ℕ) (variables : ℕ) (starts : List ℕ) (at n : ℕ) where
   abbrev Is : CoverRead → List ℕ → Type 0
   Is r codes = CoverIs cert variables starts at n r codes
 
-  pub cover-unreadable : (place : ℕ) → number_at cert at ≡ Unreadable place → Is (NotRead CertificateUnreadable at) noImages
-  unfolding readCoverBy readAlone
-  cover-unreadable place e =
+  pub cover_unreadable : (place : ℕ) → number_at cert at ≡ Unreadable place → Is (NotRead CertificateUnreadable at) no_images
+  unfolding read_cover_by read_alone
+  cover_unreadable place e =
       record {
-        reads = λ among covered s z. rw (read-unreadable cert (get_elem? (membersFrom cert variables starts)) at place e) refl;
-        alone = rw (read-unreadable cert (get_elem? (membersFrom cert variables starts)) at place e) refl;
+        reads = λ among covered s z. rw (read_unreadable cert (get_elem? (members_from cert variables starts)) at place e) refl;
+        alone = rw (read_unreadable cert (get_elem? (members_from cert variables starts)) at place e) refl;
         numbers = λ m next y. let x : ◌≡◌ {A = ℕ} 0 1 = cc in absurd (omega arith);
         member = λ m next y. let x : ◌≡◌ {A = ℕ} 0 1 = cc in absurd (omega arith);
         whole = λ m next y. let x : ◌≡◌ {A = ℕ} 0 1 = cc in absurd (omega arith);
@@ -47,16 +47,16 @@ module _ (cert : List ℕ) (variables : ℕ) (starts : List ℕ) (at n : ℕ) wh
       }
 
   module _ (m next : ℕ) (e : number_at cert at ≡ Number m next) where
-    pub cover-outside : length starts ≤ m → Is (NotRead CertificateRange at) noImages
-    unfolding readCoverBy readAlone
-    cover-outside b =
+    pub cover_outside : length starts ≤ m → Is (NotRead CertificateRange at) no_images
+    unfolding read_cover_by read_alone
+    cover_outside b =
         record {
           reads = λ among covered s z.
-              rw (read-outside (certificateBuffer cert) (get_elem? (membersFrom cert variables starts)) at m next e
-              (no-element (memberAt cert variables) starts m b)) refl;
+              rw (read_outside (certificate_buffer cert) (get_elem? (members_from cert variables starts)) at m next e
+              (no_element (member_at cert variables) starts m b)) refl;
           alone =
-              rw (read-outside (certificateBuffer cert) (get_elem? (membersFrom cert variables starts)) at m next e
-              (no-element (memberAt cert variables) starts m b)) refl;
+              rw (read_outside (certificate_buffer cert) (get_elem? (members_from cert variables starts)) at m next e
+              (no_element (member_at cert variables) starts m b)) refl;
           numbers = λ m next y. let x : ◌≡◌ {A = ℕ} 0 1 = cc in absurd (omega arith);
           member = λ m next y. let x : ◌≡◌ {A = ℕ} 0 1 = cc in absurd (omega arith);
           whole = λ m next y. let x : ◌≡◌ {A = ℕ} 0 1 = cc in absurd (omega arith);
@@ -68,21 +68,21 @@ module _ (cert : List ℕ) (variables : ℕ) (starts : List ℕ) (at n : ℕ) wh
       abbrev start : ℕ
       start = get_or starts m 0
 
-      member-some : get_elem? (membersFrom cert variables starts) m ≡ some (memberAt cert variables start)
-      member-some = element (memberAt cert variables) starts m b
+      member_some : get_elem? (members_from cert variables starts) m ≡ some (member_at cert variables start)
+      member_some = element (member_at cert variables) starts m b
 
-      pub cover-absent : is_whole cert variables start ≡ false → Is (NotRead (CoverFails (record { rule = 1; name = 0 })) at) noImages
-      unfolding readCoverBy readAlone many lowest
-      cover-absent o =
+      pub cover_absent : is_whole cert variables start ≡ false → Is (NotRead (CoverFails (record { rule = 1; name = 0 })) at) no_images
+      unfolding read_cover_by read_alone many lowest
+      cover_absent o =
           record {
             reads = λ among covered s z.
                 let other : 256 ≡ covered.state → ⊥ = λ y. omega arith in
                 rw (
-                  read-complete (certificateBuffer cert) (get_elem? (membersFrom cert variables starts)) at m next _ e member-some,
+                  read_complete (certificate_buffer cert) (get_elem? (members_from cert variables starts)) at m next _ e member_some,
                   o,
                   ne_eqb 256 covered.state other,
                 ) refl;
-            alone = rw (read-complete (certificateBuffer cert) (get_elem? (membersFrom cert variables starts)) at m next _ e member-some, o) refl;
+            alone = rw (read_complete (certificate_buffer cert) (get_elem? (members_from cert variables starts)) at m next _ e member_some, o) refl;
             numbers = λ m next y. let x : ◌≡◌ {A = ℕ} 0 1 = cc in absurd (omega arith);
             member = λ m next y. let x : ◌≡◌ {A = ℕ} 0 1 = cc in absurd (omega arith);
             whole = λ m next y. let x : ◌≡◌ {A = ℕ} 0 1 = cc in absurd (omega arith);
@@ -92,31 +92,31 @@ module _ (cert : List ℕ) (variables : ℕ) (starts : List ℕ) (at n : ℕ) wh
 
       module _ (w : is_whole cert variables start ≡ true) (count : ℕ) (size_is : count ≡ get_or cert (start + 1) 0) (q : Reached) (codes : List ℕ)
           (i : ImagesRead cert next n count q codes) where
-        member_is : get_elem? (membersFrom cert variables starts) m ≡ some (locatedAt cert variables start)
-        member_is = rw w at member-some
+        member_is : get_elem? (members_from cert variables starts) m ≡ some (located_at cert variables start)
+        member_is = rw w at member_some
 
-        member-size : size (locatedAt cert variables start).shape ≡ count
-        member-size =
+        member_size : size (located_at cert variables start).shape ≡ count
+        member_size =
             rw size_is
             (length-take-le (get_or cert (start + 1) 0) (drop (start + 2 + variables) cert)
             (omega (arith, length-drop (start + 2 + variables) cert, (whole cert variables start w).inside)))
 
-        pub cover-refused : (r : Refusal) (place : ℕ) → q ≡ Refused r place → Is (NotRead r place) noImages
-        unfolding readCoverBy readAlone
-        cover-refused r place y =
+        pub cover_refused : (r : Refusal) (place : ℕ) → q ≡ Refused r place → Is (NotRead r place) no_images
+        unfolding read_cover_by read_alone
+        cover_refused r place y =
             record {
               reads = λ among covered s z.
                   rw (
-                    read-complete (certificateBuffer cert) (get_elem? (membersFrom cert variables starts)) at m next _ e member_is,
-                    member-size,
+                    read_complete (certificate_buffer cert) (get_elem? (members_from cert variables starts)) at m next _ e member_is,
+                    member_size,
                     z,
                     ← i.reads,
                     y,
                   ) refl;
               alone =
                   rw (
-                    read-complete (certificateBuffer cert) (get_elem? (membersFrom cert variables starts)) at m next _ e member_is,
-                    member-size,
+                    read_complete (certificate_buffer cert) (get_elem? (members_from cert variables starts)) at m next _ e member_is,
+                    member_size,
                     ← i.reads,
                     y,
                   ) refl;
@@ -127,14 +127,14 @@ module _ (cert : List ℕ) (variables : ℕ) (starts : List ℕ) (at n : ℕ) wh
               none = λ _ _ _. refl;
             }
 
-        pub cover-taken : get_or cert start 0 < 256 → (end : ℕ) → q ≡ At end → Is (Taken m end) codes
-        unfolding readCoverBy readAlone
-        cover-taken byte end y =
+        pub cover_taken : get_or cert start 0 < 256 → (end : ℕ) → q ≡ At end → Is (Taken m end) codes
+        unfolding read_cover_by read_alone
+        cover_taken byte end y =
             record {
               reads = λ among covered s z.
                   rw (
-                    read-complete (certificateBuffer cert) (get_elem? (membersFrom cert variables starts)) at m next _ e member_is,
-                    member-size,
+                    read_complete (certificate_buffer cert) (get_elem? (members_from cert variables starts)) at m next _ e member_is,
+                    member_size,
                     z,
                     ← i.reads,
                     y,
@@ -142,16 +142,16 @@ module _ (cert : List ℕ) (variables : ℕ) (starts : List ℕ) (at n : ℕ) wh
                   ) refl;
               alone =
                   rw (
-                    read-complete (certificateBuffer cert) (get_elem? (membersFrom cert variables starts)) at m next _ e member_is,
-                    member-size,
+                    read_complete (certificate_buffer cert) (get_elem? (members_from cert variables starts)) at m next _ e member_is,
+                    member_size,
                     ← i.reads,
                     y,
                     lt-ltb (get_or cert start 0) 256 byte,
                   ) refl;
               numbers = λ m' next' z.
-                  let m-is : m ≡ m' = cc in
+                  let m_is : m ≡ m' = cc in
                   let end_is : end ≡ next' = cc in
-                  rw (← m-is, ← end_is) (next, e, rw (← size_is) (sym i.reads ∙ ap (λ q. imagesOf q (imagesIn count codes)) y));
+                  rw (← m_is, ← end_is) (next, e, rw (← size_is) (sym i.reads ∙ ap (λ q. images_of q (images_in count codes)) y));
               member = λ m' next' y. let x : m ≡ m' = cc in omega arith;
               whole = λ m' next' y. let x : m ≡ m' = cc in rw (← x) (whole cert variables start w);
               images = λ m' next' z. let x : m ≡ m' = cc in rw (← x, ← size_is) (i.images end y);

@@ -11,7 +11,7 @@ element f [] i b = absurd (omega arith)
 element f (x ∷ xs) zero b = refl
 element f (x ∷ xs) (suc i) b = element f xs i (omega arith)
 
-pub no-element : {A : Type 0} (f : ℕ → A) (xs : List ℕ) (i : ℕ) → length xs ≤ i → get_elem? (map f xs) i ≡ none
-no-element f [] i b = refl
-no-element f (x ∷ xs) zero b = absurd (omega arith)
-no-element f (x ∷ xs) (suc i) b = no-element f xs i (omega arith)
+pub no_element : {A : Type 0} (f : ℕ → A) (xs : List ℕ) (i : ℕ) → length xs ≤ i → get_elem? (map f xs) i ≡ none
+no_element f [] i b = refl
+no_element f (x ∷ xs) zero b = absurd (omega arith)
+no_element f (x ∷ xs) (suc i) b = no_element f xs i (omega arith)

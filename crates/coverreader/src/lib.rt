@@ -1,7 +1,7 @@
 // One cover as it is read, whatever the bytes are.
 ghost use Rattle.std.specs.Prelude.{◌≡◌, ◌≤◌, length};
-ghost use Rattle.layout.specs.ShapeArray.{linksIn};
-ghost use Rattle.coverreader.specs.Images.{ImageCodes, noImages};
+ghost use Rattle.layout.specs.ShapeArray.{links_in};
+ghost use Rattle.coverreader.specs.Images.{ImageCodes, no_images};
 ghost use Rattle.coverreader.specs.Reading.{ImagesRead, CoverIs};
 ghost use Rattle.coverreader.specs.declared.CoverRead.TheVariants.{Refused as NotRead};
 
@@ -50,7 +50,7 @@ fn read_images(cert: &[u8], first: usize, n: usize, count: usize, images: &mut [
 
 // A cover that is not read.
 fn not_read(refusal: Refusal, place: usize) -> CoverReading
-    ensures { result ≡ record { answer = NotRead refusal place; images = noImages } }
+    ensures { result ≡ record { answer = NotRead refusal place; images = no_images } }
 {
     CoverReading {
         answer: CoverRead::Refused(refusal, place),
@@ -66,7 +66,7 @@ pub fn read_cover(
     at: usize,
     s: &[u8; 28],
 ) -> CoverReading
-    ensures { CoverIs cert.now variables starts.now at (length (linksIn s.now)) result.answer result.images }
+    ensures { CoverIs cert.now variables starts.now at (length (links_in s.now)) result.answer result.images }
 {
     let r = read_number(cert, at);
     let Read::Number(m, next) = r else {

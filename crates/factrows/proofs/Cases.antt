@@ -5,35 +5,35 @@ use mathlib.Core.Logic.{◌≢◌}
 use mathlib.Core.Path.{◌≡◌, refl, ap}
 use Prim.Native.Nat.{ℕ, zero, suc, ◌-◌, ◌≤◌, ◌<◌}
 use native.Mathlib.Omega.{arith}
-use Rattle.factrows.specs.Rows.{noFacts, withKind, withFact, clashOf}
-use Rattle.factrows.specs.Listed.{kind_at, left_at, rightAt, closedFrom}
+use Rattle.factrows.specs.Rows.{no_facts, with_kind, with_fact, clash_of}
+use Rattle.factrows.specs.Listed.{kind_at, left_at, right_at, closed_from}
 
 -- ---- kinds from 2 on
 
 module _ (l : List ℕ) (c d : ℕ) where
-  pub no_kind : (k : ℕ) → k ≢ 0 → k ≢ 1 → l ≡ withKind l k c d
+  pub no_kind : (k : ℕ) → k ≢ 0 → k ≢ 1 → l ≡ with_kind l k c d
   no_kind zero a b = absurd (a refl)
   no_kind (suc zero) a b = absurd (b refl)
   no_kind (suc (suc k)) a b = refl
 
-  pub no-clash : (k : ℕ) → k ≢ 0 → k ≢ 1 → false ≡ clashOf l k c d
-  no-clash zero a b = absurd (a refl)
-  no-clash (suc zero) a b = absurd (b refl)
-  no-clash (suc (suc k)) a b = refl
+  pub no_clash : (k : ℕ) → k ≢ 0 → k ≢ 1 → false ≡ clash_of l k c d
+  no_clash zero a b = absurd (a refl)
+  no_clash (suc zero) a b = absurd (b refl)
+  no_clash (suc (suc k)) a b = refl
 
 -- ---- the facts from i on are closed: one more, none, all
 
-pub closed-more : (s : List ℕ) (n i : ℕ) → 0 < i → i ≤ n
-    → withFact (closedFrom s (n - i) i) (kind_at s (i - 1)) (left_at s (i - 1)) (rightAt s (i - 1)) ≡ closedFrom s (n - (i - 1)) (i - 1)
-unfolding closedFrom
-closed-more s n i a b =
+pub closed_more : (s : List ℕ) (n i : ℕ) → 0 < i → i ≤ n
+    → with_fact (closed_from s (n - i) i) (kind_at s (i - 1)) (left_at s (i - 1)) (right_at s (i - 1)) ≡ closed_from s (n - (i - 1)) (i - 1)
+unfolding closed_from
+closed_more s n i a b =
     let left : n - (i - 1) ≡ suc (n - i) = omega arith in
     let next : suc (i - 1) ≡ i = omega arith in
     rw (left, next) refl
 
-pub closed_none : (s : List ℕ) (n : ℕ) → noFacts ≡ closedFrom s (n - n) n
-unfolding closedFrom
+pub closed_none : (s : List ℕ) (n : ℕ) → no_facts ≡ closed_from s (n - n) n
+unfolding closed_from
 closed_none s n = let none : n - n ≡ 0 = omega arith in rw none refl
 
-pub closed_all : (s : List ℕ) (n i : ℕ) → i ≡ 0 → closedFrom s (n - i) i ≡ closedFrom s n 0
-closed_all s n i e = rw e (ap (λ (k : ℕ). closedFrom s k 0) (omega arith))
+pub closed_all : (s : List ℕ) (n i : ℕ) → i ≡ 0 → closed_from s (n - i) i ≡ closed_from s n 0
+closed_all s n i e = rw e (ap (λ (k : ℕ). closed_from s k 0) (omega arith))

@@ -12,8 +12,8 @@ use Rattle.factrows.specs.Rows.{digit, shrink}
 pub high_fits : (x c : ℕ) → x < 65536 → x / 2 ^ c * 2 ^ c % 65536 ≡ x / 2 ^ c * 2 ^ c
 high_fits x c h = mod-eq_of_lt (omega (arith, split x c))
 
-pub half-fits : (x c : ℕ) → x < 65536 → x / 2 ^ c / 2 * 2 ^ c % 65536 ≡ x / 2 ^ c / 2 * 2 ^ c
-half-fits x c h =
+pub half_fits : (x c : ℕ) → x < 65536 → x / 2 ^ c / 2 * 2 ^ c % 65536 ≡ x / 2 ^ c / 2 * 2 ^ c
+half_fits x c h =
     let a : x / 2 ^ c / 2 ≤ x / 2 ^ c = omega arith in
     mod-eq_of_lt (omega (arith, split x c, mul-le-mul_right (2 ^ c) a))
 
@@ -37,15 +37,15 @@ module _ (x c : ℕ) where
   unfolding shrink
   sum = or_shifted (x / 2 ^ c / 2) c (x % 2 ^ c) (mod-lt x (pow_pos c))
 
-  pub shrink-low : (q : ℕ) → q < c → digit (shrink x c) q ≡ digit x q
-  shrink-low q h =
+  pub shrink_low : (q : ℕ) → q < c → digit (shrink x c) q ≡ digit x q
+  shrink_low q h =
       sym (low_digit (shrink x c) c q h)
       ∙ ap (λ (y : ℕ). digit y q) (ap (λ (y : ℕ). y % 2 ^ c) sum ∙ low (x / 2 ^ c / 2) c (mod-lt x (pow_pos c)))
       ∙ low_digit x c q h
 
-  pub shrink-high : (q : ℕ) → c ≤ q → digit (shrink x c) q ≡ digit x (suc q)
+  pub shrink_high : (q : ℕ) → c ≤ q → digit (shrink x c) q ≡ digit x (suc q)
   unfolding digit
-  shrink-high q h = ap (λ (n : ℕ). digit (shrink x c) n) e ∙ at (q - c) ∙ ap (digit x) f
+  shrink_high q h = ap (λ (n : ℕ). digit (shrink x c) n) e ∙ at (q - c) ∙ ap (digit x) f
     where
       e : q ≡ c + (q - c)
       e = omega arith

@@ -9,13 +9,13 @@ use borrow.Author.Tests.{eq-eqb, ne_eqb, lt-ltb, le-ltb}
 use lib.Bits.{bit_or}
 use lib.ListN.{length, get_or, set, length-set}
 use lib.Seq.{get_or-set_same, get_or-set_other}
-use Rattle.lists.proofs.Range.{getD-from, tabled}
-use Rattle.factrows.specs.Rows.{rows_by, selfAt, selfRows, upOf, belowRow, belowAt, class_of, overOf, someOf, equalRow, equalAt, classRow, class_at, movedAt, offRow, drop_row}
+use Rattle.lists.proofs.Range.{get_d_from, tabled}
+use Rattle.factrows.specs.Rows.{rows_by, self_at, self_rows, up_of, below_row, below_at, class_of, over_of, some_of, equal_row, equal_at, class_row, class_at, moved_at, off_row, drop_row}
 
 -- row j is the function's value
 pub row_read : (f : ℕ → ℕ) (j : ℕ) → j < 28 → get_or (rows_by f) j 0 ≡ f j
 unfolding rows_by
-row_read f j h = getD-from f 0 0 28 j h ∙ ap f (zero-add j)
+row_read f j h = get_d_from f 0 0 28 j h ∙ ap f (zero-add j)
 
 -- rows that are its values one by one
 pub rows_are : (f : ℕ → ℕ) (l : List ℕ) → length l ≡ 28 → ((j : ℕ) → j < 28 → get_or l j 0 ≡ f j) → l ≡ rows_by f
@@ -31,8 +31,8 @@ pub record Turned (f : ℕ → ℕ) (l₀ l : List ℕ) (i : ℕ) : Type 0 where
   pub old : (j : ℕ) → i ≤ j → get_or l j 0 ≡ get_or l₀ j 0
 
 module _ (f : ℕ → ℕ) (l₀ : List ℕ) where
-  pub turn-none : (i : ℕ) → length l₀ ≡ 28 → ((j : ℕ) → j < i → get_or l₀ j 0 ≡ f j) → Turned f l₀ l₀ i
-  turn-none i e h = record { size = e; new = h; old = λ j _. refl }
+  pub turn_none : (i : ℕ) → length l₀ ≡ 28 → ((j : ℕ) → j < i → get_or l₀ j 0 ≡ f j) → Turned f l₀ l₀ i
+  turn_none i e h = record { size = e; new = h; old = λ j _. refl }
 
   module _ (l : List ℕ) (i : ℕ) (t : Turned f l₀ l i) where
     pub turn_more : (x : ℕ) → i < 28 → x ≡ f i → Turned f l₀ (set l i x) (i + 1)
@@ -47,8 +47,8 @@ module _ (f : ℕ → ℕ) (l₀ : List ℕ) where
         at j b (yes z) = ap (λ (k : ℕ). get_or (set l i x) k 0) z ∙ get_or-set_same l i x 0 (omega (arith, t.size)) ∙ e ∙ ap f (sym z)
         at j b (no z) = get_or-set_other l i j x 0 z ∙ t.new j (omega arith)
 
-    pub turn-all : ((j : ℕ) → i ≤ j → j < 28 → get_or l₀ j 0 ≡ f j) → l ≡ rows_by f
-    turn-all h = rows_are f l t.size (λ j b. at j b (dec_lt j i))
+    pub turn_all : ((j : ℕ) → i ≤ j → j < 28 → get_or l₀ j 0 ≡ f j) → l ≡ rows_by f
+    turn_all h = rows_are f l t.size (λ j b. at j b (dec_lt j i))
       where
         at : (j : ℕ) → j < 28 → Dec (j < i) → get_or l j 0 ≡ f j
         at j b (yes a) = t.new j a
@@ -56,50 +56,50 @@ module _ (f : ℕ → ℕ) (l₀ : List ℕ) where
 
 -- ---- what each function puts into a row, and which rows it leaves
 
-pub self-set : (l : List ℕ) (c b : ℕ) → length l ≡ 28 → c < 14 → b ≡ 2 ^ c → set l (14 + c) (bit_or (get_or l (14 + c) 0) b) ≡ selfRows c l
-unfolding selfAt
-self-set l c b e h z = rows_are (selfAt c l) (set l (14 + c) x) (length-set l (14 + c) x ∙ e) (λ j a. at j (ℕ_discrete j (14 + c)))
+pub self_set : (l : List ℕ) (c b : ℕ) → length l ≡ 28 → c < 14 → b ≡ 2 ^ c → set l (14 + c) (bit_or (get_or l (14 + c) 0) b) ≡ self_rows c l
+unfolding self_at
+self_set l c b e h z = rows_are (self_at c l) (set l (14 + c) x) (length-set l (14 + c) x ∙ e) (λ j a. at j (ℕ_discrete j (14 + c)))
   where
     x : ℕ
     x = bit_or (get_or l (14 + c) 0) b
 
-    at : (j : ℕ) → Dec (j ≡ 14 + c) → get_or (set l (14 + c) x) j 0 ≡ selfAt c l j
+    at : (j : ℕ) → Dec (j ≡ 14 + c) → get_or (set l (14 + c) x) j 0 ≡ self_at c l j
     at j (yes i) = rw (i, eq-eqb (14 + c) (14 + c) refl) (get_or-set_same l (14 + c) x 0 (omega arith) ∙ ap (bit_or (get_or l (14 + c) 0)) z)
     at j (no n) = rw (ne_eqb j (14 + c) n) (get_or-set_other l (14 + c) j x 0 n)
 
 module _ (c d : ℕ) (l₀ : List ℕ) where
-  pub below_new : (l : List ℕ) (p up : ℕ) → Turned (belowAt c d l₀) l₀ l p → p < 14 → up ≡ upOf l₀ d
-      → belowRow (get_or l p 0) (get_or l (14 + p) 0) c up ≡ belowAt c d l₀ p
-  unfolding belowAt
+  pub below_new : (l : List ℕ) (p up : ℕ) → Turned (below_at c d l₀) l₀ l p → p < 14 → up ≡ up_of l₀ d
+      → below_row (get_or l p 0) (get_or l (14 + p) 0) c up ≡ below_at c d l₀ p
+  unfolding below_at
   below_new l p up t h e = rw (t.old p (omega arith), t.old (14 + p) (omega arith), e, lt-ltb p 14 h) refl
 
-  pub below_rest : (j : ℕ) → 14 ≤ j → get_or l₀ j 0 ≡ belowAt c d l₀ j
-  unfolding belowAt
+  pub below_rest : (j : ℕ) → 14 ≤ j → get_or l₀ j 0 ≡ below_at c d l₀ j
+  unfolding below_at
   below_rest j h = rw (le-ltb j 14 h) refl
 
-  pub equal-new : (l : List ℕ) (p class over some : ℕ) → Turned (equalAt c d l₀) l₀ l p → p < 14 → class ≡ class_of l₀ c d → over ≡ overOf l₀ c d
-      → some ≡ someOf class over c d → equalRow (get_or l p 0) p c d class (bit_or over class) some ≡ equalAt c d l₀ p
-  unfolding equalAt
-  equal-new l p class over some t h e f g = rw (t.old p (omega arith), g, e, f, lt-ltb p 14 h) refl
+  pub equal_new : (l : List ℕ) (p class over some : ℕ) → Turned (equal_at c d l₀) l₀ l p → p < 14 → class ≡ class_of l₀ c d → over ≡ over_of l₀ c d
+      → some ≡ some_of class over c d → equal_row (get_or l p 0) p c d class (bit_or over class) some ≡ equal_at c d l₀ p
+  unfolding equal_at
+  equal_new l p class over some t h e f g = rw (t.old p (omega arith), g, e, f, lt-ltb p 14 h) refl
 
-  pub equal_rest : (j : ℕ) → 14 ≤ j → get_or l₀ j 0 ≡ equalAt c d l₀ j
-  unfolding equalAt
+  pub equal_rest : (j : ℕ) → 14 ≤ j → get_or l₀ j 0 ≡ equal_at c d l₀ j
+  unfolding equal_at
   equal_rest j h = rw (le-ltb j 14 h) refl
 
 module _ (class : ℕ) (l₀ : List ℕ) where
-  pub class-first : (j : ℕ) → j < 14 → get_or l₀ j 0 ≡ class_at class l₀ j
+  pub class_first : (j : ℕ) → j < 14 → get_or l₀ j 0 ≡ class_at class l₀ j
   unfolding class_at
-  class-first j h = rw (lt-ltb j 14 h) refl
+  class_first j h = rw (lt-ltb j 14 h) refl
 
-  pub class-new : (l : List ℕ) (j : ℕ) → Turned (class_at class l₀) l₀ l j → 14 ≤ j → classRow (get_or l j 0) (j - 14) class ≡ class_at class l₀ j
+  pub class_new : (l : List ℕ) (j : ℕ) → Turned (class_at class l₀) l₀ l j → 14 ≤ j → class_row (get_or l j 0) (j - 14) class ≡ class_at class l₀ j
   unfolding class_at
-  class-new l j t h = rw (t.old j (omega arith), le-ltb j 14 h) refl
+  class_new l j t h = rw (t.old j (omega arith), le-ltb j 14 h) refl
 
 -- all rows without the digit of a cell, and then none in its own two
-pub drop-set : (c : ℕ) (l₀ l : List ℕ) → c < 14 → Turned (λ i. offRow (get_or l₀ i 0) c) l₀ l 28
+pub drop_set : (c : ℕ) (l₀ l : List ℕ) → c < 14 → Turned (λ i. off_row (get_or l₀ i 0) c) l₀ l 28
     → set (set l c 0) (14 + c) 0 ≡ rows_by (λ j. drop_row (get_or l₀ j 0) j c)
 unfolding drop_row
-drop-set c l₀ l h t =
+drop_set c l₀ l h t =
     rows_are (λ j. drop_row (get_or l₀ j 0) j c) (set (set l c 0) (14 + c) 0) (length-set (set l c 0) (14 + c) 0 ∙ size)
     (λ j b. at j b (ℕ_discrete j (14 + c)) (ℕ_discrete j c))
   where
@@ -116,21 +116,21 @@ drop-set c l₀ l h t =
         rw (ne_eqb j c m, ne_eqb j (14 + c) n) (get_or-set_other (set l c 0) (14 + c) j 0 0 n ∙ get_or-set_other l c j 0 0 m ∙ t.new j b)
 
 module _ (first last : ℕ) (l₀ : List ℕ) where
-  pub moved-first : (j : ℕ) → j < first → get_or l₀ j 0 ≡ movedAt first last l₀ j
-  unfolding movedAt
-  moved-first j h = rw (lt-ltb j first h) refl
+  pub moved_first : (j : ℕ) → j < first → get_or l₀ j 0 ≡ moved_at first last l₀ j
+  unfolding moved_at
+  moved_first j h = rw (lt-ltb j first h) refl
 
-  pub moved-next : (j : ℕ) → first ≤ j → j < last → get_or l₀ (j + 1) 0 ≡ movedAt first last l₀ j
-  unfolding movedAt
-  moved-next j h b = rw (le-ltb j first h, le-ltb last j (omega arith), lt-ltb j last b) refl
+  pub moved_next : (j : ℕ) → first ≤ j → j < last → get_or l₀ (j + 1) 0 ≡ moved_at first last l₀ j
+  unfolding moved_at
+  moved_next j h b = rw (le-ltb j first h, le-ltb last j (omega arith), lt-ltb j last b) refl
 
-  pub moved_new : (l : List ℕ) (j : ℕ) → Turned (movedAt first last l₀) l₀ l j → first ≤ j → j < last → get_or l (j + 1) 0 ≡ movedAt first last l₀ j
-  moved_new l j t h b = t.old (j + 1) (omega arith) ∙ moved-next j h b
+  pub moved_new : (l : List ℕ) (j : ℕ) → Turned (moved_at first last l₀) l₀ l j → first ≤ j → j < last → get_or l (j + 1) 0 ≡ moved_at first last l₀ j
+  moved_new l j t h b = t.old (j + 1) (omega arith) ∙ moved_next j h b
 
-  pub moved-last : (j : ℕ) → j ≡ last → first ≤ j → 0 ≡ movedAt first last l₀ j
-  unfolding movedAt
-  moved-last j e h = rw (le-ltb j first h, le-ltb last j (omega arith), le-ltb j last (omega arith)) refl
+  pub moved_last : (j : ℕ) → j ≡ last → first ≤ j → 0 ≡ moved_at first last l₀ j
+  unfolding moved_at
+  moved_last j e h = rw (le-ltb j first h, le-ltb last j (omega arith), le-ltb j last (omega arith)) refl
 
-  pub moved-rest : (j : ℕ) → first ≤ j → last < j → get_or l₀ j 0 ≡ movedAt first last l₀ j
-  unfolding movedAt
-  moved-rest j h b = rw (le-ltb j first h, lt-ltb last j b) refl
+  pub moved_rest : (j : ℕ) → first ≤ j → last < j → get_or l₀ j 0 ≡ moved_at first last l₀ j
+  unfolding moved_at
+  moved_rest j h b = rw (le-ltb j first h, lt-ltb last j b) refl

@@ -1,8 +1,8 @@
 // Facts about the values of at most 14 cells as 28 rows of bits: bit q of row p is set where cell p is below cell q, bit q of row 14 + p where they are
 // equal. Cells go by their numbers, and a cell from 14 on is in no fact. Facts stay closed under the laws of order and equality.
 ghost use Rattle.std.specs.Prelude.{◌≡◌, ◌^◌, ◌≤◌, ◌<◌, length};
-ghost use Rattle.factrows.specs.Rows.{on, eitherOn, hasFact, noFacts, isConsistent, selfRows, upOf, belowRow, belowRows, class_of, overOf, someOf, equalRow, equalRows, classRow, classRows, withKind, withFact, at_most, clashing, offRow, withoutCell, shrink, shrunkRows, movedRows, lowered};
-ghost use Rattle.factrows.specs.Listed.{count, closed, imageCell, holdsAt, holdsAll, holdsFor, cellHolds, firstMissing};
+ghost use Rattle.factrows.specs.Rows.{on, either_on, has_fact, no_facts, is_consistent, self_rows, up_of, below_row, below_rows, class_of, over_of, some_of, equal_row, equal_rows, class_row, class_rows, with_kind, with_fact, at_most, clashing, off_row, without_cell, shrink, shrunk_rows, moved_rows, lowered};
+ghost use Rattle.factrows.specs.Listed.{count, closed, image_cell, holds_at, holds_all, holds_for, cell_holds, first_missing};
 
 use number::wide;
 
@@ -17,7 +17,7 @@ fn is_on(row: u16, j: usize) -> bool
 // Whether bit c or bit d of a row is set.
 fn is_either_on(row: u16, c: usize, d: usize) -> bool
     requires { (c < 16) × (d < 16) }
-    ensures { result ≡ eitherOn row c d }
+    ensures { result ≡ either_on row c d }
 {
     is_on(row, c) || is_on(row, d)
 }
@@ -37,7 +37,7 @@ fn sized(rows: [u16; 28])
 
 // Whether a fact is there: of kind 0, cell p is below cell q; of kind 1, they are equal.
 pub fn has_fact(rows: &[u16; 28], kind: usize, p: usize, q: usize) -> bool
-    ensures { result ≡ hasFact rows.now kind p q }
+    ensures { result ≡ has_fact rows.now kind p q }
 {
     if 14 <= p {
         return false;
@@ -56,14 +56,14 @@ pub fn has_fact(rows: &[u16; 28], kind: usize, p: usize, q: usize) -> bool
 
 // Drops all facts.
 fn clear(rows: &mut [u16; 28])
-    ensures { rows.new ≡ noFacts }
+    ensures { rows.new ≡ no_facts }
 {
     *rows = [0; 28];
 }
 
 // Whether no cell is below itself.
 pub fn is_consistent(rows: &[u16; 28]) -> bool
-    ensures { result ≡ isConsistent rows.now }
+    ensures { result ≡ is_consistent rows.now }
 {
     let mut p: usize = 0;
     while p < 14 {
@@ -78,7 +78,7 @@ pub fn is_consistent(rows: &[u16; 28]) -> bool
 // Adds that a cell equals itself.
 fn put_self(rows: &mut [u16; 28], c: usize)
     requires { c < 14 }
-    ensures { rows.new ≡ selfRows c rows.old }
+    ensures { rows.new ≡ self_rows c rows.old }
 {
     sized(*rows);
     rows[14 + c] = rows[14 + c] | bit(c);
@@ -87,7 +87,7 @@ fn put_self(rows: &mut [u16; 28], c: usize)
 // The cells that d is equal to, or below.
 fn up_of(rows: &[u16; 28], d: usize) -> u16
     requires { d < 14 }
-    ensures { result ≡ upOf rows.now d }
+    ensures { result ≡ up_of rows.now d }
 {
     rows[d] | rows[14 + d]
 }
@@ -95,7 +95,7 @@ fn up_of(rows: &[u16; 28], d: usize) -> u16
 // A row of below, when c is put below what stands in up. One test, so that a loop over rows is compiled to vectors.
 fn below_row(lt: u16, eq: u16, c: usize, up: u16) -> u16
     requires { c < 14 }
-    ensures { result ≡ belowRow lt eq c up }
+    ensures { result ≡ below_row lt eq c up }
 {
     if is_on(lt | eq, c) {
         return lt | up;
@@ -106,7 +106,7 @@ fn below_row(lt: u16, eq: u16, c: usize, up: u16) -> u16
 // The rows of below, when c is put below d.
 fn below_rows(rows: &mut [u16; 28], c: usize, d: usize)
     requires { (c < 14) × (d < 14) }
-    ensures { rows.new ≡ belowRows c d rows.old }
+    ensures { rows.new ≡ below_rows c d rows.old }
 {
     sized(*rows);
     let up = up_of(rows, d);
@@ -120,7 +120,7 @@ fn below_rows(rows: &mut [u16; 28], c: usize, d: usize)
 // Adds that c is below d.
 fn add_below(rows: &mut [u16; 28], c: usize, d: usize)
     requires { (c < 14) × (d < 14) }
-    ensures { rows.new ≡ withKind rows.old 0 c d }
+    ensures { rows.new ≡ with_kind rows.old 0 c d }
 {
     put_self(rows, c);
     put_self(rows, d);
@@ -138,7 +138,7 @@ fn class_of(rows: &[u16; 28], c: usize, d: usize) -> u16
 // The cells that c or d is below.
 fn over_of(rows: &[u16; 28], c: usize, d: usize) -> u16
     requires { (c < 14) × (d < 14) }
-    ensures { result ≡ overOf rows.now c d }
+    ensures { result ≡ over_of rows.now c d }
 {
     rows[c] | rows[d]
 }
@@ -146,7 +146,7 @@ fn over_of(rows: &[u16; 28], c: usize, d: usize) -> u16
 // What the cells of the class of c and d are below: also the class, if one of the two is below one of them.
 fn some_of(class: u16, over: u16, c: usize, d: usize) -> u16
     requires { (c < 14) × (d < 14) }
-    ensures { result ≡ someOf class over c d }
+    ensures { result ≡ some_of class over c d }
 {
     if is_either_on(over, c, d) {
         return over | class;
@@ -157,7 +157,7 @@ fn some_of(class: u16, over: u16, c: usize, d: usize) -> u16
 // The row of below of cell p, when c and d are put equal.
 fn equal_row(lt: u16, p: usize, c: usize, d: usize, class: u16, all: u16, some: u16) -> u16
     requires { (p < 14) × (c < 14) × (d < 14) }
-    ensures { result ≡ equalRow lt p c d class all some }
+    ensures { result ≡ equal_row lt p c d class all some }
 {
     if is_either_on(lt, c, d) {
         return lt | all;
@@ -171,7 +171,7 @@ fn equal_row(lt: u16, p: usize, c: usize, d: usize, class: u16, all: u16, some: 
 // The rows of below, when c and d are put equal.
 fn equal_rows(rows: &mut [u16; 28], c: usize, d: usize)
     requires { (c < 14) × (d < 14) }
-    ensures { rows.new ≡ equalRows c d rows.old }
+    ensures { rows.new ≡ equal_rows c d rows.old }
 {
     sized(*rows);
     let class = class_of(rows, c, d);
@@ -188,7 +188,7 @@ fn equal_rows(rows: &mut [u16; 28], c: usize, d: usize)
 // The row of equal of cell p, when the cells of a class are put equal.
 fn class_row(eq: u16, p: usize, class: u16) -> u16
     requires { p < 14 }
-    ensures { result ≡ classRow eq p class }
+    ensures { result ≡ class_row eq p class }
 {
     if is_on(class, p) {
         return eq | class;
@@ -198,7 +198,7 @@ fn class_row(eq: u16, p: usize, class: u16) -> u16
 
 // The rows of equal, when the cells of a class are put equal.
 fn class_rows(rows: &mut [u16; 28], class: u16)
-    ensures { rows.new ≡ classRows class rows.old }
+    ensures { rows.new ≡ class_rows class rows.old }
 {
     sized(*rows);
     let mut j: usize = 14;
@@ -211,7 +211,7 @@ fn class_rows(rows: &mut [u16; 28], class: u16)
 // Adds that c equals d.
 fn add_equal(rows: &mut [u16; 28], c: usize, d: usize)
     requires { (c < 14) × (d < 14) }
-    ensures { rows.new ≡ withKind rows.old 1 c d }
+    ensures { rows.new ≡ with_kind rows.old 1 c d }
 {
     let class = class_of(rows, c, d);
     equal_rows(rows, c, d);
@@ -220,7 +220,7 @@ fn add_equal(rows: &mut [u16; 28], c: usize, d: usize)
 
 // Adds a fact, and all that follows with it: of kind 0, cell c is below cell d; of kind 1, they are equal.
 pub fn add_fact(rows: &mut [u16; 28], kind: usize, c: usize, d: usize)
-    ensures { rows.new ≡ withFact rows.old kind c d }
+    ensures { rows.new ≡ with_fact rows.old kind c d }
 {
     if 14 <= c {
         return;
@@ -267,7 +267,7 @@ pub fn clashes(rows: &[u16; 28], kind: usize, c: usize, d: usize) -> bool
 // A row without a bit.
 fn off(row: u16, c: usize) -> u16
     requires { c < 14 }
-    ensures { result ≡ offRow row c }
+    ensures { result ≡ off_row row c }
 {
     let b = bit(c);
     (row | b) ^ b
@@ -275,7 +275,7 @@ fn off(row: u16, c: usize) -> u16
 
 // Drops the facts of cell c: the others' first, in a loop without a test, which is compiled to vectors.
 pub fn drop_cell(rows: &mut [u16; 28], c: usize)
-    ensures { rows.new ≡ withoutCell c rows.old }
+    ensures { rows.new ≡ without_cell c rows.old }
 {
     if 14 <= c {
         return;
@@ -302,7 +302,7 @@ fn shrunk(row: u16, c: usize) -> u16
 // Every row without the place of bit c.
 fn shrink_rows(rows: &mut [u16; 28], c: usize)
     requires { c < 14 }
-    ensures { rows.new ≡ shrunkRows c rows.old }
+    ensures { rows.new ≡ shrunk_rows c rows.old }
 {
     sized(*rows);
     let mut j: usize = 0;
@@ -315,7 +315,7 @@ fn shrink_rows(rows: &mut [u16; 28], c: usize)
 // Rows from one on take the next, up to the last, which is then empty.
 fn move_rows(rows: &mut [u16; 28], first: usize, last: usize)
     requires { (first ≤ last) × (last < 28) }
-    ensures { rows.new ≡ movedRows first last rows.old }
+    ensures { rows.new ≡ moved_rows first last rows.old }
 {
     sized(*rows);
     let mut j = first;
@@ -352,7 +352,7 @@ pub fn close(rows: &mut [u16; 28], s: &[u8])
 
 // The number of the cell that is the image of cell p, by an array from codes to codes; that of a cell which a member lacks is cell 0.
 fn image_cell(images: &[u8; 15], p: usize) -> usize
-    ensures { result ≡ imageCell images.now p }
+    ensures { result ≡ image_cell images.now p }
 {
     if 12 <= p {
         return 0;
@@ -367,7 +367,7 @@ fn image_cell(images: &[u8; 15], p: usize) -> usize
 // Whether listed fact i is there when each cell is taken for its image.
 fn holds_at(rows: &[u16; 28], s: &[u8], images: &[u8; 15], i: usize) -> bool
     requires { i < count s.now }
-    ensures { result ≡ holdsAt rows.now s.now images.now i }
+    ensures { result ≡ holds_at rows.now s.now images.now i }
 {
     let p = image_cell(images, wide(s[3 * i + 1]));
     let q = image_cell(images, wide(s[3 * i + 2]));
@@ -376,7 +376,7 @@ fn holds_at(rows: &[u16; 28], s: &[u8], images: &[u8; 15], i: usize) -> bool
 
 // Whether all listed facts are there when each cell is taken for its image.
 pub fn holds_all(rows: &[u16; 28], s: &[u8], images: &[u8; 15]) -> bool
-    ensures { result ≡ holdsAll rows.now s.now images.now }
+    ensures { result ≡ holds_all rows.now s.now images.now }
 {
     let n = s.len() / 3;
     let mut i: usize = 0;
@@ -392,14 +392,14 @@ pub fn holds_all(rows: &[u16; 28], s: &[u8], images: &[u8; 15]) -> bool
 // The same for fact i, if its first cell is cell p.
 fn holds_for(rows: &[u16; 28], s: &[u8], images: &[u8; 15], p: usize, i: usize) -> bool
     requires { i < count s.now }
-    ensures { result ≡ holdsFor rows.now s.now images.now p i }
+    ensures { result ≡ holds_for rows.now s.now images.now p i }
 {
     wide(s[3 * i + 1]) != p || holds_at(rows, s, images, i)
 }
 
 // The same for all facts whose first cell is cell p.
 fn cell_holds(rows: &[u16; 28], s: &[u8], images: &[u8; 15], p: usize) -> bool
-    ensures { result ≡ cellHolds rows.now s.now images.now p }
+    ensures { result ≡ cell_holds rows.now s.now images.now p }
 {
     let n = s.len() / 3;
     let mut i: usize = 0;
@@ -414,7 +414,7 @@ fn cell_holds(rows: &[u16; 28], s: &[u8], images: &[u8; 15], p: usize) -> bool
 
 // The lowest first cell, of n, of a listed fact that is missing when each cell is taken for its image; n where none is.
 pub fn first_missing(rows: &[u16; 28], s: &[u8], images: &[u8; 15], n: usize) -> usize
-    ensures { result ≡ firstMissing rows.now s.now images.now n }
+    ensures { result ≡ first_missing rows.now s.now images.now n }
 {
     let mut p: usize = 0;
     while p < n {

@@ -1,7 +1,7 @@
 -- Facts about the values of cells. Document 02, Wish 6: "shapes get facts "cell i below cell j" and "cell i equal to cell j" .. Facts are
 -- closed under the usual laws of order and equality (a cell in any fact equals itself)".
 use Rattle.std.specs.Prelude.{Bool, false, ◌&&◌, ◌||◌, not, List, [], ◌∷◌, ℕ, zero, suc, ◌<◌, ◌≤◌, eqb}
-use Rattle.lists.specs.List.{◌∈◌, Every, all_of, concatMap, keep}
+use Rattle.lists.specs.List.{◌∈◌, Every, all_of, concat_map, keep}
 use Rattle.lists.specs.Range.{range}
 use Rattle.heap.specs.Place.{cell}
 use Rattle.heap.specs.Value.{below, equals}
@@ -16,11 +16,11 @@ pub record Fact : Type 0 where
 pub data Closure (Given : ℕ → ℕ → ℕ → Type 0) : ℕ → ℕ → ℕ → Type 0 where
   given : {k p q : ℕ} → Given k p q → Closure Given k p q
   self_left : {k p q : ℕ} → Closure Given k p q → Closure Given equals p p
-  self-right : {k p q : ℕ} → Closure Given k p q → Closure Given equals q q
+  self_right : {k p q : ℕ} → Closure Given k p q → Closure Given equals q q
   flip : {p q : ℕ} → Closure Given equals p q → Closure Given equals q p
   same : {k p q r : ℕ} → Closure Given equals p q → Closure Given k q r → Closure Given k p r
   less : {p q r : ℕ} → Closure Given below p q → Closure Given below q r → Closure Given below p r
-  less-same : {p q r : ℕ} → Closure Given below p q → Closure Given equals q r → Closure Given below p r
+  less_same : {p q r : ℕ} → Closure Given below p q → Closure Given equals q r → Closure Given below p r
 
 -- the facts of a list, and what follows from them
 abbrev pub Listed : List Fact → ℕ → ℕ → ℕ → Type 0
@@ -36,7 +36,7 @@ FactOf n t = (t.kind < 2) × ((cell 0 ≤ t.left) × (t.left < cell n)) × ((cel
 abbrev pub FactsOf : ℕ → List Fact → Type 0
 FactsOf n = Every (FactOf n)
 
--- ---- the same as a computation, for facts about n cells: `closure-reflects` of the proofs says that it decides what follows
+-- ---- the same as a computation, for facts about n cells: `closure_reflects` of the proofs says that it decides what follows
 
 -- the fact is in the list
 abbrev pub has : List Fact → ℕ → ℕ → ℕ → Bool
@@ -48,7 +48,7 @@ abbrev pub entry : (ℕ → ℕ → ℕ → Bool) → ℕ → ℕ → ℕ → Li
 entry E k i j = keep (E k (cell i) (cell j)) (record { kind = k; left = cell i; right = cell j })
 
 abbrev pub table : ℕ → (ℕ → ℕ → ℕ → Bool) → List Fact
-table n E = concatMap (λ k. concatMap (λ i. concatMap (entry E k i) (range 0 n)) (range 0 n)) (range 0 2)
+table n E = concat_map (λ k. concat_map (λ i. concat_map (entry E k i) (range 0 n)) (range 0 n)) (range 0 2)
 
 -- E are closed facts, as a test, and one more about c and d is added and closed again
 module _ (E : ℕ → ℕ → ℕ → Bool) (c d : ℕ) where
@@ -67,21 +67,21 @@ module _ (E : ℕ → ℕ → ℕ → Bool) (c d : ℕ) where
   over q = E below c q || E below d q
 
   -- c below d
-  abbrev pub addBelow : ℕ → ℕ → ℕ → Bool
-  addBelow zero p q = E below p q || (at_most p c && at_most d q)
-  addBelow (suc zero) p q = E equals p q || (eqb p q && (eqb p c || eqb p d))
-  addBelow (suc (suc k)) p q = false
+  abbrev pub add_below : ℕ → ℕ → ℕ → Bool
+  add_below zero p q = E below p q || (at_most p c && at_most d q)
+  add_below (suc zero) p q = E equals p q || (eqb p q && (eqb p c || eqb p d))
+  add_below (suc (suc k)) p q = false
 
   -- c equal to d
-  abbrev pub addEqual : ℕ → ℕ → ℕ → Bool
-  addEqual zero p q = E below p q || ((among p || under p) && ((among q || over q) && (under p || (over q || (over c || over d)))))
-  addEqual (suc zero) p q = E equals p q || (among p && among q)
-  addEqual (suc (suc k)) p q = false
+  abbrev pub add_equal : ℕ → ℕ → ℕ → Bool
+  add_equal zero p q = E below p q || ((among p || under p) && ((among q || over q) && (under p || (over q || (over c || over d)))))
+  add_equal (suc zero) p q = E equals p q || (among p && among q)
+  add_equal (suc (suc k)) p q = false
 
 -- with a fact of this kind about c and d
 abbrev pub added : (ℕ → ℕ → ℕ → Bool) → ℕ → ℕ → ℕ → ℕ → ℕ → ℕ → Bool
-added E zero c d = addBelow E c d
-added E (suc zero) c d = addEqual E c d
+added E zero c d = add_below E c d
+added E (suc zero) c d = add_equal E c d
 added E (suc (suc kind)) c d = E
 
 -- the closed facts: one after the other is added

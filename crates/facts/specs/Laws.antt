@@ -4,11 +4,11 @@ use Rattle.std.specs.Prelude.{◌⊎◌, ◌≡◌, ℕ, ◌<◌}
 -- R is closed: a cell in any fact equals itself, equal cells have the same facts, below is transitive
 pub record Laws (R : ℕ → ℕ → ℕ → Type 0) : Type 0 where
   pub self_left : (k p q : ℕ) → R k p q → R 1 p p
-  pub self-right : (k p q : ℕ) → R k p q → R 1 q q
+  pub self_right : (k p q : ℕ) → R k p q → R 1 q q
   pub flip : (p q : ℕ) → R 1 p q → R 1 q p
   pub same : (k p q r : ℕ) → R 1 p q → R k q r → R k p r
   pub less : (p q r : ℕ) → R 0 p q → R 0 q r → R 0 p r
-  pub less-same : (p q r : ℕ) → R 0 p q → R 1 q r → R 0 p r
+  pub less_same : (p q r : ℕ) → R 0 p q → R 1 q r → R 0 p r
 
 -- one fact more
 abbrev pub Plus : (ℕ → ℕ → ℕ → Type 0) → ℕ → ℕ → ℕ → ℕ → ℕ → ℕ → Type 0

@@ -6,14 +6,14 @@ use Rattle.heap.specs.Place.{null, dangling}
 use Rattle.shape.specs.Shape.{SatisfiesOne}
 use Rattle.run.specs.Run.{Transition, Job, Entry, Config, run}
 use Rattle.forbidden.specs.MetFrom.{MetFrom}
-use Rattle.forbidden.specs.Sets.{notList, lostBlock, stepsThrough, badStep}
+use Rattle.forbidden.specs.Sets.{not_list_shapes, lost_block_shapes, steps_through, bad_step_shapes}
 
 -- "A heap satisfies one of the four exactly if # isn't met by following links from x (x at # counts as met), and one of the six exactly if
 -- some cell isn't met so." It satisfies one of two for a step through x exactly if x stands at # or at *.
 pub record Means (h : Heap) (n x : ℕ) : Type 0 where
-  pub not-list : SatisfiesOne h (notList n x) ↔ ¬ MetFrom h x null
-  pub lost-block : SatisfiesOne h (lostBlock n x) ↔ ((c : ℕ) × IsCell h c × (¬ MetFrom h x c))
-  pub bad-step : SatisfiesOne h (badStep n x) ↔ ((h.var x ≡ null) ⊎ (h.var x ≡ dangling))
+  pub not_list : SatisfiesOne h (not_list_shapes n x) ↔ ¬ MetFrom h x null
+  pub lost_block : SatisfiesOne h (lost_block_shapes n x) ↔ ((c : ℕ) × IsCell h c × (¬ MetFrom h x c))
+  pub bad_step : SatisfiesOne h (bad_step_shapes n x) ↔ ((h.var x ≡ null) ⊎ (h.var x ≡ dangling))
 
 -- what holds of every configuration of every run of the job
 abbrev pub Always : Job → (Config → Type 0) → Type 0
@@ -31,4 +31,4 @@ NoneLostAt j x q = Always j (λ c. c.state ≡ q → (p : ℕ) → IsCell c.heap
 abbrev pub StepsAtCells : Job → Type 0
 StepsAtCells j =
     Always j
-    (λ c. (t : Transition) → t ∈ j.transitions → t.from ≡ c.state → (v : ℕ) → v ∈ stepsThrough t.op → IsCell c.heap (c.heap.var v))
+    (λ c. (t : Transition) → t ∈ j.transitions → t.from ≡ c.state → (v : ℕ) → v ∈ steps_through t.op → IsCell c.heap (c.heap.var v))

@@ -1,21 +1,21 @@
 -- The transitions of a job by their bytes, and what they step through.
 use Rattle.std.specs.Prelude.{List, [], ◌∷◌, ℕ, ◌+◌, ◌*◌, ◌≤◌, ◌<◌, length}
 use Rattle.lists.specs.List.{◌∈◌}
-use Rattle.forbidden.specs.Sets.{stepsThrough}
-use Rattle.layout.specs.Transitions.{transitionAt}
+use Rattle.forbidden.specs.Sets.{steps_through}
+use Rattle.layout.specs.Transitions.{transition_at}
 use Rattle.forbidding.specs.declared.steps.Through.{Through}
 use Rattle.forbidding.specs.declared.steps.Through.TheVariants.{Variable, Nothing}
 
 -- the variable as a list of one or none, as the definitions have it
-abbrev pub throughOf : Through → List ℕ
-throughOf (Variable v) = v ∷ []
-throughOf Nothing = []
+abbrev pub through_of : Through → List ℕ
+through_of (Variable v) = v ∷ []
+through_of Nothing = []
 
 -- the transition at a place is whole, and it leaves a state below 64 and steps through none but variables 1 to n
 pub record StepIn (job : List ℕ) (n at : ℕ) : Type 0 where
   pub whole : at + 5 ≤ length job
-  pub from : (transitionAt job at).from < 64
-  pub through : (v : ℕ) → v ∈ stepsThrough (transitionAt job at).op → (1 ≤ v) × (v ≤ n)
+  pub from : (transition_at job at).from < 64
+  pub through : (v : ℕ) → v ∈ steps_through (transition_at job at).op → (1 ≤ v) × (v ≤ n)
 
 -- each of so many transitions is
 abbrev pub StepsIn : List ℕ → ℕ → ℕ → ℕ → Type 0

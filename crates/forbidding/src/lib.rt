@@ -1,10 +1,10 @@
 // Writes a job again with a ready set of forbidden shapes after its own.
 ghost use Rattle.std.specs.Prelude.{◌&&◌, ◌++◌, ◌≡◌, suc, ◌+◌, ◌*◌, ◌≤◌, ltb, length};
-ghost use Rattle.forbidden.specs.Written.{shapesOf, isInside, Inside, Rewrites};
+ghost use Rattle.forbidden.specs.Written.{shapes_of, is_inside, Inside, Rewrites};
 ghost use Rattle.format.specs.Parser.{within};
 ghost use Rattle.reader.specs.Job.{JobRead};
-ghost use Rattle.reader.specs.Transitions.{transitionsIn};
-ghost use Rattle.forbidding.specs.Answers.{setOf, answerResult, cells_of, setBytes, countPlace, withCount};
+ghost use Rattle.reader.specs.Transitions.{transitions_in};
+ghost use Rattle.forbidding.specs.Answers.{set_of, answer_result, cells_of, set_bytes, count_place, with_count};
 ghost use Rattle.putting.specs.Put.{Put};
 
 use crate::put::{Point, count_bytes, put_lost_block, put_not_list};
@@ -51,7 +51,7 @@ fn is_point(variable: usize, state: usize, variables: usize, states: usize) -> b
 
 // Whether the variable and the state that are asked for are the job's.
 fn is_inside(asked: Asked, variables: usize, states: usize) -> bool
-    ensures { result ≡ isInside (setOf asked) variables states }
+    ensures { result ≡ is_inside (set_of asked) variables states }
 {
     match asked {
         Asked::NotList(variable, state) => is_point(variable, state, variables, states),
@@ -63,7 +63,7 @@ fn is_inside(asked: Asked, variables: usize, states: usize) -> bool
 // How many shapes the set has.
 fn shapes_of(job: &[u8], h: Header, asked: Asked) -> usize
     requires { JobRead job.now h }
-    ensures { (result ≡ length (shapesOf (setOf asked) h.variables (transitionsIn job.now h))) × (result ≤ 512) }
+    ensures { (result ≡ length (shapes_of (set_of asked) h.variables (transitions_in job.now h))) × (result ≤ 512) }
 {
     match asked {
         Asked::NotList(_, _) => 4,
@@ -74,7 +74,7 @@ fn shapes_of(job: &[u8], h: Header, asked: Asked) -> usize
 
 // How many cells they have together.
 fn cells_of(asked: Asked) -> usize
-    ensures { result ≡ cells_of (setOf asked) }
+    ensures { result ≡ cells_of (set_of asked) }
 {
     match asked {
         Asked::NotList(_, _) => 4,
@@ -85,8 +85,8 @@ fn cells_of(asked: Asked) -> usize
 
 // Puts the shapes of the set at a place.
 fn put_set(job: &[u8], h: Header, asked: Asked, bytes: &mut [u8], at: usize) -> usize
-    requires { (JobRead job.now h) × (Inside (setOf asked) h.variables h.states) × (at + length (setBytes job.now h (setOf asked)) ≤ length bytes.old) }
-    ensures { Put at bytes.old (setBytes job.now h (setOf asked)) result bytes.new }
+    requires { (JobRead job.now h) × (Inside (set_of asked) h.variables h.states) × (at + length (set_bytes job.now h (set_of asked)) ≤ length bytes.old) }
+    ensures { Put at bytes.old (set_bytes job.now h (set_of asked)) result bytes.new }
 {
     let version = version_of(job);
     let variables = h.variables;
@@ -118,7 +118,7 @@ fn put_set(job: &[u8], h: Header, asked: Asked, bytes: &mut [u8], at: usize) -> 
 // The place of the number of forbidden shapes: version, V, S and the start are a byte each, T is one or two, and each transition five.
 fn count_place(transitions: usize) -> usize
     requires { transitions ≤ 256 }
-    ensures { result ≡ countPlace transitions }
+    ensures { result ≡ count_place transitions }
 {
     if transitions < 128 {
         return 5 + 5 * transitions;
@@ -128,8 +128,8 @@ fn count_place(transitions: usize) -> usize
 
 // Copies the job, puts the number of forbidden shapes that it then has, and the set after it; gives the place after that.
 fn fill(job: &[u8], h: Header, asked: Asked, count: usize, bytes: &mut [u8]) -> usize
-    requires { (JobRead job.now h) × (Inside (setOf asked) h.variables h.states) × (count ≤ 64) × (length job.now + length (setBytes job.now h (setOf asked)) ≤ length bytes.old) }
-    ensures { Put 0 bytes.old (withCount job.now h count ++ setBytes job.now h (setOf asked)) result bytes.new }
+    requires { (JobRead job.now h) × (Inside (set_of asked) h.variables h.states) × (count ≤ 64) × (length job.now + length (set_bytes job.now h (set_of asked)) ≤ length bytes.old) }
+    ensures { Put 0 bytes.old (with_count job.now h count ++ set_bytes job.now h (set_of asked)) result bytes.new }
 {
     let end = put_all(bytes, 0, job);
     bytes[count_place(h.transitions)] = count as u8;
@@ -139,7 +139,7 @@ fn fill(job: &[u8], h: Header, asked: Asked, count: usize, bytes: &mut [u8]) -> 
 // The same of a job that was read.
 fn rewrite_read(job: &[u8], h: Header, asked: Asked, bytes: &mut [u8]) -> Rewritten
     requires { (JobRead job.now h) × (1 ≤ length job.now) × (length job.now ≤ 65536) }
-    ensures { Rewrites job.now (setOf asked) bytes.old (answerResult result) bytes.new }
+    ensures { Rewrites job.now (set_of asked) bytes.old (answer_result result) bytes.new }
 {
     if !is_inside(asked, h.variables, h.states) {
         return Rewritten::Outside;
@@ -160,7 +160,7 @@ fn rewrite_read(job: &[u8], h: Header, asked: Asked, bytes: &mut [u8]) -> Rewrit
 
 // The job written again with the set after its own, or refused; a refusal leaves the output as it is.
 pub fn rewrite_job(job: &[u8], asked: Asked, bytes: &mut [u8]) -> Rewritten
-    ensures { Rewrites job.now (setOf asked) bytes.old (answerResult result) bytes.new }
+    ensures { Rewrites job.now (set_of asked) bytes.old (answer_result result) bytes.new }
 {
     if job.len() == 0 {
         return Rewritten::Job(Refusal::JobLength, 0);

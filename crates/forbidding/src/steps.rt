@@ -1,13 +1,13 @@
 // The transitions of a job that step through a variable.
 ghost use Rattle.std.specs.Prelude.{◌≡◌, ℕ, ◌+◌, ◌≤◌, length};
-ghost use Rattle.lists.specs.List.{concatMap};
+ghost use Rattle.lists.specs.List.{concat_map};
 ghost use Rattle.heap.specs.Operation.{kind_of};
-ghost use Rattle.forbidden.specs.Sets.{stepsThrough, badStepsOf, badSteps};
-ghost use Rattle.format.specs.JobNumbers.{locatedNumbers};
-ghost use Rattle.layout.specs.Entries.{versionOf};
-ghost use Rattle.layout.specs.Transitions.{op_of, transitionAt, transitionsFrom};
+ghost use Rattle.forbidden.specs.Sets.{steps_through, bad_steps_of, bad_steps_shapes};
+ghost use Rattle.format.specs.JobNumbers.{located_numbers};
+ghost use Rattle.layout.specs.Entries.{version_of};
+ghost use Rattle.layout.specs.Transitions.{op_of, transition_at, transitions_from};
 ghost use Rattle.putting.specs.Put.{Put};
-ghost use Rattle.forbidding.specs.Steps.{throughOf, StepIn, StepsIn};
+ghost use Rattle.forbidding.specs.Steps.{through_of, StepIn, StepsIn};
 
 use crate::put::{Point, put_bad_step};
 use layout::version_of;
@@ -22,7 +22,7 @@ pub enum Through {
 
 // For kind 4 its b, for kind 5 its a.
 fn steps_through(kind: u8, a: u8, b: u8) -> Through
-    ensures { throughOf result ≡ stepsThrough (op_of (kind_of kind) a b) }
+    ensures { through_of result ≡ steps_through (op_of (kind_of kind) a b) }
 {
     if kind == 4 {
         return Through::Variable(b as usize);
@@ -36,7 +36,7 @@ fn steps_through(kind: u8, a: u8, b: u8) -> Through
 // How many forbidden shapes the transition at a place makes.
 fn shapes_at(job: &[u8], at: usize) -> usize
     requires { at + 5 ≤ length job.now }
-    ensures { ((n : ℕ) → result ≡ length (badStepsOf n (transitionAt job.now at))) × (result ≤ 2) }
+    ensures { ((n : ℕ) → result ≡ length (bad_steps_of n (transition_at job.now at))) × (result ≤ 2) }
 {
     let t = transition_at(job, at);
     let step = steps_through(t.kind, t.a, t.b);
@@ -49,7 +49,7 @@ fn shapes_at(job: &[u8], at: usize) -> usize
 // How many all transitions make.
 pub(crate) fn count_steps(job: &[u8], first: usize, count: usize, variables: usize) -> usize
     requires { (StepsIn job.now variables first count) × (count ≤ 256) }
-    ensures { (result ≡ length (badSteps variables (transitionsFrom job.now first 0 count))) × (result ≤ 512) }
+    ensures { (result ≡ length (bad_steps_shapes variables (transitions_from job.now first 0 count))) × (result ≤ 512) }
 {
     let mut shapes = 0;
     let mut i = 0;
@@ -62,8 +62,8 @@ pub(crate) fn count_steps(job: &[u8], first: usize, count: usize, variables: usi
 
 // Puts those of the transition at a place.
 fn put_step(job: &[u8], from: usize, variables: usize, bytes: &mut [u8], at: usize) -> usize
-    requires { (StepIn job.now variables from) × (variables ≤ 8) × (at + length (concatMap (locatedNumbers (versionOf job.now)) (badStepsOf variables (transitionAt job.now from))) ≤ length bytes.old) }
-    ensures { Put at bytes.old (concatMap (locatedNumbers (versionOf job.now)) (badStepsOf variables (transitionAt job.now from))) result bytes.new }
+    requires { (StepIn job.now variables from) × (variables ≤ 8) × (at + length (concat_map (located_numbers (version_of job.now)) (bad_steps_of variables (transition_at job.now from))) ≤ length bytes.old) }
+    ensures { Put at bytes.old (concat_map (located_numbers (version_of job.now)) (bad_steps_of variables (transition_at job.now from))) result bytes.new }
 {
     let t = transition_at(job, from);
     let step = steps_through(t.kind, t.a, t.b);
@@ -95,8 +95,8 @@ pub(crate) fn put_steps(
     bytes: &mut [u8],
     at: usize,
 ) -> usize
-    requires { (StepsIn job.now variables first count) × (variables ≤ 8) × (at + length (concatMap (locatedNumbers (versionOf job.now)) (badSteps variables (transitionsFrom job.now first 0 count))) ≤ length bytes.old) }
-    ensures { Put at bytes.old (concatMap (locatedNumbers (versionOf job.now)) (badSteps variables (transitionsFrom job.now first 0 count))) result bytes.new }
+    requires { (StepsIn job.now variables first count) × (variables ≤ 8) × (at + length (concat_map (located_numbers (version_of job.now)) (bad_steps_shapes variables (transitions_from job.now first 0 count))) ≤ length bytes.old) }
+    ensures { Put at bytes.old (concat_map (located_numbers (version_of job.now)) (bad_steps_shapes variables (transitions_from job.now first 0 count))) result bytes.new }
 {
     let mut next = at;
     let mut i = 0;

@@ -7,45 +7,45 @@ use lib.Dec.{eqb}
 use lib.ListN.{get_elem?}
 use Rattle.lists.specs.List.{all_of}
 use Rattle.lists.specs.Test.{lowest}
-use Rattle.lists.proofs.Lowest.{lowest-same}
+use Rattle.lists.proofs.Lowest.{lowest_same}
 use Rattle.heap.specs.Place.{cell}
 use Rattle.facts.specs.Facts.{Fact}
 use Rattle.shape.specs.Shape.{Shape, size}
 use Rattle.run.specs.Run.{Located}
-use Rattle.backward.specs.Predecessors.{withFacts}
-use Rattle.cover.specs.Test.{factIn, factsIn, Answer, holds, or_else, firstBroken, ofStates, ofCells, ofVariables, imageOnce, varFits, linkMeets, pathUnshared, answerBy, linksFollowed}
-use Rattle.format.specs.Certificate.{judge, readCoverBy}
-use Rattle.format.specs.Parser.{Parsed, parsed, fault, onward, many, Buffer, readAs, ranged}
+use Rattle.backward.specs.Predecessors.{with_facts}
+use Rattle.cover.specs.Test.{fact_in, facts_in, Answer, holds, or_else, first_broken, of_states, of_cells, of_variables, image_once, var_fits, link_meets, path_unshared, answer_by, links_followed}
+use Rattle.format.specs.Certificate.{judge, read_cover_by}
+use Rattle.format.specs.Parser.{Parsed, parsed, fault, onward, many, Buffer, read_as, ranged}
 
 module _ (among among' : ℕ → ℕ → ℕ → Bool) (same : (k p q : ℕ) → among k p q ≡ among' k p q) where
   module _ (m : Located) (images : List ℕ) (o : Located) where
-    facts-among : (i : ℕ) (l : List Fact)
-        → all_of (λ t. not (eqb t.left (cell i)) || factIn m.shape o.shape images among t) l
-        ≡ all_of (λ t. not (eqb t.left (cell i)) || factIn m.shape o.shape images among' t) l
-    facts-among i [] = refl
-    facts-among i (t ∷ ts) = ap₂ (λ (x y : Bool). (not (eqb t.left (cell i)) || x) && y) (same _ _ _) (facts-among i ts)
+    facts_among : (i : ℕ) (l : List Fact)
+        → all_of (λ t. not (eqb t.left (cell i)) || fact_in m.shape o.shape images among t) l
+        ≡ all_of (λ t. not (eqb t.left (cell i)) || fact_in m.shape o.shape images among' t) l
+    facts_among i [] = refl
+    facts_among i (t ∷ ts) = ap₂ (λ (x y : Bool). (not (eqb t.left (cell i)) || x) && y) (same _ _ _) (facts_among i ts)
 
-    pub answer-among : answerBy among m images o ≡ answerBy among' m images o
-    answer-among =
+    pub answer_among : answer_by among m images o ≡ answer_by among' m images o
+    answer_among =
         ap
         (λ r.
-        or_else 1 (lowest 1 0 (ofStates m o).test)
-        (or_else 2 (lowest (size m.shape) 0 (imageOnce m.shape o.shape images))
-        (or_else 3 (lowest (ofVariables m.shape (varFits m.shape o.shape images)).number 1 (varFits m.shape o.shape images))
-        (or_else 4 (lowest (size m.shape) 0 (linkMeets m.shape o.shape images))
-        (or_else 5 (lowest (size m.shape) 0 (pathUnshared m.shape o.shape images)) (or_else 6 r holds))))))
-        (lowest-same (factsIn m.shape o.shape images among) (factsIn m.shape o.shape images among') (size m.shape) 0
-        (λ i _ _. facts-among i m.shape.facts))
+        or_else 1 (lowest 1 0 (of_states m o).test)
+        (or_else 2 (lowest (size m.shape) 0 (image_once m.shape o.shape images))
+        (or_else 3 (lowest (of_variables m.shape (var_fits m.shape o.shape images)).number 1 (var_fits m.shape o.shape images))
+        (or_else 4 (lowest (size m.shape) 0 (link_meets m.shape o.shape images))
+        (or_else 5 (lowest (size m.shape) 0 (path_unshared m.shape o.shape images)) (or_else 6 r holds))))))
+        (lowest_same (facts_in m.shape o.shape images among) (facts_in m.shape o.shape images among') (size m.shape) 0
+        (λ i _ _. facts_among i m.shape.facts))
 
-  pub cover-among : (s : Buffer) (ms : List Located) (o : Located) (at : ℕ) → readCoverBy s among ms o at ≡ readCoverBy s among' ms o at
-  unfolding readCoverBy
-  cover-among s ms o at = go (readAs s (get_elem? ms) at)
+  pub cover_among : (s : Buffer) (ms : List Located) (o : Located) (at : ℕ) → read_cover_by s among ms o at ≡ read_cover_by s among' ms o at
+  unfolding read_cover_by
+  cover_among s ms o at = go (read_as s (get_elem? ms) at)
     where
       judged : Located → (ℕ → ℕ → ℕ → Bool) → List ℕ → ℕ → Parsed ℕ
-      judged m test images = judge (answerBy test m images o) (linksFollowed m.shape o.shape images) at
+      judged m test images = judge (answer_by test m images o) (links_followed m.shape o.shape images) at
 
       second : (m : Located) (r : Parsed (List ℕ)) → onward r (judged m among) ≡ onward r (judged m among')
-      second m (parsed images next) = ap (λ a. judge a (linksFollowed m.shape o.shape images) at next) (answer-among m images o)
+      second m (parsed images next) = ap (λ a. judge a (links_followed m.shape o.shape images) at next) (answer_among m images o)
       second m (fault why place) = refl
 
       go : (r : Parsed Located)
@@ -55,7 +55,7 @@ module _ (among among' : ℕ → ℕ → ℕ → Bool) (same : (k p q : ℕ) →
       go (fault why place) = refl
 
 -- the covered shape's own facts are not looked at
-pub cover-bare : (s : Buffer) (among : ℕ → ℕ → ℕ → Bool) (ms : List Located) (state : ℕ) (t : Shape) (at : ℕ)
-    → readCoverBy s among ms (record { state = state; shape = withFacts t [] }) at ≡ readCoverBy s among ms (record { state = state; shape = t }) at
-unfolding readCoverBy
-cover-bare s among ms state t at = refl
+pub cover_bare : (s : Buffer) (among : ℕ → ℕ → ℕ → Bool) (ms : List Located) (state : ℕ) (t : Shape) (at : ℕ)
+    → read_cover_by s among ms (record { state = state; shape = with_facts t [] }) at ≡ read_cover_by s among ms (record { state = state; shape = t }) at
+unfolding read_cover_by
+cover_bare s among ms state t at = refl

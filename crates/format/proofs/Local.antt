@@ -8,21 +8,21 @@ use Prim.Native.Nat.{ℕ, zero, suc, ◌+◌, ◌-◌, ◌≤◌, ◌<◌, min}
 use native.Mathlib.Omega.{arith}
 use lib.ListN.{length, get_or, take, drop, length-take, length-append}
 use lib.Seq.{get_or-take, take-take, take-length, take_at, length-take-le, drop-append_seam}
-use Rattle.lists.specs.List.{Every, concatMap}
-use Rattle.lists.proofs.List.{every-none, every-cons}
-use Rattle.lists.proofs.Reflect.{r-le, r-lt, r-eq, cond_cases}
+use Rattle.lists.specs.List.{Every, concat_map}
+use Rattle.lists.proofs.List.{every_none, every_cons}
+use Rattle.lists.proofs.Reflect.{r_le, r_lt, r_eq, cond_cases}
 use Rattle.number.specs.Number.{largest, bytes_of, number_in, number_at}
 use Rattle.number.specs.NumberList.{encode}
 use Rattle.number.specs.Range.{AtMost}
 use Rattle.number.specs.declared.Read.{Read}
 use Rattle.number.specs.declared.Read.TheVariants.{Number, Unreadable}
-use Rattle.number.proofs.Reading.{one_byte, two_bytes, three-bytes}
+use Rattle.number.proofs.Reading.{one_byte, two_bytes, three_bytes}
 use Rattle.number.proofs.RoundTrip.{reads}
 use Rattle.number.proofs.Writing.{some_bytes}
-use Rattle.format.specs.Parser.{Reason, parsed, fault, Parser, onward, ◌>>=◌, return, here, many, Buffer, readAs}
+use Rattle.format.specs.Parser.{Reason, parsed, fault, Parser, onward, ◌>>=◌, return, here, many, Buffer, read_as}
 use Rattle.format.specs.Meaning.{Before}
-use Rattle.format.proofs.Sequence.{Reads, done, more, one, reads_on, reads-inside, reads-append, number-in, reads-decode, decode-reads}
-use Rattle.format.proofs.Parsing.{not-fault, then, then-fault, read-sound, read-complete, read-outside, Faulty, faulty-map, read-fault}
+use Rattle.format.proofs.Sequence.{Reads, done, more, one, reads_on, reads_inside, reads_append, number_in_lem, reads_decode, decode_reads}
+use Rattle.format.proofs.Parsing.{not_fault, then, then_fault, read_sound, read_complete, read_outside, Faulty, faulty_map, read_fault}
 
 -- buffers with the same bytes up to a place have the same bytes up to an earlier one
 pub agree_less : (a b : List ℕ) (k e : ℕ) → k ≤ e → take e a ≡ take e b → take k a ≡ take k b
@@ -37,28 +37,28 @@ module _ (s s' : List ℕ) (e : ℕ) (agree : take e s ≡ take e s') where
       let z : min e (length s) ≡ min e (length s') = sym (length-take e s) ∙ ap length agree ∙ length-take e s' in
       omega arith
 
-  pub number-local : (at n next : ℕ) → number_at s at ≡ Number n next → next ≤ e → number_at s' at ≡ Number n next
+  pub number_local : (at n next : ℕ) → number_at s at ≡ Number n next → next ≤ e → number_at s' at ≡ Number n next
   unfolding number_in
-  number-local at n next =
-      cond_cases Q (r-le left 0) (λ _. unread)
-      (λ l₀. cond_cases Q (r-lt a 128)
+  number_local at n next =
+      cond_cases Q (r_le left 0) (λ _. unread)
+      (λ l₀. cond_cases Q (r_lt a 128)
       (λ h r k.
       let z : at + 1 ≡ next = cc in
       sym (one_byte s' at a (same_byte at (omega arith)) (same_length (suc at) (omega arith) (omega arith)) h) ∙ r)
-      (λ h. cond_cases Q (r-le left 1) (λ _. unread)
-      (λ l₁. cond_cases Q (r-eq b 0) (λ _. unread)
-      (λ b₀. cond_cases Q (r-lt b 128)
+      (λ h. cond_cases Q (r_le left 1) (λ _. unread)
+      (λ l₁. cond_cases Q (r_eq b 0) (λ _. unread)
+      (λ b₀. cond_cases Q (r_lt b 128)
       (λ h' r k.
       let z : at + 2 ≡ next = cc in
       let long = same_length (at + 2) (omega arith) (omega arith) in
       sym (two_bytes s' at a (same_byte at (omega arith)) (omega arith) b (same_byte (at + 1) (omega arith)) (omega arith) b₀ h') ∙ r)
-      (λ h'. cond_cases Q (r-le left 2) (λ _. unread)
-      (λ l₂. cond_cases Q (r-eq c 0) (λ _. unread)
-      (λ c₀. cond_cases Q (r-lt c 4)
+      (λ h'. cond_cases Q (r_le left 2) (λ _. unread)
+      (λ l₂. cond_cases Q (r_eq c 0) (λ _. unread)
+      (λ c₀. cond_cases Q (r_lt c 4)
       (λ h'' r k.
       let z : at + 3 ≡ next = cc in
       let long = same_length (at + 3) (omega arith) (omega arith) in
-      sym (three-bytes s' at a (same_byte at (omega arith)) (omega arith) b (same_byte (at + 1) (omega arith)) (omega arith) b₀ (omega arith) c
+      sym (three_bytes s' at a (same_byte at (omega arith)) (omega arith) b (same_byte (at + 1) (omega arith)) (omega arith) b₀ (omega arith) c
       (same_byte (at + 2) (omega arith)) (omega arith) c₀ h'') ∙ r)
       (λ _. unread))))))))
     where
@@ -82,35 +82,35 @@ module _ (s s' : List ℕ) (e : ℕ) (agree : take e s ≡ take e s') where
 
   pub reads_local : {at next : ℕ} {ns : List ℕ} → Reads s at ns next → next ≤ e → Reads s' at ns next
   reads_local done k = done
-  reads_local (more {at = a} {n = n} {mid = m} g r) k = let l = reads_on r in more (number-local a n m g (omega arith)) (reads_local r k)
+  reads_local (more {at = a} {n = n} {mid = m} g r) k = let l = reads_on r in more (number_local a n m g (omega arith)) (reads_local r k)
 
 -- numbers written at the end of a buffer are read there
-pub written-reads : (b ns : List ℕ) → AtMost largest ns → Reads (b ++ encode ns) (length b) ns (length (b ++ encode ns))
+pub written_reads : (b ns : List ℕ) → AtMost largest ns → Reads (b ++ encode ns) (length b) ns (length (b ++ encode ns))
 unfolding encode
-written-reads b [] small = rw append-nil done
-written-reads b (n ∷ ns) (h, small) =
+written_reads b [] small = rw append-nil done
+written_reads b (n ∷ ns) (h, small) =
     let e : b ++ (bytes_of n ++ encode ns) ≡ (b ++ bytes_of n) ++ encode ns = sym (append_assoc b (bytes_of n) (encode ns)) in
     let g = reads (b ++ (bytes_of n ++ encode ns)) (length b) n (encode ns) h (drop-append_seam b (bytes_of n ++ encode ns)) in
-    let r = written-reads (b ++ bytes_of n) ns small in
+    let r = written_reads (b ++ bytes_of n) ns small in
     more g (rw (← e, length-append b (bytes_of n)) at r)
 
 module _ (s : List ℕ) where
   -- what is read before a place
   pub reads_before : {place : ℕ} {ns : List ℕ} → Reads s 0 ns place → Before s place ns
   reads_before {place} {ns} r = (
-    let inside = reads-inside r (omega arith) in omega arith,
-    reads-decode (take place s) ns place (reads_local s (take place s) place (sym (take-take place place s (omega arith))) r (omega arith))
+    let inside = reads_inside r (omega arith) in omega arith,
+    reads_decode (take place s) ns place (reads_local s (take place s) place (sym (take-take place place s (omega arith))) r (omega arith))
         (rw length-take (omega arith)),
   )
 
   -- and the other way round
-  pub before-reads : {place : ℕ} {ns : List ℕ} → Before s place ns → Reads s 0 ns place
-  before-reads {place} {ns} (inside, e) =
-      let (next, r, whole) = decode-reads (take place s) ns e in
+  pub before_reads : {place : ℕ} {ns : List ℕ} → Before s place ns → Reads s 0 ns place
+  before_reads {place} {ns} (inside, e) =
+      let (next, r, whole) = decode_reads (take place s) ns e in
       let long = length-take-le place s inside in
-      let short = reads-inside r (omega arith) in
-      let next-is : next ≡ place = omega arith in
-      reads_local (take place s) s place (take-take place place s (omega arith)) (rw next-is at r) (omega arith)
+      let short = reads_inside r (omega arith) in
+      let next_is : next ≡ place = omega arith in
+      reads_local (take place s) s place (take-take place place s (omega arith)) (rw next_is at r) (omega arith)
 
 -- ---- parsers of numbers, on any buffer
 
@@ -134,7 +134,7 @@ module _ {A : Type 0} (numbers : A → List ℕ) (Ok : A → Type 0) where
     pub ok : Every Ok several
     pub rest : List ℕ
     pub holds : C rest
-    pub numbers-are : concatMap numbers several ++ rest ≡ ns
+    pub numbers_are : concat_map numbers several ++ rest ≡ ns
 
 module _ (u o l : Reason) where
   -- the buffer of these bytes, with the refusals u, o and l
@@ -173,9 +173,9 @@ module _ (u o l : Reason) where
     pub grows : (b : List ℕ) → Grown p b
     pub refused : (b : List ℕ) (at : ℕ) (why : Reason) (place : ℕ) → at ≤ length b → p b at ≡ fault why place → NumberFault C p b at why place
 
-  pub completes-weaken : {A : Type 0} {P Q : A → List ℕ → Type 0} {C D : List ℕ → Type 0} {p : List ℕ → Parser A}
+  pub completes_weaken : {A : Type 0} {P Q : A → List ℕ → Type 0} {C D : List ℕ → Type 0} {p : List ℕ → Parser A}
       → ((x : A) (ns : List ℕ) → P x ns → Q x ns) → ((ns : List ℕ) → C ns → D ns) → Completes P C p → Completes Q D p
-  completes-weaken {A} {P} {Q} {C} {D} {p} to further c =
+  completes_weaken {A} {P} {Q} {C} {D} {p} to further c =
       record {
         reads = λ b at x next h. let (ns, g, k) = c.reads b at x next h in (ns, g, to x ns k);
         same = c.same;
@@ -183,63 +183,63 @@ module _ (u o l : Reason) where
         refused = λ b at why place inside h. weaker (c.refused b at why place inside h);
       }
     where
-      by-begun : {b : List ℕ} {at place : ℕ} {ns : List ℕ} → GoesOn p b at place ⊎ C ns → GoesOn p b at place ⊎ D ns
-      by-begun (inl g) = inl g
-      by-begun {ns = ns} (inr k) = inr (further ns k)
+      by_begun : {b : List ℕ} {at place : ℕ} {ns : List ℕ} → GoesOn p b at place ⊎ C ns → GoesOn p b at place ⊎ D ns
+      by_begun (inl g) = inl g
+      by_begun {ns = ns} (inr k) = inr (further ns k)
 
       weaker : {b : List ℕ} {at : ℕ} {why : Reason} {place : ℕ} → NumberFault C p b at why place → NumberFault D p b at why place
-      weaker f = record { earlier = f.earlier; before = f.before; faulty = f.faulty; again = f.again; begun = by-begun f.begun }
+      weaker f = record { earlier = f.earlier; before = f.before; faulty = f.faulty; again = f.again; begun = by_begun f.begun }
 
   -- a parser that reads nothing
-  completes-still : {A : Type 0} {P : A → List ℕ → Type 0} {C : List ℕ → Type 0} (f : ℕ → A) → ((at : ℕ) → P (f at) []) → Completes P C (λ b at. parsed (f at) at)
-  completes-still {A} {P} f h =
+  completes_still : {A : Type 0} {P : A → List ℕ → Type 0} {C : List ℕ → Type 0} (f : ℕ → A) → ((at : ℕ) → P (f at) []) → Completes P C (λ b at. parsed (f at) at)
+  completes_still {A} {P} f h =
       record {
         reads = λ b at x next e.
-            let next-is : at ≡ next = cc in
-            let x-is : f at ≡ x = cc in
-            ([], subst (Reads b at []) next-is done, subst (λ y. P y []) x-is (h at));
+            let next_is : at ≡ next = cc in
+            let x_is : f at ≡ x = cc in
+            ([], subst (Reads b at []) next_is done, subst (λ y. P y []) x_is (h at));
         same = λ b b' at x next agree e. e;
         grows = λ b. record { other = b; begins = take-length b; value = f (length b); parses = refl };
-        refused = λ b at why place i e. absurd (not-fault (f at) at why place (sym e));
+        refused = λ b at why place i e. absurd (not_fault (f at) at why place (sym e));
       }
 
-  pub completes-return : {A : Type 0} {P : A → List ℕ → Type 0} {C : List ℕ → Type 0} (x : A) → P x [] → Completes P C (λ b. return x)
-  completes-return x h = completes-still (λ at. x) (λ at. h)
+  pub completes_return : {A : Type 0} {P : A → List ℕ → Type 0} {C : List ℕ → Type 0} (x : A) → P x [] → Completes P C (λ b. return x)
+  completes_return x h = completes_still (λ at. x) (λ at. h)
 
-  pub completes-here : {C : List ℕ → Type 0} → Completes (λ at ns. ns ≡ []) C (λ b. here)
-  completes-here = completes-still (λ at. at) (λ at. refl)
+  pub completes_here : {C : List ℕ → Type 0} → Completes (λ at ns. ns ≡ []) C (λ b. here)
+  completes_here = completes_still (λ at. at) (λ at. refl)
 
   -- a number, where some number is allowed
   module _ {A : Type 0} (meaning : ℕ → Option A) (n : ℕ) (x : A) (small : n ≤ largest) (allowed : meaning n ≡ some x) where
     -- it is read where it is written
-    read-written : (b : List ℕ) → readAs (on (b ++ bytes_of n)) meaning (length b) ≡ parsed x (length (b ++ bytes_of n))
-    read-written b =
+    read_written : (b : List ℕ) → read_as (on (b ++ bytes_of n)) meaning (length b) ≡ parsed x (length (b ++ bytes_of n))
+    read_written b =
         let e : drop (length b) (b ++ bytes_of n) ≡ bytes_of n ++ [] = drop-append_seam b (bytes_of n) ∙ sym (append-nil (bytes_of n)) in
-        read-complete (on (b ++ bytes_of n)) meaning (length b) n (length (b ++ bytes_of n)) x
+        read_complete (on (b ++ bytes_of n)) meaning (length b) n (length (b ++ bytes_of n)) x
         (reads (b ++ bytes_of n) (length b) n [] small e ∙ ap (Number n) (sym (length-append b (bytes_of n)))) allowed
 
     -- a parser that begins with the number and is through with n as soon as it is read
     module _ {B : Type 0} (p : List ℕ → Parser B) (y : B)
-        (stops : (b : List ℕ) (at : ℕ) (why : Reason) (place : ℕ) → readAs (on b) meaning at ≡ fault why place → p b at ≡ fault why place)
-        (ends : (b : List ℕ) (at next : ℕ) → readAs (on b) meaning at ≡ parsed x next → p b at ≡ parsed y next) where
-      pub first-grows : (b : List ℕ) → Grown p b
-      first-grows b =
+        (stops : (b : List ℕ) (at : ℕ) (why : Reason) (place : ℕ) → read_as (on b) meaning at ≡ fault why place → p b at ≡ fault why place)
+        (ends : (b : List ℕ) (at next : ℕ) → read_as (on b) meaning at ≡ parsed x next → p b at ≡ parsed y next) where
+      pub first_grows : (b : List ℕ) → Grown p b
+      first_grows b =
           record {
             other = b ++ bytes_of n;
             begins = take_at b (bytes_of n) (length b) refl;
             value = y;
-            parses = ends (b ++ bytes_of n) (length b) (length (b ++ bytes_of n)) (read-written b);
+            parses = ends (b ++ bytes_of n) (length b) (length (b ++ bytes_of n)) (read_written b);
           }
 
-      pub number-refused : {C : List ℕ → Type 0} (b : List ℕ) (at : ℕ) (why : Reason) (place : ℕ) → at ≤ length b → readAs (on b) meaning at ≡ fault why place
+      pub number_refused : {C : List ℕ → Type 0} (b : List ℕ) (at : ℕ) (why : Reason) (place : ℕ) → at ≤ length b → read_as (on b) meaning at ≡ fault why place
           → NumberFault C p b at why place
-      number-refused {C} b at why place inside h =
-          let (at-is, f) = read-fault (on b) meaning at why place h in
-          subst (NumberFault C p b at why) at-is
+      number_refused {C} b at why place inside h =
+          let (at_is, f) = read_fault (on b) meaning at why place h in
+          subst (NumberFault C p b at why) at_is
           (record {
             earlier = [];
             before = done;
-            faulty = faulty-map (on b) (λ n _. tt) f;
+            faulty = faulty_map (on b) (λ n _. tt) f;
             again = again f;
             begun =
                 inl (record {
@@ -247,7 +247,7 @@ module _ (u o l : Reason) where
                   same = sym (take_at (take at b) (bytes_of n) at long);
                   longer = omega (arith, long, length-append (take at b) (bytes_of n), some_bytes n);
                   value = y;
-                  parses = ends (take at b ++ bytes_of n) at _ (rw long at (read-written (take at b)));
+                  parses = ends (take at b ++ bytes_of n) at _ (rw long at (read_written (take at b)));
                 });
           })
         where
@@ -258,18 +258,18 @@ module _ (u o l : Reason) where
               → p b' at ≡ fault why at
           again (inl (_, g)) m next h b' agree = let q : ◌≡◌ {A = ℕ} 0 1 = cc in absurd (omega arith)
           again (inr (k, (m', next', g, outside))) m next h b' agree =
-              let next-is : next' ≡ next = cc in
-              stops b' at why at (rw k (read-outside (on b') meaning at m' next' (number-local b b' next agree at m' next' g (omega arith)) outside))
+              let next_is : next' ≡ next = cc in
+              stops b' at why at (rw k (read_outside (on b') meaning at m' next' (number_local b b' next agree at m' next' g (omega arith)) outside))
 
-    pub completes-read : {C : List ℕ → Type 0} → Completes (λ x ns. (n : ℕ) × (ns ≡ n ∷ []) × (meaning n ≡ some x)) C (λ b. readAs (on b) meaning)
-    completes-read =
+    pub completes_read : {C : List ℕ → Type 0} → Completes (λ x ns. (n : ℕ) × (ns ≡ n ∷ []) × (meaning n ≡ some x)) C (λ b. read_as (on b) meaning)
+    completes_read =
         record {
-          reads = λ b at y next h. let (m, g, e) = read-sound (on b) meaning at y next h in (m ∷ [], one g, (m, refl, e));
+          reads = λ b at y next h. let (m, g, e) = read_sound (on b) meaning at y next h in (m ∷ [], one g, (m, refl, e));
           same = λ b b' at y next agree h.
-              let (m, g, e) = read-sound (on b) meaning at y next h in
-              read-complete (on b') meaning at m next y (number-local b b' next agree at m next g (omega arith)) e;
-          grows = first-grows (λ b. readAs (on b) meaning) x (λ b at why place h. h) (λ b at next h. h);
-          refused = number-refused (λ b. readAs (on b) meaning) x (λ b at why place h. h) (λ b at next h. h);
+              let (m, g, e) = read_sound (on b) meaning at y next h in
+              read_complete (on b') meaning at m next y (number_local b b' next agree at m next g (omega arith)) e;
+          grows = first_grows (λ b. read_as (on b) meaning) x (λ b at why place h. h) (λ b at next h. h);
+          refused = number_refused (λ b. read_as (on b) meaning) x (λ b at why place h. h) (λ b at next h. h);
         }
 
   -- one parser, then another for each value of the first
@@ -283,33 +283,33 @@ module _ (u o l : Reason) where
     after : (b b' : List ℕ) (at : ℕ) (x : A) (mid : ℕ) → p b at ≡ parsed x mid → take mid b ≡ take mid b' → both b' at ≡ r x b' mid
     after b b' at x mid h agree = ap (λ q. onward q (λ x. r x b')) (first.same b b' at x mid agree h)
 
-    begins-longer : (b other : List ℕ) → take (length b) other ≡ b → length b ≤ length other
-    begins-longer b other e = let z = sym (ap length e) ∙ length-take (length b) other in omega arith
+    begins_longer : (b other : List ℕ) → take (length b) other ≡ b → length b ≤ length other
+    begins_longer b other e = let z = sym (ap length e) ∙ length-take (length b) other in omega arith
 
     -- where the first is through, the second reads on
-    rest-grows : (b : List ℕ) (at : ℕ) (x : A) → p b at ≡ parsed x (length b) → Grown (r x) b
-    rest-grows b at x h = let (ns, _, k) = first.reads b at x (length b) h in (rest x ns k).grows b
+    rest_grows : (b : List ℕ) (at : ℕ) (x : A) → p b at ≡ parsed x (length b) → Grown (r x) b
+    rest_grows b at x h = let (ns, _, k) = first.reads b at x (length b) h in (rest x ns k).grows b
 
-    bind-grows : (b : List ℕ) → Grown both b
-    bind-grows b =
+    bind_grows : (b : List ℕ) → Grown both b
+    bind_grows b =
         let g = first.grows b in
-        let k = rest-grows g.other (length b) g.value g.parses in
+        let k = rest_grows g.other (length b) g.value g.parses in
         record {
           other = k.other;
           begins =
-              sym (take-take (length b) (length g.other) k.other (begins-longer b g.other g.begins)) ∙ ap (take (length b)) k.begins ∙ g.begins;
+              sym (take-take (length b) (length g.other) k.other (begins_longer b g.other g.begins)) ∙ ap (take (length b)) k.begins ∙ g.begins;
           value = k.value;
           parses =
               after g.other k.other (length b) g.value (length g.other) g.parses (take-length g.other ∙ sym k.begins) ∙ k.parses;
         }
 
     -- the first refuses: what it reads on another buffer, the second takes further
-    first-begun : (b : List ℕ) (at place : ℕ) (ns : List ℕ) → GoesOn p b at place ⊎ D ns → GoesOn both b at place ⊎ C ns
-    first-begun b at place ns (inr h) = inr (further ns h)
-    first-begun b at place ns (inl f) =
-        let k = rest-grows f.other at f.value f.parses in
+    first_begun : (b : List ℕ) (at place : ℕ) (ns : List ℕ) → GoesOn p b at place ⊎ D ns → GoesOn both b at place ⊎ C ns
+    first_begun b at place ns (inr h) = inr (further ns h)
+    first_begun b at place ns (inl f) =
+        let k = rest_grows f.other at f.value f.parses in
         let longer = f.longer in
-        let longer' = begins-longer f.other k.other k.begins in
+        let longer' = begins_longer f.other k.other k.begins in
         inl (record {
           other = k.other;
           same = f.same ∙ ap (take place) (sym k.begins) ∙ take-take place (length f.other) k.other (omega arith);
@@ -319,20 +319,20 @@ module _ (u o l : Reason) where
               after f.other k.other at f.value (length f.other) f.parses (take-length f.other ∙ sym k.begins) ∙ k.parses;
         })
 
-    first-refused : (b : List ℕ) (at : ℕ) (why : Reason) (place : ℕ) → NumberFault D p b at why place → NumberFault C both b at why place
-    first-refused b at why place f =
+    first_refused : (b : List ℕ) (at : ℕ) (why : Reason) (place : ℕ) → NumberFault D p b at why place → NumberFault C both b at why place
+    first_refused b at why place f =
         record {
           earlier = f.earlier;
           before = f.before;
           faulty = f.faulty;
           again = λ n next g b' agree. ap (λ q. onward q (λ x. r x b')) (f.again n next g b' agree);
-          begun = first-begun b at place f.earlier f.begun;
+          begun = first_begun b at place f.earlier f.begun;
         }
 
-    rest-begun : (b : List ℕ) (at place : ℕ) (x : A) (mid : ℕ) (ms ns : List ℕ) → p b at ≡ parsed x mid → mid ≤ place
+    rest_begun : (b : List ℕ) (at place : ℕ) (x : A) (mid : ℕ) (ms ns : List ℕ) → p b at ≡ parsed x mid → mid ≤ place
         → GoesOn (r x) b mid place ⊎ C (ms ++ ns) → GoesOn both b at place ⊎ C (ms ++ ns)
-    rest-begun b at place x mid ms ns h l (inr k) = inr k
-    rest-begun b at place x mid ms ns h l (inl f) =
+    rest_begun b at place x mid ms ns h l (inr k) = inr k
+    rest_begun b at place x mid ms ns h l (inl f) =
         inl (record {
           other = f.other;
           same = f.same;
@@ -341,29 +341,29 @@ module _ (u o l : Reason) where
           parses = after b f.other at x mid h (agree_less b f.other mid place l f.same) ∙ f.parses;
         })
 
-    rest-refused : (b : List ℕ) (at : ℕ) (why : Reason) (place : ℕ) (x : A) (mid : ℕ) (ms : List ℕ) → p b at ≡ parsed x mid → Reads b at ms mid
+    rest_refused : (b : List ℕ) (at : ℕ) (why : Reason) (place : ℕ) (x : A) (mid : ℕ) (ms : List ℕ) → p b at ≡ parsed x mid → Reads b at ms mid
         → NumberFault (λ ns. C (ms ++ ns)) (r x) b mid why place → NumberFault C both b at why place
-    rest-refused b at why place x mid ms h g f =
+    rest_refused b at why place x mid ms h g f =
         let l = reads_on f.before in
         record {
           earlier = ms ++ f.earlier;
-          before = reads-append g f.before;
+          before = reads_append g f.before;
           faulty = f.faulty;
           again = λ n next k b' agree.
-              let (_, i, _) = number-in place _ _ _ _ n next k in
+              let (_, i, _) = number_in_lem place _ _ _ _ n next k in
               after b b' at x mid h (agree_less b b' mid next (omega arith) agree) ∙ f.again n next k b' agree;
-          begun = rest-begun b at place x mid ms f.earlier h l f.begun;
+          begun = rest_begun b at place x mid ms f.earlier h l f.begun;
         }
 
-    pub completes-bind : Completes Some C both
-    completes-bind =
+    pub completes_bind : Completes Some C both
+    completes_bind =
         record {
           reads = λ b at y next.
               then (p b at) _
               (λ x mid h₁ h₂.
               let (ms, g, k) = first.reads b at x mid h₁ in
               let (ns, g', _) = (rest x ms k).reads b mid y next h₂ in
-              (ms ++ ns, reads-append g g', tt));
+              (ms ++ ns, reads_append g g', tt));
           same = λ b b' at y next agree.
               then (p b at) _
               (λ x mid h₁ h₂.
@@ -372,22 +372,22 @@ module _ (u o l : Reason) where
               let (_, g, _) = c.reads b mid y next h₂ in
               let l = reads_on g in
               after b b' at x mid h₁ (agree_less b b' mid next l agree) ∙ c.same b b' mid y next agree h₂);
-          grows = bind-grows;
+          grows = bind_grows;
           refused = λ b at why place inside.
-              then-fault (p b at) _
+              then_fault (p b at) _
               (λ x mid h₁ h₂.
               let (ms, g, k) = first.reads b at x mid h₁ in
-              rest-refused b at why place x mid ms h₁ g ((rest x ms k).refused b mid why place (reads-inside g inside) h₂))
-              (λ h₁. first-refused b at why place (first.refused b at why place inside h₁));
+              rest_refused b at why place x mid ms h₁ g ((rest x ms k).refused b mid why place (reads_inside g inside) h₂))
+              (λ h₁. first_refused b at why place (first.refused b at why place inside h₁));
         }
 
   -- ---- several, one after the other
 
   module _ {A : Type 0} (numbers : A → List ℕ) (Ok : A → Type 0) where
     -- what is known of the values that it reads may be put in
-    pub completes-of : {P : A → List ℕ → Type 0} {C : List ℕ → Type 0} {p : List ℕ → Parser A}
+    pub completes_of : {P : A → List ℕ → Type 0} {C : List ℕ → Type 0} {p : List ℕ → Parser A}
         → ((b : List ℕ) (at : ℕ) (x : A) (next : ℕ) → p b at ≡ parsed x next → Reads b at (numbers x) next × Ok x) → Completes P C p → Completes (Of numbers Ok) C p
-    completes-of sound c =
+    completes_of sound c =
         record {
           reads = λ b at x next h. let (g, k) = sound b at x next h in (numbers x, g, (refl, k));
           same = c.same;
@@ -395,20 +395,20 @@ module _ (u o l : Reason) where
           refused = c.refused;
         }
 
-    pub completes-many : {C : List ℕ → Type 0} {p : List ℕ → Parser A} → Completes (Of numbers Ok) C p → (k : ℕ)
+    pub completes_many : {C : List ℕ → Type 0} {p : List ℕ → Parser A} → Completes (Of numbers Ok) C p → (k : ℕ)
         → Completes Some (Among numbers Ok C k) (λ b. many k (p b))
     unfolding many
-    completes-many c zero = completes-return [] tt
-    completes-many {C} c (suc k) =
-        completes-bind (Among numbers Ok C (suc k)) c
-        (λ ns h. record { several = []; fewer = omega arith; ok = every-none Ok; rest = ns; holds = h; numbers-are = refl })
-        (λ x ms (e, ok). completes-bind (λ ns. Among numbers Ok C (suc k) (ms ++ ns)) (completes-many c k)
+    completes_many c zero = completes_return [] tt
+    completes_many {C} c (suc k) =
+        completes_bind (Among numbers Ok C (suc k)) c
+        (λ ns h. record { several = []; fewer = omega arith; ok = every_none Ok; rest = ns; holds = h; numbers_are = refl })
+        (λ x ms (e, ok). completes_bind (λ ns. Among numbers Ok C (suc k) (ms ++ ns)) (completes_many c k)
         (λ ns h. record {
           several = x ∷ h.several;
           fewer = omega (arith, h.fewer);
-          ok = every-cons Ok ok h.ok;
+          ok = every_cons Ok ok h.ok;
           rest = h.rest;
           holds = h.holds;
-          numbers-are = append_assoc (numbers x) (concatMap numbers h.several) h.rest ∙ ap₂ ◌++◌ (sym e) h.numbers-are;
+          numbers_are = append_assoc (numbers x) (concat_map numbers h.several) h.rest ∙ ap₂ ◌++◌ (sym e) h.numbers_are;
         })
-        (λ xs _ _. completes-return (x ∷ xs) tt))
+        (λ xs _ _. completes_return (x ∷ xs) tt))

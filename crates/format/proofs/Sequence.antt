@@ -4,13 +4,13 @@ use mathlib.Core.Path.{◌≡◌, refl, ap, ap₂, ◌∙◌}
 use Prim.Native.Nat.{ℕ, zero, suc, ◌+◌, ◌-◌, ◌≤◌, ◌<◌}
 use native.Mathlib.Omega.{arith}
 use lib.ListN.{length}
-use Rattle.lists.proofs.Reflect.{r-lt, cond_cases}
+use Rattle.lists.proofs.Reflect.{r_lt, cond_cases}
 use Rattle.number.specs.Number.{number_in, number_at}
 use Rattle.number.specs.NumberList.{DecodedList, numbers, refused, with_number, followed, decode_from, decode}
 use Rattle.number.specs.declared.Read.{Read}
 use Rattle.number.specs.declared.Read.TheVariants.{Number, Unreadable}
-use Rattle.number.proofs.Reading.{known-number}
-use Rattle.number.proofs.RoundTrip.{decode-more, decode-end}
+use Rattle.number.proofs.Reading.{known_number}
+use Rattle.number.proofs.RoundTrip.{decode_more, decode_end}
 
 -- the numbers ns are read one after the other from a place to the next
 pub data Reads (s : List ℕ) : ℕ → List ℕ → ℕ → Type 0 where
@@ -27,108 +27,108 @@ module _ {s : List ℕ} where
   pub reads_first : {at n next : ℕ} {ns : List ℕ} → Reads s at (n ∷ ns) next → (mid : ℕ) × (number_at s at ≡ Number n mid) × Reads s mid ns next
   reads_first (more {mid = k} g r) = (k, g, r)
 
-  pub reads-one : {at n next : ℕ} → Reads s at (n ∷ []) next → number_at s at ≡ Number n next
-  reads-one r = let (mid, g, e) = reads_first r in rw (reads_none e) at g
+  pub reads_one : {at n next : ℕ} → Reads s at (n ∷ []) next → number_at s at ≡ Number n next
+  reads_one r = let (mid, g, e) = reads_first r in rw (reads_none e) at g
 
-  pub reads-append : {at mid next : ℕ} {ns ms : List ℕ} → Reads s at ns mid → Reads s mid ms next → Reads s at (ns ++ ms) next
-  reads-append done r = r
-  reads-append (more g k) r = more g (reads-append k r)
+  pub reads_append : {at mid next : ℕ} {ns ms : List ℕ} → Reads s at ns mid → Reads s mid ms next → Reads s at (ns ++ ms) next
+  reads_append done r = r
+  reads_append (more g k) r = more g (reads_append k r)
 
-  pub reads-split : {at next : ℕ} (ns : List ℕ) {ms : List ℕ} → Reads s at (ns ++ ms) next → (mid : ℕ) × Reads s at ns mid × Reads s mid ms next
-  reads-split {at} [] r = (at, done, r)
-  reads-split (n ∷ ns) r =
+  pub reads_split : {at next : ℕ} (ns : List ℕ) {ms : List ℕ} → Reads s at (ns ++ ms) next → (mid : ℕ) × Reads s at ns mid × Reads s mid ms next
+  reads_split {at} [] r = (at, done, r)
+  reads_split (n ∷ ns) r =
       let (k, g, q) = reads_first r in
-      let (mid, a, b) = reads-split ns q in
+      let (mid, a, b) = reads_split ns q in
       (mid, more g a, b)
 
 -- a number has a byte of the buffer, the next place is further on, and not past the end
-pub number-in : (at left a b c n next : ℕ) → number_in at left a b c ≡ Number n next → (0 < left) × (at < next) × (next ≤ at + left)
-number-in at left a b c n next e = let t = known-number at left a b c n next e in (t.some, t.on, t.inside)
+pub number_in_lem : (at left a b c n next : ℕ) → number_in at left a b c ≡ Number n next → (0 < left) × (at < next) × (next ≤ at + left)
+number_in_lem at left a b c n next e = let t = known_number at left a b c n next e in (t.some, t.on, t.inside)
 
 pub reads_on : {s : List ℕ} {at next : ℕ} {ns : List ℕ} → Reads s at ns next → at ≤ next
 reads_on done = omega arith
-reads_on (more {at = a} {n = n} {mid = k} g r) = let (_, b, _) = number-in a _ _ _ _ n k g in let c = reads_on r in omega arith
+reads_on (more {at = a} {n = n} {mid = k} g r) = let (_, b, _) = number_in_lem a _ _ _ _ n k g in let c = reads_on r in omega arith
 
 -- each number has a byte at least
-pub reads-long : {s : List ℕ} {at next : ℕ} {ns : List ℕ} → Reads s at ns next → at + length ns ≤ next
-reads-long done = omega arith
-reads-long (more {at = a} {n = n} {mid = k} g r) = let (_, b, _) = number-in a _ _ _ _ n k g in let c = reads-long r in omega arith
+pub reads_long : {s : List ℕ} {at next : ℕ} {ns : List ℕ} → Reads s at ns next → at + length ns ≤ next
+reads_long done = omega arith
+reads_long (more {at = a} {n = n} {mid = k} g r) = let (_, b, _) = number_in_lem a _ _ _ _ n k g in let c = reads_long r in omega arith
 
 -- what is read does not go past the end
-pub reads-inside : {s : List ℕ} {at next : ℕ} {ns : List ℕ} → Reads s at ns next → at ≤ length s → next ≤ length s
-reads-inside done i = i
-reads-inside (more {at = a} {n = n} {mid = k} g r) i = let (_, _, b) = number-in a _ _ _ _ n k g in reads-inside r (omega arith)
+pub reads_inside : {s : List ℕ} {at next : ℕ} {ns : List ℕ} → Reads s at ns next → at ≤ length s → next ≤ length s
+reads_inside done i = i
+reads_inside (more {at = a} {n = n} {mid = k} g r) i = let (_, _, b) = number_in_lem a _ _ _ _ n k g in reads_inside r (omega arith)
 
 -- the same numbers from one place end at one place
-pub reads-place : {s : List ℕ} {at p q : ℕ} {ns : List ℕ} → Reads s at ns p → Reads s at ns q → p ≡ q
-reads-place done r = reads_none r
-reads-place (more {mid = k} g r) q =
+pub reads_place : {s : List ℕ} {at p q : ℕ} {ns : List ℕ} → Reads s at ns p → Reads s at ns q → p ≡ q
+reads_place done r = reads_none r
+reads_place (more {mid = k} g r) q =
     let (k', g', q') = reads_first q in
-    let k-is : k' ≡ k = cc in
-    reads-place r (rw k-is at q')
+    let k_is : k' ≡ k = cc in
+    reads_place r (rw k_is at q')
 
 -- of two readings from one place, the one that goes further goes on where the other ends
-pub reads-further : {s : List ℕ} {at p q : ℕ} {ns ms : List ℕ} → Reads s at ns p → Reads s at ms q → p < q
+pub reads_further : {s : List ℕ} {at p q : ℕ} {ns ms : List ℕ} → Reads s at ns p → Reads s at ms q → p < q
     → (n : ℕ) × (later : List ℕ) × (next : ℕ) × (ms ≡ ns ++ (n ∷ later)) × (number_at s p ≡ Number n next)
-reads-further {at = at} done done h = absurd (omega arith)
-reads-further done (more {n = n} {mid = k} {ns = ns} g r) h = (n, ns, k, refl, g)
-reads-further (more {at = a} {n = n} {mid = k} g r) done h = let (_, b, _) = number-in a _ _ _ _ n k g in let c = reads_on r in absurd (omega arith)
-reads-further (more {n = n} {mid = k} g r) (more {n = n'} {mid = k'} g' r') h =
-    let k-is : k' ≡ k = cc in
-    let n-is : n' ≡ n = cc in
-    let (m, later, next, e, x) = reads-further r (rw k-is at r') h in
-    (m, later, next, ap₂ {A = ℕ} {B = List ℕ} {C = List ℕ} (λ h l. h ∷ l) n-is e, x)
+reads_further {at = at} done done h = absurd (omega arith)
+reads_further done (more {n = n} {mid = k} {ns = ns} g r) h = (n, ns, k, refl, g)
+reads_further (more {at = a} {n = n} {mid = k} g r) done h = let (_, b, _) = number_in_lem a _ _ _ _ n k g in let c = reads_on r in absurd (omega arith)
+reads_further (more {n = n} {mid = k} g r) (more {n = n'} {mid = k'} g' r') h =
+    let k_is : k' ≡ k = cc in
+    let n_is : n' ≡ n = cc in
+    let (m, later, next, e, x) = reads_further r (rw k_is at r') h in
+    (m, later, next, ap₂ {A = ℕ} {B = List ℕ} {C = List ℕ} (λ h l. h ∷ l) n_is e, x)
 
 -- what is read beyond a place goes over the number there
 pub reads_over : {s : List ℕ} {at p q n next : ℕ} {ns ms : List ℕ} → Reads s at ns p → Reads s at ms q → p < q → number_at s p ≡ Number n next → next ≤ q
 reads_over {at = at} done done b g = absurd (omega arith)
-reads_over {next = next} done (more {mid = k} h r) b g = let k-is : k ≡ next = cc in let on = reads_on r in omega arith
-reads_over (more {at = at} {n = m} {mid = k} h r) done b g = let (_, on, _) = number-in at _ _ _ _ m k h in let on' = reads_on r in absurd (omega arith)
-reads_over (more {mid = k} h r) (more {mid = k'} h' r') b g = let k-is : k' ≡ k = cc in reads_over r (rw k-is at r') b g
+reads_over {next = next} done (more {mid = k} h r) b g = let k_is : k ≡ next = cc in let on = reads_on r in omega arith
+reads_over (more {at = at} {n = m} {mid = k} h r) done b g = let (_, on, _) = number_in_lem at _ _ _ _ m k h in let on' = reads_on r in absurd (omega arith)
+reads_over (more {mid = k} h r) (more {mid = k'} h' r') b g = let k_is : k' ≡ k = cc in reads_over r (rw k_is at r') b g
 
 module _ (s : List ℕ) where
-  reads-from : (turns at : ℕ) (ns : List ℕ) (next : ℕ) → Reads s at ns next → length s ≤ next → length s - at ≤ turns → decode_from turns s at ≡ numbers ns
-  reads-from turns at [] next r h t = decode-end turns s at (omega (arith, reads_none r))
-  reads-from zero at (n ∷ ns) next r h t =
+  reads_from : (turns at : ℕ) (ns : List ℕ) (next : ℕ) → Reads s at ns next → length s ≤ next → length s - at ≤ turns → decode_from turns s at ≡ numbers ns
+  reads_from turns at [] next r h t = decode_end turns s at (omega (arith, reads_none r))
+  reads_from zero at (n ∷ ns) next r h t =
       let (mid, g, k) = reads_first r in
-      let (some_left, on, _) = number-in at (length s - at) _ _ _ n mid g in
+      let (some_left, on, _) = number_in_lem at (length s - at) _ _ _ n mid g in
       absurd (omega arith)
-  reads-from (suc turns) at (n ∷ ns) next r h t =
+  reads_from (suc turns) at (n ∷ ns) next r h t =
       let (mid, g, k) = reads_first r in
-      let (some_left, on, _) = number-in at (length s - at) _ _ _ n mid g in
-      decode-more turns s at (omega arith) ∙ ap (followed (decode_from turns s)) g ∙ ap (with_number n) (reads-from turns mid ns next k h (omega arith))
+      let (some_left, on, _) = number_in_lem at (length s - at) _ _ _ n mid g in
+      decode_more turns s at (omega arith) ∙ ap (followed (decode_from turns s)) g ∙ ap (with_number n) (reads_from turns mid ns next k h (omega arith))
 
   -- what is read to the end is the list of numbers
-  pub reads-decode : (ns : List ℕ) (next : ℕ) → Reads s 0 ns next → length s ≤ next → decode s ≡ numbers ns
-  reads-decode ns next r h = reads-from (length s) 0 ns next r h (omega arith)
+  pub reads_decode : (ns : List ℕ) (next : ℕ) → Reads s 0 ns next → length s ≤ next → decode s ≡ numbers ns
+  reads_decode ns next r h = reads_from (length s) 0 ns next r h (omega arith)
 
   Done : ℕ → List ℕ → Type 0
   Done at ns = (next : ℕ) × Reads s at ns next × (length s ≤ next)
 
-  at-end : (at : ℕ) (ns : List ℕ) → ¬ (at < length s) → numbers [] ≡ numbers ns → Done at ns
+  at_end : (at : ℕ) (ns : List ℕ) → ¬ (at < length s) → numbers [] ≡ numbers ns → Done at ns
   unfolding Done
-  at-end at ns l e = let ns-is : [] ≡ ns = cc in (at, rw (← ns-is) done, omega arith)
+  at_end at ns l e = let ns_is : [] ≡ ns = cc in (at, rw (← ns_is) done, omega arith)
 
-  decode-from : (turns at : ℕ) (ns : List ℕ) → decode_from turns s at ≡ numbers ns → Done at ns
+  decode_from_lem : (turns at : ℕ) (ns : List ℕ) → decode_from turns s at ≡ numbers ns → Done at ns
   unfolding Done decode_from
-  decode-from zero at ns e =
-      cond_cases (λ x. x ≡ numbers ns → Done at ns) (r-lt at (length s)) (λ _ z. let q : ◌≡◌ {A = ℕ} 0 1 = cc in absurd (omega arith)) (at-end at ns) e
-  decode-from (suc turns) at ns e =
-      cond_cases (λ x. x ≡ numbers ns → Done at ns) (r-lt at (length s)) (λ _. by_number (number_at s at) refl (decode-from turns)) (at-end at ns) e
+  decode_from_lem zero at ns e =
+      cond_cases (λ x. x ≡ numbers ns → Done at ns) (r_lt at (length s)) (λ _ z. let q : ◌≡◌ {A = ℕ} 0 1 = cc in absurd (omega arith)) (at_end at ns) e
+  decode_from_lem (suc turns) at ns e =
+      cond_cases (λ x. x ≡ numbers ns → Done at ns) (r_lt at (length s)) (λ _. by_number (number_at s at) refl (decode_from_lem turns)) (at_end at ns) e
     where
-      by-rest : (n mid : ℕ) → number_at s at ≡ Number n mid → (r : DecodedList) → decode_from turns s mid ≡ r
+      by_rest : (n mid : ℕ) → number_at s at ≡ Number n mid → (r : DecodedList) → decode_from turns s mid ≡ r
           → ((ms : List ℕ) → decode_from turns s mid ≡ numbers ms → Done mid ms) → with_number n r ≡ numbers ns → Done at ns
-      by-rest n mid g (refused p) h rest z = let q : ◌≡◌ {A = ℕ} 0 1 = cc in absurd (omega arith)
-      by-rest n mid g (numbers ms) h rest z =
+      by_rest n mid g (refused p) h rest z = let q : ◌≡◌ {A = ℕ} 0 1 = cc in absurd (omega arith)
+      by_rest n mid g (numbers ms) h rest z =
           let (next, r, l) = rest ms h in
-          let ns-is : n ∷ ms ≡ ns = cc in
-          (next, rw (← ns-is) (more g r), l)
+          let ns_is : n ∷ ms ≡ ns = cc in
+          (next, rw (← ns_is) (more g r), l)
 
       by_number : (r : Read) → number_at s at ≡ r → ((mid : ℕ) (ms : List ℕ) → decode_from turns s mid ≡ numbers ms → Done mid ms)
           → followed (decode_from turns s) r ≡ numbers ns → Done at ns
-      by_number (Number n mid) g rest z = by-rest n mid g (decode_from turns s mid) refl (rest mid) z
+      by_number (Number n mid) g rest z = by_rest n mid g (decode_from turns s mid) refl (rest mid) z
       by_number (Unreadable p) g rest z = let q : ◌≡◌ {A = ℕ} 0 1 = cc in absurd (omega arith)
 
-  pub decode-reads : (ns : List ℕ) → decode s ≡ numbers ns → (next : ℕ) × Reads s 0 ns next × (length s ≤ next)
+  pub decode_reads : (ns : List ℕ) → decode s ≡ numbers ns → (next : ℕ) × Reads s 0 ns next × (length s ≤ next)
   unfolding Done
-  decode-reads ns e = decode-from (length s) 0 ns e
+  decode_reads ns e = decode_from_lem (length s) 0 ns e

@@ -8,10 +8,10 @@ use Rattle.number.specs.NumberList.{numbers, decode}
 use Rattle.shape.specs.Shape.{size, AllBelow}
 use Rattle.run.specs.Run.{Located, Job}
 use Rattle.cover.specs.Cover.{Cover, owed, Avoids, AllHold}
-use Rattle.cover.specs.Links.{linksOf}
+use Rattle.cover.specs.Links.{links_of}
 use Rattle.format.specs.JobBytes.{Between, LocatedInRange, IsJob}
 use Rattle.format.specs.JobNumbers.{JobFile}
-use Rattle.format.specs.Numbers.{certificateNumbers}
+use Rattle.format.specs.Numbers.{certificate_numbers}
 use Rattle.format.specs.Verdict.{start_of, Counts}
 
 -- "N 1..512; N members (state, shape)"
@@ -38,24 +38,24 @@ AllFit ms (c ∷ cs) [] = ⊥
 AllFit ms (c ∷ cs) (o ∷ os) = CoverFits ms c o × AllFit ms cs os
 
 -- the counts that are due, with the links followed
-abbrev pub countsOf : Job → List Located → ℕ → Counts
-countsOf j ms links = record { bads = length j.forbidden; members = length ms; covers = length (owed j ms); links = links }
+abbrev pub counts_of : Job → List Located → ℕ → Counts
+counts_of j ms links = record { bads = length j.forbidden; members = length ms; covers = length (owed j ms); links = links }
 
 -- The conditions of acceptance, with the counts that are then told. 8 is judged at the state `tested`.
 pub record ConditionsAt (tested : JobFile → ℕ) (job certificate : List ℕ) (counts : Counts) : Type 0 where
-  pub job-length : Between 1 65536 (length job)
-  pub certificate-length : Between 1 65536 (length certificate)
+  pub job_length : Between 1 65536 (length job)
+  pub certificate_length : Between 1 65536 (length certificate)
   pub file : JobFile
   pub job_is : IsJob job file
   pub members : List Located
-  pub members-range : MembersInRange file members
+  pub members_range : MembersInRange file members
   pub covers : List Cover
   pub images : Every (ImageForEach members) covers
-  pub certificate-reads : decode certificate ≡ numbers (certificateNumbers file.version members covers)
+  pub certificate_reads : decode certificate ≡ numbers (certificate_numbers file.version members covers)
   pub start : Every (Avoids (tested file)) members
   pub hold : AllHold members covers (owed file.job members)
   -- the links: over all covers, the lengths of the paths of its embedding
-  pub counts-due : counts ≡ countsOf file.job members (linksOf members covers (owed file.job members) hold)
+  pub counts_due : counts ≡ counts_of file.job members (links_of members covers (owed file.job members) hold)
 
 abbrev pub Conditions : List ℕ → List ℕ → Counts → Type 0
 Conditions = ConditionsAt start_of

@@ -7,7 +7,7 @@ use Rattle.heap.specs.Operation.{operation}
 use Rattle.facts.specs.Facts.{Fact}
 use Rattle.shape.specs.Shape.{InRange}
 use Rattle.run.specs.Run.{Transition, Located, Safe}
-use Rattle.format.specs.JobNumbers.{JobFile, jobNumbers}
+use Rattle.format.specs.JobNumbers.{JobFile, job_numbers}
 
 abbrev pub Between : ℕ → ℕ → ℕ → Type 0
 Between low high n = (low ≤ n) × (n ≤ high)
@@ -38,13 +38,13 @@ pub record LocatedInRange (version variables states : ℕ) (m : Located) : Type 
   pub facts : FactsInRange version m.shape.facts
 
 -- "Version 1 keeps kinds 1 to 7."
-abbrev pub lastKind : ℕ → ℕ
-lastKind version = cond (eqb version 2) 13 7
+abbrev pub last_kind : ℕ → ℕ
+last_kind version = cond (eqb version 2) 13 7
 
 -- "(from, kind, a, b, to)"
 pub record TransitionInRange (version variables states : ℕ) (t : Transition) : Type 0 where
   pub from : t.from < states
-  pub op : (kind : ℕ) × (a : ℕ) × (b : ℕ) × ((kind ≤ lastKind version) × (operation variables kind a b ≡ some t.op))
+  pub op : (kind : ℕ) × (a : ℕ) × (b : ℕ) × ((kind ≤ last_kind version) × (operation variables kind a b ≡ some t.op))
   pub to : t.to < states
 
 -- "V 1..8; states S 1..64; start below S; T 0..256; T transitions [..]; B 1..64; B pairs of state and shape"
@@ -53,15 +53,15 @@ pub record JobInRange (f : JobFile) : Type 0 where
   pub variables : Between 1 8 f.job.variables
   pub states : Between 1 64 f.states
   pub start : f.job.start < f.states
-  pub transitions-number : length f.job.transitions ≤ 256
+  pub transitions_number : length f.job.transitions ≤ 256
   pub transitions : Every (TransitionInRange f.version f.job.variables f.states) f.job.transitions
-  pub forbidden-number : Between 1 64 (length f.job.forbidden)
+  pub forbidden_number : Between 1 64 (length f.job.forbidden)
   pub forbidden : Every (LocatedInRange f.version f.job.variables f.states) f.job.forbidden
 
 -- the bytes are those of the job f, number after number to the end
 pub record IsJob (bytes : List ℕ) (f : JobFile) : Type 0 where
-  pub in-range : JobInRange f
-  pub reads : decode bytes ≡ numbers (jobNumbers f)
+  pub in_range : JobInRange f
+  pub reads : decode bytes ≡ numbers (job_numbers f)
 
 -- demand 3 of the bytes of a job: they are those of a job, and it is safe
 pub record SafeBytes (bytes : List ℕ) : Type 0 where

@@ -2,8 +2,8 @@
 -- kind, a, b, to); B 1..64; B pairs of state and shape. Shape: n; V places; n links; codes 0 to 2 + n." Document 02, Wish 6: "This is version 2 of
 -- job and certificate: after the links a count 0 to 288, then each fact as 0 (below) or 1 (equal), i, j".
 use Rattle.std.specs.Prelude.{List, [], ◌∷◌, ◌++◌, cond, ℕ, ◌-◌, eqb, length}
-use Rattle.lists.specs.List.{concatMap}
-use Rattle.heap.specs.Operation.{Op, numbersOf}
+use Rattle.lists.specs.List.{concat_map}
+use Rattle.heap.specs.Operation.{Op, numbers_of}
 use Rattle.facts.specs.Facts.{Fact}
 use Rattle.shape.specs.Shape.{Shape, size}
 use Rattle.run.specs.Run.{Transition, Located, Job}
@@ -15,37 +15,37 @@ pub record JobFile : Type 0 where
   pub job : Job
 
 -- the job as one of another version
-abbrev pub inVersion : ℕ → JobFile → JobFile
-inVersion v f = record { version = v; states = f.states; job = f.job }
+abbrev pub in_version : ℕ → JobFile → JobFile
+in_version v f = record { version = v; states = f.states; job = f.job }
 
-abbrev pub opNumbers : Op → List ℕ
-opNumbers o = let (kind, a, b) = numbersOf o in kind ∷ a ∷ b ∷ []
+abbrev pub op_numbers : Op → List ℕ
+op_numbers o = let (kind, a, b) = numbers_of o in kind ∷ a ∷ b ∷ []
 
-abbrev pub transitionNumbers : Transition → List ℕ
-transitionNumbers t = t.from ∷ opNumbers t.op ++ (t.to ∷ [])
+abbrev pub transition_numbers : Transition → List ℕ
+transition_numbers t = t.from ∷ op_numbers t.op ++ (t.to ∷ [])
 
 -- the cells of a fact by their numbers, from 0
-abbrev pub factNumbers : Fact → List ℕ
-factNumbers t = t.kind ∷ (t.left - 3) ∷ (t.right - 3) ∷ []
+abbrev pub fact_numbers : Fact → List ℕ
+fact_numbers t = t.kind ∷ (t.left - 3) ∷ (t.right - 3) ∷ []
 
-abbrev pub factsNumbers : ℕ → List Fact → List ℕ
-factsNumbers version facts = cond (eqb version 2) (length facts ∷ concatMap factNumbers facts) []
+abbrev pub facts_numbers : ℕ → List Fact → List ℕ
+facts_numbers version facts = cond (eqb version 2) (length facts ∷ concat_map fact_numbers facts) []
 
-abbrev pub shapeNumbers : ℕ → Shape → List ℕ
-shapeNumbers version s = size s ∷ s.vars ++ (s.links ++ factsNumbers version s.facts)
+abbrev pub shape_numbers : ℕ → Shape → List ℕ
+shape_numbers version s = size s ∷ s.vars ++ (s.links ++ facts_numbers version s.facts)
 
-abbrev pub locatedNumbers : ℕ → Located → List ℕ
-locatedNumbers version m = m.state ∷ shapeNumbers version m.shape
+abbrev pub located_numbers : ℕ → Located → List ℕ
+located_numbers version m = m.state ∷ shape_numbers version m.shape
 
 -- the numbers of a job up to its forbidden shapes
-abbrev pub jobOpening : JobFile → List ℕ
-jobOpening f =
+abbrev pub job_opening : JobFile → List ℕ
+job_opening f =
     let j = f.job in
-    f.version ∷ j.variables ∷ f.states ∷ j.start ∷ length j.transitions ∷ concatMap transitionNumbers j.transitions ++ (length j.forbidden ∷ [])
+    f.version ∷ j.variables ∷ f.states ∷ j.start ∷ length j.transitions ∷ concat_map transition_numbers j.transitions ++ (length j.forbidden ∷ [])
 
 -- and all of them
-abbrev pub jobNumbers : JobFile → List ℕ
-jobNumbers f =
+abbrev pub job_numbers : JobFile → List ℕ
+job_numbers f =
     let j = f.job in
-    f.version ∷ j.variables ∷ f.states ∷ j.start ∷ length j.transitions ∷ concatMap transitionNumbers j.transitions
-    ++ (length j.forbidden ∷ concatMap (locatedNumbers f.version) j.forbidden)
+    f.version ∷ j.variables ∷ f.states ∷ j.start ∷ length j.transitions ∷ concat_map transition_numbers j.transitions
+    ++ (length j.forbidden ∷ concat_map (located_numbers f.version) j.forbidden)

@@ -9,12 +9,12 @@ use Rattle.number.specs.declared.Read.TheVariants.{Number, Unreadable}
 -- is named (document 02, wish 2).
 pub data Reason : Type 0 where
   refusal : ℕ → Reason
-  broken-rule : ℕ → ℕ → Reason
+  broken_rule : ℕ → ℕ → Reason
 
 -- the number of the refusal
-abbrev pub reasonNumber : Reason → ℕ
-reasonNumber (refusal number) = number
-reasonNumber (broken-rule rule name) = 9
+abbrev pub reason_number : Reason → ℕ
+reason_number (refusal number) = number
+reason_number (broken_rule rule name) = 9
 
 -- a value with the next place, or a refusal with its place
 pub data Parsed (A : Type 0) : Type 0 where
@@ -74,13 +74,13 @@ pub record Buffer : Type 0 where
 
 -- "3. A number of the job can't be read [..] 4. A number of the job reads but breaks its range or the table of kinds [..] 5. Bytes are left
 -- after the job"
-abbrev pub jobBuffer : List ℕ → Buffer
-jobBuffer s = record { bytes = s; unreadable = refusal 3; outside = refusal 4; left = refusal 5 }
+abbrev pub job_buffer : List ℕ → Buffer
+job_buffer s = record { bytes = s; unreadable = refusal 3; outside = refusal 4; left = refusal 5 }
 
 -- "6. A number of the certificate can't be read, as in 3. 7. A number of the certificate breaks its range [..] 10. Bytes are left after the
 -- last cover"
-abbrev pub certificateBuffer : List ℕ → Buffer
-certificateBuffer s = record { bytes = s; unreadable = refusal 6; outside = refusal 7; left = refusal 10 }
+abbrev pub certificate_buffer : List ℕ → Buffer
+certificate_buffer s = record { bytes = s; unreadable = refusal 6; outside = refusal 7; left = refusal 10 }
 
 -- n is at least `low` and below `limit`
 abbrev pub within : ℕ → ℕ → ℕ → Bool
@@ -102,12 +102,12 @@ module _ (s : Buffer) where
   meant meaning at (Unreadable place) = fault s.unreadable at
 
   -- a number, as what it means: nothing if it breaks its range. "(place: its first byte)"
-  unfoldable pub readAs : {A : Type 0} → (ℕ → Option A) → Parser A
-  readAs meaning at = meant meaning at (number_at s.bytes at)
+  unfoldable pub read_as : {A : Type 0} → (ℕ → Option A) → Parser A
+  read_as meaning at = meant meaning at (number_at s.bytes at)
 
   -- a number from `low` on and below `limit`
   abbrev pub ranged : ℕ → ℕ → Parser ℕ
-  ranged low limit = readAs (such (within low limit))
+  ranged low limit = read_as (such (within low limit))
 
   -- "Bytes are left [..] (the first of them)."
   unfoldable pub end : Parser (Unit {0})

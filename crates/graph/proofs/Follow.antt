@@ -13,28 +13,28 @@ Visits link p [] q = p ≡ q
 Visits link p (c ∷ cs) q = (p ≡ c) × Visits link (link c) cs q
 
 module _ (link : ℕ → ℕ) where
-  pub visits-chain : (c : ℕ) (cs : List ℕ) (q : ℕ) → Visits link (link c) cs q → Chain link c cs q
-  visits-chain c [] q e = e
-  visits-chain c (d ∷ ds) q (e, r) = (e, visits-chain d ds q r)
+  pub visits_chain : (c : ℕ) (cs : List ℕ) (q : ℕ) → Visits link (link c) cs q → Chain link c cs q
+  visits_chain c [] q e = e
+  visits_chain c (d ∷ ds) q (e, r) = (e, visits_chain d ds q r)
 
   -- the end is met after some steps
-  pub visits-end : (p : ℕ) (cs : List ℕ) (q : ℕ) → Visits link p cs q → (k : ℕ) × (follow link k p ≡ q)
-  visits-end p [] q e = (0, e)
-  visits-end p (c ∷ cs) q (e, r) = let (k, z) = visits-end (link c) cs q r in (suc k, ap (λ (y : ℕ). follow link k (link y)) e ∙ z)
+  pub visits_end : (p : ℕ) (cs : List ℕ) (q : ℕ) → Visits link p cs q → (k : ℕ) × (follow link k p ≡ q)
+  visits_end p [] q e = (0, e)
+  visits_end p (c ∷ cs) q (e, r) = let (k, z) = visits_end (link c) cs q r in (suc k, ap (λ (y : ℕ). follow link k (link y)) e ∙ z)
 
   -- and so is each place on the way
-  pub visits-met : (p : ℕ) (cs : List ℕ) (q c : ℕ) → Visits link p cs q → c ∈ cs → (k : ℕ) × (follow link k p ≡ c)
-  visits-met p [] q c t m = absurd (Memᴰ.not-nil m)
-  visits-met p (d ∷ ds) q c (e, r) (Memᴰ.head z) = (0, e ∙ sym z)
-  visits-met p (d ∷ ds) q c (e, r) (Memᴰ.tail m) =
-      let (k, z) = visits-met (link d) ds q c r m in
+  pub visits_met : (p : ℕ) (cs : List ℕ) (q c : ℕ) → Visits link p cs q → c ∈ cs → (k : ℕ) × (follow link k p ≡ c)
+  visits_met p [] q c t m = absurd (Memᴰ.not-nil m)
+  visits_met p (d ∷ ds) q c (e, r) (Memᴰ.head z) = (0, e ∙ sym z)
+  visits_met p (d ∷ ds) q c (e, r) (Memᴰ.tail m) =
+      let (k, z) = visits_met (link d) ds q c r m in
       (suc k, ap (λ (y : ℕ). follow link k (link y)) e ∙ z)
 
   -- at least one step is a chain
-  pub follow-chain : (k p q : ℕ) → follow link k (link p) ≡ q → (xs : List ℕ) × Chain link p xs q
-  follow-chain zero p q e = ([], e)
-  follow-chain (suc k) p q e = let (xs, r) = follow-chain k (link p) q e in (link p ∷ xs, (refl, r))
+  pub follow_chain : (k p q : ℕ) → follow link k (link p) ≡ q → (xs : List ℕ) × Chain link p xs q
+  follow_chain zero p q e = ([], e)
+  follow_chain (suc k) p q e = let (xs, r) = follow_chain k (link p) q e in (link p ∷ xs, (refl, r))
 
-  pub chain-follow : (p : ℕ) (xs : List ℕ) (q : ℕ) → Chain link p xs q → (k : ℕ) × (follow link k (link p) ≡ q)
-  chain-follow p [] q e = (0, e)
-  chain-follow p (x ∷ xs) q (e, r) = let (k, z) = chain-follow x xs q r in (suc k, ap (λ (y : ℕ). follow link k (link y)) e ∙ z)
+  pub chain_follow : (p : ℕ) (xs : List ℕ) (q : ℕ) → Chain link p xs q → (k : ℕ) × (follow link k (link p) ≡ q)
+  chain_follow p [] q e = (0, e)
+  chain_follow p (x ∷ xs) q (e, r) = let (k, z) = chain_follow x xs q r in (suc k, ap (λ (y : ℕ). follow link k (link y)) e ∙ z)

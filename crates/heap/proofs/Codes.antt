@@ -4,7 +4,7 @@ use mathlib.Core.Path.{◌≡◌, refl, sym, ◌∙◌}
 use Prim.Native.Nat.{ℕ, zero, suc, ◌+◌, ◌-◌, ◌≤◌, ◌<◌}
 use native.Mathlib.Omega.{arith}
 use lib.ListN.{length, get_or, get_or-eq_default}
-use Rattle.heap.specs.Codes.{varIn, link_in}
+use Rattle.heap.specs.Codes.{var_in, link_in}
 use Rattle.heap.specs.Place.{nowhere, cell}
 
 -- a code, by cases: nowhere, #, *, a cell
@@ -26,18 +26,18 @@ by_number n P h (suc (suc zero)) (a, b) = absurd (omega arith)
 by_number n P h (suc (suc (suc i))) (a, b) = h i (omega arith)
 
 -- the operand after null is the variable with that number
-pub operand-slot : (l : List ℕ) (a : ℕ) → 1 ≤ a → get_or l (a - 1) nowhere ≡ varIn l a
-operand-slot l zero h = absurd (omega arith)
-operand-slot l (suc v) h = let e : suc v - 1 ≡ v = omega arith in rw e refl
+pub operand_slot : (l : List ℕ) (a : ℕ) → 1 ≤ a → get_or l (a - 1) nowhere ≡ var_in l a
+operand_slot l zero h = absurd (omega arith)
+operand_slot l (suc v) h = let e : suc v - 1 ≡ v = omega arith in rw e refl
 
-pub link-slot : (l : List ℕ) (p : ℕ) → 3 ≤ p → get_or l (p - 3) nowhere ≡ link_in l p
-link-slot l =
+pub link_slot : (l : List ℕ) (p : ℕ) → 3 ≤ p → get_or l (p - 3) nowhere ≡ link_in l p
+link_slot l =
     by_code (λ p. 3 ≤ p → get_or l (p - 3) nowhere ≡ link_in l p) (λ h. absurd (omega arith)) (λ h. absurd (omega arith)) (λ h. absurd (omega arith))
     (λ i h. let e : cell i - 3 ≡ i = omega arith in rw e refl)
 
 -- what is no cell's code, and a cell past the list, has no link
-pub link-low : (l : List ℕ) (p : ℕ) → p < 3 → nowhere ≡ link_in l p
-link-low l = by_code (λ p. p < 3 → nowhere ≡ link_in l p) (λ h. refl) (λ h. refl) (λ h. refl) (λ i h. absurd (omega arith))
+pub link_low : (l : List ℕ) (p : ℕ) → p < 3 → nowhere ≡ link_in l p
+link_low l = by_code (λ p. p < 3 → nowhere ≡ link_in l p) (λ h. refl) (λ h. refl) (λ h. refl) (λ i h. absurd (omega arith))
 
-pub link-past : (l : List ℕ) (p : ℕ) → length l + 3 ≤ p → nowhere ≡ link_in l p
-link-past l p h = sym (get_or-eq_default l nowhere (omega arith)) ∙ link-slot l p (omega arith)
+pub link_past : (l : List ℕ) (p : ℕ) → length l + 3 ≤ p → nowhere ≡ link_in l p
+link_past l p h = sym (get_or-eq_default l nowhere (omega arith)) ∙ link_slot l p (omega arith)

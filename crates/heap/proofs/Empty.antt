@@ -8,9 +8,9 @@ use Rattle.heap.specs.Operation.{assign, Enabled, after}
 use Rattle.heap.specs.Place.{null}
 
 module _ (x : ℕ) where
-  pub null-enabled : Enabled (assign 1 0) x empty
-  null-enabled e = omega arith
+  pub null_enabled : Enabled (assign 1 0) x empty
+  null_enabled e = omega arith
 
-  pub null-assigned : (after (assign 1 0) x empty).var 1 ≡ null
+  pub null_assigned : (after (assign 1 0) x empty).var 1 ≡ null
   unfolding ℕ_discrete
-  null-assigned = refl
+  null_assigned = refl

@@ -1,7 +1,7 @@
 // A heap of 64 cells read from a host's bytes and numbers, and written back.
 ghost use Rattle.std.specs.Prelude.{◌≡◌, length};
-ghost use Rattle.heapbytes.specs.HeapBytes.{bytesReadable, slotsFrom, marksFrom, linksFrom, codesFrom};
-ghost use Rattle.heapcodec.specs.Codec.{readHeap, heapWritten, valuesWritten};
+ghost use Rattle.heapbytes.specs.HeapBytes.{bytes_readable, slots_from, marks_from, links_from, codes_from};
+ghost use Rattle.heapcodec.specs.Codec.{read_heap, heap_written, values_written};
 
 use place::Place;
 use stepper::Heap64;
@@ -15,7 +15,7 @@ pub struct HeapRead {
 
 // Whether bytes can be a heap's: 137, the used marks 0 or 1.
 fn is_readable(bytes: &[u8]) -> bool
-    ensures { result ≡ bytesReadable bytes.now }
+    ensures { result ≡ bytes_readable bytes.now }
 {
     if bytes.len() != 137 {
         return false;
@@ -35,7 +35,7 @@ fn is_readable(bytes: &[u8]) -> bool
 // Where the variables stand.
 fn slots_from(bytes: &[u8]) -> [Place; 8]
     requires { length bytes.now ≡ 137 }
-    ensures { result ≡ slotsFrom bytes.now }
+    ensures { result ≡ slots_from bytes.now }
 {
     let mut vars = [Place::NOWHERE; 8];
     let mut i: usize = 0;
@@ -49,7 +49,7 @@ fn slots_from(bytes: &[u8]) -> [Place; 8]
 // Which cells are used.
 fn marks_from(bytes: &[u8]) -> [bool; 64]
     requires { length bytes.now ≡ 137 }
-    ensures { result ≡ marksFrom bytes.now }
+    ensures { result ≡ marks_from bytes.now }
 {
     let mut used = [false; 64];
     let mut i: usize = 0;
@@ -63,7 +63,7 @@ fn marks_from(bytes: &[u8]) -> [bool; 64]
 // Where the links stand.
 fn links_from(bytes: &[u8]) -> [Place; 64]
     requires { length bytes.now ≡ 137 }
-    ensures { result ≡ linksFrom bytes.now }
+    ensures { result ≡ links_from bytes.now }
 {
     let mut links = [Place::NOWHERE; 64];
     let mut i: usize = 0;
@@ -78,7 +78,7 @@ fn links_from(bytes: &[u8]) -> [Place; 64]
 
 // The heap that bytes and the codes of its cells' values are.
 pub fn read_heap(bytes: &[u8], values: [u32; 64]) -> HeapRead
-    ensures { result ≡ readHeap bytes.now values }
+    ensures { result ≡ read_heap bytes.now values }
 {
     if !is_readable(bytes) {
         return HeapRead {
@@ -106,7 +106,7 @@ pub fn read_heap(bytes: &[u8], values: [u32; 64]) -> HeapRead
 
 // Writes the bytes of a heap; leaves other than 137 as they are.
 pub fn write_heap(heap: Heap64, bytes: &mut [u8])
-    ensures { bytes.new ≡ heapWritten heap bytes.old }
+    ensures { bytes.new ≡ heap_written heap bytes.old }
 {
     if bytes.len() != 137 {
         return;
@@ -129,7 +129,7 @@ pub fn write_heap(heap: Heap64, bytes: &mut [u8])
 
 // The codes of the values of 64 cells: numbers past the 64th count for nothing, and missing ones are 0.
 pub fn read_values(values: &[u32]) -> [u32; 64]
-    ensures { result ≡ codesFrom values.now }
+    ensures { result ≡ codes_from values.now }
 {
     let mut count: usize = 64;
     if values.len() < count {
@@ -146,7 +146,7 @@ pub fn read_values(values: &[u32]) -> [u32; 64]
 
 // Writes the codes of the values; leaves other than 64 numbers as they are.
 pub fn write_values(codes: [u32; 64], values: &mut [u32])
-    ensures { values.new ≡ valuesWritten codes values.old }
+    ensures { values.new ≡ values_written codes values.old }
 {
     if values.len() != 64 {
         return;

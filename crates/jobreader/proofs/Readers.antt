@@ -26,8 +26,8 @@ use denote.Struct.Laws as LL
 use denote.Triple.Statement.{Contract}
 use denote.Triple.Spec.{triple_of}
 use denote.Triple.Clauses.{ensured, lasts}
-use Rattle.format.specs.Parser.{jobBuffer, ranged}
-use Rattle.jobreader.specs.Reader.{lastReadAfter, lastReadIn}
+use Rattle.format.specs.Parser.{job_buffer, ranged}
+use Rattle.jobreader.specs.Reader.{last_read_after, last_read_in}
 use Rattle.jobreader.specs.declared.Reader.{Reader}
 use Rattle.jobreader.specs.contracts.Reader as T
 use Rattle.jobreader.proofs.Reader.TheLaws as T'
@@ -54,39 +54,39 @@ module _ {M : Type 1} {𝓤 : Ura M} (𝓛 : Logic 𝓤) (mem : Memory → SProp
     abbrev pub OwnSlice : Fml
     OwnSlice = (ShrSlice (named 0) κ u8).own_val s (v ∷ [])
 
-    abbrev pub to-new : (New 𝓛 mem run).Ghost
-    to-new = (((κ, tt), (q, tt), tt, (s, (n, tt)), (v ∷ [], (vint w64 n ∷ [], tt))), tt)
+    abbrev pub to_new : (New 𝓛 mem run).Ghost
+    to_new = (((κ, tt), (q, tt), tt, (s, (n, tt)), (v ∷ [], (vint w64 n ∷ [], tt))), tt)
 
     -- what the slice owns is had twice: once for the call, and once to keep
-    pub goes-new : n < 2 ^ 64 → ent 𝓤 (⋆ 𝓛 (‵ OwnSlice ∷ (‵ (flft κ q) ⊛ ‵ ftrue) ∷ [])) (sep 𝓤 ((New 𝓛 mem run).pre to-new) (sem 𝓛 OwnSlice))
-    goes-new ok =
+    pub goes_new : n < 2 ^ 64 → ent 𝓤 (⋆ 𝓛 (‵ OwnSlice ∷ (‵ (flft κ q) ⊛ ‵ ftrue) ∷ [])) (sep 𝓤 ((New 𝓛 mem run).pre to_new) (sem 𝓛 OwnSlice))
+    goes_new ok =
         qed 𝓛 (‵ OwnSlice ∷ (‵ (flft κ q) ⊛ ‵ ftrue) ∷ []) ∵
         use1 𝓛 (‵ OwnSlice ⊛ ‵ OwnSlice) ((shr_slice_copy 𝓛 (named 0) κ u8).twice s (v ∷ [])) $ split ! $
         nothing ! $ owned ! usize (Is usize) (uint_Makes 𝓛 w64) n _ (refl, ok) $ fjoin ! $ move ! (1 ∷ 0 ∷ []) $ fjoin ! $ move ! (2 ∷ 0 ∷ []) $
-        use2 𝓛 (raw ((New 𝓛 mem run).pre to-new)) (qed 𝓛 ((‵ (flft κ q) ⊛ ‵ ftrue) ∷ ‵ (owns (ShrSlice (named 0) κ u8 ∷ usize ∷ []) (s, (n, tt)) (v ∷ [], (vint w64 n ∷ [], tt))) ∷ []) ∵ join ! $ frame ! $ done !) $ frame ! $ done !
+        use2 𝓛 (raw ((New 𝓛 mem run).pre to_new)) (qed 𝓛 ((‵ (flft κ q) ⊛ ‵ ftrue) ∷ ‵ (owns (ShrSlice (named 0) κ u8 ∷ usize ∷ []) (s, (n, tt)) (v ∷ [], (vint w64 n ∷ [], tt))) ∷ []) ∵ join ! $ frame ! $ done !) $ frame ! $ done !
 
     abbrev pub NewSaid : Reader → Type 0
     NewSaid r = (r.src ≡ s) × (r.at ≡ n) × (r.number ≡ 0) × (r.refusal ≡ 0)
 
-    pub new-said : (r : Reader) → ent 𝓤 (ensured 𝓛 new.ended (new.clauses 𝓛 mem run) (κ, tt) (s, (n, tt)) tt r) (fact 𝓤 (NewSaid r))
-    new-said r = ex_e 𝓤 _ (λ ws. snd∗ 𝓤 (sem 𝓛 (lasts new.ended (κ, tt) (s, (n, tt)) ws)) (fact 𝓤 (NewSaid r)))
+    pub new_said : (r : Reader) → ent 𝓤 (ensured 𝓛 new.ended (new.clauses 𝓛 mem run) (κ, tt) (s, (n, tt)) tt r) (fact 𝓤 (NewSaid r))
+    new_said r = ex_e 𝓤 _ (λ ws. snd∗ 𝓤 (sem 𝓛 (lasts new.ended (κ, tt) (s, (n, tt)) ws)) (fact 𝓤 (NewSaid r)))
 
   -- the call of `next`, at the struct r with the machine value u
   module _ (r : Reader) (u : Val) (low limit : ℕ) where
-    abbrev pub to-next : (Next 𝓛 mem run).Ghost
-    to-next = (((κ, tt), (q, tt), tt, (r, (low, (limit, tt))), (u ∷ [], (vint w64 low ∷ [], (vint w64 limit ∷ [], tt)))), tt)
+    abbrev pub to_next : (Next 𝓛 mem run).Ghost
+    to_next = (((κ, tt), (q, tt), tt, (r, (low, (limit, tt))), (u ∷ [], (vint w64 low ∷ [], (vint w64 limit ∷ [], tt)))), tt)
 
-    pub goes-next : low < 2 ^ 64 → limit < 2 ^ 64 → ent 𝓤 (⋆ 𝓛 (‵ ((B (κ, tt)).own_val r (u ∷ [])) ∷ (‵ (flft κ q) ⊛ ‵ ftrue) ∷ [])) ((Next 𝓛 mem run).pre to-next)
-    goes-next low_ok limit-ok =
+    pub goes_next : low < 2 ^ 64 → limit < 2 ^ 64 → ent 𝓤 (⋆ 𝓛 (‵ ((B (κ, tt)).own_val r (u ∷ [])) ∷ (‵ (flft κ q) ⊛ ‵ ftrue) ∷ [])) ((Next 𝓛 mem run).pre to_next)
+    goes_next low_ok limit-ok =
         qed 𝓛 (‵ ((B (κ, tt)).own_val r (u ∷ [])) ∷ (‵ (flft κ q) ⊛ ‵ ftrue) ∷ []) ∵
         nothing ! $ owned ! usize (Is usize) (uint_Makes 𝓛 w64) limit _ (refl, limit-ok) $ fjoin ! $ owned ! usize (Is usize) (uint_Makes 𝓛 w64) low _ (refl, low_ok) $ fjoin ! $
         move ! (1 ∷ 0 ∷ []) $ fjoin ! $ move ! (1 ∷ 0 ∷ []) $ join ! $ frame ! $ done !
 
     abbrev pub NextSaid : Reader → Type 0
-    NextSaid t = (t.src ≡ r.src) × (lastReadIn t ≡ lastReadAfter (lastReadIn r) (ranged (jobBuffer r.src.now) low limit))
+    NextSaid t = (t.src ≡ r.src) × (last_read_in t ≡ last_read_after (last_read_in r) (ranged (job_buffer r.src.now) low limit))
 
-    pub next-said : (t : Reader) → ent 𝓤 (ensured 𝓛 next.ended (next.clauses 𝓛 mem run) (κ, tt) (r, (low, (limit, tt))) tt t) (fact 𝓤 (NextSaid t))
-    next-said t = ex_e 𝓤 _ (λ ws. snd∗ 𝓤 (sem 𝓛 (lasts next.ended (κ, tt) (r, (low, (limit, tt))) ws)) (fact 𝓤 (NextSaid t)))
+    pub next_said : (t : Reader) → ent 𝓤 (ensured 𝓛 next.ended (next.clauses 𝓛 mem run) (κ, tt) (r, (low, (limit, tt))) tt t) (fact 𝓤 (NextSaid t))
+    next_said t = ex_e 𝓤 _ (λ ws. snd∗ 𝓤 (sem 𝓛 (lasts next.ended (κ, tt) (r, (low, (limit, tt))) ws)) (fact 𝓤 (NextSaid t)))
 
   -- the numbers of a struct fit
   abbrev pub Fits : Reader → Type 0

@@ -1,8 +1,8 @@
 // A reader that keeps a job together with the place it has reached, and the numbers of a job that are read by it. The functions over a
 // `Reader` are thin: the work is `read_on`'s.
 ghost use Rattle.std.specs.Prelude.{◌≡◌};
-ghost use Rattle.format.specs.Parser.{jobBuffer, ranged};
-ghost use Rattle.jobreader.specs.Reader.{lastReadOf, read_on, lastReadAfter, lastReadIn, preambleRead};
+ghost use Rattle.format.specs.Parser.{job_buffer, ranged};
+ghost use Rattle.jobreader.specs.Reader.{last_read_of, read_on, last_read_after, last_read_in, preamble_read};
 
 use number::Read;
 
@@ -37,7 +37,7 @@ pub struct Preamble {
 
 // The number at a place, from `low` on and below `limit`, unless one was refused.
 fn read_on(job: &[u8], at: usize, refusal: usize, low: usize, limit: usize) -> LastRead
-    ensures { result ≡ lastReadOf (read_on at refusal (ranged (jobBuffer job.now) low limit)) }
+    ensures { result ≡ last_read_of (read_on at refusal (ranged (job_buffer job.now) low limit)) }
 {
     if refusal != 0 {
         return LastRead {
@@ -89,7 +89,7 @@ pub fn new<'a>(src: &'a [u8], at: usize) -> Reader<'a>
 
 // The reader moved on by one number, from `low` on and below `limit`.
 pub fn next<'a>(r: Reader<'a>, low: usize, limit: usize) -> Reader<'a>
-    ensures { (result.src ≡ r.entry.src) × (lastReadIn result ≡ lastReadAfter (lastReadIn r.entry) (ranged (jobBuffer r.entry.src.now) low limit)) }
+    ensures { (result.src ≡ r.entry.src) × (last_read_in result ≡ last_read_after (last_read_in r.entry) (ranged (job_buffer r.entry.src.now) low limit)) }
 {
     let s = read_on(r.src, r.at, r.refusal, low, limit);
     Reader {
@@ -102,7 +102,7 @@ pub fn next<'a>(r: Reader<'a>, low: usize, limit: usize) -> Reader<'a>
 
 // One number of a job.
 pub fn read_at(job: &[u8], at: usize, low: usize, limit: usize) -> LastRead
-    ensures { result ≡ lastReadOf (ranged (jobBuffer job.now) low limit at) }
+    ensures { result ≡ last_read_of (ranged (job_buffer job.now) low limit at) }
 {
     let r = next(new(job, at), low, limit);
     LastRead {
@@ -114,7 +114,7 @@ pub fn read_at(job: &[u8], at: usize, low: usize, limit: usize) -> LastRead
 
 // The numbers of a job before its transitions: version, V, S, start, T.
 pub fn read_preamble(job: &[u8]) -> Preamble
-    ensures { result ≡ preambleRead (jobBuffer job.now) }
+    ensures { result ≡ preamble_read (job_buffer job.now) }
 {
     let version = next(new(job, 0), 1, 3);
     let variables = next(version, 1, 9);

@@ -23,6 +23,6 @@ MeetsNone bads c = (bad : Located) → bad ∈ bads → bad.state ≡ c.state �
 
 pub record SafePhases (p : Joint) : Type 0 where
   -- "nor one forbidden by the first at any state but the hand-over"
-  pub first-safe : (c : Config) → ByFirst p c → c.state ≢ p.handover → MeetsNone p.first.forbidden c
+  pub first_safe : (c : Config) → ByFirst p c → c.state ≢ p.handover → MeetsNone p.first.forbidden c
   -- "no run [..] meets a shape forbidden by the second at its states"
-  pub second-safe : (c : Config) → BySecond p c → MeetsNone p.second.forbidden c
+  pub second_safe : (c : Config) → BySecond p c → MeetsNone p.second.forbidden c

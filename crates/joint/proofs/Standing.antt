@@ -12,11 +12,11 @@ use lib.Seq.{length-take-le, take-take, drop-drop, get_or-take, get_or-drop}
 use Rattle.lists.proofs.Reflect.{is_true, passes}
 use Rattle.lists.proofs.Test.{and_left, and_right, and_both}
 use Rattle.factrows.specs.Listed.{listed}
-use Rattle.layout.specs.Entries.{versionOf, factCount, factsFirst, factsFrom, factsEnd, linksEnd, locatedAt, entryEnd, EntryInRange}
-use Rattle.layout.proofs.Facts.{facts-end}
-use Rattle.layout.proofs.Whole.{facts-after}
+use Rattle.layout.specs.Entries.{version_of, fact_count, facts_first, facts_from, facts_end, links_end, located_at, entry_end, EntryInRange}
+use Rattle.layout.proofs.Facts.{facts_end_lem}
+use Rattle.layout.proofs.Whole.{facts_after}
 use Rattle.joining.specs.Join.{same_numbers, same_shape}
-use Rattle.joining.proofs.Tests.{r-numbers, r-shape}
+use Rattle.joining.proofs.Tests.{r_numbers, r_shape}
 
 -- a part of the first k of a list
 cut : (b n k : ℕ) (l : List ℕ) → b + n ≤ k → take n (drop b (take k l)) ≡ take n (drop b l)
@@ -27,23 +27,23 @@ cut (suc b) n (suc k) (x ∷ l) h = cut b n k l (omega arith)
 
 -- the number of facts in one byte, or in two
 module _ (bytes : List ℕ) (at : ℕ) where
-  short-count : get_or bytes at 0 < 128 → (factsFirst bytes at ≡ at + 1) × (factCount bytes at ≡ get_or bytes at 0)
-  unfolding factsFirst factCount
-  short-count s = rw (lt-ltb (get_or bytes at 0) 128 s) (refl, refl)
+  short_count : get_or bytes at 0 < 128 → (facts_first bytes at ≡ at + 1) × (fact_count bytes at ≡ get_or bytes at 0)
+  unfolding facts_first fact_count
+  short_count s = rw (lt-ltb (get_or bytes at 0) 128 s) (refl, refl)
 
-  long-count : 128 ≤ get_or bytes at 0 → (factsFirst bytes at ≡ at + 2) × (factCount bytes at ≡ get_or bytes at 0 - 128 + get_or bytes (at + 1) 0 * 128)
-  unfolding factsFirst factCount
-  long-count l = rw (le-ltb (get_or bytes at 0) 128 l) (refl, refl)
+  long_count : 128 ≤ get_or bytes at 0 → (facts_first bytes at ≡ at + 2) × (fact_count bytes at ≡ get_or bytes at 0 - 128 + get_or bytes (at + 1) 0 * 128)
+  unfolding facts_first fact_count
+  long_count l = rw (le-ltb (get_or bytes at 0) 128 l) (refl, refl)
 
   -- without facts
-  module _ (first : versionOf bytes ≡ 2 → ⊥) where
-    no-facts : factsFrom bytes at ≡ []
-    unfolding factsFrom
-    no-facts = rw (ne_eqb (versionOf bytes) 2 first) refl
+  module _ (first : version_of bytes ≡ 2 → ⊥) where
+    no_facts : facts_from bytes at ≡ []
+    unfolding facts_from
+    no_facts = rw (ne_eqb (version_of bytes) 2 first) refl
 
-    pub no_end : factsEnd bytes at ≡ at
-    unfolding factsEnd
-    no_end = rw (ne_eqb (versionOf bytes) 2 first) refl
+    pub no_end : facts_end bytes at ≡ at
+    unfolding facts_end
+    no_end = rw (ne_eqb (version_of bytes) 2 first) refl
 
 -- k bytes behind the places p and q are the same
 module _ (xs ys : List ℕ) (p q k : ℕ) (same : take k (drop (p + 1) xs) ≡ take k (drop (q + 1) ys)) where
@@ -62,40 +62,40 @@ module _ (xs ys : List ℕ) (p q k : ℕ) (same : take k (drop (p + 1) xs) ≡ t
       side l m = get_or-take k (drop (m + 1) l) b 0 h ∙ get_or-drop (m + 1) l b 0
 
   -- they are all of the entry at q behind its state
-  module _ (variables : ℕ) (version : versionOf xs ≡ versionOf ys) (whole : entryEnd ys variables q ≡ q + 1 + k) where
+  module _ (variables : ℕ) (version : version_of xs ≡ version_of ys) (whole : entry_end ys variables q ≡ q + 1 + k) where
     abbrev there : ℕ
-    there = linksEnd xs variables p
+    there = links_end xs variables p
 
     abbrev here : ℕ
-    here = linksEnd ys variables q
+    here = links_end ys variables q
 
-    links-inside : here ≤ q + 1 + k
-    links-inside = omega (arith, whole, facts-after ys here)
+    links_inside_lem : here ≤ q + 1 + k
+    links_inside_lem = omega (arith, whole, facts_after ys here)
 
     cells : get_or xs (p + 1) 0 ≡ get_or ys (q + 1) 0
-    cells = byte 0 (p + 1) (q + 1) (omega (arith, links-inside)) (omega arith) (omega arith)
+    cells = byte 0 (p + 1) (q + 1) (omega (arith, links_inside_lem)) (omega arith) (omega arith)
 
     vars : take variables (drop (p + 2) xs) ≡ take variables (drop (q + 2) ys)
-    vars = part 1 variables (p + 2) (q + 2) (omega (arith, links-inside)) (omega arith) (omega arith)
+    vars = part 1 variables (p + 2) (q + 2) (omega (arith, links_inside_lem)) (omega arith) (omega arith)
 
     links : take (get_or xs (p + 1) 0) (drop (p + 2 + variables) xs) ≡ take (get_or ys (q + 1) 0) (drop (q + 2 + variables) ys)
     links =
         ap (λ (m : ℕ). take m (drop (p + 2 + variables) xs)) cells
-        ∙ part (1 + variables) (get_or ys (q + 1) 0) (p + 2 + variables) (q + 2 + variables) (omega (arith, links-inside)) (omega arith) (omega arith)
+        ∙ part (1 + variables) (get_or ys (q + 1) 0) (p + 2 + variables) (q + 2 + variables) (omega (arith, links_inside_lem)) (omega arith) (omega arith)
 
     -- where their facts begin, and how many there are
     record Counted : Type 0 where
       width : ℕ
-      first : factsFirst xs there ≡ there + width
-      first₂ : factsFirst ys here ≡ here + width
-      number : factCount xs there ≡ factCount ys here
+      first : facts_first xs there ≡ there + width
+      first₂ : facts_first ys here ≡ here + width
+      number : fact_count xs there ≡ fact_count ys here
 
-    module _ (second : versionOf ys ≡ 2) where
+    module _ (second : version_of ys ≡ 2) where
       abbrev ahead : ℕ
       ahead = 1 + variables + get_or ys (q + 1) 0
 
-      end : factsFirst ys here + 3 * factCount ys here ≡ q + 1 + k
-      end = sym (facts-end ys variables q second) ∙ whole
+      end : facts_first ys here + 3 * fact_count ys here ≡ q + 1 + k
+      end = sym (facts_end_lem ys variables q second) ∙ whole
 
       counted : Counted
       counted = go (ltb (get_or ys here 0) 128) refl
@@ -103,83 +103,83 @@ module _ (xs ys : List ℕ) (p q k : ℕ) (same : take k (drop (p + 1) xs) ≡ t
           go : (b : Bool) → ltb (get_or ys here 0) 128 ≡ b → Counted
           go true e =
               let s = ltb-true (get_or ys here 0) 128 e in
-              let (f, n) = short-count ys here s in
+              let (f, n) = short_count ys here s in
               let low = byte ahead there here (omega (arith, end, f)) (omega (arith, cells)) (omega arith) in
-              let (f₁, n₁) = short-count xs there (omega (arith, low, s)) in
+              let (f₁, n₁) = short_count xs there (omega (arith, low, s)) in
               record { width = 1; first = f₁; first₂ = f; number = n₁ ∙ low ∙ sym n }
           go false e =
               let l = ltb-false (get_or ys here 0) 128 e in
-              let (f, n) = long-count ys here l in
+              let (f, n) = long_count ys here l in
               let low = byte ahead there here (omega (arith, end, f)) (omega (arith, cells)) (omega arith) in
               let high = byte (ahead + 1) (there + 1) (here + 1) (omega (arith, end, f)) (omega (arith, cells)) (omega arith) in
-              let (f₁, n₁) = long-count xs there (omega (arith, low, l)) in
+              let (f₁, n₁) = long_count xs there (omega (arith, low, l)) in
               record { width = 2; first = f₁; first₂ = f; number = n₁ ∙ ap₂ (λ (a b : ℕ). a - 128 + b * 128) low high ∙ sym n }
 
-      fact-bytes : take (3 * factCount xs there) (drop (factsFirst xs there) xs) ≡ take (3 * factCount ys here) (drop (factsFirst ys here) ys)
-      fact-bytes =
+      fact_bytes : take (3 * fact_count xs there) (drop (facts_first xs there) xs) ≡ take (3 * fact_count ys here) (drop (facts_first ys here) ys)
+      fact_bytes =
           let c = counted in
-          ap (λ (m : ℕ). take (3 * m) (drop (factsFirst xs there) xs)) c.number
-          ∙ part (ahead + c.width) (3 * factCount ys here) (factsFirst xs there) (factsFirst ys here) (omega (arith, end, c.first₂)) (omega (arith, c.first, cells)) (omega (arith, c.first₂))
+          ap (λ (m : ℕ). take (3 * m) (drop (facts_first xs there) xs)) c.number
+          ∙ part (ahead + c.width) (3 * fact_count ys here) (facts_first xs there) (facts_first ys here) (omega (arith, end, c.first₂)) (omega (arith, c.first, cells)) (omega (arith, c.first₂))
 
-      facts-second : factsFrom xs there ≡ factsFrom ys here
-      unfolding factsFrom
-      facts-second = rw (eq-eqb (versionOf xs) 2 (version ∙ second), eq-eqb (versionOf ys) 2 second) (ap listed fact-bytes)
+      facts_second : facts_from xs there ≡ facts_from ys here
+      unfolding facts_from
+      facts_second = rw (eq-eqb (version_of xs) 2 (version ∙ second), eq-eqb (version_of ys) 2 second) (ap listed fact_bytes)
 
-      end-second : entryEnd xs variables p ≡ p + 1 + k
-      end-second = let c = counted in facts-end xs variables p (version ∙ second) ∙ omega (arith, end, c.first, c.first₂, c.number, cells)
+      end_second : entry_end xs variables p ≡ p + 1 + k
+      end_second = let c = counted in facts_end_lem xs variables p (version ∙ second) ∙ omega (arith, end, c.first, c.first₂, c.number, cells)
 
-    facts : factsFrom xs there ≡ factsFrom ys here
-    facts = go (ℕ_discrete (versionOf ys) 2)
+    facts : facts_from xs there ≡ facts_from ys here
+    facts = go (ℕ_discrete (version_of ys) 2)
       where
-        go : Dec (versionOf ys ≡ 2) → factsFrom xs there ≡ factsFrom ys here
-        go (yes second) = facts-second second
-        go (no first) = no-facts xs there (λ e. first (sym version ∙ e)) ∙ sym (no-facts ys here first)
+        go : Dec (version_of ys ≡ 2) → facts_from xs there ≡ facts_from ys here
+        go (yes second) = facts_second second
+        go (no first) = no_facts xs there (λ e. first (sym version ∙ e)) ∙ sym (no_facts ys here first)
 
-    pub same_end : entryEnd xs variables p ≡ p + 1 + k
-    same_end = go (ℕ_discrete (versionOf ys) 2)
+    pub same_end : entry_end xs variables p ≡ p + 1 + k
+    same_end = go (ℕ_discrete (version_of ys) 2)
       where
-        go : Dec (versionOf ys ≡ 2) → entryEnd xs variables p ≡ p + 1 + k
-        go (yes second) = end-second second
+        go : Dec (version_of ys ≡ 2) → entry_end xs variables p ≡ p + 1 + k
+        go (yes second) = end_second second
         go (no first) = no_end xs there (λ e. first (sym version ∙ e)) ∙ omega (arith, cells, whole, no_end ys here first)
 
-    pub same-shape : (locatedAt xs variables p).shape ≡ (locatedAt ys variables q).shape
-    same-shape = λ i. record { vars = vars i; links = links i; facts = facts i }
+    pub same_shape_lem : (located_at xs variables p).shape ≡ (located_at ys variables q).shape
+    same_shape_lem = λ i. record { vars = vars i; links = links i; facts = facts i }
 
 -- the bytes of a member behind its state, up to its end
-abbrev pub owedBytes : List ℕ → ℕ → ℕ → List ℕ
-owedBytes cert member end = take (end - (member + 1)) (drop (member + 1) cert)
+abbrev pub owed_bytes : List ℕ → ℕ → ℕ → List ℕ
+owed_bytes cert member end = take (end - (member + 1)) (drop (member + 1) cert)
 
 -- what is found by them
 module _
     (job cert : List ℕ)
     (at member variables state end : ℕ)
     (entry : EntryInRange cert variables member)
-    (whole : end ≡ entryEnd cert variables member)
-    (version : versionOf job ≡ versionOf cert)
+    (whole : end ≡ entry_end cert variables member)
+    (version : version_of job ≡ version_of cert)
   where
     abbrev owed : List ℕ
-    owed = owedBytes cert member end
+    owed = owed_bytes cert member end
 
     module _ (found : (eqb (get_or job at 0) state && same_numbers (take (length owed) (drop (at + 1) job)) owed) ≡ true) where
       abbrev test : Bool
       test = same_numbers (take (length owed) (drop (at + 1) job)) owed
 
       size : length owed ≡ end - (member + 1)
-      size = length-take-le (end - (member + 1)) (drop (member + 1) cert) (omega (arith, entry.facts-inside, whole, length-drop (member + 1) cert))
+      size = length-take-le (end - (member + 1)) (drop (member + 1) cert) (omega (arith, entry.facts_inside, whole, length-drop (member + 1) cert))
 
       same : take (length owed) (drop (at + 1) job) ≡ take (length owed) (drop (member + 1) cert)
       same =
-          (r-numbers (take (length owed) (drop (at + 1) job)) owed).holds (passes test (and_right (eqb (get_or job at 0) state) test found))
+          (r_numbers (take (length owed) (drop (at + 1) job)) owed).holds (passes test (and_right (eqb (get_or job at 0) state) test found))
           ∙ ap (λ (m : ℕ). take m (drop (member + 1) cert)) (sym size)
 
-      all : entryEnd cert variables member ≡ member + 1 + length owed
-      all = omega (arith, whole, size, facts-after cert (linksEnd cert variables member))
+      all : entry_end cert variables member ≡ member + 1 + length owed
+      all = omega (arith, whole, size, facts_after cert (links_end cert variables member))
 
-      pub found-end : entryEnd job variables at ≡ at + 1 + length owed
-      found-end = same_end job cert at member (length owed) same variables version all
+      pub found_end : entry_end job variables at ≡ at + 1 + length owed
+      found_end = same_end job cert at member (length owed) same variables version all
 
-      pub found-shape : (eqb (get_or job at 0) state && same_shape (locatedAt job variables at).shape (locatedAt cert variables member).shape) ≡ true
-      found-shape =
-          let shapes = same_shape (locatedAt job variables at).shape (locatedAt cert variables member).shape in
+      pub found_shape : (eqb (get_or job at 0) state && same_shape (located_at job variables at).shape (located_at cert variables member).shape) ≡ true
+      found_shape =
+          let shapes = same_shape (located_at job variables at).shape (located_at cert variables member).shape in
           and_both (eqb (get_or job at 0) state) shapes (and_left (eqb (get_or job at 0) state) test found)
-          (is_true shapes ((r-shape (locatedAt job variables at).shape (locatedAt cert variables member).shape).tests (same-shape job cert at member (length owed) same variables version all)))
+          (is_true shapes ((r_shape (located_at job variables at).shape (located_at cert variables member).shape).tests (same_shape_lem job cert at member (length owed) same variables version all)))

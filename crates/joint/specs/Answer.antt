@@ -4,52 +4,52 @@ use Rattle.std.proofs.Math.Option.{Option, none, some}
 use Rattle.lists.specs.List.{any_of}
 use Rattle.shape.specs.Shape.{Shape}
 use Rattle.run.specs.Run.{Located}
-use Rattle.format.specs.Parser.{reasonNumber}
+use Rattle.format.specs.Parser.{reason_number}
 use Rattle.format.specs.Verdict.{Counts}
 use Rattle.joining.specs.Conditions.{JoinMeans}
-use Rattle.joining.specs.Join.{Joining, both, pair-refused, joint-refused, same_shape}
+use Rattle.joining.specs.Join.{Joining, both, pair_refused, joint_refused, same_shape}
 use Rattle.layout.specs.Entries.{entries_at, EntriesIn}
 use Rattle.number.specs.CallResult.{CallResult}
 use Rattle.reader.specs.declared.Header.{Header}
-use Rattle.verdict.specs.Verdict.{reasonOf, countsTold, ruleTold, nameTold}
+use Rattle.verdict.specs.Verdict.{reason_of, counts_told, rule_told, name_told}
 use Rattle.joint.specs.declared.JoinAnswer.{JoinAnswer}
 use Rattle.joint.specs.declared.JoinAnswer.TheVariants.{Both, PairRefused, Refused}
 
 -- the answer of the definitions that an answer of the code is
-abbrev pub joiningOf : JoinAnswer → Joining
-joiningOf (Both a b) = both (countsTold a) (countsTold b)
-joiningOf (PairRefused n r place) = pair-refused n (reasonOf r) place
-joiningOf (Refused n) = joint-refused n
+abbrev pub joining_of : JoinAnswer → Joining
+joining_of (Both a b) = both (counts_told a) (counts_told b)
+joining_of (PairRefused n r place) = pair_refused n (reason_of r) place
+joining_of (Refused n) = joint_refused n
 
 -- a refusal's number; 0 where there is none
-abbrev pub refusalOr : ℕ → Option ℕ
-refusalOr zero = none
-refusalOr (suc n) = some (suc n)
+abbrev pub refusal_or : ℕ → Option ℕ
+refusal_or zero = none
+refusal_or (suc n) = some (suc n)
 
 -- the shape is one of these at the state
-abbrev pub listedAmong : ℕ → List Located → Shape → Bool
-listedAmong state bads s = any_of (λ bad. eqb bad.state state && same_shape bad.shape s) bads
+abbrev pub listed_among : ℕ → List Located → Shape → Bool
+listed_among state bads s = any_of (λ bad. eqb bad.state state && same_shape bad.shape s) bads
 
 -- a member at this start is listed among them
-abbrev pub isSettled : ℕ → List Located → ℕ → Located → Bool
-isSettled state bads start m = not (eqb m.state start) || listedAmong state bads m.shape
+abbrev pub is_settled : ℕ → List Located → ℕ → Located → Bool
+is_settled state bads start m = not (eqb m.state start) || listed_among state bads m.shape
 
 -- the forbidden shapes of a job that was read
-abbrev pub badsOf : List ℕ → Header → List Located
-badsOf job h = entries_at job h.variables h.bads_at h.bads
+abbrev pub bads_of : List ℕ → Header → List Located
+bads_of job h = entries_at job h.variables h.bads_at h.bads
 
 -- so many entries from a place on are in range, and what is listed among them is listed among all
 pub record Behind (job : List ℕ) (h : Header) (state at left : ℕ) : Type 0 where
   pub entries : EntriesIn job h.variables at left
-  pub listed : (s : Shape) → listedAmong state (entries_at job h.variables at left) s ≡ true → listedAmong state (badsOf job h) s ≡ true
+  pub listed : (s : Shape) → listed_among state (entries_at job h.variables at left) s ≡ true → listed_among state (bads_of job h) s ≡ true
 
 -- What a host is told: 0 with the four counts of the first pair and those of the second; the number of a pair's refusal with the pair, the place, the
 -- rule that broke, the name and zeros; 24 to 27 with zeros.
-abbrev pub joinResult : Joining → CallResult
-joinResult (both a b) =
+abbrev pub join_result : Joining → CallResult
+join_result (both a b) =
     record { code = 0; values = a.bads ∷ a.members ∷ a.covers ∷ a.links ∷ b.bads ∷ b.members ∷ b.covers ∷ b.links ∷ [] }
-joinResult (pair-refused n why place) = record { code = reasonNumber why; values = n ∷ place ∷ ruleTold why ∷ nameTold why ∷ 0 ∷ 0 ∷ 0 ∷ 0 ∷ [] }
-joinResult (joint-refused n) = record { code = n; values = 0 ∷ 0 ∷ 0 ∷ 0 ∷ 0 ∷ 0 ∷ 0 ∷ 0 ∷ [] }
+join_result (pair_refused n why place) = record { code = reason_number why; values = n ∷ place ∷ rule_told why ∷ name_told why ∷ 0 ∷ 0 ∷ 0 ∷ 0 ∷ [] }
+join_result (joint_refused n) = record { code = n; values = 0 ∷ 0 ∷ 0 ∷ 0 ∷ 0 ∷ 0 ∷ 0 ∷ 0 ∷ [] }
 
 -- both pairs are to be accepted, the second without 8, and none of 24 to 27 falls
 abbrev pub Joinable : List ℕ → List ℕ → List ℕ → List ℕ → ℕ → Type 0

@@ -2,16 +2,16 @@
 ghost use Rattle.std.specs.Prelude.{true, not, ◌&&◌, List, ◌↔◌, ◌≡◌, ℕ, ◌+◌, ◌*◌, ◌≤◌, ◌<◌, eqb, length, get_or, take, drop};
 ghost use Rattle.lists.specs.List.{all_of};
 ghost use Rattle.lists.specs.Test.{all_from};
-ghost use Rattle.checker.specs.Jobs.{fileIn};
+ghost use Rattle.checker.specs.Jobs.{file_in};
 ghost use Rattle.format.specs.Parser.{parsed};
-ghost use Rattle.format.specs.Verdict.{noState, verdictAt};
+ghost use Rattle.format.specs.Verdict.{no_state, verdict_at};
 ghost use Rattle.joining.specs.Conditions.{JoinMeans, SafeJoined};
-ghost use Rattle.joining.specs.Join.{Joining, jointOf, same_numbers, same_shape, jointRefusal, readJoint, afterPairs, afterSecond, join as joinDue};
-ghost use Rattle.joint.specs.Answer.{joiningOf, refusalOr, listedAmong, isSettled, badsOf, Behind};
+ghost use Rattle.joining.specs.Join.{Joining, joint_of, same_numbers, same_shape, joint_refusal, read_joint, after_pairs, after_second, join as joinDue};
+ghost use Rattle.joint.specs.Answer.{joining_of, refusal_or, listed_among, is_settled, bads_of, Behind};
 ghost use Rattle.joint.specs.declared.JoinAnswer.TheVariants.{Both};
-ghost use Rattle.layout.specs.Entries.{versionOf, locatedAt, entryEnd, entries_at, membersAt, EntryInRange, EntriesIn, Table};
+ghost use Rattle.layout.specs.Entries.{version_of, located_at, entry_end, entries_at, members_at, EntryInRange, EntriesIn, Table};
 ghost use Rattle.reader.specs.Job.{JobRead};
-ghost use Rattle.verdict.specs.Verdict.{countsTold};
+ghost use Rattle.verdict.specs.Verdict.{counts_told};
 ghost use Rattle.verdict.specs.declared.Counts.{Counts as CountsAnswer};
 
 use checker::{PairVerdict, check_pair};
@@ -48,7 +48,7 @@ fn same_bytes(a: &[u8], b: &[u8]) -> bool
 // Whether the entries at two places, of files that need not be of one version, have the same shape.
 fn same_shape(bytes: &[u8], at: usize, others: &[u8], other: usize, variables: usize) -> bool
     requires { (EntryInRange bytes.now variables at) × (EntryInRange others.now variables other) × (variables ≤ 8) }
-    ensures { result ≡ same_shape (locatedAt bytes.now variables at).shape (locatedAt others.now variables other).shape }
+    ensures { result ≡ same_shape (located_at bytes.now variables at).shape (located_at others.now variables other).shape }
 {
     let n = wide(bytes[at + 1]);
     let m = wide(others[other + 1]);
@@ -83,7 +83,7 @@ fn forbids(
     member: usize,
 ) -> bool
     requires { (EntryInRange job.now variables at) × (EntryInRange cert.now variables member) × (variables ≤ 8) }
-    ensures { result ≡ (eqb (get_or job.now at 0) state && same_shape (locatedAt job.now variables at).shape (locatedAt cert.now variables member).shape) }
+    ensures { result ≡ (eqb (get_or job.now at 0) state && same_shape (located_at job.now variables at).shape (located_at cert.now variables member).shape) }
 {
     if wide(job[at]) != state {
         return false;
@@ -102,7 +102,7 @@ fn is_listed(
     member: usize,
 ) -> bool
     requires { (EntriesIn job.now variables first bads) × (EntryInRange cert.now variables member) × (variables ≤ 8) }
-    ensures { result ≡ listedAmong state (entries_at job.now variables first bads) (locatedAt cert.now variables member).shape }
+    ensures { result ≡ listed_among state (entries_at job.now variables first bads) (located_at cert.now variables member).shape }
 {
     let mut at = first;
     let mut i = 0;
@@ -127,7 +127,7 @@ struct Rest {
 // The place after an entry. In version 1 it takes a sum.
 fn next_entry(bytes: &[u8], at: usize, variables: usize) -> usize
     requires { (EntryInRange bytes.now variables at) × (variables ≤ 8) }
-    ensures { result ≡ entryEnd bytes.now variables at }
+    ensures { result ≡ entry_end bytes.now variables at }
 {
     if version_of(bytes) == 2 {
         return entry_end(bytes, at, variables);
@@ -163,8 +163,8 @@ fn scan(
     end: usize,
     from: Rest,
 ) -> Rest
-    requires { (Behind job.now h state from.at from.left) × (EntryInRange cert.now h.variables member) × (h.variables ≤ 8) × (end ≡ entryEnd cert.now h.variables member) × (versionOf job.now ≡ versionOf cert.now) }
-    ensures { (result.listed ≡ true → listedAmong state (badsOf job.now h) (locatedAt cert.now h.variables member).shape ≡ true) × Behind job.now h state result.at result.left }
+    requires { (Behind job.now h state from.at from.left) × (EntryInRange cert.now h.variables member) × (h.variables ≤ 8) × (end ≡ entry_end cert.now h.variables member) × (version_of job.now ≡ version_of cert.now) }
+    ensures { (result.listed ≡ true → listed_among state (bads_of job.now h) (located_at cert.now h.variables member).shape ≡ true) × Behind job.now h state result.at result.left }
 {
     let first = member + 1;
     let owed = &cert[first..end];
@@ -191,7 +191,7 @@ fn scan(
 // Looks on for a member's shape by its bytes, where both files are of one version: shapes that are listed in the order of the members are found so.
 fn look_on(job: &[u8], h: Header, state: usize, cert: &[u8], member: usize, from: Rest) -> Rest
     requires { (Behind job.now h state from.at from.left) × (EntryInRange cert.now h.variables member) × (h.variables ≤ 8) }
-    ensures { (result.listed ≡ true → listedAmong state (badsOf job.now h) (locatedAt cert.now h.variables member).shape ≡ true) × Behind job.now h state result.at result.left }
+    ensures { (result.listed ≡ true → listed_among state (bads_of job.now h) (located_at cert.now h.variables member).shape ≡ true) × Behind job.now h state result.at result.left }
 {
     if version_of(job) != version_of(cert) {
         return Rest {
@@ -207,7 +207,7 @@ fn look_on(job: &[u8], h: Header, state: usize, cert: &[u8], member: usize, from
 // Whether the first job lists the shape of the second's member: looked for from where the last one was found, and else among all.
 fn find(job: &[u8], h: Header, state: usize, cert: &[u8], member: usize, from: Rest) -> Rest
     requires { (Behind job.now h state from.at from.left) × (EntriesIn job.now h.variables h.bads_at h.bads) × (EntryInRange cert.now h.variables member) × (h.variables ≤ 8) }
-    ensures { (result.listed ≡ listedAmong state (badsOf job.now h) (locatedAt cert.now h.variables member).shape) × Behind job.now h state result.at result.left }
+    ensures { (result.listed ≡ listed_among state (bads_of job.now h) (located_at cert.now h.variables member).shape) × Behind job.now h state result.at result.left }
 {
     let r = look_on(job, h, state, cert, member, from);
     if r.listed {
@@ -232,7 +232,7 @@ fn settle(
     from: Rest,
 ) -> Rest
     requires { (Behind job.now h state from.at from.left) × (EntriesIn job.now h.variables h.bads_at h.bads) × (EntryInRange cert.now h.variables member) × (h.variables ≤ 8) }
-    ensures { (result.listed ≡ isSettled state (badsOf job.now h) start (locatedAt cert.now h.variables member)) × Behind job.now h state result.at result.left }
+    ensures { (result.listed ≡ is_settled state (bads_of job.now h) start (located_at cert.now h.variables member)) × Behind job.now h state result.at result.left }
 {
     if wide(cert[member]) != start {
         return Rest {
@@ -254,7 +254,7 @@ fn owed_listed(
     start: usize,
 ) -> bool
     requires { (EntriesIn job.now h.variables h.bads_at h.bads) × (Table cert.now h.variables starts.now) }
-    ensures { result ≡ all_of (isSettled state (badsOf job.now h) start) (membersAt cert.now h.variables starts.now) }
+    ensures { result ≡ all_of (is_settled state (bads_of job.now h) start) (members_at cert.now h.variables starts.now) }
 {
     let mut rest = Rest {
         listed: true,
@@ -297,7 +297,7 @@ fn joint_refusal(
     state: usize,
 ) -> u8
     requires { (JobRead job.now h) × (Table cert.now second.variables starts.now) }
-    ensures { (job2 : List ℕ) → refusalOr result ≡ jointRefusal (jointOf (fileIn job.now h) (fileIn job2 second) state) (membersAt cert.now second.variables starts.now) }
+    ensures { (job2 : List ℕ) → refusal_or result ≡ joint_refusal (joint_of (file_in job.now h) (file_in job2 second) state) (members_at cert.now second.variables starts.now) }
 {
     if h.states <= state {
         return 24;
@@ -316,7 +316,7 @@ fn joint_refusal(
 
 // The answer where both pairs are accepted.
 fn tell(a: Counts, b: Counts, refusal: u8) -> JoinAnswer
-    ensures { (next : ℕ) → joiningOf result ≡ afterPairs (countsTold a) (countsTold b) (parsed (refusalOr refusal) next) }
+    ensures { (next : ℕ) → joining_of result ≡ after_pairs (counts_told a) (counts_told b) (parsed (refusal_or refusal) next) }
 {
     if refusal == 0 {
         return JoinAnswer::Both(a, b);
@@ -334,7 +334,7 @@ fn join_second(
     state: usize,
 ) -> JoinAnswer
     requires { JobRead job1.now first }
-    ensures { joiningOf result ≡ afterSecond (countsTold a) (verdictAt noState job2.now cert2.now) (readJoint job1.now job2.now cert2.now state) }
+    ensures { joining_of result ≡ after_second (counts_told a) (verdict_at no_state job2.now cert2.now) (read_joint job1.now job2.now cert2.now state) }
 {
     let mut starts = [0u16; 512];
     let v = check_pair(job2, cert2, false, true, &mut starts);
@@ -355,8 +355,8 @@ fn join_second(
 // The answer on two pairs and a hand-over state: both sets of counts exactly if the two are to be joined there, and then no run of the joined program
 // meets a shape that it forbids.
 pub fn join(job1: &[u8], cert1: &[u8], job2: &[u8], cert2: &[u8], state: usize) -> JoinAnswer
-    ensures exact { joiningOf result ≡ joinDue job1.now cert1.now job2.now cert2.now state }
-    ensures means { (j : Joining) → (joiningOf result ≡ j) ↔ JoinMeans job1.now cert1.now job2.now cert2.now state j }
+    ensures exact { joining_of result ≡ joinDue job1.now cert1.now job2.now cert2.now state }
+    ensures means { (j : Joining) → (joining_of result ≡ j) ↔ JoinMeans job1.now cert1.now job2.now cert2.now state j }
     ensures safe { (a b : CountsAnswer) → result ≡ Both a b → SafeJoined job1.now job2.now state }
 {
     let mut starts = [0u16; 512];

@@ -3,18 +3,18 @@ use Rattle.std.specs.Prelude.{Bool, true, false, ℕ}
 use Rattle.std.proofs.Math.Option.{Option, none, some}
 use Rattle.heap.specs.Operation.{Op, Kind, kind_of, operation}
 
-abbrev pub fromKind : {A : Type 0} → A → (Kind → A) → Option Kind → A
-fromKind other column none = other
-fromKind other column (some k) = column k
+abbrev pub from_kind : {A : Type 0} → A → (Kind → A) → Option Kind → A
+from_kind other column none = other
+from_kind other column (some k) = column k
 
-unfoldable pub leastA : ℕ → ℕ
-leastA kind = fromKind 0 (λ k. k.least-a) (kind_of kind)
+unfoldable pub least_a_of : ℕ → ℕ
+least_a_of kind = from_kind 0 (λ k. k.least_a) (kind_of kind)
 
-unfoldable pub leastB : ℕ → ℕ
-leastB kind = fromKind 0 (λ k. k.least-b) (kind_of kind)
+unfoldable pub least_b_of : ℕ → ℕ
+least_b_of kind = from_kind 0 (λ k. k.least_b) (kind_of kind)
 
-unfoldable pub mostB : ℕ → ℕ → ℕ
-mostB kind n = fromKind 0 (λ k. k.most-b n) (kind_of kind)
+unfoldable pub most_b_of : ℕ → ℕ → ℕ
+most_b_of kind n = from_kind 0 (λ k. k.most_b n) (kind_of kind)
 
 abbrev pub is_some : Option Op → Bool
 is_some none = false

@@ -1,6 +1,6 @@
 // The table of kinds: which operands an operation of a kind may have.
 ghost use Rattle.std.specs.Prelude.{◌≡◌};
-ghost use Rattle.kinds.specs.Kinds.{leastA, leastB, mostB, allowed};
+ghost use Rattle.kinds.specs.Kinds.{least_a_of, least_b_of, most_b_of, allowed};
 
 // The kinds of the table.
 pub const EQUAL: u8 = 1;
@@ -34,7 +34,7 @@ const LAST_KIND: usize = 13;
 
 // The least a of a kind; 0 for a number that is no kind.
 pub fn least_a(kind: usize) -> usize
-    ensures { result ≡ leastA kind }
+    ensures { result ≡ least_a_of kind }
 {
     match kind {
         3..=13 => 1,
@@ -44,7 +44,7 @@ pub fn least_a(kind: usize) -> usize
 
 // The least b.
 pub fn least_b(kind: usize) -> usize
-    ensures { result ≡ leastB kind }
+    ensures { result ≡ least_b_of kind }
 {
     match kind {
         4 | 8..=12 => 1,
@@ -54,7 +54,7 @@ pub fn least_b(kind: usize) -> usize
 
 // The most b where there are so many variables.
 pub fn most_b(kind: usize, variables: usize) -> usize
-    ensures { result ≡ mostB kind variables }
+    ensures { result ≡ most_b_of kind variables }
 {
     match kind {
         1..=5 | 8..=12 => variables,

@@ -3,9 +3,9 @@ use mathlib.Core.List.{List}
 use mathlib.Core.Path.{◌≡◌, refl, ap}
 use Prim.Native.Nat.{ℕ, zero, suc}
 use lib.ListN.{length}
-use Rattle.layout.specs.Entries.{entryEnd, entries_at}
+use Rattle.layout.specs.Entries.{entry_end, entries_at}
 
-pub entries-number : (bytes : List ℕ) (variables at n : ℕ) → length (entries_at bytes variables at n) ≡ n
+pub entries_number : (bytes : List ℕ) (variables at n : ℕ) → length (entries_at bytes variables at n) ≡ n
 unfolding entries_at
-entries-number bytes variables at zero = refl
-entries-number bytes variables at (suc n) = ap suc (entries-number bytes variables (entryEnd bytes variables at) n)
+entries_number bytes variables at zero = refl
+entries_number bytes variables at (suc n) = ap suc (entries_number bytes variables (entry_end bytes variables at) n)

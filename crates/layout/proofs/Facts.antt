@@ -10,73 +10,73 @@ use lib.Dec.{eqb}
 use lib.ListN.{length, take, drop, length-drop}
 use lib.Seq.{length-take-le}
 use Rattle.factrows.specs.Listed.{listed}
-use Rattle.layout.specs.Entries.{versionOf, factCount, factsFirst, factBytes, factsFrom, factsEnd, linksEnd, entryEnd, locatedAt, is_whole, Whole}
-use Rattle.layout.specs.Loading.{entryFacts, spanFirst, spanEnd}
-use Rattle.layout.proofs.Whole.{is-whole, not-whole}
+use Rattle.layout.specs.Entries.{version_of, fact_count, facts_first, fact_bytes, facts_from, facts_end, links_end, entry_end, located_at, is_whole, Whole}
+use Rattle.layout.specs.Loading.{entry_facts, span_first, span_end}
+use Rattle.layout.proofs.Whole.{is_whole_lem, not_whole}
 
 module _ (bytes : List ℕ) (variables at : ℕ) where
   abbrev facts_at : ℕ
-  facts_at = linksEnd bytes variables at
+  facts_at = links_end bytes variables at
 
   -- there are none in version 1, and where the entry is not whole
-  pub facts-none : (versionOf bytes ≡ 2 → ⊥) → entryFacts bytes variables at ≡ []
-  unfolding entryFacts
-  facts-none n = rw (ne_eqb (versionOf bytes) 2 n, and-false (is_whole bytes variables at)) refl
+  pub facts_none : (version_of bytes ≡ 2 → ⊥) → entry_facts bytes variables at ≡ []
+  unfolding entry_facts
+  facts_none n = rw (ne_eqb (version_of bytes) 2 n, and-false (is_whole bytes variables at)) refl
 
-  pub facts-lost : (Whole bytes variables at → ⊥) → entryFacts bytes variables at ≡ []
-  unfolding entryFacts
-  facts-lost n = rw (sym (not-whole bytes variables at n)) refl
+  pub facts_lost : (Whole bytes variables at → ⊥) → entry_facts bytes variables at ≡ []
+  unfolding entry_facts
+  facts_lost n = rw (sym (not_whole bytes variables at n)) refl
 
   -- of an entry that is whole, the shape's facts are those that they list
-  pub facts-listed : Whole bytes variables at → (locatedAt bytes variables at).shape.facts ≡ listed (entryFacts bytes variables at)
-  unfolding factsFrom entryFacts
-  facts-listed w = rw (is-whole bytes variables at w) (go (eqb (versionOf bytes) 2))
+  pub facts_listed : Whole bytes variables at → (located_at bytes variables at).shape.facts ≡ listed (entry_facts bytes variables at)
+  unfolding facts_from entry_facts
+  facts_listed w = rw (is_whole_lem bytes variables at w) (go (eqb (version_of bytes) 2))
     where
-      go : (b : Bool) → cond b (listed (factBytes bytes facts_at)) [] ≡ listed (cond b (factBytes bytes facts_at) [])
+      go : (b : Bool) → cond b (listed (fact_bytes bytes facts_at)) [] ≡ listed (cond b (fact_bytes bytes facts_at) [])
       go true = refl
       go false = refl
 
   -- where they are said to stand
   abbrev SpanIs : ℕ → ℕ → Type 0
-  SpanIs first end = (first ≡ spanFirst bytes variables at) × (end ≡ spanEnd bytes variables at)
+  SpanIs first end = (first ≡ span_first bytes variables at) × (end ≡ span_end bytes variables at)
 
-  pub span_none : (versionOf bytes ≡ 2 → ⊥) → SpanIs 0 0
-  unfolding spanFirst spanEnd
-  span_none n = rw (ne_eqb (versionOf bytes) 2 n, and-false (is_whole bytes variables at)) (refl, refl)
+  pub span_none : (version_of bytes ≡ 2 → ⊥) → SpanIs 0 0
+  unfolding span_first span_end
+  span_none n = rw (ne_eqb (version_of bytes) 2 n, and-false (is_whole bytes variables at)) (refl, refl)
 
-  pub span-lost : (Whole bytes variables at → ⊥) → SpanIs 0 0
-  unfolding spanFirst spanEnd
-  span-lost n = rw (sym (not-whole bytes variables at n)) (refl, refl)
+  pub span_lost : (Whole bytes variables at → ⊥) → SpanIs 0 0
+  unfolding span_first span_end
+  span_lost n = rw (sym (not_whole bytes variables at n)) (refl, refl)
 
   -- in version 2 they end with the entry
-  module _ (second : versionOf bytes ≡ 2) where
-    pub facts-end : entryEnd bytes variables at ≡ factsFirst bytes facts_at + 3 * factCount bytes facts_at
-    unfolding factsEnd
-    facts-end = rw (eq-eqb (versionOf bytes) 2 second) refl
+  module _ (second : version_of bytes ≡ 2) where
+    pub facts_end_lem : entry_end bytes variables at ≡ facts_first bytes facts_at + 3 * fact_count bytes facts_at
+    unfolding facts_end
+    facts_end_lem = rw (eq-eqb (version_of bytes) 2 second) refl
 
-    pub facts-told : (first end : ℕ) → first ≡ factsFirst bytes facts_at → end ≡ entryEnd bytes variables at → Whole bytes variables at
-        → take (end - first) (drop first bytes) ≡ entryFacts bytes variables at
-    unfolding entryFacts
-    facts-told first end f e w =
-        let count : end - first ≡ 3 * factCount bytes facts_at = omega (arith, f, e, facts-end) in
-        rw (is-whole bytes variables at w, eq-eqb (versionOf bytes) 2 second, count, f) refl
+    pub facts_told : (first end : ℕ) → first ≡ facts_first bytes facts_at → end ≡ entry_end bytes variables at → Whole bytes variables at
+        → take (end - first) (drop first bytes) ≡ entry_facts bytes variables at
+    unfolding entry_facts
+    facts_told first end f e w =
+        let count : end - first ≡ 3 * fact_count bytes facts_at = omega (arith, f, e, facts_end_lem) in
+        rw (is_whole_lem bytes variables at w, eq-eqb (version_of bytes) 2 second, count, f) refl
 
-    pub span-told : (first end : ℕ) → first ≡ factsFirst bytes facts_at → end ≡ entryEnd bytes variables at → Whole bytes variables at → SpanIs first end
-    unfolding spanFirst spanEnd
-    span-told first end f e w = rw (is-whole bytes variables at w, eq-eqb (versionOf bytes) 2 second) (f, e)
+    pub span_told : (first end : ℕ) → first ≡ facts_first bytes facts_at → end ≡ entry_end bytes variables at → Whole bytes variables at → SpanIs first end
+    unfolding span_first span_end
+    span_told first end f e w = rw (is_whole_lem bytes variables at w, eq-eqb (version_of bytes) 2 second) (f, e)
 
   -- and are three for each fact
-  pub facts-in-threes : Whole bytes variables at → (n : ℕ) × (length (entryFacts bytes variables at) ≡ 3 * n)
-  facts-in-threes w = go (ℕ_discrete (versionOf bytes) 2)
+  pub facts_in_threes : Whole bytes variables at → (n : ℕ) × (length (entry_facts bytes variables at) ≡ 3 * n)
+  facts_in_threes w = go (ℕ_discrete (version_of bytes) 2)
     where
-      go : Dec (versionOf bytes ≡ 2) → (n : ℕ) × (length (entryFacts bytes variables at) ≡ 3 * n)
+      go : Dec (version_of bytes ≡ 2) → (n : ℕ) × (length (entry_facts bytes variables at) ≡ 3 * n)
       go (yes second) =
-          let end = facts-end second in
-          let told = facts-told second (factsFirst bytes facts_at) (entryEnd bytes variables at) refl refl w in
-          let room : length (drop (factsFirst bytes facts_at) bytes) ≡ length bytes - factsFirst bytes facts_at = length-drop (factsFirst bytes facts_at) bytes in (
-            factCount bytes facts_at,
+          let end = facts_end_lem second in
+          let told = facts_told second (facts_first bytes facts_at) (entry_end bytes variables at) refl refl w in
+          let room : length (drop (facts_first bytes facts_at) bytes) ≡ length bytes - facts_first bytes facts_at = length-drop (facts_first bytes facts_at) bytes in (
+            fact_count bytes facts_at,
             ap length (sym told)
-                ∙ length-take-le (entryEnd bytes variables at - factsFirst bytes facts_at) (drop (factsFirst bytes facts_at) bytes) (omega (arith, room, end, w.facts-inside))
+                ∙ length-take-le (entry_end bytes variables at - facts_first bytes facts_at) (drop (facts_first bytes facts_at) bytes) (omega (arith, room, end, w.facts_inside))
                 ∙ (omega (arith, end)),
           )
-      go (no first) = (0, ap length (facts-none first))
+      go (no first) = (0, ap length (facts_none first))

@@ -8,9 +8,9 @@ use native.Mathlib.Omega.{arith}
 use lib.Dec.{leb}
 use lib.ListN.{length, get_or, drop, set, length-set, length-drop}
 use lib.Seq.{get_or-drop, drop-drop, length-paste, paste, paste-zero, paste-suc}
-use Rattle.lists.proofs.Reflect.{Reflect, r_and, r-le, is_false, same_test, passes}
-use Rattle.layout.specs.Loading.{mostInside, loadedCodes}
-use Rattle.layout.proofs.Copies.{copy-joined}
+use Rattle.lists.proofs.Reflect.{Reflect, r_and, r_le, is_false, same_test, passes}
+use Rattle.layout.specs.Loading.{most_inside, loaded_codes}
+use Rattle.layout.proofs.Copies.{copy_joined}
 
 -- i of so many bytes from a place on have been copied to d, from another place on
 pub record Copying (d : List ℕ) (at : ℕ) (bytes : List ℕ) (first count : ℕ) (l : List ℕ) (i : ℕ) : Type 0 where
@@ -18,8 +18,8 @@ pub record Copying (d : List ℕ) (at : ℕ) (bytes : List ℕ) (first count : �
   pub same : length l ≡ length d
   pub copied : l ≡ paste d at (drop first bytes) i
 
-pub copy-none : (d : List ℕ) (at : ℕ) (bytes : List ℕ) (first count : ℕ) → Copying d at bytes first count d 0
-copy-none d at bytes first count = record { inside = omega arith; same = refl; copied = paste-zero d at (drop first bytes) }
+pub copy_none : (d : List ℕ) (at : ℕ) (bytes : List ℕ) (first count : ℕ) → Copying d at bytes first count d 0
+copy_none d at bytes first count = record { inside = omega arith; same = refl; copied = paste-zero d at (drop first bytes) }
 
 module _ {d : List ℕ} {at : ℕ} {bytes : List ℕ} {first count : ℕ} {l : List ℕ} {i : ℕ} (w : Copying d at bytes first count l i) where
   pub copy_more : (k : ℕ) → k ≡ at + i → i < count → at + count ≤ length d → first + count ≤ length bytes
@@ -33,34 +33,34 @@ module _ {d : List ℕ} {at : ℕ} {bytes : List ℕ} {first count : ℕ} {l : L
             (paste-suc d at (drop first bytes) i 0 (omega arith) (omega (arith, length-drop first bytes)));
       }
 
-  pub copy-all : count ≤ i → l ≡ paste d at (drop first bytes) count
-  copy-all b = let e : i ≡ count = omega (arith, w.inside) in rw (← e) w.copied
+  pub copy_all : count ≤ i → l ≡ paste d at (drop first bytes) count
+  copy_all b = let e : i ≡ count = omega (arith, w.inside) in rw (← e) w.copied
 
 module _ (bytes : List ℕ) (variables links : ℕ) where
   abbrev pub Most : Type 0
   Most = (variables ≤ 8) × ((8 ≤ links) × (links + 12 ≤ length bytes))
 
-  pub r-most : Reflect Most (mostInside bytes variables links)
-  unfolding mostInside
-  r-most = r_and (r-le variables 8) (r_and (r-le 8 links) (r-le (links + 12) (length bytes)))
+  pub r_most : Reflect Most (most_inside bytes variables links)
+  unfolding most_inside
+  r_most = r_and (r_le variables 8) (r_and (r_le 8 links) (r_le (links + 12) (length bytes)))
 
-  pub most : mostInside bytes variables links ≡ true → Most
-  most e = r-most.holds (passes (mostInside bytes variables links) e)
+  pub most : most_inside bytes variables links ≡ true → Most
+  most e = r_most.holds (passes (most_inside bytes variables links) e)
 
-  pub not-most : (Most → ⊥) → false ≡ mostInside bytes variables links
-  not-most n = sym (is_false (mostInside bytes variables links) (λ t. n (r-most.holds t)))
+  pub not_most : (Most → ⊥) → false ≡ most_inside bytes variables links
+  not_most n = sym (is_false (most_inside bytes variables links) (λ t. n (r_most.holds t)))
 
   -- what is left from the first link on decides
-  pub most-left : variables ≤ 8 → 8 ≤ links → links ≤ length bytes → leb 12 (length bytes - links) ≡ mostInside bytes variables links
-  most-left a b c =
-      same_test (r-le 12 (length bytes - links)) r-most (λ h. (a, (b, omega arith))) (λ m. let h = m.1.1 in omega arith)
+  pub most_left : variables ≤ 8 → 8 ≤ links → links ≤ length bytes → leb 12 (length bytes - links) ≡ most_inside bytes variables links
+  most_left a b c =
+      same_test (r_le 12 (length bytes - links)) r_most (λ h. (a, (b, omega arith))) (λ m. let h = m.1.1 in omega arith)
 
   module _ (n : ℕ) (s : List ℕ) where
     -- three moves of eight bytes
-    pub moved : mostInside bytes variables links ≡ true → length s ≡ 28
+    pub moved : most_inside bytes variables links ≡ true → length s ≡ 28
         → paste (paste (paste s (10 + variables) (drop (links - 8) bytes) 8) 3 (drop links bytes) 8) 7 (drop (links + 4) bytes) 8
-        ≡ loadedCodes bytes variables links n s
-    unfolding loadedCodes
+        ≡ loaded_codes bytes variables links n s
+    unfolding loaded_codes
     moved e slots =
         let m = most e in
         let codes = drop (links - 8) bytes in
@@ -70,10 +70,10 @@ module _ (bytes : List ℕ) (variables links : ℕ) where
         let same : length d ≡ length s = length-paste s (10 + variables) codes 8 (omega (arith, m.0)) enough in
         rw (e, start)
         (ap (λ (l : List ℕ). paste (paste d 3 (drop links bytes) 8) 7 l 8) (sym (drop-drop 4 links bytes))
-        ∙ copy-joined d 3 (drop links bytes) 8 4 8 (omega arith) (omega (arith, length-drop links bytes, m.1.1)) (omega arith) (omega arith))
+        ∙ copy_joined d 3 (drop links bytes) 8 4 8 (omega arith) (omega (arith, length-drop links bytes, m.1.1)) (omega arith) (omega arith))
 
     -- two copies
-    pub copied-own : mostInside bytes variables links ≡ false → variables ≤ links
-        → paste (paste s 18 (drop (links - variables) bytes) variables) 3 (drop links bytes) n ≡ loadedCodes bytes variables links n s
-    unfolding loadedCodes
-    copied-own e few = let start : 18 + variables - variables ≡ 18 = omega arith in rw (e, start) refl
+    pub copied_own : most_inside bytes variables links ≡ false → variables ≤ links
+        → paste (paste s 18 (drop (links - variables) bytes) variables) 3 (drop links bytes) n ≡ loaded_codes bytes variables links n s
+    unfolding loaded_codes
+    copied_own e few = let start : 18 + variables - variables ≡ 18 = omega arith in rw (e, start) refl

@@ -7,83 +7,83 @@ use native.Mathlib.Omega.{arith}
 use borrow.Author.Tests.{eq-eqb, ne_eqb}
 use lib.Dec.{eqb, leb}
 use lib.ListN.{length, get_or}
-use Rattle.lists.proofs.Reflect.{Reflect, r_and, r-iff, r-eq, r-le, r-lt, cond_cases, is_true, is_false, same_test, passes, fails}
-use Rattle.layout.specs.Entries.{versionOf, factCount, factsFirst, factsEnd, linksEnd, linksInside, entryEnd, is_whole, EntryInRange, Whole}
+use Rattle.lists.proofs.Reflect.{Reflect, r_and, r_iff, r_eq, r_le, r_lt, cond_cases, is_true, is_false, same_test, passes, fails}
+use Rattle.layout.specs.Entries.{version_of, fact_count, facts_first, facts_end, links_end, links_inside, entry_end, is_whole, EntryInRange, Whole}
 
 -- facts come after the links
-pub facts-after : (bytes : List ℕ) (at : ℕ) → at ≤ factsEnd bytes at
-unfolding factsEnd factsFirst
-facts-after bytes at =
-    cond_cases (λ n. at ≤ n) (r-eq (versionOf bytes) 2)
-    (λ _. cond_cases (λ n. at ≤ n + 3 * factCount bytes at) (r-lt (get_or bytes at 0) 128) (λ _. omega arith) (λ _. omega arith)) (λ _. omega arith)
+pub facts_after : (bytes : List ℕ) (at : ℕ) → at ≤ facts_end bytes at
+unfolding facts_end facts_first
+facts_after bytes at =
+    cond_cases (λ n. at ≤ n) (r_eq (version_of bytes) 2)
+    (λ _. cond_cases (λ n. at ≤ n + 3 * fact_count bytes at) (r_lt (get_or bytes at 0) 128) (λ _. omega arith) (λ _. omega arith)) (λ _. omega arith)
 
 module _ (bytes : List ℕ) (variables at : ℕ) where
   -- what the test of the links says
   pub record Inside : Type 0 where
-    pub variables-most : variables ≤ 9
+    pub variables_most : variables ≤ 9
     pub cells : get_or bytes (at + 1) 0 ≤ 12
-    pub inside : linksEnd bytes variables at ≤ length bytes
+    pub inside : links_end bytes variables at ≤ length bytes
 
-  r-inside : Reflect Inside (linksInside bytes variables at)
-  unfolding linksInside
-  r-inside =
-      r-iff (λ (a, (b, e)). record { variables-most = a; cells = b; inside = e }) (λ w. (w.variables-most, (w.cells, w.inside)))
-      (r_and (r-le variables 9) (r_and (r-le (get_or bytes (at + 1) 0) 12) (r-le (linksEnd bytes variables at) (length bytes))))
+  r_inside : Reflect Inside (links_inside bytes variables at)
+  unfolding links_inside
+  r_inside =
+      r_iff (λ (a, (b, e)). record { variables_most = a; cells = b; inside = e }) (λ w. (w.variables_most, (w.cells, w.inside)))
+      (r_and (r_le variables 9) (r_and (r_le (get_or bytes (at + 1) 0) 12) (r_le (links_end bytes variables at) (length bytes))))
 
-  pub inside : linksInside bytes variables at ≡ true → Inside
-  inside e = r-inside.holds (passes (linksInside bytes variables at) e)
+  pub inside : links_inside bytes variables at ≡ true → Inside
+  inside e = r_inside.holds (passes (links_inside bytes variables at) e)
 
-  pub is-inside : Inside → linksInside bytes variables at ≡ true
-  is-inside w = is_true (linksInside bytes variables at) (r-inside.tests w)
+  pub is_inside_lem : Inside → links_inside bytes variables at ≡ true
+  is_inside_lem w = is_true (links_inside bytes variables at) (r_inside.tests w)
 
-  pub not-inside : (Inside → ⊥) → false ≡ linksInside bytes variables at
-  not-inside n = sym (is_false (linksInside bytes variables at) (λ t. n (r-inside.holds t)))
+  pub not_inside : (Inside → ⊥) → false ≡ links_inside bytes variables at
+  not_inside n = sym (is_false (links_inside bytes variables at) (λ t. n (r_inside.holds t)))
 
   -- where the place and the numbers are small enough, the rest decides
-  pub inside-left : (left : ℕ) → variables ≤ 9 → get_or bytes (at + 1) 0 ≤ 12 → at + 2 + variables + left ≡ length bytes
-      → leb (get_or bytes (at + 1) 0) left ≡ linksInside bytes variables at
-  inside-left left a b e =
-      same_test (r-le (get_or bytes (at + 1) 0) left) r-inside (λ h. record { variables-most = a; cells = b; inside = omega arith })
+  pub inside_left : (left : ℕ) → variables ≤ 9 → get_or bytes (at + 1) 0 ≤ 12 → at + 2 + variables + left ≡ length bytes
+      → leb (get_or bytes (at + 1) 0) left ≡ links_inside bytes variables at
+  inside_left left a b e =
+      same_test (r_le (get_or bytes (at + 1) 0) left) r_inside (λ h. record { variables_most = a; cells = b; inside = omega arith })
       (λ w. omega (arith, w.inside))
 
-  r-whole : Reflect (Whole bytes variables at) (is_whole bytes variables at)
+  r_whole : Reflect (Whole bytes variables at) (is_whole bytes variables at)
   unfolding is_whole
-  r-whole =
-      r-iff (λ (i, e). record { variables-most = i.variables-most; cells = i.cells; inside = i.inside; facts-inside = e })
-      (λ w. (record { variables-most = w.variables-most; cells = w.cells; inside = w.inside }, w.facts-inside))
-      (r_and r-inside (r-le (entryEnd bytes variables at) (length bytes)))
+  r_whole =
+      r_iff (λ (i, e). record { variables_most = i.variables_most; cells = i.cells; inside = i.inside; facts_inside = e })
+      (λ w. (record { variables_most = w.variables_most; cells = w.cells; inside = w.inside }, w.facts_inside))
+      (r_and r_inside (r_le (entry_end bytes variables at) (length bytes)))
 
   pub whole : is_whole bytes variables at ≡ true → Whole bytes variables at
-  whole e = r-whole.holds (passes (is_whole bytes variables at) e)
+  whole e = r_whole.holds (passes (is_whole bytes variables at) e)
 
-  pub is-whole : Whole bytes variables at → is_whole bytes variables at ≡ true
-  is-whole w = is_true (is_whole bytes variables at) (r-whole.tests w)
+  pub is_whole_lem : Whole bytes variables at → is_whole bytes variables at ≡ true
+  is_whole_lem w = is_true (is_whole bytes variables at) (r_whole.tests w)
 
-  pub not-whole : (Whole bytes variables at → ⊥) → false ≡ is_whole bytes variables at
-  not-whole n = sym (is_false (is_whole bytes variables at) (λ t. n (r-whole.holds t)))
+  pub not_whole : (Whole bytes variables at → ⊥) → false ≡ is_whole bytes variables at
+  not_whole n = sym (is_false (is_whole bytes variables at) (λ t. n (r_whole.holds t)))
 
   -- an entry in range is whole
   pub entry_whole : EntryInRange bytes variables at → variables ≤ 8 → Whole bytes variables at
-  entry_whole e few = record { variables-most = omega arith; cells = e.cells; inside = e.inside; facts-inside = e.facts-inside }
+  entry_whole e few = record { variables_most = omega arith; cells = e.cells; inside = e.inside; facts_inside = e.facts_inside }
 
   -- an entry whose links are not inside is not whole
-  pub lost-inside : linksInside bytes variables at ≡ false → Whole bytes variables at → ⊥
-  lost-inside e w = fails (linksInside bytes variables at) e (r-inside.tests (record { variables-most = w.variables-most; cells = w.cells; inside = w.inside }))
+  pub lost_inside : links_inside bytes variables at ≡ false → Whole bytes variables at → ⊥
+  lost_inside e w = fails (links_inside bytes variables at) e (r_inside.tests (record { variables_most = w.variables_most; cells = w.cells; inside = w.inside }))
 
   -- what is told of the entry's end
-  abbrev endTold : ℕ
-  endTold = cond (is_whole bytes variables at) (entryEnd bytes variables at) 0
+  abbrev end_told : ℕ
+  end_told = cond (is_whole bytes variables at) (entry_end bytes variables at) 0
 
-  pub no_end : (Whole bytes variables at → ⊥) → 0 ≡ endTold
-  no_end n = rw (sym (not-whole n)) refl
+  pub no_end : (Whole bytes variables at → ⊥) → 0 ≡ end_told
+  no_end n = rw (sym (not_whole n)) refl
 
-  pub end-told : Whole bytes variables at → entryEnd bytes variables at ≡ endTold
-  end-told w = rw (is-whole w) refl
+  pub end_told_lem : Whole bytes variables at → entry_end bytes variables at ≡ end_told
+  end_told_lem w = rw (is_whole_lem w) refl
 
-  pub end-some : (r : ℕ) → r ≡ endTold → Whole bytes variables at → r ≡ 0 → ⊥
-  end-some r e w z = omega (arith, sym e ∙ z, end-told w, facts-after bytes (linksEnd bytes variables at))
+  pub end_some : (r : ℕ) → r ≡ end_told → Whole bytes variables at → r ≡ 0 → ⊥
+  end_some r e w z = omega (arith, sym e ∙ z, end_told_lem w, facts_after bytes (links_end bytes variables at))
 
-  pub end_whole : (r : ℕ) → r ≡ endTold → (r ≡ 0 → ⊥) → Whole bytes variables at
+  pub end_whole : (r : ℕ) → r ≡ end_told → (r ≡ 0 → ⊥) → Whole bytes variables at
   end_whole r e n = go (is_whole bytes variables at) refl
     where
       go : (b : Bool) → is_whole bytes variables at ≡ b → Whole bytes variables at
@@ -91,10 +91,10 @@ module _ (bytes : List ℕ) (variables at : ℕ) where
       go false z = absurd (n (rw z at e))
 
   -- it is not 0 exactly if the entry is whole
-  pub end-tells : (r : ℕ) → r ≡ endTold → not (eqb r 0) ≡ is_whole bytes variables at
-  end-tells r e = go (is_whole bytes variables at) refl
+  pub end_tells : (r : ℕ) → r ≡ end_told → not (eqb r 0) ≡ is_whole bytes variables at
+  end_tells r e = go (is_whole bytes variables at) refl
     where
       go : (b : Bool) → is_whole bytes variables at ≡ b → not (eqb r 0) ≡ is_whole bytes variables at
       go true z =
-          rw (z, ne_eqb r 0 (end-some r e (whole z))) refl
+          rw (z, ne_eqb r 0 (end_some r e (whole z))) refl
       go false z = rw (z, eq-eqb r 0 (rw z at e)) refl

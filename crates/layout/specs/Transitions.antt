@@ -11,8 +11,8 @@ op_of none a b = equal a b
 op_of (some row) a b = row.op a b
 
 -- the transition whose first byte is at a place
-abbrev pub transitionAt : List ℕ → ℕ → Transition
-transitionAt bytes at =
+abbrev pub transition_at : List ℕ → ℕ → Transition
+transition_at bytes at =
     record {
       from = get_or bytes at 0;
       op = op_of (kind_of (get_or bytes (at + 1) 0)) (get_or bytes (at + 2) 0) (get_or bytes (at + 3) 0);
@@ -20,5 +20,5 @@ transitionAt bytes at =
     }
 
 -- so many transitions from the i-th on, of those from a place on
-abbrev pub transitionsFrom : List ℕ → ℕ → ℕ → ℕ → List Transition
-transitionsFrom bytes first i count = map (λ k. transitionAt bytes (first + 5 * k)) (range i count)
+abbrev pub transitions_from : List ℕ → ℕ → ℕ → ℕ → List Transition
+transitions_from bytes first i count = map (λ k. transition_at bytes (first + 5 * k)) (range i count)

@@ -2,9 +2,9 @@
 // number of its facts, which may be two.
 ghost use Rattle.std.specs.Prelude.{cond, ◌≡◌, ◌+◌, ◌-◌, ◌≤◌, length, get_or, take, drop};
 ghost use Rattle.std.proofs.Math.Seq.{paste};
-ghost use Rattle.layout.specs.Entries.{versionOf, factCount, factsFirst, factsEnd, linksInside, entryEnd, is_whole};
-ghost use Rattle.layout.specs.ShapeArray.{linksIn};
-ghost use Rattle.layout.specs.Loading.{mostInside, loadedCodes, loadedShape, entryFacts, spanFirst, spanEnd, loadedFacts};
+ghost use Rattle.layout.specs.Entries.{version_of, fact_count, facts_first, facts_end, links_inside, entry_end, is_whole};
+ghost use Rattle.layout.specs.ShapeArray.{links_in};
+ghost use Rattle.layout.specs.Loading.{most_inside, loaded_codes, loaded_shape, entry_facts, span_first, span_end, loaded_facts};
 
 use factrows::close;
 use number::wide;
@@ -12,7 +12,7 @@ use place::Place;
 
 // The version of a file, its first byte; 0 where it has none.
 pub fn version_of(bytes: &[u8]) -> u8
-    ensures { result ≡ versionOf bytes.now }
+    ensures { result ≡ version_of bytes.now }
 {
     if bytes.len() == 0 {
         return 0;
@@ -33,7 +33,7 @@ fn byte_at(bytes: &[u8], at: usize) -> usize
 // The number of facts that stands at a place, in one byte or two.
 fn fact_count(bytes: &[u8], at: usize) -> usize
     requires { at ≤ length bytes.now }
-    ensures { (result ≡ factCount bytes.now at) × (result ≤ 32767) }
+    ensures { (result ≡ fact_count bytes.now at) × (result ≤ 32767) }
 {
     let low = byte_at(bytes, at);
     if low < 128 {
@@ -45,7 +45,7 @@ fn fact_count(bytes: &[u8], at: usize) -> usize
 // Where these facts begin.
 fn facts_first(bytes: &[u8], at: usize) -> usize
     requires { at ≤ length bytes.now }
-    ensures { (result ≡ factsFirst bytes.now at) × (result ≤ at + 2) }
+    ensures { (result ≡ facts_first bytes.now at) × (result ≤ at + 2) }
 {
     if byte_at(bytes, at) < 128 {
         return at + 1;
@@ -56,7 +56,7 @@ fn facts_first(bytes: &[u8], at: usize) -> usize
 // The place after the facts whose number stands at a place, which there are in version 2.
 fn facts_end(bytes: &[u8], at: usize) -> usize
     requires { at ≤ length bytes.now }
-    ensures { result ≡ factsEnd bytes.now at }
+    ensures { result ≡ facts_end bytes.now at }
 {
     if version_of(bytes) == 2 {
         return facts_first(bytes, at) + 3 * fact_count(bytes, at);
@@ -66,7 +66,7 @@ fn facts_end(bytes: &[u8], at: usize) -> usize
 
 // Whether the links of an entry of at most 12 cells at a place, and all ahead of them, are inside, and an array has room for its variables.
 fn links_inside(bytes: &[u8], at: usize, variables: usize) -> bool
-    ensures { result ≡ linksInside bytes.now variables at }
+    ensures { result ≡ links_inside bytes.now variables at }
 {
     if 9 < variables {
         return false;
@@ -87,7 +87,7 @@ fn links_inside(bytes: &[u8], at: usize, variables: usize) -> bool
 
 // The place after the entry of at most 12 cells that stands whole at a place, where an array has room for its variables; else 0.
 pub fn entry_end(bytes: &[u8], at: usize, variables: usize) -> usize
-    ensures { result ≡ cond (is_whole bytes.now variables at) (entryEnd bytes.now variables at) 0 }
+    ensures { result ≡ cond (is_whole bytes.now variables at) (entry_end bytes.now variables at) 0 }
 {
     if !links_inside(bytes, at, variables) {
         return 0;
@@ -132,7 +132,7 @@ fn move_eight(bytes: &[u8], first: usize, to: &mut [u8], at: usize)
 // Whether the most codes that an entry in range has, 8 ahead of its first link and 12 from it on, are inside the buffer.
 fn most_inside(bytes: &[u8], variables: usize, links: usize) -> bool
     requires { links ≤ length bytes.now }
-    ensures { result ≡ mostInside bytes.now variables links }
+    ensures { result ≡ most_inside bytes.now variables links }
 {
     if 8 < variables {
         return false;
@@ -146,7 +146,7 @@ fn most_inside(bytes: &[u8], variables: usize, links: usize) -> bool
 // Loads the codes of an entry of n cells, given the place of its first link: eight at a time, and more than it has, where the buffer allows it.
 fn load_codes(bytes: &[u8], variables: usize, links: usize, n: usize, s: &mut [u8; 28])
     requires { (variables ≤ 9) × (n ≤ 12) × (variables ≤ links) × (links + n ≤ length bytes.now) }
-    ensures { s.new ≡ loadedCodes bytes.now variables links n s.old }
+    ensures { s.new ≡ loaded_codes bytes.now variables links n s.old }
 {
     if most_inside(bytes, variables, links) {
         move_eight(bytes, links - 8, s, 10 + variables);
@@ -160,7 +160,7 @@ fn load_codes(bytes: &[u8], variables: usize, links: usize, n: usize, s: &mut [u
 
 // Loads the shape of the entry at a place; where its links are not inside, the array stays as it is.
 pub fn load_shape(bytes: &[u8], at: usize, variables: usize, s: &mut [u8; 28])
-    ensures { s.new ≡ loadedShape bytes.now variables at s.old }
+    ensures { s.new ≡ loaded_shape bytes.now variables at s.old }
 {
     if !links_inside(bytes, at, variables) {
         return;
@@ -182,7 +182,7 @@ pub struct Span {
 // The bytes of the facts of the entry at a place: from the first of them up to the entry's end, also where it lists none; from 0 up to 0 in version 1, and where the
 // entry is not whole.
 pub fn fact_span(bytes: &[u8], at: usize, variables: usize) -> Span
-    ensures { (result.first ≤ result.end) × (result.end ≤ length bytes.now) × (take (result.end - result.first) (drop result.first bytes.now) ≡ entryFacts bytes.now variables at) × (result.first ≡ spanFirst bytes.now variables at) × (result.end ≡ spanEnd bytes.now variables at) }
+    ensures { (result.first ≤ result.end) × (result.end ≤ length bytes.now) × (take (result.end - result.first) (drop result.first bytes.now) ≡ entry_facts bytes.now variables at) × (result.first ≡ span_first bytes.now variables at) × (result.end ≡ span_end bytes.now variables at) }
 {
     let end = entry_end(bytes, at, variables);
     if end == 0 {
@@ -197,7 +197,7 @@ pub fn fact_span(bytes: &[u8], at: usize, variables: usize) -> Span
 
 // Loads the facts of the entry at a place, and all that follows from them.
 pub fn load_facts(bytes: &[u8], at: usize, variables: usize, rows: &mut [u16; 28])
-    ensures { rows.new ≡ loadedFacts bytes.now variables at }
+    ensures { rows.new ≡ loaded_facts bytes.now variables at }
 {
     let span = fact_span(bytes, at, variables);
     let first = span.first;
@@ -207,7 +207,7 @@ pub fn load_facts(bytes: &[u8], at: usize, variables: usize, rows: &mut [u16; 28
 
 // How many cells the shape in an array has: no more than there are slots from the first link on.
 pub fn cells_held(s: &[u8; 28]) -> usize
-    ensures { (length s.now ≡ 28) × (result ≤ 25) × (result ≡ length (linksIn s.now)) }
+    ensures { (length s.now ≡ 28) × (result ≤ 25) × (result ≡ length (links_in s.now)) }
 {
     let all = &s[..];
     let n = all[0] as usize;

@@ -21,12 +21,12 @@ module _ (values out₀ : List ℕ) where
   unfolding lent
   too_short h = simp (lt-leb (length values) (length out₀) h)
 
-  pub lend-none : Lending values out₀ out₀ 0
-  lend-none = record { upto = omega arith; same = refl; front = refl; rest = refl }
+  pub lend_none : Lending values out₀ out₀ 0
+  lend_none = record { upto = omega arith; same = refl; front = refl; rest = refl }
 
   module _ (out : List ℕ) (i : ℕ) (l : Lending values out₀ out i) where
-    pub lend-more : i < length values → length values ≤ length out₀ → Lending values out₀ (set out i (get_or values i 0)) (i + 1)
-    lend-more h room =
+    pub lend_more : i < length values → length values ≤ length out₀ → Lending values out₀ (set out i (get_or values i 0)) (i + 1)
+    lend_more h room =
         record {
           upto = omega arith;
           same = length-set out i (get_or values i 0) ∙ l.same;
@@ -37,9 +37,9 @@ module _ (values out₀ : List ℕ) where
               drop-set-lt (i + 1) out i (get_or values i 0) (omega arith) ∙ sym (drop-drop 1 i out) ∙ ap (drop 1) l.rest ∙ drop-drop 1 i out₀;
         }
 
-    pub lend-all : length values ≤ i → length values ≤ length out₀ → out ≡ lent values out₀
+    pub lend_all : length values ≤ i → length values ≤ length out₀ → out ≡ lent values out₀
     unfolding lent
-    lend-all h room =
-        let i-is : i ≡ length values = omega (arith, l.upto) in
+    lend_all h room =
+        let i_is : i ≡ length values = omega (arith, l.upto) in
         simp (le-leb (length values) (length out₀) room)
-        (sym (take-append-drop i out) ∙ ap₂ ◌++◌ (l.front ∙ take_all i values h) (l.rest ∙ ap (λ (k : ℕ). drop k out₀) i-is))
+        (sym (take-append-drop i out) ∙ ap₂ ◌++◌ (l.front ∙ take_all i values h) (l.rest ∙ ap (λ (k : ℕ). drop k out₀) i_is))

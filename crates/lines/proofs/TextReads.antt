@@ -11,313 +11,313 @@ use lib.Dec.{eqb, leb}
 use lib.ListN.{length, drop}
 use lib.Seq.{drop-append_seam}
 use Rattle.lists.proofs.Test.{and_left, and_right}
-use Rattle.kinds.specs.Kinds.{leastA, leastB, mostB, allowed}
+use Rattle.kinds.specs.Kinds.{least_a_of, least_b_of, most_b_of, allowed}
 use Rattle.lists.proofs.List.{end as no_row, ◌&◌}
 use Rattle.heap.proofs.Rows.{by_kind}
-use Rattle.kinds.proofs.Rows.{known, allowed-row, most-bound}
-use Rattle.lines.specs.Words.{null, any, end, while, if, mark, equals, differs, gets, next, nextGets, new, delete, close, starts, isWord}
-use Rattle.lines.specs.Line.{operandText, operationText, decimal, lineText, isOperation, isTest, is_line, letterOf, operandOf, checked, enclosedOf, second_of, betweenOf, operationOf, opens, testLine, digitOf, markFor, mark_of, line_of}
+use Rattle.kinds.proofs.Rows.{known, allowed_row, most_bound}
+use Rattle.lines.specs.Words.{null, any, end, while, if, mark, equals, differs, gets, next, next_gets, new, delete, close, starts, is_word}
+use Rattle.lines.specs.Line.{operand_text, operation_text, decimal, line_text, is_operation, is_test, is_line, letter_of, operand_of, checked, enclosed_of, second_of, between_of, operation_of, opens, test_line, digit_of, mark_for, mark_of, line_of}
 use Rattle.lines.specs.declared.Operation.{Operation}
 use Rattle.lines.specs.declared.Line.{Line}
 use Rattle.lines.specs.declared.Line.TheVariants.{Perform, While, If, End, Mark, Other}
 
-and-false : (b : Bool) → b && false ≡ false
-and-false true = refl
-and-false false = refl
+and_false : (b : Bool) → b && false ≡ false
+and_false true = refl
+and_false false = refl
 
 -- what follows an operand does not go on as one of the words that begin with a letter
 pub record Apart (t : List ℕ) : Type 0 where
-  pub null-not : starts t (117 ∷ 108 ∷ 108 ∷ []) ≡ false
-  pub new-not : starts t (101 ∷ 119 ∷ 40 ∷ []) ≡ false
-  pub delete-not : starts t (101 ∷ 108 ∷ 101 ∷ 116 ∷ 101 ∷ 40 ∷ []) ≡ false
-  pub end-not : starts t (110 ∷ 100 ∷ []) ≡ false
-  pub mark-not : starts t (97 ∷ 114 ∷ 107 ∷ 32 ∷ []) ≡ false
-  pub while-not : starts t (104 ∷ 105 ∷ 108 ∷ 101 ∷ 32 ∷ []) ≡ false
-  pub if-not : starts t (102 ∷ 32 ∷ []) ≡ false
+  pub null_not : starts t (117 ∷ 108 ∷ 108 ∷ []) ≡ false
+  pub new_not : starts t (101 ∷ 119 ∷ 40 ∷ []) ≡ false
+  pub delete_not : starts t (101 ∷ 108 ∷ 101 ∷ 116 ∷ 101 ∷ 40 ∷ []) ≡ false
+  pub end_not : starts t (110 ∷ 100 ∷ []) ≡ false
+  pub mark_not : starts t (97 ∷ 114 ∷ 107 ∷ 32 ∷ []) ≡ false
+  pub while_not : starts t (104 ∷ 105 ∷ 108 ∷ 101 ∷ 32 ∷ []) ≡ false
+  pub if_not : starts t (102 ∷ 32 ∷ []) ≡ false
 
 -- a blank, a point or a bracket follows, or nothing
-blank-apart : (t : List ℕ) → Apart (32 ∷ t)
+blank_apart : (t : List ℕ) → Apart (32 ∷ t)
 unfolding starts
-blank-apart t = record { null-not = refl; new-not = refl; delete-not = refl; end-not = refl; mark-not = refl; while-not = refl; if-not = refl }
+blank_apart t = record { null_not = refl; new_not = refl; delete_not = refl; end_not = refl; mark_not = refl; while_not = refl; if_not = refl }
 
-point-apart : (t : List ℕ) → Apart (46 ∷ t)
+point_apart : (t : List ℕ) → Apart (46 ∷ t)
 unfolding starts
-point-apart t = record { null-not = refl; new-not = refl; delete-not = refl; end-not = refl; mark-not = refl; while-not = refl; if-not = refl }
+point_apart t = record { null_not = refl; new_not = refl; delete_not = refl; end_not = refl; mark_not = refl; while_not = refl; if_not = refl }
 
-close-apart : Apart close
+close_apart : Apart close
 unfolding starts
-close-apart = record { null-not = refl; new-not = refl; delete-not = refl; end-not = refl; mark-not = refl; while-not = refl; if-not = refl }
+close_apart = record { null_not = refl; new_not = refl; delete_not = refl; end_not = refl; mark_not = refl; while_not = refl; if_not = refl }
 
 none_apart : Apart []
 unfolding starts
-none_apart = record { null-not = refl; new-not = refl; delete-not = refl; end-not = refl; mark-not = refl; while-not = refl; if-not = refl }
+none_apart = record { null_not = refl; new_not = refl; delete_not = refl; end_not = refl; mark_not = refl; while_not = refl; if_not = refl }
 
 -- an operand at the front is no word of letters
 no_word : (x : ℕ) (t : List ℕ) (c : ℕ) (w : List ℕ) → starts (null ++ t) (c ∷ w) ≡ false → starts t w ≡ false
-    → starts (operandText x ++ t) (c ∷ w) ≡ false
+    → starts (operand_text x ++ t) (c ∷ w) ≡ false
 unfolding starts
 no_word zero t c w p q = p
-no_word (suc n) t c w p q = rw q (and-false (eqb (97 + n) c))
+no_word (suc n) t c w p q = rw q (and_false (eqb (97 + n) c))
 
 -- an operand reads as itself
-operand-reads : (x : ℕ) (t : List ℕ) → x ≤ 26 → Apart t → operandOf (operandText x ++ t) ≡ record { value = x; length = length (operandText x) }
-unfolding operandOf letterOf starts
-operand-reads zero t h apart = refl
-operand-reads (suc n) t h apart =
+operand_reads : (x : ℕ) (t : List ℕ) → x ≤ 26 → Apart t → operand_of (operand_text x ++ t) ≡ record { value = x; length = length (operand_text x) }
+unfolding operand_of letter_of starts
+operand_reads zero t h apart = refl
+operand_reads (suc n) t h apart =
     let one : min 1 (suc (length t)) ≡ 1 = omega arith in
     let is : 97 + n - 96 ≡ suc n = omega arith in
-    rw (apart.null-not, and-false (eqb (97 + n) 110))
+    rw (apart.null_not, and_false (eqb (97 + n) 110))
     (simp (le-leb 97 (97 + n) (omega arith), le-leb (97 + n) 122 (omega arith)) (ap₂ (λ v k. record { value = v; length = k }) is one))
 
 -- ---- operations
 
-checked-reads : (kind a b : ℕ) → allowed 26 kind a b ≡ true → checked kind a b ≡ Perform (record { kind = kind; a = a; b = b })
+checked_reads : (kind a b : ℕ) → allowed 26 kind a b ≡ true → checked kind a b ≡ Perform (record { kind = kind; a = a; b = b })
 unfolding checked
-checked-reads kind a b ok = rw ok refl
+checked_reads kind a b ok = rw ok refl
 
 -- an allowed operation has letters and null for operands, and no b if it takes none
 pub record Operands (kind a b : ℕ) : Type 0 where
-  pub kind-some : 1 ≤ kind
-  pub kind-most : kind ≤ 7
-  pub a-most : a ≤ 26
-  pub b-most : b ≤ mostB kind 26
-  pub b-letter : b ≤ 26
+  pub kind_some : 1 ≤ kind
+  pub kind_most : kind ≤ 7
+  pub a_most : a ≤ 26
+  pub b_most : b ≤ most_b_of kind 26
+  pub b_letter : b ≤ 26
 
 pub operands : (kind a b : ℕ) → kind ≤ 7 → allowed 26 kind a b ≡ true → Operands kind a b
 operands kind a b early ok =
     let (l, m) = known 26 kind a b ok in
-    let both = allowed-row kind 26 a b l m ∙ ok in
-    let in-a = and_left (leb (leastA kind) a && leb a 26) (leb (leastB kind) b && leb b (mostB kind 26)) both in
-    let in_b = and_right (leb (leastA kind) a && leb a 26) (leb (leastB kind) b && leb b (mostB kind 26)) both in
-    let most = leb-true b (mostB kind 26) (and_right (leb (leastB kind) b) (leb b (mostB kind 26)) in_b) in
+    let both = allowed_row kind 26 a b l m ∙ ok in
+    let in-a = and_left (leb (least_a_of kind) a && leb a 26) (leb (least_b_of kind) b && leb b (most_b_of kind 26)) both in
+    let in_b = and_right (leb (least_a_of kind) a && leb a 26) (leb (least_b_of kind) b && leb b (most_b_of kind 26)) both in
+    let most = leb-true b (most_b_of kind 26) (and_right (leb (least_b_of kind) b) (leb b (most_b_of kind 26)) in_b) in
     record {
-      kind-some = l;
-      kind-most = early;
-      a-most = leb-true a 26 (and_right (leb (leastA kind) a) (leb a 26) in-a);
-      b-most = most;
-      b-letter = omega (arith, most-bound kind 26);
+      kind_some = l;
+      kind_most = early;
+      a_most = leb-true a 26 (and_right (leb (least_a_of kind) a) (leb a 26) in-a);
+      b_most = most;
+      b_letter = omega (arith, most_bound kind 26);
     }
 
 -- those of a line
-pub operation-operands : (o : Operation) → isOperation o ≡ true → Operands o.kind o.a o.b
-operation-operands o ok =
+pub operation_operands : (o : Operation) → is_operation o ≡ true → Operands o.kind o.a o.b
+operation_operands o ok =
     let row = allowed 26 o.kind o.a o.b in
     operands o.kind o.a o.b (leb-true o.kind 7 (and_left (leb o.kind 7) row ok)) (and_right (leb o.kind 7) row ok)
 
 -- the second operand, and what comes after it
 second_reads : (kind a b : ℕ) (t : List ℕ) → b ≤ 26 → Apart t
-    → second_of kind a (operandText b ++ t) ≡ cond (isWord t []) (checked kind a b) (cond (eqb kind 3 && isWord t next) (checked 4 a b) Other)
+    → second_of kind a (operand_text b ++ t) ≡ cond (is_word t []) (checked kind a b) (cond (eqb kind 3 && is_word t next) (checked 4 a b) Other)
 unfolding second_of
-second_reads kind a b t h apart = rw (operand-reads b t h apart, drop-append_seam (operandText b) t) refl
+second_reads kind a b t h apart = rw (operand_reads b t h apart, drop-append_seam (operand_text b) t) refl
 
-second-last : (kind a b : ℕ) → b ≤ 26 → second_of kind a (operandText b) ≡ checked kind a b
-unfolding isWord starts
-second-last kind a b h = sym (ap (second_of kind a) (append-nil (operandText b))) ∙ second_reads kind a b [] h none_apart
+second_last : (kind a b : ℕ) → b ≤ 26 → second_of kind a (operand_text b) ≡ checked kind a b
+unfolding is_word starts
+second_last kind a b h = sym (ap (second_of kind a) (append-nil (operand_text b))) ∙ second_reads kind a b [] h none_apart
 
-second-next : (a b : ℕ) → b ≤ 26 → second_of 3 a (operandText b ++ next) ≡ checked 4 a b
-unfolding isWord starts
-second-next a b h = second_reads 3 a b next h (point-apart _)
+second_next : (a b : ℕ) → b ≤ 26 → second_of 3 a (operand_text b ++ next) ≡ checked 4 a b
+unfolding is_word starts
+second_next a b h = second_reads 3 a b next h (point_apart _)
 
-enclosed-reads : (kind a : ℕ) → a ≤ 26 → enclosedOf kind (operandText a ++ close) ≡ checked kind a 0
-unfolding enclosedOf isWord starts
-enclosed-reads kind a h = rw (operand-reads a close h close-apart, drop-append_seam (operandText a) close) refl
+enclosed_reads : (kind a : ℕ) → a ≤ 26 → enclosed_of kind (operand_text a ++ close) ≡ checked kind a 0
+unfolding enclosed_of is_word starts
+enclosed_reads kind a h = rw (operand_reads a close h close_apart, drop-append_seam (operand_text a) close) refl
 
 -- an operand first
-null-new : (t : List ℕ) → starts (null ++ t) new ≡ false
+null_new : (t : List ℕ) → starts (null ++ t) new ≡ false
 unfolding starts
-null-new t = refl
+null_new t = refl
 
-null-delete : (t : List ℕ) → starts (null ++ t) delete ≡ false
+null_delete : (t : List ℕ) → starts (null ++ t) delete ≡ false
 unfolding starts
-null-delete t = refl
+null_delete t = refl
 
-first_reads : (a : ℕ) (t : List ℕ) → a ≤ 26 → Apart t → operationOf (operandText a ++ t) ≡ betweenOf a t
-unfolding operationOf
+first_reads : (a : ℕ) (t : List ℕ) → a ≤ 26 → Apart t → operation_of (operand_text a ++ t) ≡ between_of a t
+unfolding operation_of
 first_reads a t h apart =
     rw (
-      no_word a t 110 (drop 1 new) (null-new t) apart.new-not,
-      no_word a t 100 (drop 1 delete) (null-delete t) apart.delete-not,
-      operand-reads a t h apart,
-      drop-append_seam (operandText a) t,
+      no_word a t 110 (drop 1 new) (null_new t) apart.new_not,
+      no_word a t 100 (drop 1 delete) (null_delete t) apart.delete_not,
+      operand_reads a t h apart,
+      drop-append_seam (operand_text a) t,
     ) refl
 
 -- what stands between decides the kind
 module _ (a : ℕ) (t : List ℕ) where
-  between-equals : betweenOf a (equals ++ t) ≡ second_of 1 a t
-  unfolding betweenOf starts
-  between-equals = refl
+  between_equals : between_of a (equals ++ t) ≡ second_of 1 a t
+  unfolding between_of starts
+  between_equals = refl
 
-  between-differs : betweenOf a (differs ++ t) ≡ second_of 2 a t
-  unfolding betweenOf starts
-  between-differs = refl
+  between_differs : between_of a (differs ++ t) ≡ second_of 2 a t
+  unfolding between_of starts
+  between_differs = refl
 
-  between-gets : betweenOf a (gets ++ t) ≡ second_of 3 a t
-  unfolding betweenOf starts
-  between-gets = refl
+  between_gets : between_of a (gets ++ t) ≡ second_of 3 a t
+  unfolding between_of starts
+  between_gets = refl
 
-  between_next : betweenOf a (nextGets ++ t) ≡ second_of 5 a t
-  unfolding betweenOf starts
+  between_next : between_of a (next_gets ++ t) ≡ second_of 5 a t
+  unfolding between_of starts
   between_next = refl
 
-operation-new : (t : List ℕ) → operationOf (new ++ t) ≡ enclosedOf 6 t
-unfolding operationOf starts
-operation-new t = refl
+operation_new : (t : List ℕ) → operation_of (new ++ t) ≡ enclosed_of 6 t
+unfolding operation_of starts
+operation_new t = refl
 
-operation-delete : (t : List ℕ) → operationOf (delete ++ t) ≡ enclosedOf 7 t
-unfolding operationOf starts
-operation-delete t = refl
+operation_delete : (t : List ℕ) → operation_of (delete ++ t) ≡ enclosed_of 7 t
+unfolding operation_of starts
+operation_delete t = refl
 
 -- The text of an operation reads as it.
 abbrev Reading : ℕ → ℕ → ℕ → Type 0
 Reading a b k = Operands k a b → allowed 26 k a b ≡ true
-    → operationOf (operationText (record { kind = k; a = a; b = b })) ≡ Perform (record { kind = k; a = a; b = b })
+    → operation_of (operation_text (record { kind = k; a = a; b = b })) ≡ Perform (record { kind = k; a = a; b = b })
 
-no-b : (kind a b : ℕ) → mostB kind 26 ≡ 0 → Operands kind a b → b ≡ 0
-no-b kind a b e h = omega (arith, h.b-most)
+no_b : (kind a b : ℕ) → most_b_of kind 26 ≡ 0 → Operands kind a b → b ≡ 0
+no_b kind a b e h = omega (arith, h.b_most)
 
-pub operation-reads : (o : Operation) → isOperation o ≡ true → operationOf (operationText o) ≡ Perform o
-unfolding mostB
-operation-reads o ok =
+pub operation_reads : (o : Operation) → is_operation o ≡ true → operation_of (operation_text o) ≡ Perform o
+unfolding most_b_of
+operation_reads o ok =
     let a = o.a in
     let b = o.b in
-    let all = operation-operands o ok in
+    let all = operation_operands o ok in
     by_kind 7 (Reading a b)
-    ((λ h ok. first_reads a (equals ++ operandText b) h.a-most (blank-apart _) ∙ between-equals a (operandText b) ∙ second-last 1 a b h.b-letter ∙ checked-reads 1 a b ok)
-    & (λ h ok. first_reads a (differs ++ operandText b) h.a-most (blank-apart _) ∙ between-differs a (operandText b) ∙ second-last 2 a b h.b-letter ∙ checked-reads 2 a b ok)
-    & (λ h ok. first_reads a (gets ++ operandText b) h.a-most (blank-apart _) ∙ between-gets a (operandText b) ∙ second-last 3 a b h.b-letter ∙ checked-reads 3 a b ok)
-    & (λ h ok. first_reads a (gets ++ (operandText b ++ next)) h.a-most (blank-apart _) ∙ between-gets a (operandText b ++ next) ∙ second-next a b h.b-letter ∙ checked-reads 4 a b ok)
-    & (λ h ok. first_reads a (nextGets ++ operandText b) h.a-most (point-apart _) ∙ between_next a (operandText b) ∙ second-last 5 a b h.b-letter ∙ checked-reads 5 a b ok)
-    & (λ h ok. let z = no-b 6 a b refl h in operation-new (operandText a ++ close) ∙ enclosed-reads 6 a h.a-most ∙ ap (checked 6 a) (sym z) ∙ checked-reads 6 a b ok)
-    & (λ h ok. let z = no-b 7 a b refl h in operation-delete (operandText a ++ close) ∙ enclosed-reads 7 a h.a-most ∙ ap (checked 7 a) (sym z) ∙ checked-reads 7 a b ok)
+    ((λ h ok. first_reads a (equals ++ operand_text b) h.a_most (blank_apart _) ∙ between_equals a (operand_text b) ∙ second_last 1 a b h.b_letter ∙ checked_reads 1 a b ok)
+    & (λ h ok. first_reads a (differs ++ operand_text b) h.a_most (blank_apart _) ∙ between_differs a (operand_text b) ∙ second_last 2 a b h.b_letter ∙ checked_reads 2 a b ok)
+    & (λ h ok. first_reads a (gets ++ operand_text b) h.a_most (blank_apart _) ∙ between_gets a (operand_text b) ∙ second_last 3 a b h.b_letter ∙ checked_reads 3 a b ok)
+    & (λ h ok. first_reads a (gets ++ (operand_text b ++ next)) h.a_most (blank_apart _) ∙ between_gets a (operand_text b ++ next) ∙ second_next a b h.b_letter ∙ checked_reads 4 a b ok)
+    & (λ h ok. first_reads a (next_gets ++ operand_text b) h.a_most (point_apart _) ∙ between_next a (operand_text b) ∙ second_last 5 a b h.b_letter ∙ checked_reads 5 a b ok)
+    & (λ h ok. let z = no_b 6 a b refl h in operation_new (operand_text a ++ close) ∙ enclosed_reads 6 a h.a_most ∙ ap (checked 6 a) (sym z) ∙ checked_reads 6 a b ok)
+    & (λ h ok. let z = no_b 7 a b refl h in operation_delete (operand_text a ++ close) ∙ enclosed_reads 7 a h.a_most ∙ ap (checked 7 a) (sym z) ∙ checked_reads 7 a b ok)
     & no_row)
-    o.kind all.kind-some all.kind-most all (and_right (leb o.kind 7) (allowed 26 o.kind a b) ok)
+    o.kind all.kind_some all.kind_most all (and_right (leb o.kind 7) (allowed 26 o.kind a b) ok)
 
 -- ---- lines
 
-no-line-word : (s w : List ℕ) → starts s w ≡ false → isWord s w ≡ false
-unfolding isWord
-no-line-word s w e = rw e (and-false (eqb (length s) (length w)))
+no_line_word : (s w : List ℕ) → starts s w ≡ false → is_word s w ≡ false
+unfolding is_word
+no_line_word s w e = rw e (and_false (eqb (length s) (length w)))
 
 -- what begins with none of the other lines' words is read as an operation
-line-operation : (s : List ℕ) → starts s end ≡ false → starts s mark ≡ false → starts s while ≡ false → starts s if ≡ false → line_of s ≡ operationOf s
+line_operation : (s : List ℕ) → starts s end ≡ false → starts s mark ≡ false → starts s while ≡ false → starts s if ≡ false → line_of s ≡ operation_of s
 unfolding line_of
-line-operation s e m w i = rw (no-line-word s end e, m, w, i) refl
+line_operation s e m w i = rw (no_line_word s end e, m, w, i) refl
 
-plain-line : (a : ℕ) (t : List ℕ) → Apart t → line_of (operandText a ++ t) ≡ operationOf (operandText a ++ t)
+plain_line : (a : ℕ) (t : List ℕ) → Apart t → line_of (operand_text a ++ t) ≡ operation_of (operand_text a ++ t)
 unfolding starts
-plain-line a t apart =
-    line-operation (operandText a ++ t) (no_word a t 101 (drop 1 end) refl apart.end-not) (no_word a t 109 (drop 1 mark) refl apart.mark-not)
-    (no_word a t 119 (drop 1 while) refl apart.while-not) (no_word a t 105 (drop 1 if) refl apart.if-not)
+plain_line a t apart =
+    line_operation (operand_text a ++ t) (no_word a t 101 (drop 1 end) refl apart.end_not) (no_word a t 109 (drop 1 mark) refl apart.mark_not)
+    (no_word a t 119 (drop 1 while) refl apart.while_not) (no_word a t 105 (drop 1 if) refl apart.if_not)
 
-new_line : (t : List ℕ) → line_of (new ++ t) ≡ operationOf (new ++ t)
+new_line : (t : List ℕ) → line_of (new ++ t) ≡ operation_of (new ++ t)
 unfolding starts
-new_line t = line-operation (new ++ t) refl refl refl refl
+new_line t = line_operation (new ++ t) refl refl refl refl
 
-delete-line : (t : List ℕ) → line_of (delete ++ t) ≡ operationOf (delete ++ t)
+delete_line : (t : List ℕ) → line_of (delete ++ t) ≡ operation_of (delete ++ t)
 unfolding starts
-delete-line t = line-operation (delete ++ t) refl refl refl refl
+delete_line t = line_operation (delete ++ t) refl refl refl refl
 
-operation-line : (o : Operation) → isOperation o ≡ true → line_of (operationText o) ≡ Perform o
-operation-line o ok =
+operation_line : (o : Operation) → is_operation o ≡ true → line_of (operation_text o) ≡ Perform o
+operation_line o ok =
     let a = o.a in
     let b = o.b in
-    let all = operation-operands o ok in
-    by_kind 7 (λ k. line_of (operationText (record { kind = k; a = a; b = b })) ≡ operationOf (operationText (record { kind = k; a = a; b = b })))
-    (plain-line a (equals ++ operandText b) (blank-apart _)
-    & plain-line a (differs ++ operandText b) (blank-apart _)
-    & plain-line a (gets ++ operandText b) (blank-apart _)
-    & plain-line a (gets ++ (operandText b ++ next)) (blank-apart _)
-    & plain-line a (nextGets ++ operandText b) (point-apart _)
-    & new_line (operandText a ++ close)
-    & delete-line (operandText a ++ close)
+    let all = operation_operands o ok in
+    by_kind 7 (λ k. line_of (operation_text (record { kind = k; a = a; b = b })) ≡ operation_of (operation_text (record { kind = k; a = a; b = b })))
+    (plain_line a (equals ++ operand_text b) (blank_apart _)
+    & plain_line a (differs ++ operand_text b) (blank_apart _)
+    & plain_line a (gets ++ operand_text b) (blank_apart _)
+    & plain_line a (gets ++ (operand_text b ++ next)) (blank_apart _)
+    & plain_line a (next_gets ++ operand_text b) (point_apart _)
+    & new_line (operand_text a ++ close)
+    & delete_line (operand_text a ++ close)
     & no_row)
-    o.kind all.kind-some all.kind-most
-    ∙ operation-reads o ok
+    o.kind all.kind_some all.kind_most
+    ∙ operation_reads o ok
 
 -- ---- T
 
-any-reads : (loops : Bool) → testLine loops any ≡ opens loops (record { kind = 0; a = 0; b = 0 })
-unfolding testLine isWord starts
-any-reads loops = refl
+any_reads : (loops : Bool) → test_line loops any ≡ opens loops (record { kind = 0; a = 0; b = 0 })
+unfolding test_line is_word starts
+any_reads loops = refl
 
 -- no operation is the word `any`
-any-not : (a : ℕ) (t : List ℕ) → starts t (drop 1 any) ≡ false → starts (operandText a ++ t) any ≡ false
+any_not : (a : ℕ) (t : List ℕ) → starts t (drop 1 any) ≡ false → starts (operand_text a ++ t) any ≡ false
 unfolding starts
-any-not a t e = no_word a t 97 (drop 1 any) refl e
+any_not a t e = no_word a t 97 (drop 1 any) refl e
 
-test-operation : (loops : Bool) (o : Operation) → isOperation o ≡ true → o.kind ≤ 2 → starts (operationText o) any ≡ false
-    → testLine loops (operationText o) ≡ opens loops o
-unfolding testLine
-test-operation loops o ok h e = rw (no-line-word (operationText o) any e, operation-reads o ok, le-leb o.kind 2 h) refl
+test_operation : (loops : Bool) (o : Operation) → is_operation o ≡ true → o.kind ≤ 2 → starts (operation_text o) any ≡ false
+    → test_line loops (operation_text o) ≡ opens loops o
+unfolding test_line
+test_operation loops o ok h e = rw (no_line_word (operation_text o) any e, operation_reads o ok, le-leb o.kind 2 h) refl
 
-test-any : (a b : ℕ) (k : ℕ) → 1 ≤ k → k ≤ 2 → starts (operationText (record { kind = k; a = a; b = b })) any ≡ false
+test_any : (a b : ℕ) (k : ℕ) → 1 ≤ k → k ≤ 2 → starts (operation_text (record { kind = k; a = a; b = b })) any ≡ false
 unfolding starts
-test-any a b zero l h = absurd (omega arith)
-test-any a b (suc zero) l h = any-not a (equals ++ operandText b) refl
-test-any a b (suc (suc zero)) l h = any-not a (differs ++ operandText b) refl
-test-any a b (suc (suc (suc k))) l h = absurd (omega arith)
+test_any a b zero l h = absurd (omega arith)
+test_any a b (suc zero) l h = any_not a (equals ++ operand_text b) refl
+test_any a b (suc (suc zero)) l h = any_not a (differs ++ operand_text b) refl
+test_any a b (suc (suc (suc k))) l h = absurd (omega arith)
 
-test-reads : (loops : Bool) (kind a b : ℕ) → isTest (record { kind = kind; a = a; b = b }) ≡ true
-    → testLine loops (operationText (record { kind = kind; a = a; b = b })) ≡ opens loops (record { kind = kind; a = a; b = b })
-test-reads loops zero a b ok =
+test_reads : (loops : Bool) (kind a b : ℕ) → is_test (record { kind = kind; a = a; b = b }) ≡ true
+    → test_line loops (operation_text (record { kind = kind; a = a; b = b })) ≡ opens loops (record { kind = kind; a = a; b = b })
+test_reads loops zero a b ok =
     let p = eqb-true a 0 (and_left (eqb a 0) (eqb b 0) ok) in
     let q = eqb-true b 0 (and_right (eqb a 0) (eqb b 0) ok) in
-    any-reads loops ∙ ap₂ (λ x y. opens loops (record { kind = 0; a = x; b = y })) (sym p) (sym q)
-test-reads loops (suc k) a b ok =
+    any_reads loops ∙ ap₂ (λ x y. opens loops (record { kind = 0; a = x; b = y })) (sym p) (sym q)
+test_reads loops (suc k) a b ok =
     let o : Operation = record { kind = suc k; a = a; b = b } in
-    let both : leb (suc k) 2 && isOperation o ≡ true = rw (ne_eqb (suc k) 0 (λ e. omega arith)) at ok in
-    let h = leb-true (suc k) 2 (and_left (leb (suc k) 2) (isOperation o) both) in
-    test-operation loops o (and_right (leb (suc k) 2) (isOperation o) both) h (test-any a b (suc k) (omega arith) h)
+    let both : leb (suc k) 2 && is_operation o ≡ true = rw (ne_eqb (suc k) 0 (λ e. omega arith)) at ok in
+    let h = leb-true (suc k) 2 (and_left (leb (suc k) 2) (is_operation o) both) in
+    test_operation loops o (and_right (leb (suc k) 2) (is_operation o) both) h (test_any a b (suc k) (omega arith) h)
 
 -- ---- marks
 
-digit-reads : (k : ℕ) → k < 10 → digitOf (48 + k) ≡ k
-unfolding digitOf
-digit-reads k h = let is : 48 + k - 48 ≡ k = omega arith in simp (le-leb 48 (48 + k) (omega arith), le-leb (48 + k) 57 (omega arith)) is
+digit_reads : (k : ℕ) → k < 10 → digit_of (48 + k) ≡ k
+unfolding digit_of
+digit_reads k h = let is : 48 + k - 48 ≡ k = omega arith in simp (le-leb 48 (48 + k) (omega arith), le-leb (48 + k) 57 (omega arith)) is
 
-mark-one : (k : ℕ) → k < 10 → mark_of (decimal k) ≡ Mark k
-unfolding mark_of markFor
-mark-one k h = rw (lt-ltb k 10 h, digit-reads k h, le-leb k 63 (omega arith)) refl
+mark_one : (k : ℕ) → k < 10 → mark_of (decimal k) ≡ Mark k
+unfolding mark_of mark_for
+mark_one k h = rw (lt-ltb k 10 h, digit_reads k h, le-leb k 63 (omega arith)) refl
 
-mark-two : (k : ℕ) → 10 ≤ k → k ≤ 63 → mark_of (decimal k) ≡ Mark k
-unfolding mark_of markFor
-mark-two k l h =
+mark_two : (k : ℕ) → 10 ≤ k → k ≤ 63 → mark_of (decimal k) ≡ Mark k
+unfolding mark_of mark_for
+mark_two k l h =
     let parts = div-add-mod' k 10 in
     let small : k % 10 < 10 = mod-lt k (omega arith) in
     let some : 1 ≤ k / 10 = omega arith in
     let few : k / 10 < 10 = omega arith in
-    rw (le-ltb k 10 l, digit-reads (k / 10) few, digit-reads (k % 10) small, le-leb 1 (k / 10) some, parts, le-leb k 63 h) refl
+    rw (le-ltb k 10 l, digit_reads (k / 10) few, digit_reads (k % 10) small, le-leb 1 (k / 10) some, parts, le-leb k 63 h) refl
 
-mark-reads : (k : ℕ) → k ≤ 63 → mark_of (decimal k) ≡ Mark k
-mark-reads k h = by_size (dec_lt k 10)
+mark_reads : (k : ℕ) → k ≤ 63 → mark_of (decimal k) ≡ Mark k
+mark_reads k h = by_size (dec_lt k 10)
   where
     by_size : Dec (k < 10) → mark_of (decimal k) ≡ Mark k
-    by_size (yes s) = mark-one k s
-    by_size (no s) = mark-two k (omega arith) h
+    by_size (yes s) = mark_one k s
+    by_size (no s) = mark_two k (omega arith) h
 
 -- ---- all lines
 
 end_line : line_of end ≡ End
-unfolding line_of isWord starts
+unfolding line_of is_word starts
 end_line = refl
 
-mark-line : (t : List ℕ) → line_of (mark ++ t) ≡ mark_of t
+mark_line : (t : List ℕ) → line_of (mark ++ t) ≡ mark_of t
 unfolding line_of starts
-mark-line t = rw (no-line-word (mark ++ t) end refl) refl
+mark_line t = rw (no_line_word (mark ++ t) end refl) refl
 
-while-line : (t : List ℕ) → line_of (while ++ t) ≡ testLine true t
+while_line : (t : List ℕ) → line_of (while ++ t) ≡ test_line true t
 unfolding line_of starts
-while-line t = rw (no-line-word (while ++ t) end refl) refl
+while_line t = rw (no_line_word (while ++ t) end refl) refl
 
-if-line : (t : List ℕ) → line_of (if ++ t) ≡ testLine false t
+if_line : (t : List ℕ) → line_of (if ++ t) ≡ test_line false t
 unfolding line_of starts
-if-line t = rw (no-line-word (if ++ t) end refl) refl
+if_line t = rw (no_line_word (if ++ t) end refl) refl
 
 -- the text of a line reads as the line
-pub text-reads : (l : Line) → is_line l ≡ true → line_of (lineText l) ≡ l
-text-reads (Perform o) ok = operation-line o ok
-text-reads (While t) ok = while-line (operationText t) ∙ test-reads true t.kind t.a t.b ok
-text-reads (If t) ok = if-line (operationText t) ∙ test-reads false t.kind t.a t.b ok
-text-reads End ok = end_line
-text-reads (Mark k) ok = mark-line (decimal k) ∙ mark-reads k (leb-true k 63 ok)
-text-reads Other ok = let z : false ≡ true = ok in cc
+pub text_reads : (l : Line) → is_line l ≡ true → line_of (line_text l) ≡ l
+text_reads (Perform o) ok = operation_line o ok
+text_reads (While t) ok = while_line (operation_text t) ∙ test_reads true t.kind t.a t.b ok
+text_reads (If t) ok = if_line (operation_text t) ∙ test_reads false t.kind t.a t.b ok
+text_reads End ok = end_line
+text_reads (Mark k) ok = mark_line (decimal k) ∙ mark_reads k (leb-true k 63 ok)
+text_reads Other ok = let z : false ≡ true = ok in cc

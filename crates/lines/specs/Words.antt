@@ -33,8 +33,8 @@ gets = 32 ∷ 58 ∷ 61 ∷ 32 ∷ []
 abbrev pub next : List ℕ
 next = 46 ∷ 110 ∷ 101 ∷ 120 ∷ 116 ∷ []
 
-abbrev pub nextGets : List ℕ
-nextGets = 46 ∷ 110 ∷ 101 ∷ 120 ∷ 116 ∷ 32 ∷ 58 ∷ 61 ∷ 32 ∷ []
+abbrev pub next_gets : List ℕ
+next_gets = 46 ∷ 110 ∷ 101 ∷ 120 ∷ 116 ∷ 32 ∷ 58 ∷ 61 ∷ 32 ∷ []
 
 -- "new(", "delete(", ")"
 abbrev pub new : List ℕ
@@ -52,5 +52,5 @@ starts bytes [] = true
 starts [] (c ∷ word) = false
 starts (b ∷ bytes) (c ∷ word) = eqb b c && starts bytes word
 
-unfoldable pub isWord : List ℕ → List ℕ → Bool
-isWord bytes word = eqb (length bytes) (length word) && starts bytes word
+unfoldable pub is_word : List ℕ → List ℕ → Bool
+is_word bytes word = eqb (length bytes) (length word) && starts bytes word

@@ -1,7 +1,7 @@
 // One line of a listing, read from its bytes.
 ghost use Rattle.std.specs.Prelude.{true, ◌≡◌, ◌≤◌, length};
-ghost use Rattle.lines.specs.Words.{starts, isWord};
-ghost use Rattle.lines.specs.Line.{letterOf, operandOf, checked, enclosedOf, second_of, betweenOf, operationOf, opens, testLine, digitOf, markFor, mark_of, line_of};
+ghost use Rattle.lines.specs.Words.{starts, is_word};
+ghost use Rattle.lines.specs.Line.{letter_of, operand_of, checked, enclosed_of, second_of, between_of, operation_of, opens, test_line, digit_of, mark_for, mark_of, line_of};
 
 use kinds::{ASSIGN, DELETE, DIFFERENT, EQUAL, LOAD, NEW, STORE, allows};
 
@@ -53,7 +53,7 @@ fn has_front(bytes: &[u8], word: &[u8]) -> bool
 
 // Whether bytes are a word.
 fn is_word(bytes: &[u8], word: &[u8]) -> bool
-    ensures { result ≡ isWord bytes.now word.now }
+    ensures { result ≡ is_word bytes.now word.now }
 {
     if bytes.len() != word.len() {
         return false;
@@ -63,7 +63,7 @@ fn is_word(bytes: &[u8], word: &[u8]) -> bool
 
 // A letter's number; 27 for any other byte.
 fn letter(byte: u8) -> u8
-    ensures { result ≡ letterOf byte }
+    ensures { result ≡ letter_of byte }
 {
     if byte < 97 {
         return 27;
@@ -76,7 +76,7 @@ fn letter(byte: u8) -> u8
 
 // The operand that bytes begin with.
 fn read_operand(bytes: &[u8]) -> Operand
-    ensures { (result ≡ operandOf bytes.now) × (result.length ≤ length bytes.now) }
+    ensures { (result ≡ operand_of bytes.now) × (result.length ≤ length bytes.now) }
 {
     if has_front(bytes, b"null") {
         return Operand {
@@ -108,7 +108,7 @@ fn check_table(kind: u8, a: u8, b: u8) -> Line
 
 // After `new(` or `delete(`.
 fn read_enclosed(kind: u8, bytes: &[u8]) -> Line
-    ensures { result ≡ enclosedOf kind bytes.now }
+    ensures { result ≡ enclosed_of kind bytes.now }
 {
     let a = read_operand(bytes);
     let length = a.length;
@@ -138,7 +138,7 @@ fn read_second(kind: u8, a: u8, bytes: &[u8]) -> Line
 
 // After the first operand.
 fn read_between(a: u8, bytes: &[u8]) -> Line
-    ensures { result ≡ betweenOf a bytes.now }
+    ensures { result ≡ between_of a bytes.now }
 {
     if has_front(bytes, b" = ") {
         return read_second(EQUAL, a, &bytes[3..]);
@@ -157,7 +157,7 @@ fn read_between(a: u8, bytes: &[u8]) -> Line
 
 // An operation.
 fn read_operation(bytes: &[u8]) -> Line
-    ensures { result ≡ operationOf bytes.now }
+    ensures { result ≡ operation_of bytes.now }
 {
     if has_front(bytes, b"new(") {
         return read_enclosed(NEW, &bytes[4..]);
@@ -182,7 +182,7 @@ fn open(loops: bool, test: Operation) -> Line
 
 // After `while ` or `if `.
 fn read_test(loops: bool, bytes: &[u8]) -> Line
-    ensures { result ≡ testLine loops bytes.now }
+    ensures { result ≡ test_line loops bytes.now }
 {
     if is_word(bytes, b"any") {
         return open(
@@ -206,7 +206,7 @@ fn read_test(loops: bool, bytes: &[u8]) -> Line
 
 // A digit's number; 64 for any other byte.
 fn digit(byte: u8) -> usize
-    ensures { (result ≡ digitOf byte) × (result ≤ 64) }
+    ensures { (result ≡ digit_of byte) × (result ≤ 64) }
 {
     if byte < 48 {
         return 64;
@@ -219,7 +219,7 @@ fn digit(byte: u8) -> usize
 
 // The mark of a number.
 fn mark_for(k: usize) -> Line
-    ensures { result ≡ markFor k }
+    ensures { result ≡ mark_for k }
 {
     if k <= 63 {
         return Line::Mark(k);

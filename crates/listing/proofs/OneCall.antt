@@ -10,68 +10,68 @@ use native.Mathlib.Omega.{arith}
 use lib.Dec.{eqb}
 use lib.ListN.{length, length-set, length-replicate, get_or, get_or-replicate, set, replicate}
 use lib.Seq.{get_or-set_same, get_or-set_other}
-use Rattle.lists.specs.List.{◌∈◌, Every, Distinct, concatMap}
+use Rattle.lists.specs.List.{◌∈◌, Every, Distinct, concat_map}
 use Rattle.lists.specs.Range.{range}
 use Rattle.lists.proofs.Range.{tabled}
 use Rattle.number.specs.NumberList.{encode}
 use Rattle.number.specs.Range.{AtMost}
-use Rattle.number.proofs.Encoding.{encode-bytes}
+use Rattle.number.proofs.Encoding.{encode_bytes}
 use Rattle.run.specs.Run.{Transition, Located}
 use Rattle.format.specs.JobBytes.{Between, TransitionInRange, LocatedInRange, JobInRange}
-use Rattle.format.specs.JobNumbers.{transitionNumbers}
-use Rattle.format.proofs.Written.{at-most-all, transition-at-most}
+use Rattle.format.specs.JobNumbers.{transition_numbers}
+use Rattle.format.proofs.Written.{at_most_all, transition_at_most}
 use Rattle.lines.specs.declared.Line.{Line}
-use Rattle.listing.specs.LineByLine.{reached, begin, goOn, translateBy}
+use Rattle.listing.specs.LineByLine.{reached, begin, go_on, translate_by}
 use Rattle.listing.specs.Limits.{WithinLimits}
-use Rattle.listing.specs.Listing.{marksIn}
-use Rattle.listing.specs.Names.{variablesFor}
-use Rattle.listing.specs.Reading.{nothingSeen, Fault, firstFault, meetLines, Listing, listingOf, listed, unless}
-use Rattle.listing.specs.Text.{lines_of, linesIn}
-use Rattle.listing.specs.Translation.{end, lines, MarkState, marks, transitionsOf, statesOf, marksOf, state_of}
-use Rattle.listing.specs.Written.{fileOf, numbersAhead, orNone, markStates, inRoom, translateRead, translate}
-use Rattle.listing.proofs.Emitted.{Emitted, emitAll, setAll, adding, end-next, emit-block}
+use Rattle.listing.specs.Listing.{marks_in}
+use Rattle.listing.specs.Names.{variables_for}
+use Rattle.listing.specs.Reading.{nothing_seen, Fault, first_fault, meet_lines, Listing, listing_of, listed, unless}
+use Rattle.listing.specs.Text.{lines_of, lines_in}
+use Rattle.listing.specs.Translation.{end, lines, MarkState, marks, transitions_of, states_of, marks_of, state_of}
+use Rattle.listing.specs.Written.{file_of, numbers_ahead, or_none, mark_states, in_room, translate_read, translate}
+use Rattle.listing.proofs.Emitted.{Emitted, emit_all, set_all, adding, end_next, emit_block}
 use Rattle.listing.proofs.Faultless.{Faultless, faultless}
-use Rattle.listing.proofs.Fits.{fineIn}
-use Rattle.listing.proofs.Lines.{Proper, proper-lines}
-use Rattle.listing.proofs.Names.{numbered-all, number-block, variables-range}
-use Rattle.listing.proofs.Numbers.{states-below, few-transitions}
-use Rattle.listing.proofs.OnePass.{numberedLine, numberedAll, position, told, agrees}
+use Rattle.listing.proofs.Fits.{fine_in}
+use Rattle.listing.proofs.Lines.{Proper, proper_lines}
+use Rattle.listing.proofs.Names.{numbered_all_lem, number_block, variables_range}
+use Rattle.listing.proofs.Numbers.{states_below, few_transitions}
+use Rattle.listing.proofs.OnePass.{numbered_line, numbered_all, position, told, agrees}
 use Rattle.listing.proofs.Operations.{named}
-use Rattle.listing.proofs.Read.{next-lines, fits-variables, lettered, lines_are, within-limits}
-use Rattle.listing.proofs.Theorem.{numbers, numbers-in}
+use Rattle.listing.proofs.Read.{next_lines, fits_variables, lettered, lines_are, within_limits}
+use Rattle.listing.proofs.Theorem.{numbers, numbers_in}
 
 -- ---- the job of a listing is in range, apart from what it forbids
 
 module _ (l : Listing) (ok : WithinLimits l) where
-  pub some-states : 1 ≤ statesOf l.statements
-  some-states = omega (arith, next-lines l.statements 1)
+  pub some_states : 1 ≤ states_of l.statements
+  some_states = omega (arith, next_lines l.statements 1)
 
   abbrev variables : ℕ
-  variables = variablesFor l.names
+  variables = variables_for l.names
 
-  transitions-in-range : (t : Transition) → t ∈ transitionsOf l.statements → TransitionInRange 1 variables (statesOf l.statements) t
-  transitions-in-range t m =
-      let (a, b) = states-below l.statements t m in
-      record { from = a; op = named variables t.op (fineIn l.statements variables 0 1 (fits-variables l ok) t m); to = b }
+  transitions_in_range : (t : Transition) → t ∈ transitions_of l.statements → TransitionInRange 1 variables (states_of l.statements) t
+  transitions_in_range t m =
+      let (a, b) = states_below l.statements t m in
+      record { from = a; op = named variables t.op (fine_in l.statements variables 0 1 (fits_variables l ok) t m); to = b }
 
-  pub in-range : (bads : List Located) → Between 1 64 (length bads)
-      → Every (LocatedInRange 1 variables (statesOf l.statements)) bads → JobInRange (fileOf l bads)
-  in-range bads n each =
+  pub in_range : (bads : List Located) → Between 1 64 (length bads)
+      → Every (LocatedInRange 1 variables (states_of l.statements)) bads → JobInRange (file_of l bads)
+  in_range bads n each =
       record {
         version = (omega arith, omega arith);
-        variables = variables-range l.names ok.names;
-        states = (some-states, ok.states);
-        start = some-states;
-        transitions-number = let few = few-transitions l.statements ok.states in omega arith;
-        transitions = transitions-in-range;
-        forbidden-number = n;
+        variables = variables_range l.names ok.names;
+        states = (some_states, ok.states);
+        start = some_states;
+        transitions_number = let few = few_transitions l.statements ok.states in omega arith;
+        transitions = transitions_in_range;
+        forbidden_number = n;
         forbidden = each;
       }
 
-  pub ahead_small : (most : ℕ) → 94 ≤ most → AtMost most (numbersAhead (fileOf l []))
+  pub ahead_small : (most : ℕ) → 94 ≤ most → AtMost most (numbers_ahead (file_of l []))
   ahead_small most enough =
-      let (v, w) = variables-range l.names ok.names in
-      let few = few-transitions l.statements ok.states in
+      let (v, w) = variables_range l.names ok.names in
+      let few = few_transitions l.statements ok.states in
       let s = ok.states in (
         omega arith,
         (
@@ -82,8 +82,8 @@ module _ (l : Listing) (ok : WithinLimits l) where
               omega arith,
               (
                 omega arith,
-                at-most-all most transitionNumbers (transitionsOf l.statements)
-                    (λ t i. transition-at-most most (omega arith) 1 variables (statesOf l.statements) t w s (transitions-in-range t i)),
+                at_most_all most transition_numbers (transitions_of l.statements)
+                    (λ t i. transition_at_most most (omega arith) 1 variables (states_of l.statements) t w s (transitions_in_range t i)),
               ),
             ),
           ),
@@ -91,8 +91,8 @@ module _ (l : Listing) (ok : WithinLimits l) where
       )
 
   -- every number ahead of B is one byte
-  pub ahead-bytes : encode (numbersAhead (fileOf l [])) ≡ numbersAhead (fileOf l [])
-  ahead-bytes = encode-bytes (numbersAhead (fileOf l [])) (ahead_small 127 (omega arith))
+  pub ahead_bytes : encode (numbers_ahead (file_of l [])) ≡ numbers_ahead (file_of l [])
+  ahead_bytes = encode_bytes (numbers_ahead (file_of l [])) (ahead_small 127 (omega arith))
 
 -- ---- the marks' states
 
@@ -101,21 +101,21 @@ abbrev or_else : Option ℕ → ℕ → ℕ
 or_else none d = d
 or_else (some q) d = q
 
-set-length : (ms : List MarkState) (l : List ℕ) → length (setAll ms l) ≡ length l
-set-length [] l = refl
-set-length (m ∷ ms) l = set-length ms (set l m.number m.state) ∙ length-set l m.number m.state
+set_length : (ms : List MarkState) (l : List ℕ) → length (set_all ms l) ≡ length l
+set_length [] l = refl
+set_length (m ∷ ms) l = set_length ms (set l m.number m.state) ∙ length-set l m.number m.state
 
 -- a mark that isn't there has no state
-pub no-state : (ms : List MarkState) (k : ℕ) → ¬ (k ∈ numbers ms) → state_of ms k ≡ none
-no-state [] k n = refl
-no-state (m ∷ ms) k n = go (ℕ_discrete m.number k) (no-state ms k (λ i. n (Memᴰ.tail i)))
+pub no_state : (ms : List MarkState) (k : ℕ) → ¬ (k ∈ numbers ms) → state_of ms k ≡ none
+no_state [] k n = refl
+no_state (m ∷ ms) k n = go (ℕ_discrete m.number k) (no_state ms k (λ i. n (Memᴰ.tail i)))
   where
     go : (d : Dec (m.number ≡ k)) → state_of ms k ≡ none → ite d (some m.state) (state_of ms k) ≡ none
     go (yes e) w = absurd (n (Memᴰ.head (sym e)))
     go (no u) w = w
 
 set_at : (ms : List MarkState) (l : List ℕ) (i : ℕ) → Distinct (numbers ms) → ((k : ℕ) → k ∈ numbers ms → k < length l)
-    → get_or (setAll ms l) i 64 ≡ or_else (state_of ms i) (get_or l i 64)
+    → get_or (set_all ms l) i 64 ≡ or_else (state_of ms i) (get_or l i 64)
 set_at [] l i d b = refl
 set_at (m ∷ ms) l i d b =
     set_at ms (set l m.number m.state) i d.1
@@ -125,24 +125,24 @@ set_at (m ∷ ms) l i d b =
     go : (e : Dec (m.number ≡ i))
         → or_else (state_of ms i) (get_or (set l m.number m.state) i 64) ≡ or_else (ite e (some m.state) (state_of ms i)) (get_or l i 64)
     go (yes e) =
-        ap (λ s. or_else s (get_or (set l m.number m.state) i 64)) (no-state ms i (subst (λ (k : ℕ). ¬ (k ∈ numbers ms)) e d.0))
+        ap (λ s. or_else s (get_or (set l m.number m.state) i 64)) (no_state ms i (subst (λ (k : ℕ). ¬ (k ∈ numbers ms)) e d.0))
         ∙ ap (λ (k : ℕ). get_or (set l m.number m.state) k 64) (sym e)
         ∙ get_or-set_same l m.number m.state 64 (b m.number (Memᴰ.head refl))
     go (no n) = ap (or_else (state_of ms i)) (get_or-set_other l m.number i m.state 64 (λ e. n (sym e)))
 
-marks-set : (l : Listing) → WithinLimits l → setAll (marksOf l.statements) (replicate 64 64) ≡ markStates l
-marks-set l ok =
-    let ms = marksOf l.statements in
-    let which : numbers ms ≡ marksIn l.statements = numbers-in l.statements 0 1 in
+marks_set : (l : Listing) → WithinLimits l → set_all (marks_of l.statements) (replicate 64 64) ≡ mark_states l
+marks_set l ok =
+    let ms = marks_of l.statements in
+    let which : numbers ms ≡ marks_in l.statements = numbers_in l.statements 0 1 in
     let none_yet : List ℕ = replicate 64 64 in
     let sized : length none_yet ≡ 64 = length-replicate {A = ℕ} 64 64 in
-    tabled (λ k. orNone (state_of ms k)) 64 64 (setAll ms none_yet) (set-length ms none_yet ∙ sized)
+    tabled (λ k. or_none (state_of ms k)) 64 64 (set_all ms none_yet) (set_length ms none_yet ∙ sized)
     (λ i b.
     set_at ms none_yet i (subst Distinct (sym which) ok.once) (λ k j. let w = ok.marks k (subst (λ s. k ∈ s) which j) in omega (arith, sized))
     ∙ ap (or_else (state_of ms i)) (get_or-replicate {A = ℕ} 64 i 64 64 b)
     ∙ alike (state_of ms i))
   where
-    alike : (s : Option ℕ) → or_else s 64 ≡ orNone s
+    alike : (s : Option ℕ) → or_else s 64 ≡ or_none s
     alike none = refl
     alike (some q) = refl
 
@@ -151,47 +151,47 @@ marks-set l ok =
 abbrev begun : Emitted
 begun = record { passed = 0; opens = []; count = 0; transitions = []; marks = replicate 64 64 }
 
-module _ (ls : List Line) (p : Every Proper ls) (f : Faultless ls nothingSeen) where
+module _ (ls : List Line) (p : Every Proper ls) (f : Faultless ls nothing_seen) where
   abbrev l : Listing
-  l = listingOf ls
+  l = listing_of ls
 
   -- what all lines add
-  all-added : emitAll (numberedAll [] ls) begun
-      ≡ adding [] (end l.statements 0 1) (transitionsOf l.statements) (marksOf l.statements) begun
-  all-added =
-      ap (λ x. emitAll x begun)
-      (numbered-all [] ls
-      ∙ ap (map (numberedLine l.names)) (lines_are ls p f)
-      ∙ number-block l.names (lettered ls p f)
-      ∙ sym (append-nil (linesIn l.statements)))
-      ∙ emit-block l.statements [] begun
+  all_added : emit_all (numbered_all [] ls) begun
+      ≡ adding [] (end l.statements 0 1) (transitions_of l.statements) (marks_of l.statements) begun
+  all_added =
+      ap (λ x. emit_all x begun)
+      (numbered_all_lem [] ls
+      ∙ ap (map (numbered_line l.names)) (lines_are ls p f)
+      ∙ number_block l.names (lettered ls p f)
+      ∙ sym (append-nil (lines_in l.statements)))
+      ∙ emit_block l.statements [] begun
 
-  room-same : (room : ℕ) → translateRead room (listed l) ≡ translateBy room (reached (position l.names (emitAll (numberedAll [] ls) begun)))
-  room-same room =
-      let ok = within-limits ls p f in
-      ap₂ (inRoom room)
-      (ahead-bytes l ok
+  room_same : (room : ℕ) → translate_read room (listed l) ≡ translate_by room (reached (position l.names (emit_all (numbered_all [] ls) begun)))
+  room_same room =
+      let ok = within_limits ls p f in
+      ap₂ (in_room room)
+      (ahead_bytes l ok
       ∙ (λ i.
       1
-      ∷ variablesFor l.names
-      ∷ sym (end-next l.statements 0) i
+      ∷ variables_for l.names
+      ∷ sym (end_next l.statements 0) i
       ∷ 0
-      ∷ sym (count_same (length (transitionsOf l.statements))) i
-      ∷ concatMap transitionNumbers (transitionsOf l.statements)))
-      (sym (marks-set l ok))
-      ∙ ap (λ e. translateBy room (reached (position l.names e))) (sym all-added)
+      ∷ sym (count_same (length (transitions_of l.statements))) i
+      ∷ concat_map transition_numbers (transitions_of l.statements)))
+      (sym (marks_set l ok))
+      ∙ ap (λ e. translate_by room (reached (position l.names e))) (sym all_added)
     where
       count_same : (n : ℕ) → n + 0 ≡ n
       count_same n = omega arith
 
 -- WHAT THE CALL GIVES is what the one pass over the lines gives
-pub one-pass : (text : List ℕ) (room : ℕ) → translate text room ≡ translateBy room (goOn (lines_of text) begin)
+pub one_pass : (text : List ℕ) (room : ℕ) → translate text room ≡ translate_by room (go_on (lines_of text) begin)
 unfolding translate
-one-pass text room =
-    go (firstFault (lines_of text) nothingSeen) refl
-    ∙ ap (translateBy room)
+one_pass text room =
+    go (first_fault (lines_of text) nothing_seen) refl
+    ∙ ap (translate_by room)
     (sym
-    (agrees (lines_of text) (proper-lines text) begun [] []
+    (agrees (lines_of text) (proper_lines text) begun [] []
     (record {
       sized = length-replicate {A = ℕ} 64 64;
       few = omega arith;
@@ -199,8 +199,8 @@ one-pass text room =
       seen = λ k h. sym (ap (λ (q : ℕ). eqb q 64) (get_or-replicate {A = ℕ} 64 k 64 64 (omega arith)));
     })))
   where
-    go : (f : Option Fault) → firstFault (lines_of text) nothingSeen ≡ f
-        → translateRead room (unless f (listingOf (lines_of text)))
-        ≡ translateBy room (told f (position (meetLines [] (lines_of text)) (emitAll (numberedAll [] (lines_of text)) begun)))
-    go none w = room-same (lines_of text) (proper-lines text) (faultless (lines_of text) nothingSeen w) room
+    go : (f : Option Fault) → first_fault (lines_of text) nothing_seen ≡ f
+        → translate_read room (unless f (listing_of (lines_of text)))
+        ≡ translate_by room (told f (position (meet_lines [] (lines_of text)) (emit_all (numbered_all [] (lines_of text)) begun)))
+    go none w = room_same (lines_of text) (proper_lines text) (faultless (lines_of text) nothing_seen w) room
     go (some f) w = refl

@@ -4,15 +4,15 @@ use Rattle.std.specs.Prelude.{[], ◌≡◌, ℕ, suc, ◌≤◌, max, length}
 use Rattle.lists.specs.List.{Every, Distinct}
 use Rattle.heap.specs.Operation.{Op, Allowed}
 use Rattle.format.specs.JobBytes.{Between}
-use Rattle.listing.specs.Listing.{Statement, perform, mark, while, if, Block, done, ◌⨾◌, marksIn}
-use Rattle.listing.specs.Names.{letterIn, blockBy}
-use Rattle.listing.specs.Reading.{meetLines, Listing}
-use Rattle.listing.specs.Text.{operationFor, linesIn}
-use Rattle.listing.specs.Translation.{test, statesOf}
+use Rattle.listing.specs.Listing.{Statement, perform, mark, while, if, Block, done, ◌⨾◌, marks_in}
+use Rattle.listing.specs.Names.{letter_in, block_by}
+use Rattle.listing.specs.Reading.{meet_lines, Listing}
+use Rattle.listing.specs.Text.{operation_for, lines_in}
+use Rattle.listing.specs.Translation.{test, states_of}
 
 -- an operation of a listing with v variables: its kind is 1 to 7, and the table of kinds allows it
 abbrev pub Listable : ℕ → Op → Type 0
-Listable v o = Allowed v o × ((operationFor o).kind ≤ 7)
+Listable v o = Allowed v o × ((operation_for o).kind ≤ 7)
 
 -- every operation and every test is one
 abbrev mutual
@@ -31,19 +31,19 @@ abbrev mutual
   pub depth_of : Statement → ℕ
   depth_of (perform o) = 0
   depth_of (mark k) = 0
-  depth_of (while t b) = suc (depthIn b)
-  depth_of (if t b) = suc (depthIn b)
+  depth_of (while t b) = suc (depth_in b)
+  depth_of (if t b) = suc (depth_in b)
 
-  pub depthIn : Block → ℕ
-  depthIn done = 0
-  depthIn (s ⨾ b) = max (depth_of s) (depthIn b)
+  pub depth_in : Block → ℕ
+  depth_in done = 0
+  depth_in (s ⨾ b) = max (depth_of s) (depth_in b)
 
 pub record WithinLimits (l : Listing) : Type 0 where
   pub letters : Every (Between 1 26) l.names
-  pub first-met : l.names ≡ meetLines [] (linesIn (blockBy (letterIn l.names) l.statements))
+  pub first_met : l.names ≡ meet_lines [] (lines_in (block_by (letter_in l.names) l.statements))
   pub names : length l.names ≤ 8
   pub operands : Fits l.statements (length l.names)
-  pub states : statesOf l.statements ≤ 64
-  pub depth : depthIn l.statements ≤ 16
-  pub once : Distinct (marksIn l.statements)
-  pub marks : Every (λ k. k ≤ 63) (marksIn l.statements)
+  pub states : states_of l.statements ≤ 64
+  pub depth : depth_in l.statements ≤ 16
+  pub once : Distinct (marks_in l.statements)
+  pub marks : Every (λ k. k ≤ 63) (marks_in l.statements)

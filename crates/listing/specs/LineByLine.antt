@@ -1,11 +1,11 @@
 -- Reading and translating in one pass, line by line, as document 01 tells it; the form that a program meets. That it is the translation of what
--- is read is `one-pass` in proofs/OneCall.
+-- is read is `one_pass` in proofs/OneCall.
 use Rattle.std.specs.Prelude.{Bool, true, false, ◌||◌, cond, List, [], ◌∷◌, ◌++◌, ℕ, suc, eqb, leb, ltb, length, get_or, set, replicate}
 use Rattle.lines.specs.declared.Line.{Line}
 use Rattle.lines.specs.declared.Line.TheVariants.{Perform, While, If, End, Mark, Other}
 use Rattle.lines.specs.declared.Operation.{Operation}
-use Rattle.listing.specs.Names.{meet, number_in, variablesFor}
-use Rattle.listing.specs.Written.{Translated, untranslated, inRoom}
+use Rattle.listing.specs.Names.{meet, number_in, variables_for}
+use Rattle.listing.specs.Written.{Translated, untranslated, in_room}
 
 -- a `while` (it loops) or an `if` that is open: T, with its operands numbered, and the state from which T leads
 pub record Open : Type 0 where
@@ -36,18 +36,18 @@ abbrev pub numbered : List ℕ → Operation → Operation
 numbered names o = record { kind = o.kind; a = number_in names o.a; b = number_in names o.b }
 
 -- (from, kind, a, b, to)
-abbrev pub arrowNumbers : ℕ → Operation → ℕ → List ℕ
-arrowNumbers p o q = p ∷ o.kind ∷ o.a ∷ o.b ∷ q ∷ []
+abbrev pub arrow_numbers : ℕ → Operation → ℕ → List ℕ
+arrow_numbers p o q = p ∷ o.kind ∷ o.a ∷ o.b ∷ q ∷ []
 
 -- "For `any`, T and its opposite are null = null."
-abbrev pub skipNumbers : Operation
-skipNumbers = record { kind = 1; a = 0; b = 0 }
+abbrev pub skip_numbers : Operation
+skip_numbers = record { kind = 1; a = 0; b = 0 }
 
-abbrev pub testNumbers : Operation → Operation
-testNumbers t = cond (eqb t.kind 0) skipNumbers t
+abbrev pub test_numbers : Operation → Operation
+test_numbers t = cond (eqb t.kind 0) skip_numbers t
 
-abbrev pub oppositeNumbers : Operation → Operation
-oppositeNumbers t = cond (eqb t.kind 0) skipNumbers (record { kind = cond (eqb t.kind 1) 2 1; a = t.a; b = t.b })
+abbrev pub opposite_numbers : Operation → Operation
+opposite_numbers t = cond (eqb t.kind 0) skip_numbers (record { kind = cond (eqb t.kind 1) 2 1; a = t.a; b = t.b })
 
 -- "An operation leads to a new state."
 abbrev pub operated : Operation → LinePosition → LinePosition
@@ -58,7 +58,7 @@ operated o s =
       names = names;
       opens = s.opens;
       count = suc s.count;
-      transitions = s.transitions ++ arrowNumbers s.passed (numbered names o) (suc s.passed);
+      transitions = s.transitions ++ arrow_numbers s.passed (numbered names o) (suc s.passed);
       marks = s.marks;
     }
 
@@ -70,7 +70,7 @@ marked k s =
       names = s.names;
       opens = s.opens;
       count = suc s.count;
-      transitions = s.transitions ++ arrowNumbers s.passed skipNumbers (suc s.passed);
+      transitions = s.transitions ++ arrow_numbers s.passed skip_numbers (suc s.passed);
       marks = set s.marks k s.passed;
     }
 
@@ -83,7 +83,7 @@ opened loops t s =
       names = names;
       opens = record { loops = loops; test = numbered names t; state = s.passed } ∷ s.opens;
       count = suc s.count;
-      transitions = s.transitions ++ arrowNumbers s.passed (testNumbers (numbered names t)) (suc s.passed);
+      transitions = s.transitions ++ arrow_numbers s.passed (test_numbers (numbered names t)) (suc s.passed);
       marks = s.marks;
     }
 
@@ -99,7 +99,7 @@ closed o os s =
       count = suc (suc s.count);
       transitions =
           s.transitions
-          ++ (arrowNumbers s.passed skipNumbers (cond o.loops o.state new) ++ arrowNumbers o.state (oppositeNumbers o.test) new);
+          ++ (arrow_numbers s.passed skip_numbers (cond o.loops o.state new) ++ arrow_numbers o.state (opposite_numbers o.test) new);
       marks = s.marks;
     }
 
@@ -129,16 +129,16 @@ abbrev pub lastly : List Open → LinePosition → Outcome
 lastly [] s = reached s
 lastly (o ∷ os) s = refused 17 (suc s.passed)
 
-unfoldable pub goOn : List Line → LinePosition → Outcome
-goOn [] s = lastly s.opens s
-goOn (l ∷ ls) s = onward (advance l s) (goOn ls)
+unfoldable pub go_on : List Line → LinePosition → Outcome
+go_on [] s = lastly s.opens s
+go_on (l ∷ ls) s = onward (advance l s) (go_on ls)
 
 -- ---- the call, by this pass
 
 -- the bytes ahead of B: all numbers are below 128, so that each is one byte
-abbrev pub bytesAhead : LinePosition → List ℕ
-bytesAhead s = 1 ∷ variablesFor s.names ∷ suc s.passed ∷ 0 ∷ s.count ∷ s.transitions
+abbrev pub bytes_ahead : LinePosition → List ℕ
+bytes_ahead s = 1 ∷ variables_for s.names ∷ suc s.passed ∷ 0 ∷ s.count ∷ s.transitions
 
-abbrev pub translateBy : ℕ → Outcome → Translated
-translateBy room (reached s) = inRoom room (bytesAhead s) s.marks
-translateBy room (refused number line) = untranslated number line
+abbrev pub translate_by : ℕ → Outcome → Translated
+translate_by room (reached s) = in_room room (bytes_ahead s) s.marks
+translate_by room (refused number line) = untranslated number line

@@ -1,7 +1,7 @@
 -- What a translation promises: its marks are reached as the listing says, its bytes begin jobs with its transitions, and what a job that begins
 -- so and is accepted forbids at a mark's state, no run over the listing's statements meets at the mark.
 use Rattle.std.specs.Prelude.{true, List, [], ◌∷◌, ◌++◌, ◌↔◌, ◌≡◌, ℕ, length, get_or, drop}
-use Rattle.lists.specs.List.{◌∈◌, Every, concatMap}
+use Rattle.lists.specs.List.{◌∈◌, Every, concat_map}
 use Rattle.number.specs.CallResult.{CallResult, lent}
 use Rattle.number.specs.NumberList.{encode}
 use Rattle.heap.specs.Heap.{Heap, IsCell}
@@ -11,28 +11,28 @@ use Rattle.shape.specs.Shape.{Satisfies}
 use Rattle.run.specs.Run.{Located}
 use Rattle.format.specs.Conditions.{Acceptable}
 use Rattle.format.specs.JobBytes.{Between, LocatedInRange, IsJob}
-use Rattle.format.specs.JobNumbers.{JobFile, locatedNumbers}
+use Rattle.format.specs.JobNumbers.{JobFile, located_numbers}
 use Rattle.forbidden.specs.MetFrom.{MetFrom}
-use Rattle.forbidden.specs.Sets.{stepsThrough, Forbids}
-use Rattle.forbidden.specs.Written.{ReadySet, not-list, lost-block, bad-steps, shapesOf, isInside, written, rewrite}
+use Rattle.forbidden.specs.Sets.{steps_through, Forbids}
+use Rattle.forbidden.specs.Written.{ReadySet, not_list, lost_block, bad_steps, shapes_of, is_inside, written, rewrite}
 use Rattle.listing.specs.Listing.{perform, Block, ◌⨾◌, Remains, Reaches}
-use Rattle.listing.specs.Names.{variablesFor}
+use Rattle.listing.specs.Names.{variables_for}
 use Rattle.listing.specs.Reading.{Listing, listed, read, write}
-use Rattle.listing.specs.Translation.{transitionsOf, statesOf, ReachesState}
-use Rattle.listing.specs.Written.{fileOf, translate, translateResult, bytesAfter, marksAfter}
+use Rattle.listing.specs.Translation.{transitions_of, states_of, ReachesState}
+use Rattle.listing.specs.Written.{file_of, translate, translate_result, bytes_after, marks_after}
 
 -- B and the forbidden shapes, as bytes
-abbrev pub forbiddenBytes : List Located → List ℕ
-forbiddenBytes bads = encode (length bads ∷ concatMap (locatedNumbers 1) bads)
+abbrev pub forbidden_bytes : List Located → List ℕ
+forbidden_bytes bads = encode (length bads ∷ concat_map (located_numbers 1) bads)
 
 -- shapes that a job with the listing's variables and states may forbid
 abbrev pub InRangeFor : Listing → List Located → Type 0
 InRangeFor l bads =
-    Between 1 64 (length bads) × Every (LocatedInRange 1 (variablesFor l.names) (statesOf l.statements)) bads
+    Between 1 64 (length bads) × Every (LocatedInRange 1 (variables_for l.names) (states_of l.statements)) bads
 
 -- the shapes of a ready set, for the listing's variables and transitions
-abbrev pub setFor : Listing → ReadySet → List Located
-setFor l set = shapesOf set (variablesFor l.names) (transitionsOf l.statements)
+abbrev pub set_for : Listing → ReadySet → List Located
+set_for l set = shapes_of set (variables_for l.names) (transitions_of l.statements)
 
 -- The heaps with which mark k is reached, where its state is among `marks`, satisfy none of these shapes.
 abbrev pub NeverAtMark : Listing → List ℕ → List Located → Type 0
@@ -42,16 +42,16 @@ NeverAtMark l marks bads =
 -- What a ready set says of runs over statements. Asked for at the state of mark k: whenever a run reaches mark k, # is met from x; every cell is met
 -- from x. Without variable or state: before every step through a variable it stands at a cell.
 abbrev pub OnStatements : ReadySet → Listing → List ℕ → Type 0
-OnStatements (not-list x q) l marks = (k : ℕ) (h : Heap) → get_or marks k 64 ≡ q → Reaches l.statements k h → MetFrom h x null
-OnStatements (lost-block x q) l marks =
+OnStatements (not_list x q) l marks = (k : ℕ) (h : Heap) → get_or marks k 64 ≡ q → Reaches l.statements k h → MetFrom h x null
+OnStatements (lost_block x q) l marks =
     (k : ℕ) (h : Heap) → get_or marks k 64 ≡ q → Reaches l.statements k h → (p : ℕ) → IsCell h p → MetFrom h x p
-OnStatements bad-steps l marks =
-    (o : Op) (r : Block) (h : Heap) → Remains l.statements (perform o ⨾ r) h → (v : ℕ) → v ∈ stepsThrough o → IsCell h (h.var v)
+OnStatements bad_steps l marks =
+    (o : Op) (r : Block) (h : Heap) → Remains l.statements (perform o ⨾ r) h → (v : ℕ) → v ∈ steps_through o → IsCell h (h.var v)
 
 -- the job forbids all shapes of the set, and the set is asked for with one of its variables and states
 pub record ForbidsSet (l : Listing) (bads : List Located) (set : ReadySet) : Type 0 where
-  pub inside : isInside set (variablesFor l.names) (statesOf l.statements) ≡ true
-  pub all : Forbids (fileOf l bads).job (setFor l set)
+  pub inside : is_inside set (variables_for l.names) (states_of l.statements) ≡ true
+  pub all : Forbids (file_of l bads).job (set_for l set)
 
 -- of a text, the bytes written and the marks' states
 pub record Promises (text bytes marks : List ℕ) : Type 0 where
@@ -59,32 +59,32 @@ pub record Promises (text bytes marks : List ℕ) : Type 0 where
   pub reads : read text ≡ listed listing
   pub writes : write listing ≡ text
   -- "a run reaches a mark with a heap exactly if the transitions reach the mark's state with that heap"; 64 is no state
-  pub exact : (k : ℕ) (h : Heap) → Reaches listing.statements k h ↔ ReachesState (fileOf listing []).job (get_or marks k 64) h
+  pub exact : (k : ℕ) (h : Heap) → Reaches listing.statements k h ↔ ReachesState (file_of listing []).job (get_or marks k 64) h
   -- with B and forbidden shapes behind them the bytes are the listing's job; and whatever stands behind them, if it is a job, it is the listing's
-  pub job_is : (bads : List Located) → InRangeFor listing bads → IsJob (bytes ++ forbiddenBytes bads) (fileOf listing bads)
-  pub no_other : (rest : List ℕ) (f : JobFile) → IsJob (bytes ++ rest) f → f ≡ fileOf listing f.job.forbidden
+  pub job_is : (bads : List Located) → InRangeFor listing bads → IsJob (bytes ++ forbidden_bytes bads) (file_of listing bads)
+  pub no_other : (rest : List ℕ) (f : JobFile) → IsJob (bytes ++ rest) f → f ≡ file_of listing f.job.forbidden
   -- the calls that write ready shapes into the listing's job leave it the listing's job
-  pub rewritten : (job : List ℕ) (bads : List Located) → IsJob job (fileOf listing bads) → (set : ReadySet) (room : ℕ) (with-set : List ℕ)
+  pub rewritten : (job : List ℕ) (bads : List Located) → IsJob job (file_of listing bads) → (set : ReadySet) (room : ℕ) (with-set : List ℕ)
       → rewrite job set room ≡ written with-set
-      → IsJob with-set (fileOf listing (bads ++ setFor listing set)) × ForbidsSet listing (bads ++ setFor listing set) set
+      → IsJob with-set (file_of listing (bads ++ set_for listing set)) × ForbidsSet listing (bads ++ set_for listing set) set
   -- if the listing's job is accepted with some certificate, what it forbids at a mark's state is never met at the mark
-  pub never : (job : List ℕ) (bads : List Located) → IsJob job (fileOf listing bads) → (certificate : List ℕ) → Acceptable job certificate
+  pub never : (job : List ℕ) (bads : List Located) → IsJob job (file_of listing bads) → (certificate : List ℕ) → Acceptable job certificate
       → NeverAtMark listing marks bads
   -- and the ready sets that it forbids say of runs over statements what they are for
-  pub ready : (job : List ℕ) (bads : List Located) → IsJob job (fileOf listing bads) → (certificate : List ℕ) → Acceptable job certificate
+  pub ready : (job : List ℕ) (bads : List Located) → IsJob job (file_of listing bads) → (certificate : List ℕ) → Acceptable job certificate
       → (set : ReadySet) → ForbidsSet listing bads set → OnStatements set listing marks
 
 -- the output begins with such bytes, the rest of it is as before, and the marks come back beside it
 pub record PromisedIn (text bytes-before marks-before bytes-then Marks-then : List ℕ) : Type 0 where
   pub bytes : List ℕ
   pub marks : List ℕ
-  pub bytes-are : bytes-then ≡ bytes ++ drop (length bytes) bytes-before
-  pub marks-are : Marks-then ≡ lent marks marks-before
+  pub bytes_are : bytes-then ≡ bytes ++ drop (length bytes) bytes-before
+  pub marks_are : Marks-then ≡ lent marks marks-before
   pub promises : Promises text bytes marks
 
 -- what is promised of the result and of every lent byte
 pub record Translates (text bytes-before marks-before : List ℕ) (told : CallResult) (bytes-then Marks-then : List ℕ) : Type 0 where
-  pub result : told ≡ translateResult (translate text (length bytes-before))
-  pub bytes : bytes-then ≡ bytesAfter (translate text (length bytes-before)) bytes-before
-  pub marks : Marks-then ≡ marksAfter (translate text (length bytes-before)) marks-before
+  pub result : told ≡ translate_result (translate text (length bytes-before))
+  pub bytes : bytes-then ≡ bytes_after (translate text (length bytes-before)) bytes-before
+  pub marks : Marks-then ≡ marks_after (translate text (length bytes-before)) marks-before
   pub promise : told.code ≡ 0 → PromisedIn text bytes-before marks-before bytes-then Marks-then

@@ -5,13 +5,13 @@ use Rattle.std.specs.Prelude.{Bool, true, false, ◌||◌, cond, not, List, [], 
 use Rattle.std.proofs.Math.Option.{Option, none, some}
 use Rattle.lists.specs.List.{absent}
 use Rattle.heap.specs.Operation.{Op, kind_of}
-use Rattle.kinds.specs.Kinds.{fromKind}
+use Rattle.kinds.specs.Kinds.{from_kind}
 use Rattle.lines.specs.declared.Line.{Line}
 use Rattle.lines.specs.declared.Line.TheVariants.{Perform, While, If, End, Mark, Other}
 use Rattle.lines.specs.declared.Operation.{Operation}
 use Rattle.listing.specs.Listing.{Test, same, other, any, Statement, perform, mark, while, if, Block, done, ◌⨾◌}
-use Rattle.listing.specs.Names.{meetLine, number_in, letterIn, blockBy}
-use Rattle.listing.specs.Text.{lines_of, text_of, linesIn}
+use Rattle.listing.specs.Names.{meet_line, number_in, letter_in, block_by}
+use Rattle.listing.specs.Text.{lines_of, text_of, lines_in}
 use Rattle.listing.specs.Translation.{skip}
 
 -- ---- refusals
@@ -24,53 +24,53 @@ pub record Seen : Type 0 where
   pub marks : List ℕ
   pub depth : ℕ
 
-abbrev pub nothingSeen : Seen
-nothingSeen = record { passed = 0; names = []; marks = []; depth = 0 }
+abbrev pub nothing_seen : Seen
+nothing_seen = record { passed = 0; names = []; marks = []; depth = 0 }
 
 -- the k of the marks, and how many are open, after one line more
-abbrev pub marksMet : Line → List ℕ → List ℕ
-marksMet (Perform o) marks = marks
-marksMet (While t) marks = marks
-marksMet (If t) marks = marks
-marksMet End marks = marks
-marksMet (Mark k) marks = k ∷ marks
-marksMet Other marks = marks
+abbrev pub marks_met : Line → List ℕ → List ℕ
+marks_met (Perform o) marks = marks
+marks_met (While t) marks = marks
+marks_met (If t) marks = marks
+marks_met End marks = marks
+marks_met (Mark k) marks = k ∷ marks
+marks_met Other marks = marks
 
-abbrev pub depthAfter : Line → ℕ → ℕ
-depthAfter (Perform o) n = n
-depthAfter (While t) n = suc n
-depthAfter (If t) n = suc n
-depthAfter End zero = zero
-depthAfter End (suc n) = n
-depthAfter (Mark k) n = n
-depthAfter Other n = n
+abbrev pub depth_after : Line → ℕ → ℕ
+depth_after (Perform o) n = n
+depth_after (While t) n = suc n
+depth_after (If t) n = suc n
+depth_after End zero = zero
+depth_after End (suc n) = n
+depth_after (Mark k) n = n
+depth_after Other n = n
 
 -- one line more
 abbrev pub see : Line → Seen → Seen
 see l s =
     record {
       passed = suc s.passed;
-      names = meetLine s.names l;
-      marks = marksMet l s.marks;
-      depth = depthAfter l s.depth;
+      names = meet_line s.names l;
+      marks = marks_met l s.marks;
+      depth = depth_after l s.depth;
     }
 
 -- "A line outside the grammar, an `end` with nothing open"; "`mark k`, [..] each k at most once"
-abbrev pub isMisplaced : Line → Seen → Bool
-isMisplaced (Perform o) s = false
-isMisplaced (While t) s = false
-isMisplaced (If t) s = false
-isMisplaced End s = eqb s.depth 0
-isMisplaced (Mark k) s = not (absent k s.marks)
-isMisplaced Other s = true
+abbrev pub is_misplaced : Line → Seen → Bool
+is_misplaced (Perform o) s = false
+is_misplaced (While t) s = false
+is_misplaced (If t) s = false
+is_misplaced End s = eqb s.depth 0
+is_misplaced (Mark k) s = not (absent k s.marks)
+is_misplaced Other s = true
 
 -- "with at most 16 `while` and `if` open at once"
-abbrev pub isTooDeep : Seen → Bool
-isTooDeep s = ltb 16 s.depth
+abbrev pub is_too_deep : Seen → Bool
+is_too_deep s = ltb 16 s.depth
 
 -- "more than 8 names or 64 states": state 0, and one for each line
-abbrev pub isTooMuch : Seen → Bool
-isTooMuch s = ltb 8 (length s.names) || ltb 64 (suc s.passed)
+abbrev pub is_too_much : Seen → Bool
+is_too_much s = ltb 8 (length s.names) || ltb 64 (suc s.passed)
 
 -- a refusal's number and its line, from 1
 pub record Fault : Type 0 where
@@ -81,27 +81,27 @@ abbrev pub fault : ℕ → ℕ → Fault
 fault number line = record { number = number; line = line }
 
 -- "at the first line, from 1, where any of these falls, lowest number first"; "one missing (at the line after the last)"
-unfoldable pub firstFault : List Line → Seen → Option Fault
-firstFault [] s = cond (eqb s.depth 0) none (some (fault 17 (suc s.passed)))
-firstFault (l ∷ ls) s =
+unfoldable pub first_fault : List Line → Seen → Option Fault
+first_fault [] s = cond (eqb s.depth 0) none (some (fault 17 (suc s.passed)))
+first_fault (l ∷ ls) s =
     let here = suc s.passed in
-    let later = firstFault ls (see l s) in
-    cond (isMisplaced l s) (some (fault 17 here))
-    (cond (isTooDeep (see l s)) (some (fault 18 here)) (cond (isTooMuch (see l s)) (some (fault 19 here)) later))
+    let later = first_fault ls (see l s) in
+    cond (is_misplaced l s) (some (fault 17 here))
+    (cond (is_too_deep (see l s)) (some (fault 18 here)) (cond (is_too_much (see l s)) (some (fault 19 here)) later))
 
 -- ---- statements
 
 -- the operation, or the test, that a kind and operands are
 abbrev pub op_of : Operation → Op
-op_of o = fromKind skip (λ k. k.op o.a o.b) (kind_of o.kind)
+op_of o = from_kind skip (λ k. k.op o.a o.b) (kind_of o.kind)
 
-abbrev pub testByKind : ℕ → ℕ → ℕ → Test
-testByKind zero a b = any
-testByKind (suc zero) a b = same a b
-testByKind (suc (suc k)) a b = other a b
+abbrev pub test_by_kind : ℕ → ℕ → ℕ → Test
+test_by_kind zero a b = any
+test_by_kind (suc zero) a b = same a b
+test_by_kind (suc (suc k)) a b = other a b
 
 abbrev pub test_of : Operation → Test
-test_of o = testByKind o.kind o.a o.b
+test_of o = test_by_kind o.kind o.a o.b
 
 -- a statement ahead of the first block
 abbrev pub ahead : Statement → List Block → List Block
@@ -114,36 +114,36 @@ enclosed f [] = []
 enclosed f (b ∷ bs) = ahead (f b) bs
 
 -- one line ahead of the blocks that the lines after it are
-abbrev pub withLine : Line → List Block → List Block
-withLine (Perform o) bs = ahead (perform (op_of o)) bs
-withLine (While t) bs = enclosed (while (test_of t)) bs
-withLine (If t) bs = enclosed (if (test_of t)) bs
-withLine End bs = done ∷ bs
-withLine (Mark k) bs = ahead (mark k) bs
-withLine Other bs = bs
+abbrev pub with_line : Line → List Block → List Block
+with_line (Perform o) bs = ahead (perform (op_of o)) bs
+with_line (While t) bs = enclosed (while (test_of t)) bs
+with_line (If t) bs = enclosed (if (test_of t)) bs
+with_line End bs = done ∷ bs
+with_line (Mark k) bs = ahead (mark k) bs
+with_line Other bs = bs
 
 -- The blocks that lines are: the statements up to the first `end` that closes none of them, those from there up to the next such `end`, and so
 -- on; one block if each `end` closes a `while` or an `if`.
 unfoldable pub blocks : List Line → List Block
 blocks [] = done ∷ []
-blocks (l ∷ ls) = withLine l (blocks ls)
+blocks (l ∷ ls) = with_line l (blocks ls)
 
-abbrev pub firstBlock : List Block → Block
-firstBlock [] = done
-firstBlock (b ∷ bs) = b
+abbrev pub first_block : List Block → Block
+first_block [] = done
+first_block (b ∷ bs) = b
 
 -- the letters once all lines are met
-abbrev pub meetLines : List ℕ → List Line → List ℕ
-meetLines names [] = names
-meetLines names (l ∷ ls) = meetLines (meetLine names l) ls
+abbrev pub meet_lines : List ℕ → List Line → List ℕ
+meet_lines names [] = names
+meet_lines names (l ∷ ls) = meet_lines (meet_line names l) ls
 
 -- a listing: its letters as first met, and its statements, whose operands are 0 or the number of a letter
 pub record Listing : Type 0 where
   pub names : List ℕ
   pub statements : Block
 
-abbrev pub listingOf : List Line → Listing
-listingOf ls = let names = meetLines [] ls in record { names = names; statements = blockBy (number_in names) (firstBlock (blocks ls)) }
+abbrev pub listing_of : List Line → Listing
+listing_of ls = let names = meet_lines [] ls in record { names = names; statements = block_by (number_in names) (first_block (blocks ls)) }
 
 -- a listing, or the refusal
 pub data Reading : Type 0 where
@@ -156,8 +156,8 @@ unless (some f) l = refused f
 
 -- what any list of bytes is
 abbrev pub read : List ℕ → Reading
-read text = unless (firstFault (lines_of text) nothingSeen) (listingOf (lines_of text))
+read text = unless (first_fault (lines_of text) nothing_seen) (listing_of (lines_of text))
 
 -- the text of a listing
 abbrev pub write : Listing → List ℕ
-write l = text_of (linesIn (blockBy (letterIn l.names) l.statements))
+write l = text_of (lines_in (block_by (letter_in l.names) l.statements))

@@ -1,7 +1,7 @@
 // Marks of places by their codes, made ahead of the walk, and the walk along links by marks alone, which counts them.
 ghost use Rattle.std.specs.Prelude.{List, ◌≡◌, ◌≤◌, length};
-ghost use Rattle.layout.specs.ShapeArray.{linksIn};
-ghost use Rattle.marks.specs.Marks.{noImage, isFree, marking, markIn, isStop, walked, stopFrom};
+ghost use Rattle.layout.specs.ShapeArray.{links_in};
+ghost use Rattle.marks.specs.Marks.{no_image, is_free, marking, mark_in, is_stop, walked, stop_from};
 
 use layout::cells_held;
 use number::wide;
@@ -15,7 +15,7 @@ const USED: u8 = 2;
 
 // Marks nowhere, # and * as stops and nothing else, whatever stood in the array.
 pub fn clear(marks: &mut [u8; 28])
-    ensures { marks.new ≡ noImage }
+    ensures { marks.new ≡ no_image }
 {
     *marks = [FREE; 28];
     marks[0] = STOP;
@@ -25,7 +25,7 @@ pub fn clear(marks: &mut [u8; 28])
 
 // Marks a place as a stop: whether it was free. One past the marks is not, and none is made.
 pub fn mark_image(marks: &mut [u8; 28], p: usize) -> bool
-    ensures { (result ≡ isFree marks.old p) × (marks.new ≡ marking marks.old p) }
+    ensures { (result ≡ is_free marks.old p) × (marks.new ≡ marking marks.old p) }
 {
     if 28 <= p {
         return false;
@@ -38,7 +38,7 @@ pub fn mark_image(marks: &mut [u8; 28], p: usize) -> bool
 // The mark of a place in a shape of n cells; one past them counts as used.
 fn mark_at(marks: &[u8; 28], n: usize, p: usize) -> u8
     requires { n ≤ 25 }
-    ensures { (length marks.now ≡ 28) × (result ≡ markIn n marks.now p) }
+    ensures { (length marks.now ≡ 28) × (result ≡ mark_in n marks.now p) }
 {
     let all = &marks[..];
     if p < n + 3 {
@@ -49,7 +49,7 @@ fn mark_at(marks: &[u8; 28], n: usize, p: usize) -> u8
 
 // Whether a place of the shape in an array is a stop.
 pub fn is_stop(s: &[u8; 28], marks: &[u8; 28], p: usize) -> bool
-    ensures { result ≡ isStop s.now marks.now p }
+    ensures { result ≡ is_stop s.now marks.now p }
 {
     mark_at(marks, cells_held(s), p) == STOP
 }
@@ -78,7 +78,7 @@ pub fn walk(s: &[u8; 28], marks: &mut [u8; 28], first: usize) -> WalkEnd
 
 // Follows links from a place on to the first stop; nowhere where as many turns as there are cells lead to none.
 pub fn stop_from(s: &[u8; 28], marks: &[u8; 28], first: usize) -> usize
-    ensures { result ≡ stopFrom (length (linksIn s.now)) s.now marks.now first }
+    ensures { result ≡ stop_from (length (links_in s.now)) s.now marks.now first }
 {
     let n = cells_held(s);
     let mut left = n;

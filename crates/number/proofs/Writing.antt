@@ -12,7 +12,7 @@ use lib.Dec.{ltb}
 use lib.ListN.{length, get_or, take, drop, length-append, length-take, length-drop, take-append-drop, drop_of_length-le}
 use lib.Seq.{drop-cons, sets, sets-eq, take_at, drop_at, drop-drop}
 use Rattle.number.specs.Number.{largest, bytes_of}
-use Rattle.number.specs.NumberList.{encode, firstAbove, answer}
+use Rattle.number.specs.NumberList.{encode, first_above, answer}
 use Rattle.number.specs.declared.Written.TheVariants.{Filled, TooLarge, TooShort}
 
 -- ---- the bytes of one number
@@ -49,37 +49,37 @@ module _ (ns : List ℕ) (i : ℕ) (inside : i < length ns) where
   left : drop i ns ≡ get_or ns i 0 ∷ drop (i + 1) ns
   left = rw add-one (drop-cons ns i 0 inside)
 
-  pub encode-left : encode (drop i ns) ≡ bytes_of (get_or ns i 0) ++ encode (drop (i + 1) ns)
+  pub encode_left : encode (drop i ns) ≡ bytes_of (get_or ns i 0) ++ encode (drop (i + 1) ns)
   unfolding encode
-  encode-left = ap encode left
+  encode_left = ap encode left
 
-  pub length-left : length (encode (drop i ns)) ≡ length (bytes_of (get_or ns i 0)) + length (encode (drop (i + 1) ns))
-  length-left = ap length encode-left ∙ length-append (bytes_of (get_or ns i 0)) (encode (drop (i + 1) ns))
+  pub length_left : length (encode (drop i ns)) ≡ length (bytes_of (get_or ns i 0)) + length (encode (drop (i + 1) ns))
+  length_left = ap length encode_left ∙ length-append (bytes_of (get_or ns i 0)) (encode (drop (i + 1) ns))
 
-  pub above-here : largest < get_or ns i 0 → firstAbove (drop i ns) ≡ 0
-  unfolding firstAbove
-  above-here h = ap firstAbove left ∙ simp (lt-ltb largest (get_or ns i 0) h)
+  pub above_here : largest < get_or ns i 0 → first_above (drop i ns) ≡ 0
+  unfolding first_above
+  above_here h = ap first_above left ∙ simp (lt-ltb largest (get_or ns i 0) h)
 
-  pub above-later : get_or ns i 0 ≤ largest → firstAbove (drop i ns) ≡ suc (firstAbove (drop (i + 1) ns))
-  unfolding firstAbove
-  above-later h = ap firstAbove left ∙ simp (le-ltb largest (get_or ns i 0) h)
+  pub above_later : get_or ns i 0 ≤ largest → first_above (drop i ns) ≡ suc (first_above (drop (i + 1) ns))
+  unfolding first_above
+  above_later h = ap first_above left ∙ simp (le-ltb largest (get_or ns i 0) h)
 
 module _ (ns : List ℕ) (i : ℕ) (past : length ns ≤ i) where
-  pub encode-end : encode (drop i ns) ≡ []
+  pub encode_end : encode (drop i ns) ≡ []
   unfolding encode
-  encode-end = ap encode (drop_of_length-le ns past)
+  encode_end = ap encode (drop_of_length-le ns past)
 
-  pub above-end : firstAbove (drop i ns) ≡ 0
-  unfolding firstAbove
-  above-end = ap firstAbove (drop_of_length-le ns past)
+  pub above_end : first_above (drop i ns) ≡ 0
+  unfolding first_above
+  above_end = ap first_above (drop_of_length-le ns past)
 
-pub small : (ns : List ℕ) (i : ℕ) → firstAbove ns ≡ length ns → i < length ns → get_or ns i 0 ≤ largest
-unfolding firstAbove
+pub small : (ns : List ℕ) (i : ℕ) → first_above ns ≡ length ns → i < length ns → get_or ns i 0 ≤ largest
+unfolding first_above
 small [] i e h = absurd (not-suc-le-zero h)
 small (n ∷ ns) i e h = by_size i h (dec_lt largest n) (small ns)
   where
     by_size : (i : ℕ) → i < suc (length ns) → Dec (largest < n)
-        → ((j : ℕ) → firstAbove ns ≡ length ns → j < length ns → get_or ns j 0 ≤ largest) → get_or (n ∷ ns) i 0 ≤ largest
+        → ((j : ℕ) → first_above ns ≡ length ns → j < length ns → get_or ns j 0 ≤ largest) → get_or (n ∷ ns) i 0 ≤ largest
     by_size i h (yes k) rest = absurd (omega (arith, simp (lt-ltb largest n k) at e))
     by_size zero h (no k) rest = omega arith
     by_size (suc i) h (no k) rest = rest i (omega (arith, simp (le-ltb largest n (omega arith)) at e)) (omega arith)
@@ -104,46 +104,46 @@ module _ (ns out₀ out : List ℕ) (at i : ℕ) (f : Filling ns out₀ out at i
   fill_more out' h room e =
       let bs = bytes_of (get_or ns i 0) in
       let k = length bs in
-      let left-length = length-left ns i h in
+      let left-length = length_left ns i h in
       let written : length (take at out ++ bs) ≡ at + k = simp (length-append, length-take) (omega (arith, f.same, f.ends)) in
       record {
         inside = omega arith;
         same = rw e (length-append (take at out ++ bs) (drop (at + k) out) ∙ omega (arith, written, length-drop (at + k) out, f.same, f.ends));
         ends = omega (arith, f.ends);
         front =
-            rw (e, take_at (take at out ++ bs) (drop (at + k) out) (at + k) written, append_assoc, ← encode-left ns i h) f.front;
+            rw (e, take_at (take at out ++ bs) (drop (at + k) out) (at + k) written, append_assoc, ← encode_left ns i h) f.front;
         rest =
             rw (e, drop_at (take at out ++ bs) (drop (at + k) out) (at + k) written, ← drop-drop k at out, ← drop-drop k at out₀, f.rest);
       }
 
-  pub fill-all : length ns ≤ i → out ≡ encode ns ++ drop (length (encode ns)) out₀
-  fill-all h =
-      let none = encode-end ns i h in
+  pub fill_all : length ns ≤ i → out ≡ encode ns ++ drop (length (encode ns)) out₀
+  fill_all h =
+      let none = encode_end ns i h in
       let e : at ≡ length (encode ns) = omega (arith, f.ends, ap length none) in
       let all : take at out ≡ encode ns = sym (append-nil (take at out)) ∙ ap (λ (r : List ℕ). take at out ++ r) (sym none) ∙ f.front in
       rw (← e) (sym (take-append-drop at out) ∙ ap₂ ◌++◌ all f.rest)
 
 -- ---- the answer
 
-pub above_most : (ns : List ℕ) → firstAbove ns ≤ length ns
-unfolding firstAbove
+pub above_most : (ns : List ℕ) → first_above ns ≤ length ns
+unfolding first_above
 above_most [] = omega arith
 above_most (n ∷ ns) = by_size (ltb largest n) (above_most ns)
   where
-    by_size : (b : Bool) → firstAbove ns ≤ length ns → cond b 0 (suc (firstAbove ns)) ≤ suc (length ns)
+    by_size : (b : Bool) → first_above ns ≤ length ns → cond b 0 (suc (first_above ns)) ≤ suc (length ns)
     by_size true h = omega arith
     by_size false h = omega arith
 
 module _ (ns : List ℕ) (room : ℕ) where
-  pub answer-large : firstAbove ns < length ns → TooLarge (firstAbove ns) ≡ answer ns room
+  pub answer_large : first_above ns < length ns → TooLarge (first_above ns) ≡ answer ns room
   unfolding answer
-  answer-large h = simp (lt-ltb (firstAbove ns) (length ns) h)
+  answer_large h = simp (lt-ltb (first_above ns) (length ns) h)
 
-  module _ (small : length ns ≤ firstAbove ns) where
-    pub answer-short : room < length (encode ns) → TooShort (length (encode ns)) ≡ answer ns room
+  module _ (small : length ns ≤ first_above ns) where
+    pub answer_short : room < length (encode ns) → TooShort (length (encode ns)) ≡ answer ns room
     unfolding answer
-    answer-short h = simp (le-ltb (firstAbove ns) (length ns) small, lt-ltb room (length (encode ns)) h)
+    answer_short h = simp (le-ltb (first_above ns) (length ns) small, lt-ltb room (length (encode ns)) h)
 
-    pub answer-filled : length (encode ns) ≤ room → Filled (length (encode ns)) ≡ answer ns room
+    pub answer_filled : length (encode ns) ≤ room → Filled (length (encode ns)) ≡ answer ns room
     unfolding answer
-    answer-filled h = simp (le-ltb (firstAbove ns) (length ns) small, le-ltb room (length (encode ns)) h)
+    answer_filled h = simp (le-ltb (first_above ns) (length ns) small, le-ltb room (length (encode ns)) h)

@@ -31,6 +31,6 @@ abbrev pub number_at : List ℕ → ℕ → Read
 number_at s at = number_in at (length s - at) (get_or s at 0) (get_or s (at + 1) 0) (get_or s (at + 2) 0)
 
 -- 0 with the number and the next place, or refusal 3 with its place
-abbrev pub readResult : Read → CallResult
-readResult (Number n next) = record { code = 0; values = n ∷ next ∷ [] }
-readResult (Unreadable at) = record { code = 3; values = at ∷ 0 ∷ [] }
+abbrev pub read_result : Read → CallResult
+read_result (Number n next) = record { code = 0; values = n ∷ next ∷ [] }
+read_result (Unreadable at) = record { code = 3; values = at ∷ 0 ∷ [] }

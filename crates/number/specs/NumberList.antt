@@ -37,15 +37,15 @@ abbrev pub decode : List ℕ → DecodedList
 decode s = decode_from (length s) s 0
 
 -- the index of the first number above 65,535; the list's length if there is none
-unfoldable pub firstAbove : List ℕ → ℕ
-firstAbove [] = 0
-firstAbove (n ∷ ns) = cond (ltb largest n) 0 (suc (firstAbove ns))
+unfoldable pub first_above : List ℕ → ℕ
+first_above [] = 0
+first_above (n ∷ ns) = cond (ltb largest n) 0 (suc (first_above ns))
 
 -- What the writer answers where the output has room for so many bytes. "The writer tries 11 over the whole list, then 12; otherwise it
 -- fills the first bytes, touches none beyond and gives how many it filled."
 unfoldable pub answer : List ℕ → ℕ → Written
 answer ns room =
-    cond (ltb (firstAbove ns) (length ns)) (TooLarge (firstAbove ns))
+    cond (ltb (first_above ns) (length ns)) (TooLarge (first_above ns))
     (cond (ltb room (length (encode ns))) (TooShort (length (encode ns))) (Filled (length (encode ns))))
 
 -- the output after that answer: a refused write leaves it as it was
@@ -55,7 +55,7 @@ output (TooLarge i) ns out = out
 output (TooShort k) ns out = out
 
 -- 0 with the bytes filled; 11 with the index; 12 with the length needed
-abbrev pub writeResult : Written → CallResult
-writeResult (Filled k) = record { code = 0; values = k ∷ [] }
-writeResult (TooLarge i) = record { code = 11; values = i ∷ [] }
-writeResult (TooShort k) = record { code = 12; values = k ∷ [] }
+abbrev pub write_result : Written → CallResult
+write_result (Filled k) = record { code = 0; values = k ∷ [] }
+write_result (TooLarge i) = record { code = 11; values = i ∷ [] }
+write_result (TooShort k) = record { code = 12; values = k ∷ [] }

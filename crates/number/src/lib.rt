@@ -1,7 +1,7 @@
 // Numbers as bytes: a reader of one number at any place, and a writer of a list of numbers.
 ghost use Rattle.std.specs.Prelude.{◌≡◌, ◌++◌, ◌+◌, ◌<◌, ◌≤◌, length, get_or, take, drop};
 ghost use Rattle.number.specs.Number.{largest, bytes_of, number_at};
-ghost use Rattle.number.specs.NumberList.{encode, firstAbove, answer, output};
+ghost use Rattle.number.specs.NumberList.{encode, first_above, answer, output};
 
 // What stands at a place: a number and the place after it, or nothing that can be read, with the place asked for.
 #[derive(Drop)]
@@ -69,7 +69,7 @@ fn read_long(bytes: &[u8], at: usize, a: usize) -> Read
 
 // The index of the first number above 65,535, or the list's length.
 fn first_above(numbers: &[u64]) -> usize
-    ensures { result ≡ firstAbove numbers.now }
+    ensures { result ≡ first_above numbers.now }
 {
     let mut i = 0;
     while i < numbers.len() {
@@ -128,7 +128,7 @@ fn put_number(bytes: &mut [u8], at: usize, n: u64) -> usize
 
 // Writes every number, one after the other.
 fn fill(numbers: &[u64], bytes: &mut [u8])
-    requires { (firstAbove numbers.now ≡ length numbers.now) × (length (encode numbers.now) ≤ length bytes.old) }
+    requires { (first_above numbers.now ≡ length numbers.now) × (length (encode numbers.now) ≤ length bytes.old) }
     ensures { bytes.new ≡ encode numbers.now ++ drop (length (encode numbers.now)) bytes.old }
 {
     let mut at = 0;

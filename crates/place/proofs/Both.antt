@@ -5,17 +5,17 @@ use mathlib.Core.Path.{◌≡◌}
 use Prim.Native.Nat.{ℕ}
 use borrow.Author.Tests.{eq-eqb, ne_eqb}
 use Rattle.heap.specs.Place.{nowhere}
-use Rattle.place.specs.Place.{bothNowhere}
+use Rattle.place.specs.Place.{both_nowhere}
 
 module _ (same : Bool) (x y : ℕ) where
-  pub both-not-a : x ≢ nowhere → false ≡ bothNowhere same x y
-  unfolding bothNowhere
-  both-not-a n = simp (ne_eqb x nowhere n)
+  pub both_not_a : x ≢ nowhere → false ≡ both_nowhere same x y
+  unfolding both_nowhere
+  both_not_a n = simp (ne_eqb x nowhere n)
 
-  pub both-not-b : x ≡ nowhere → y ≢ nowhere → false ≡ bothNowhere same x y
-  unfolding bothNowhere
-  both-not-b e n = simp (eq-eqb x nowhere e, ne_eqb y nowhere n)
+  pub both_not_b : x ≡ nowhere → y ≢ nowhere → false ≡ both_nowhere same x y
+  unfolding both_nowhere
+  both_not_b e n = simp (eq-eqb x nowhere e, ne_eqb y nowhere n)
 
-  pub both-two : x ≡ nowhere → y ≡ nowhere → not same ≡ bothNowhere same x y
-  unfolding bothNowhere
-  both-two e f = simp (eq-eqb x nowhere e, eq-eqb y nowhere f)
+  pub both_two : x ≡ nowhere → y ≡ nowhere → not same ≡ both_nowhere same x y
+  unfolding both_nowhere
+  both_two e f = simp (eq-eqb x nowhere e, eq-eqb y nowhere f)

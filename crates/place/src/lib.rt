@@ -2,7 +2,7 @@
 ghost use Rattle.std.specs.Prelude.{◌≡◌};
 ghost use Rattle.heap.specs.Codes.{link_in};
 ghost use Rattle.lists.specs.List.{absent};
-ghost use Rattle.place.specs.Place.{cellPlace, bothNowhere};
+ghost use Rattle.place.specs.Place.{cell_place, both_nowhere};
 
 // The codes of places: "Nowhere, # and * are the codes 0, 1 and 2 of a place; cell i is 3 + i." They are bytes, as slots of arrays are and as tests need, since
 // structs can't be compared. The places of the same names in `Place` are made of them.
@@ -29,7 +29,7 @@ impl Place {
 
     // The cell with a number; nowhere for a number above 252, which has no code.
     pub fn cell(i: u8) -> Self
-        ensures { result ≡ cellPlace i }
+        ensures { result ≡ cell_place i }
     {
         if i < 253 {
             return Self {
@@ -70,7 +70,7 @@ pub fn link_at(links: &[u8], p: Place) -> Place
 
 // Whether two variables, at x and at y, are both nowhere; `same` says that they are one variable and not two.
 pub fn both_nowhere(same: bool, x: Place, y: Place) -> bool
-    ensures { result ≡ bothNowhere same x.code y.code }
+    ensures { result ≡ both_nowhere same x.code y.code }
 {
     if x.code != NOWHERE {
         return false;

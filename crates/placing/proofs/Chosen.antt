@@ -10,23 +10,23 @@ use native.Mathlib.Omega.{arith}
 use borrow.Author.Tests.{lt-ltb, le-ltb, le-leb, lt-leb, eq-eqb, ne_eqb, ltb-true}
 use lib.Dec.{eqb, ltb}
 use lib.ListN.{length}
-use Rattle.lists.specs.List.{◌∈◌, concatMap, keep}
+use Rattle.lists.specs.List.{◌∈◌, concat_map, keep}
 use Rattle.lists.specs.Range.{range}
-use Rattle.lists.proofs.List.{keep-mem, concatMap-mem}
+use Rattle.lists.proofs.List.{keep_mem, concat_map_mem}
 use Rattle.lists.proofs.Test.{and_left}
 use Rattle.heap.specs.Place.{nowhere, null, dangling, cell}
-use Rattle.shape.specs.Placing.{place, placedFrom}
-use Rattle.shape.specs.Shape.{Shape, varAt, size}
-use Rattle.shape.proofs.Laws.{var-set-same, var-set-other}
-use Rattle.shape.proofs.PlacingByNumber.{choice, choicesFrom, choiceFrom, place-by-number}
+use Rattle.shape.specs.Placing.{place, placed_from}
+use Rattle.shape.specs.Shape.{Shape, var_at, size}
+use Rattle.shape.proofs.Laws.{var_set_same, var_set_other}
+use Rattle.shape.proofs.PlacingByNumber.{choice, choices_from, choice_from, place_by_number}
 use Rattle.backward.specs.Predecessors.{retain}
 use Rattle.placing.specs.Choice.{chosen, choice_of, exists, opened, made}
-use Rattle.placing.specs.Retained.{linkOpen, retained, retainedIn}
-use Rattle.placing.proofs.Lists.{concatMap-none}
+use Rattle.placing.specs.Retained.{link_open, retained, retained_in}
+use Rattle.placing.proofs.Lists.{concat_map_none}
 
-pub choice-made : (v : ℕ) (s : Shape) (k : ℕ) → choice v s k ≡ keep (exists s.links k) (made v s k)
+pub choice_made : (v : ℕ) (s : Shape) (k : ℕ) → choice v s k ≡ keep (exists s.links k) (made v s k)
 unfolding exists made chosen opened
-choice-made v s k = go (dec_lt k n) (ℕ_discrete k n) (ℕ_discrete k (suc n))
+choice_made v s k = go (dec_lt k n) (ℕ_discrete k n) (ℕ_discrete k (suc n))
   where
     n : ℕ
     n = size s
@@ -41,53 +41,53 @@ choice-made v s k = go (dec_lt k n) (ℕ_discrete k n) (ℕ_discrete k (suc n))
 
 -- ---- where a choice is
 
-pub chosen-cell : (n k : ℕ) → k < n → chosen n k ≡ cell k
+pub chosen_cell : (n k : ℕ) → k < n → chosen n k ≡ cell k
 unfolding chosen
-chosen-cell n k h = simp (lt-ltb k n h)
+chosen_cell n k h = simp (lt-ltb k n h)
 
-pub chosen-null : (n k : ℕ) → k ≡ n → chosen n k ≡ null
+pub chosen_null : (n k : ℕ) → k ≡ n → chosen n k ≡ null
 unfolding chosen
-chosen-null n k e = simp (le-ltb k n (omega arith), eq-eqb k n e)
+chosen_null n k e = simp (le-ltb k n (omega arith), eq-eqb k n e)
 
-pub chosen-fresh : (n k : ℕ) → n < k → chosen n k ≡ cell n
+pub chosen_fresh : (n k : ℕ) → n < k → chosen n k ≡ cell n
 unfolding chosen
-chosen-fresh n k h = simp (le-ltb k n (omega arith), ne_eqb k n (omega arith))
+chosen_fresh n k h = simp (le-ltb k n (omega arith), ne_eqb k n (omega arith))
 
-pub choice-of-null : (n p : ℕ) → p ≡ null → choice_of n p ≡ n
+pub choice_of_null : (n p : ℕ) → p ≡ null → choice_of n p ≡ n
 unfolding choice_of
-choice-of-null n p e = simp (eq-eqb p null e)
+choice_of_null n p e = simp (eq-eqb p null e)
 
-pub choice-of-cell : (n p : ℕ) → p ≢ null → choice_of n p ≡ p - 3
+pub choice_of_cell : (n p : ℕ) → p ≢ null → choice_of n p ≡ p - 3
 unfolding choice_of
-choice-of-cell n p e = simp (ne_eqb p null e)
+choice_of_cell n p e = simp (ne_eqb p null e)
 
 -- the fresh cell is in use after a choice above #
-pub chosen-inside : (n k m : ℕ) → n ≤ m → (n < k → m ≡ suc n) → chosen n k < cell m
-chosen-inside n k m l fresh = go (dec_lt k n) (ℕ_discrete k n)
+pub chosen_inside : (n k m : ℕ) → n ≤ m → (n < k → m ≡ suc n) → chosen n k < cell m
+chosen_inside n k m l fresh = go (dec_lt k n) (ℕ_discrete k n)
   where
     go : Dec (k < n) → Dec (k ≡ n) → chosen n k < cell m
-    go (yes i) d = rw (chosen-cell n k i) (omega arith)
-    go (no i) (yes j) = rw (chosen-null n k j) (omega arith)
-    go (no i) (no j) = rw (chosen-fresh n k (omega arith)) (omega (arith, fresh (omega arith)))
+    go (yes i) d = rw (chosen_cell n k i) (omega arith)
+    go (no i) (yes j) = rw (chosen_null n k j) (omega arith)
+    go (no i) (no j) = rw (chosen_fresh n k (omega arith)) (omega (arith, fresh (omega arith)))
 
 -- ---- where variables stand
 
-pub made-same : (v : ℕ) (s : Shape) (k : ℕ) → v ≢ 0 → v ≤ length s.vars → varAt (made v s k) v ≡ chosen (size s) k
+pub made_same : (v : ℕ) (s : Shape) (k : ℕ) → v ≢ 0 → v ≤ length s.vars → var_at (made v s k) v ≡ chosen (size s) k
 unfolding made
-made-same v s k n h = var-set-same v (chosen (size s) k) s.vars n h
+made_same v s k n h = var_set_same v (chosen (size s) k) s.vars n h
 
-pub made_other : (v : ℕ) (s : Shape) (k u : ℕ) → u ≢ v → varAt (made v s k) u ≡ varAt s u
+pub made_other : (v : ℕ) (s : Shape) (k u : ℕ) → u ≢ v → var_at (made v s k) u ≡ var_at s u
 unfolding made
-made_other v s k u n = var-set-other v (chosen (size s) k) s.vars u n
+made_other v s k u n = var_set_other v (chosen (size s) k) s.vars u n
 
-pub not_null : (s : Shape) (v : ℕ) → varAt s v ≡ nowhere → v ≢ 0
+pub not_null : (s : Shape) (v : ℕ) → var_at s v ≡ nowhere → v ≢ 0
 not_null s zero e z = let q : null ≡ nowhere = e in omega arith
 not_null s (suc v) e z = omega arith
 
 -- a choice puts a variable at # or at a cell
-pub chosen-placed : (n k : ℕ) → (chosen n k ≢ nowhere) × (chosen n k ≢ dangling)
+pub chosen_placed : (n k : ℕ) → (chosen n k ≢ nowhere) × (chosen n k ≢ dangling)
 unfolding chosen
-chosen-placed n k = go (ltb k n) (eqb k n)
+chosen_placed n k = go (ltb k n) (eqb k n)
   where
     go : (a b : Bool) → (cond a (cell k) (cond b null (cell n)) ≢ nowhere) × (cond a (cell k) (cond b null (cell n)) ≢ dangling)
     go true b = (λ e. omega arith, λ e. omega arith)
@@ -95,9 +95,9 @@ chosen-placed n k = go (ltb k n) (eqb k n)
     go false false = (λ e. omega arith, λ e. omega arith)
 
 -- only one choice puts a variable at a place of the shape
-pub chosen-other : (n k q : ℕ) → q ≢ nowhere → q ≢ dangling → q < cell n → k ≢ choice_of n q → chosen n k ≢ q
+pub chosen_other : (n k q : ℕ) → q ≢ nowhere → q ≢ dangling → q < cell n → k ≢ choice_of n q → chosen n k ≢ q
 unfolding chosen choice_of
-chosen-other n k q nn nd h other = go (dec_lt k n) (ℕ_discrete k n) (ℕ_discrete q null)
+chosen_other n k q nn nd h other = go (dec_lt k n) (ℕ_discrete k n) (ℕ_discrete q null)
   where
     go : Dec (k < n) → Dec (k ≡ n) → Dec (q ≡ null) → chosen n k ≢ q
     go (yes l) e (yes z) c = let w : cell k ≡ q = simp (lt-ltb k n l) at c in omega arith
@@ -111,49 +111,49 @@ chosen-other n k q nn nd h other = go (dec_lt k n) (ℕ_discrete k n) (ℕ_discr
         o e
     go (no l) (no e) d c = let w : cell n ≡ q = simp (le-ltb k n (omega arith), ne_eqb k n e) at c in omega arith
 
-pub choice-of-most : (n q : ℕ) → q < cell n → choice_of n q ≤ n
+pub choice_of_most : (n q : ℕ) → q < cell n → choice_of n q ≤ n
 unfolding choice_of
-choice-of-most n q h = go (eqb q null)
+choice_of_most n q h = go (eqb q null)
   where
     go : (b : Bool) → cond b n (q - 3) ≤ n
     go true = omega arith
     go false = omega arith
 
 -- a variable that has a place keeps it
-pub place-keeps : (v : ℕ) (s t : Shape) (u : ℕ) → t ∈ place v s → varAt s u ≢ nowhere → varAt t u ≡ varAt s u
-place-keeps v s t u m n =
-    let (k, _, i) = concatMap-mem (choiceFrom (varAt s v) v s) (range 0 (choicesFrom (varAt s v) s)) t (rw (← place-by-number v s) at m) in
-    go (varAt s v) refl k i
+pub place_keeps : (v : ℕ) (s t : Shape) (u : ℕ) → t ∈ place v s → var_at s u ≢ nowhere → var_at t u ≡ var_at s u
+place_keeps v s t u m n =
+    let (k, _, i) = concat_map_mem (choice_from (var_at s v) v s) (range 0 (choices_from (var_at s v) s)) t (rw (← place_by_number v s) at m) in
+    go (var_at s v) refl k i
   where
-    go : (p : ℕ) → varAt s v ≡ p → (k : ℕ) → t ∈ choiceFrom p v s k → varAt t u ≡ varAt s u
+    go : (p : ℕ) → var_at s v ≡ p → (k : ℕ) → t ∈ choice_from p v s k → var_at t u ≡ var_at s u
     go zero e k i =
-        let (_, t-is) = keep-mem (exists s.links k) (made v s k) t (rw (choice-made v s k) at i) in
-        ap (λ (t : Shape). varAt t u) t-is ∙ made_other v s k u (λ z. n (ap (varAt s) z ∙ e))
-    go (suc p) e k i = let t-is = Memᴰ.eq_of_singleton i in ap (λ (t : Shape). varAt t u) t-is
+        let (_, t_is) = keep_mem (exists s.links k) (made v s k) t (rw (choice_made v s k) at i) in
+        ap (λ (t : Shape). var_at t u) t_is ∙ made_other v s k u (λ z. n (ap (var_at s) z ∙ e))
+    go (suc p) e k i = let t_is = Memᴰ.eq_of_singleton i in ap (λ (t : Shape). var_at t u) t_is
 
-pub place-dangling : (v : ℕ) (s : Shape) → varAt s v ≡ dangling → place v s ≡ []
-place-dangling v s e = rw e refl
+pub place_dangling : (v : ℕ) (s : Shape) → var_at s v ≡ dangling → place v s ≡ []
+place_dangling v s e = rw e refl
 
 -- ---- what is retained
 
-pub retain-keep : (test : Shape → Bool) (change : Shape → Shape) (x : Bool) (t : Shape) → retain test change (keep x t) ≡ keep (x && test t) (change t)
-retain-keep test change true t = append-nil (keep (test t) (change t))
-retain-keep test change false t = refl
+pub retain_keep : (test : Shape → Bool) (change : Shape → Shape) (x : Bool) (t : Shape) → retain test change (keep x t) ≡ keep (x && test t) (change t)
+retain_keep test change true t = append-nil (keep (test t) (change t))
+retain_keep test change false t = refl
 
-pub concatMap-keep : (f : Shape → List Shape) (x : Bool) (t : Shape) → concatMap f (keep x t) ≡ cond x (f t) []
-concatMap-keep f true t = append-nil (f t)
-concatMap-keep f false t = refl
+pub concat_map_keep : (f : Shape → List Shape) (x : Bool) (t : Shape) → concat_map f (keep x t) ≡ cond x (f t) []
+concat_map_keep f true t = append-nil (f t)
+concat_map_keep f false t = refl
 
-pub made-links : (v : ℕ) (s : Shape) (k : ℕ) → (made v s k).links ≡ opened s.links k
+pub made_links : (v : ℕ) (s : Shape) (k : ℕ) → (made v s k).links ≡ opened s.links k
 unfolding made
-made-links v s k = refl
+made_links v s k = refl
 
-pub tested_at : (kind a b : ℕ) (t : Shape) (x y : ℕ) (links : List ℕ) → varAt t a ≡ x → varAt t b ≡ y → t.links ≡ links
-    → retainedIn kind a b t ≡ retained kind x y links
-unfolding retainedIn
+pub tested_at : (kind a b : ℕ) (t : Shape) (x y : ℕ) (links : List ℕ) → var_at t a ≡ x → var_at t b ≡ y → t.links ≡ links
+    → retained_in kind a b t ≡ retained kind x y links
+unfolding retained_in
 tested_at kind a b t x y links ex ey el = rw (← ex, ← ey, ← el) refl
 
 -- the cell whose link the operation changes is there
-pub retained-cell : (kind x y : ℕ) (links : List ℕ) → retained kind x y links ≡ true → (kind ≡ 4 → 3 ≤ y) × (kind ≡ 5 → 3 ≤ x)
-unfolding retained linkOpen
-retained-cell kind x y links e = (λ k. let t = rw k at e in ltb-true 2 y (and_left (ltb 2 y) _ t), λ k. let t = rw k at e in ltb-true 2 x (and_left (ltb 2 x) _ t))
+pub retained_cell : (kind x y : ℕ) (links : List ℕ) → retained kind x y links ≡ true → (kind ≡ 4 → 3 ≤ y) × (kind ≡ 5 → 3 ≤ x)
+unfolding retained link_open
+retained_cell kind x y links e = (λ k. let t = rw k at e in ltb-true 2 y (and_left (ltb 2 y) _ t), λ k. let t = rw k at e in ltb-true 2 x (and_left (ltb 2 x) _ t))

@@ -9,72 +9,72 @@ use native.Mathlib.Omega.{arith}
 use borrow.Author.Tests.{eq-eqb, ne_eqb, le-leb, lt-leb}
 use lib.Dec.{eqb, ltb, leb}
 use lib.ListN.{length, get_or}
-use Rattle.lists.specs.List.{concatMap}
+use Rattle.lists.specs.List.{concat_map}
 use Rattle.lists.specs.Range.{range}
 use Rattle.heap.specs.Codes.{link_in}
 use Rattle.heap.specs.Place.{nowhere, null, dangling, cell}
-use Rattle.place.specs.Place.{place_of, bothNowhere}
+use Rattle.place.specs.Place.{place_of, both_nowhere}
 use Rattle.place.specs.declared.Place.{Place}
 use Rattle.placing.specs.Choice.{choice_of}
 use Rattle.placing.specs.Retained.{retained}
-use Rattle.placing.proofs.Chosen.{choice-of-most}
-use Rattle.placing.specs.Wanted.{targetFits, fitsIn, oneByOne, targetChoices, choicesOf, target_of, anyCell, cellBeside, beside, onceIf, wantedOne, wantedFirst, wantedLast}
+use Rattle.placing.proofs.Chosen.{choice_of_most}
+use Rattle.placing.specs.Wanted.{target_fits, fits_in, one_by_one, target_choices, choices_of, target_of, any_cell, cell_beside, beside, once_if, wanted_one, wanted_first, wanted_last}
 use Rattle.placing.specs.declared.Choices.{Choices}
 use Rattle.placing.specs.declared.Wanted.{Wanted}
 use Rattle.placing.specs.declared.Wanted.TheVariants.{Nothing, Once, Any, At, Off, Source, Itself, Target}
 
-pub choice-of-under : (n p : ℕ) → choice_of n p ≤ n + p
+pub choice_of_under : (n p : ℕ) → choice_of n p ≤ n + p
 unfolding choice_of
-choice-of-under n p = go (ℕ_discrete p null)
+choice_of_under n p = go (ℕ_discrete p null)
   where
     go : Dec (p ≡ null) → cond (eqb p null) n (p - 3) ≤ n + p
     go (yes e) = simp (eq-eqb p null e) (omega arith)
     go (no e) = simp (ne_eqb p null e) (omega arith)
 
-pub target-dangling : (n p i : ℕ) → p ≡ dangling → oneByOne (n + 2 + i) (n + 2 + i + 1) ≡ targetChoices n p i
-unfolding targetChoices
-target-dangling n p i e = simp (eq-eqb p dangling e) (ap (oneByOne (n + 2 + i)) (omega arith))
+pub target_dangling : (n p i : ℕ) → p ≡ dangling → one_by_one (n + 2 + i) (n + 2 + i + 1) ≡ target_choices n p i
+unfolding target_choices
+target_dangling n p i e = simp (eq-eqb p dangling e) (ap (one_by_one (n + 2 + i)) (omega arith))
 
-pub target-placed : (n p i at step : ℕ) → p ≢ dangling → at ≡ choice_of n p → step ≡ n + 2 + i - at
-    → record { from = at; step = step; to = n + 2 + i + 1 } ≡ targetChoices n p i
-unfolding targetChoices
-target-placed n p i at step d at-is step_is =
+pub target_placed : (n p i at step : ℕ) → p ≢ dangling → at ≡ choice_of n p → step ≡ n + 2 + i - at
+    → record { from = at; step = step; to = n + 2 + i + 1 } ≡ target_choices n p i
+unfolding target_choices
+target_placed n p i at step d at_is step_is =
     let next : n + 2 + i + 1 ≡ suc (n + 2 + i) = omega arith in
-    simp (ne_eqb p dangling d, at-is, step_is, next)
+    simp (ne_eqb p dangling d, at_is, step_is, next)
 
 -- ---- by case
 
 module _ (n : ℕ) (wanted : Wanted) where
-  pub choices-nothing : wanted ≡ Nothing → oneByOne 0 0 ≡ choicesOf n wanted
-  choices-nothing e = rw e refl
+  pub choices_nothing : wanted ≡ Nothing → one_by_one 0 0 ≡ choices_of n wanted
+  choices_nothing e = rw e refl
 
-  pub choices-once : wanted ≡ Once → oneByOne 0 1 ≡ choicesOf n wanted
-  choices-once e = rw e refl
+  pub choices_once : wanted ≡ Once → one_by_one 0 1 ≡ choices_of n wanted
+  choices_once e = rw e refl
 
-  pub choices-any : wanted ≡ Any → oneByOne 0 (n + (2 + n)) ≡ choicesOf n wanted
-  choices-any e = rw e refl
+  pub choices_any : wanted ≡ Any → one_by_one 0 (n + (2 + n)) ≡ choices_of n wanted
+  choices_any e = rw e refl
 
-  pub choices-itself : wanted ≡ Itself → oneByOne 0 (n + (2 + n)) ≡ choicesOf n wanted
-  choices-itself e = rw e refl
+  pub choices_itself : wanted ≡ Itself → one_by_one 0 (n + (2 + n)) ≡ choices_of n wanted
+  choices_itself e = rw e refl
 
   module _ (p : Place) where
-    pub choices-at : (k : ℕ) → k ≡ choice_of n p.code → wanted ≡ At p → oneByOne k (k + 1) ≡ choicesOf n wanted
-    choices-at k k-is e = let next : k + 1 ≡ suc k = omega arith in rw (e, next, k-is) refl
+    pub choices_at : (k : ℕ) → k ≡ choice_of n p.code → wanted ≡ At p → one_by_one k (k + 1) ≡ choices_of n wanted
+    choices_at k k_is e = let next : k + 1 ≡ suc k = omega arith in rw (e, next, k_is) refl
 
-    pub choices-off : wanted ≡ Off p → oneByOne 0 (n + (2 + n)) ≡ choicesOf n wanted
-    choices-off e = rw e refl
+    pub choices_off : wanted ≡ Off p → one_by_one 0 (n + (2 + n)) ≡ choices_of n wanted
+    choices_off e = rw e refl
 
-    pub choices-source : wanted ≡ Source p → oneByOne 0 (n + (2 + n)) ≡ choicesOf n wanted
-    choices-source e = rw e refl
+    pub choices_source : wanted ≡ Source p → one_by_one 0 (n + (2 + n)) ≡ choices_of n wanted
+    choices_source e = rw e refl
 
-    pub choices-target : (i : ℕ) → wanted ≡ Target p i → targetChoices n p.code i ≡ choicesOf n wanted
-    choices-target i e = rw e refl
+    pub choices_target : (i : ℕ) → wanted ≡ Target p i → target_choices n p.code i ≡ choices_of n wanted
+    choices_target i e = rw e refl
 
 -- ---- what is left out is not wanted
 
 -- what the choices from one on give, before another
 abbrev pub stretch : {A : Type 0} → (ℕ → List A) → ℕ → ℕ → List A
-stretch f start past = concatMap f (range start (past - start))
+stretch f start past = concat_map f (range start (past - start))
 
 -- of the numbers from `start` to before `past`, those outside the choices are such
 pub record Covers (c : Choices) (Out : ℕ → Type 0) (start past : ℕ) : Type 0 where
@@ -87,16 +87,16 @@ pub record Covers (c : Choices) (Out : ℕ → Type 0) (start past : ℕ) : Type
   pub after : (j : ℕ) → c.to ≤ j → j < past → Out j
 
 -- a step stays small
-pub step-most : {c : Choices} {Out : ℕ → Type 0} {start past : ℕ} → Covers c Out start past → c.step ≤ suc c.to
-step-most {c} h = go (ℕ_discrete c.step 1)
+pub step_most : {c : Choices} {Out : ℕ → Type 0} {start past : ℕ} → Covers c Out start past → c.step ≤ suc c.to
+step_most {c} h = go (ℕ_discrete c.step 1)
   where
     go : Dec (c.step ≡ 1) → c.step ≤ suc c.to
     go (yes e) = omega arith
     go (no e) = omega (arith, h.two e)
 
-pub covers-map : {c : Choices} {Out Off : ℕ → Type 0} {start past : ℕ} → ((j : ℕ) → Out j → Off j) → Covers c Out start past
+pub covers_map : {c : Choices} {Out Off : ℕ → Type 0} {start past : ℕ} → ((j : ℕ) → Out j → Off j) → Covers c Out start past
     → Covers c Off start past
-covers-map f h =
+covers_map f h =
     record {
       forward = h.forward;
       most = h.most;
@@ -118,29 +118,29 @@ Sound n (Source p) = Unit {0}
 Sound n Itself = Unit {0}
 Sound n (Target p i) = (p.code < cell n) × (i < n)
 
-target-else : (n p i j : ℕ) → j ≢ n + 2 + i → (p ≡ dangling) ⊎ (j ≢ choice_of n p) → targetFits n p i j ≡ false
-unfolding targetFits
-target-else n p i j w (inl d) = simp (ne_eqb j (n + 2 + i) w, eq-eqb p dangling d)
-target-else n p i j w (inr c) = simp (ne_eqb j (n + 2 + i) w, ne_eqb j (choice_of n p) c, and-false)
+target_else : (n p i j : ℕ) → j ≢ n + 2 + i → (p ≡ dangling) ⊎ (j ≢ choice_of n p) → target_fits n p i j ≡ false
+unfolding target_fits
+target_else n p i j w (inl d) = simp (ne_eqb j (n + 2 + i) w, eq-eqb p dangling d)
+target_else n p i j w (inr c) = simp (ne_eqb j (n + 2 + i) w, ne_eqb j (choice_of n p) c, and-false)
 
-covers-target : (n p i : ℕ) → p < cell n → i < n → Covers (targetChoices n p i) (λ j. targetFits n p i j ≡ false) 0 (n + (2 + n))
-unfolding targetChoices
-covers-target n p i inside cell-is = go (ℕ_discrete p dangling)
+covers_target : (n p i : ℕ) → p < cell n → i < n → Covers (target_choices n p i) (λ j. target_fits n p i j ≡ false) 0 (n + (2 + n))
+unfolding target_choices
+covers_target n p i inside cell-is = go (ℕ_discrete p dangling)
   where
     low : choice_of n p ≤ n
-    low = choice-of-most n p inside
+    low = choice_of_most n p inside
 
-    go : Dec (p ≡ dangling) → Covers (targetChoices n p i) (λ j. targetFits n p i j ≡ false) 0 (n + (2 + n))
+    go : Dec (p ≡ dangling) → Covers (target_choices n p i) (λ j. target_fits n p i j ≡ false) 0 (n + (2 + n))
     go (yes d) =
         rw (eq-eqb p dangling d)
         (record {
           forward = omega arith;
           most = omega arith;
           least = omega arith;
-          before = λ j _ h. target-else n p i j (omega arith) (inl d);
+          before = λ j _ h. target_else n p i j (omega arith) (inl d);
           between = λ h. absurd (h refl);
           two = λ h. absurd (h refl);
-          after = λ j h b. target-else n p i j (omega arith) (inl d);
+          after = λ j h b. target_else n p i j (omega arith) (inl d);
         })
     go (no d) =
         rw (ne_eqb p dangling d)
@@ -148,15 +148,15 @@ covers-target n p i inside cell-is = go (ℕ_discrete p dangling)
           forward = omega (arith, low);
           most = omega arith;
           least = omega arith;
-          before = λ j _ h. target-else n p i j (omega (arith, low)) (inr (omega arith));
-          between = λ h j l m. target-else n p i j (omega arith) (inr (omega arith));
+          before = λ j _ h. target_else n p i j (omega (arith, low)) (inr (omega arith));
+          between = λ h j l m. target_else n p i j (omega arith) (inr (omega arith));
           two = λ h. omega (arith, low);
-          after = λ j h b. target-else n p i j (omega arith) (inr (omega (arith, low)));
+          after = λ j h b. target_else n p i j (omega arith) (inr (omega (arith, low)));
         })
 
 -- a whole stretch
-pub covers-stretch : (Out : ℕ → Type 0) (start past : ℕ) → Covers (oneByOne start past) Out start past
-covers-stretch Out start past =
+pub covers_stretch : (Out : ℕ → Type 0) (start past : ℕ) → Covers (one_by_one start past) Out start past
+covers_stretch Out start past =
     record {
       forward = omega arith;
       most = omega arith;
@@ -167,7 +167,7 @@ covers-stretch Out start past =
       after = λ j h b. absurd (omega arith);
     }
 
-covers_one : (n k : ℕ) → k ≤ n → Covers (oneByOne k (suc k)) (λ j. eqb j k ≡ false) 0 (n + (2 + n))
+covers_one : (n k : ℕ) → k ≤ n → Covers (one_by_one k (suc k)) (λ j. eqb j k ≡ false) 0 (n + (2 + n))
 covers_one n k h =
     record {
       forward = omega arith;
@@ -180,7 +180,7 @@ covers_one n k h =
     }
 
 pub covers : (links : List ℕ) (wanted : Wanted) → Sound (length links) wanted
-    → Covers (choicesOf (length links) wanted) (λ j. fitsIn links wanted j ≡ false) 0 (length links + (2 + length links))
+    → Covers (choices_of (length links) wanted) (λ j. fits_in links wanted j ≡ false) 0 (length links + (2 + length links))
 covers links Nothing s =
     record {
       forward = omega arith;
@@ -192,92 +192,92 @@ covers links Nothing s =
       after = λ j h b. refl;
     }
 covers links Once s = covers_one (length links) 0 (omega arith)
-covers links Any s = covers-stretch (λ j. fitsIn links Any j ≡ false) 0 (length links + (2 + length links))
-covers links (At p) s = covers_one (length links) (choice_of (length links) p.code) (choice-of-most (length links) p.code s)
-covers links (Off p) s = covers-stretch (λ j. fitsIn links (Off p) j ≡ false) 0 (length links + (2 + length links))
-covers links (Source p) s = covers-stretch (λ j. fitsIn links (Source p) j ≡ false) 0 (length links + (2 + length links))
-covers links Itself s = covers-stretch (λ j. fitsIn links Itself j ≡ false) 0 (length links + (2 + length links))
-covers links (Target p i) s = covers-target (length links) p.code i s.0 s.1
+covers links Any s = covers_stretch (λ j. fits_in links Any j ≡ false) 0 (length links + (2 + length links))
+covers links (At p) s = covers_one (length links) (choice_of (length links) p.code) (choice_of_most (length links) p.code s)
+covers links (Off p) s = covers_stretch (λ j. fits_in links (Off p) j ≡ false) 0 (length links + (2 + length links))
+covers links (Source p) s = covers_stretch (λ j. fits_in links (Source p) j ≡ false) 0 (length links + (2 + length links))
+covers links Itself s = covers_stretch (λ j. fits_in links Itself j ≡ false) 0 (length links + (2 + length links))
+covers links (Target p i) s = covers_target (length links) p.code i s.0 s.1
 
 -- ---- an operation speaks of the shape's own places
 
-sound-target : (links : List ℕ) (q : ℕ) → q < cell (length links) → ((i : ℕ) → i < length links → get_or links i nowhere < cell (length links))
+sound_target : (links : List ℕ) (q : ℕ) → q < cell (length links) → ((i : ℕ) → i < length links → get_or links i nowhere < cell (length links))
     → Sound (length links) (target_of links q)
 unfolding target_of
-sound-target links q inside range = go (dec_lt 2 q)
+sound_target links q inside range = go (dec_lt 2 q)
   where
     linked : 2 < q → Dec (link_in links q ≡ nowhere)
         → Sound (length links) (cond (eqb (link_in links q) nowhere) Any (Target (place_of (link_in links q)) (q - 3)))
     linked h (yes e) = rw (eq-eqb (link_in links q) nowhere e) tt
-    linked h (no e) = rw (ne_eqb (link_in links q) nowhere e) (link-range q h inside, omega arith)
+    linked h (no e) = rw (ne_eqb (link_in links q) nowhere e) (link_range q h inside, omega arith)
       where
-        link-range : (q : ℕ) → 2 < q → q < cell (length links) → link_in links q < cell (length links)
-        link-range zero h b = absurd (omega arith)
-        link-range (suc zero) h b = absurd (omega arith)
-        link-range (suc (suc zero)) h b = absurd (omega arith)
-        link-range (suc (suc (suc i))) h b = range i (omega arith)
+        link_range : (q : ℕ) → 2 < q → q < cell (length links) → link_in links q < cell (length links)
+        link_range zero h b = absurd (omega arith)
+        link_range (suc zero) h b = absurd (omega arith)
+        link_range (suc (suc zero)) h b = absurd (omega arith)
+        link_range (suc (suc (suc i))) h b = range i (omega arith)
 
     go : Dec (2 < q) → Sound (length links) (target_of links q)
     go (no h) = rw (le-leb q dangling (omega arith)) tt
     go (yes h) = rw (lt-leb q dangling (omega arith)) (linked h (ℕ_discrete (link_in links q) nowhere))
 
-sound-cell : (n q : ℕ) → Sound n (cellBeside q)
-unfolding cellBeside
-sound-cell n q = go (leb q dangling)
+sound_cell : (n q : ℕ) → Sound n (cell_beside q)
+unfolding cell_beside
+sound_cell n q = go (leb q dangling)
   where
-    go : (x : Bool) → Sound n (cond x Nothing anyCell)
+    go : (x : Bool) → Sound n (cond x Nothing any_cell)
     go true = tt
     go false = tt
 
-sound-beside : (starting kind : ℕ) (links : List ℕ) (q : ℕ) → q < cell (length links)
+sound_beside : (starting kind : ℕ) (links : List ℕ) (q : ℕ) → q < cell (length links)
     → ((i : ℕ) → i < length links → get_or links i nowhere < cell (length links)) → Sound (length links) (beside starting kind links (place_of q))
 unfolding beside
-sound-beside starting kind links q inside range = go (eqb kind 2) (ltb kind 4) (eqb kind starting) (ltb 5 kind)
+sound_beside starting kind links q inside range = go (eqb kind 2) (ltb kind 4) (eqb kind starting) (ltb 5 kind)
   where
     go : (x y z w : Bool)
         → Sound (length links)
-        (cond x (Off (place_of q)) (cond y (At (place_of q)) (cond z (Source (place_of q)) (cond w (cellBeside q) (target_of links q)))))
+        (cond x (Off (place_of q)) (cond y (At (place_of q)) (cond z (Source (place_of q)) (cond w (cell_beside q) (target_of links q)))))
     go true y z w = tt
     go false true z w = inside
     go false false true w = tt
-    go false false false true = sound-cell (length links) q
-    go false false false false = sound-target links q inside range
+    go false false false true = sound_cell (length links) q
+    go false false false false = sound_target links q inside range
 
-sound-once : (n : ℕ) (x : Bool) → Sound n (onceIf x)
-unfolding onceIf
-sound-once n true = tt
-sound-once n false = tt
+sound_once : (n : ℕ) (x : Bool) → Sound n (once_if x)
+unfolding once_if
+sound_once n true = tt
+sound_once n false = tt
 
-sound-one : (n kind : ℕ) → Sound n (wantedOne kind)
-unfolding wantedOne
-sound-one n kind = go (eqb kind 2) (eqb kind 5) (ltb 5 kind)
+sound_one : (n kind : ℕ) → Sound n (wanted_one kind)
+unfolding wanted_one
+sound_one n kind = go (eqb kind 2) (eqb kind 5) (ltb 5 kind)
   where
-    go : (x y z : Bool) → Sound n (cond x Nothing (cond y Itself (cond z anyCell Any)))
+    go : (x y z : Bool) → Sound n (cond x Nothing (cond y Itself (cond z any_cell Any)))
     go true y z = tt
     go false true z = tt
     go false false true = tt
     go false false false = tt
 
-pub sound-first : (n : ℕ) (same : Bool) (x y : ℕ) → Sound n (wantedFirst same (place_of x) (place_of y))
-unfolding wantedFirst
-sound-first n same x y = go (eqb x dangling || eqb y dangling) (bothNowhere same x y)
+pub sound_first : (n : ℕ) (same : Bool) (x y : ℕ) → Sound n (wanted_first same (place_of x) (place_of y))
+unfolding wanted_first
+sound_first n same x y = go (eqb x dangling || eqb y dangling) (both_nowhere same x y)
   where
     go : (d t : Bool) → Sound n (cond d Nothing (cond t Any Once))
     go true t = tt
     go false true = tt
     go false false = tt
 
-pub sound-last : (kind : ℕ) (same : Bool) (links : List ℕ) (x y : ℕ) → x < cell (length links) → y < cell (length links)
+pub sound_last : (kind : ℕ) (same : Bool) (links : List ℕ) (x y : ℕ) → x < cell (length links) → y < cell (length links)
     → ((i : ℕ) → i < length links → get_or links i nowhere < cell (length links))
-    → Sound (length links) (wantedLast kind same links (place_of x) (place_of y))
-unfolding wantedLast
-sound-last kind same links x y x-in y-in range = go (eqb x nowhere) same (eqb y nowhere)
+    → Sound (length links) (wanted_last kind same links (place_of x) (place_of y))
+unfolding wanted_last
+sound_last kind same links x y x_in y-in range = go (eqb x nowhere) same (eqb y nowhere)
   where
     go : (n s m : Bool)
         → Sound (length links)
-        (cond n (cond s (wantedOne kind) (beside 5 kind links (place_of y)))
-        (cond m (beside 4 kind links (place_of x)) (onceIf (retained kind x y links))))
-    go true true m = sound-one (length links) kind
-    go true false m = sound-beside 5 kind links y y-in range
-    go false s true = sound-beside 4 kind links x x-in range
-    go false s false = sound-once (length links) (retained kind x y links)
+        (cond n (cond s (wanted_one kind) (beside 5 kind links (place_of y)))
+        (cond m (beside 4 kind links (place_of x)) (once_if (retained kind x y links))))
+    go true true m = sound_one (length links) kind
+    go true false m = sound_beside 5 kind links y y-in range
+    go false s true = sound_beside 4 kind links x x_in range
+    go false s false = sound_once (length links) (retained kind x y links)

@@ -9,88 +9,88 @@ use borrow.Author.Tests.{eq-eqb, ne_eqb}
 use lib.Dec.{eqb}
 use lib.ListN.{length, get_or}
 use Rattle.heap.specs.Place.{nowhere, dangling, cell}
-use Rattle.place.specs.Place.{place_of, bothNowhere}
+use Rattle.place.specs.Place.{place_of, both_nowhere}
 use Rattle.placing.specs.Choice.{chosen, exists, opened}
 use Rattle.placing.specs.Retained.{At}
 use Rattle.placing.specs.Retained.{retained}
-use Rattle.placing.specs.Wanted.{fitsIn, onceIf, wantedFirst, wantedLast}
+use Rattle.placing.specs.Wanted.{fits_in, once_if, wanted_first, wanted_last}
 use Rattle.placing.specs.declared.Wanted.TheVariants.{Nothing, Once, Any}
-use Rattle.placing.proofs.Retaining.{beside_first, beside-second, one-fits}
+use Rattle.placing.proofs.Retaining.{beside_first, beside_second, one_fits}
 
 -- one choice, which changes nothing
-once-first : (links : List ℕ) (test : Bool) (k : ℕ) → k ≡ 0 → fitsIn links (onceIf test) k ≡ test
-unfolding onceIf
-once-first links true k e = eq-eqb k 0 e
-once-first links false k e = refl
+once_first : (links : List ℕ) (test : Bool) (k : ℕ) → k ≡ 0 → fits_in links (once_if test) k ≡ test
+unfolding once_if
+once_first links true k e = eq-eqb k 0 e
+once_first links false k e = refl
 
-once-later : (links : List ℕ) (test : Bool) (k : ℕ) → k ≢ 0 → fitsIn links (onceIf test) k ≡ false
-unfolding onceIf
-once-later links true k o = ne_eqb k 0 o
-once-later links false k o = refl
+once_later : (links : List ℕ) (test : Bool) (k : ℕ) → k ≢ 0 → fits_in links (once_if test) k ≡ false
+unfolding once_if
+once_later links true k o = ne_eqb k 0 o
+once_later links false k o = refl
 
 -- ---- of the operand placed last, a at x and b at y
 
 module _ (kind a b x y : ℕ) (links : List ℕ) (k : ℕ) where
   abbrev fits_last : Bool
-  fits_last = fitsIn links (wantedLast kind (eqb a b) links (place_of x) (place_of y)) k
+  fits_last = fits_in links (wanted_last kind (eqb a b) links (place_of x) (place_of y)) k
 
-  module _ (kind-least : 1 ≤ kind) (most : k < length links + (2 + length links))
+  module _ (kind_least : 1 ≤ kind) (most : k < length links + (2 + length links))
       (range : (i : ℕ) → i < length links → get_or links i nowhere < cell (length links)) where
     -- a is placed by choice k, and b too where it is the same variable
-    pub last-a : x ≡ nowhere → (kind ≡ 4 → a ≢ b) → (a ≢ b → At (length links) y)
+    pub last_a : x ≡ nowhere → (kind ≡ 4 → a ≢ b) → (a ≢ b → At (length links) y)
         → fits_last
         ≡ exists links k
         && cond (eqb a b) (retained kind (chosen (length links) k) (chosen (length links) k) (opened links k))
         (retained kind (chosen (length links) k) y (opened links k))
-    unfolding wantedLast
-    last-a e apart at = go (ℕ_discrete a b)
+    unfolding wanted_last
+    last_a e apart at = go (ℕ_discrete a b)
       where
         c : ℕ
         c = chosen (length links) k
 
         go : Dec (a ≡ b) → fits_last ≡ exists links k && cond (eqb a b) (retained kind c c (opened links k)) (retained kind c y (opened links k))
-        go (yes i) = rw (eq-eqb x nowhere e, eq-eqb a b i) (sym (one-fits links k most range kind kind-least (λ f. apart f i)))
-        go (no i) = rw (eq-eqb x nowhere e, ne_eqb a b i) (sym (beside-second links k most range kind y kind-least (at i)))
+        go (yes i) = rw (eq-eqb x nowhere e, eq-eqb a b i) (sym (one_fits links k most range kind kind_least (λ f. apart f i)))
+        go (no i) = rw (eq-eqb x nowhere e, ne_eqb a b i) (sym (beside_second links k most range kind y kind_least (at i)))
 
     -- b is placed by choice k
-    pub last-b : At (length links) x → y ≡ nowhere → fits_last ≡ exists links k && retained kind x (chosen (length links) k) (opened links k)
-    unfolding wantedLast
-    last-b at e =
-        rw (ne_eqb x nowhere at.some, eq-eqb y nowhere e) (sym (beside_first links k most range kind x kind-least at))
+    pub last_b : At (length links) x → y ≡ nowhere → fits_last ≡ exists links k && retained kind x (chosen (length links) k) (opened links k)
+    unfolding wanted_last
+    last_b at e =
+        rw (ne_eqb x nowhere at.some, eq-eqb y nowhere e) (sym (beside_first links k most range kind x kind_least at))
 
   -- both have places
   module _ (nx : x ≢ nowhere) (ny : y ≢ nowhere) where
-    pub last-once : k ≡ 0 → fits_last ≡ retained kind x y links
-    unfolding wantedLast
-    last-once e = rw (ne_eqb x nowhere nx, ne_eqb y nowhere ny) (once-first links (retained kind x y links) k e)
+    pub last_once : k ≡ 0 → fits_last ≡ retained kind x y links
+    unfolding wanted_last
+    last_once e = rw (ne_eqb x nowhere nx, ne_eqb y nowhere ny) (once_first links (retained kind x y links) k e)
 
-    pub last-later : k ≢ 0 → fits_last ≡ false
-    unfolding wantedLast
-    last-later o = rw (ne_eqb x nowhere nx, ne_eqb y nowhere ny) (once-later links (retained kind x y links) k o)
+    pub last_later : k ≢ 0 → fits_last ≡ false
+    unfolding wanted_last
+    last_later o = rw (ne_eqb x nowhere nx, ne_eqb y nowhere ny) (once_later links (retained kind x y links) k o)
 
 -- ---- of the operand placed first
 
 module _ (same : Bool) (x y : ℕ) (links : List ℕ) (k : ℕ) where
-  abbrev fits-first : Bool
-  fits-first = fitsIn links (wantedFirst same (place_of x) (place_of y)) k
+  abbrev fits_first : Bool
+  fits_first = fits_in links (wanted_first same (place_of x) (place_of y)) k
 
-  pub first-a-dangling : x ≡ dangling → fits-first ≡ false
-  unfolding wantedFirst
-  first-a-dangling e = rw (eq-eqb x dangling e) refl
+  pub first_a_dangling : x ≡ dangling → fits_first ≡ false
+  unfolding wanted_first
+  first_a_dangling e = rw (eq-eqb x dangling e) refl
 
-  pub first-b-dangling : y ≡ dangling → fits-first ≡ false
-  unfolding wantedFirst
-  first-b-dangling e = rw (eq-eqb y dangling e) (go (eqb x dangling))
+  pub first_b_dangling : y ≡ dangling → fits_first ≡ false
+  unfolding wanted_first
+  first_b_dangling e = rw (eq-eqb y dangling e) (go (eqb x dangling))
     where
-      go : (t : Bool) → fitsIn links (cond (t || true) Nothing (cond (bothNowhere same x y) Any Once)) k ≡ false
+      go : (t : Bool) → fits_in links (cond (t || true) Nothing (cond (both_nowhere same x y) Any Once)) k ≡ false
       go true = refl
       go false = refl
 
   module _ (nx : x ≢ dangling) (ny : y ≢ dangling) where
-    pub first-both : bothNowhere same x y ≡ true → fits-first ≡ exists links k
-    unfolding wantedFirst
-    first-both e = rw (ne_eqb x dangling nx, ne_eqb y dangling ny, e) refl
+    pub first_both : both_nowhere same x y ≡ true → fits_first ≡ exists links k
+    unfolding wanted_first
+    first_both e = rw (ne_eqb x dangling nx, ne_eqb y dangling ny, e) refl
 
-    pub first_one : bothNowhere same x y ≡ false → fits-first ≡ eqb k 0
-    unfolding wantedFirst
+    pub first_one : both_nowhere same x y ≡ false → fits_first ≡ eqb k 0
+    unfolding wanted_first
     first_one e = rw (ne_eqb x dangling nx, ne_eqb y dangling ny, e) refl

@@ -3,8 +3,8 @@
 use Rattle.std.specs.Prelude.{Bool, ◌||◌, not, cond, List, [], ◌∷◌, ◌++◌, ℕ, suc, ◌+◌, ◌-◌, eqb, ltb, leb, length, set}
 use Rattle.heap.specs.Codes.{link_in}
 use Rattle.heap.specs.Place.{nowhere, null, cell}
-use Rattle.shape.specs.Placing.{setVarIn}
-use Rattle.shape.specs.Shape.{Shape, varAt, size}
+use Rattle.shape.specs.Placing.{set_var_in}
+use Rattle.shape.specs.Shape.{Shape, var_at, size}
 
 -- where choice k puts a variable
 unfoldable pub chosen : ℕ → ℕ → ℕ
@@ -27,8 +27,8 @@ opened links k =
 
 -- variable v is placed by choice k
 unfoldable pub made : ℕ → Shape → ℕ → Shape
-made v s k = record { vars = setVarIn v (chosen (size s) k) s.vars; links = opened s.links k; facts = s.facts }
+made v s k = record { vars = set_var_in v (chosen (size s) k) s.vars; links = opened s.links k; facts = s.facts }
 
 -- the same; nothing where it has a place
 unfoldable pub put : ℕ → Shape → ℕ → Shape
-put v s k = cond (eqb (varAt s v) nowhere) (made v s k) s
+put v s k = cond (eqb (var_at s v) nowhere) (made v s k) s

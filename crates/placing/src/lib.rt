@@ -2,8 +2,8 @@
 // 0 .. n - 1 a cell, n #, n + 1 a fresh cell, n + 2 + i a fresh cell in the middle of the link of cell i.
 ghost use Rattle.std.specs.Prelude.{◌≡◌, ◌<◌};
 ghost use Rattle.placing.specs.Choice.{choice_of, exists};
-ghost use Rattle.placing.specs.Retained.{linkOpen, retained};
-ghost use Rattle.placing.specs.Wanted.{sourceFits, itselfFits, fitsIn, oneByOne, targetChoices, choicesOf, target_of, cellBeside, beside, onceIf, wantedOne, wantedFirst, wantedLast};
+ghost use Rattle.placing.specs.Retained.{link_open, retained};
+ghost use Rattle.placing.specs.Wanted.{source_fits, itself_fits, fits_in, one_by_one, target_choices, choices_of, target_of, cell_beside, beside, once_if, wanted_one, wanted_first, wanted_last};
 
 use kinds::{DIFFERENT, LOAD, STORE};
 use number::wide;
@@ -38,7 +38,7 @@ pub struct Choices {
 
 // Whether p is a cell whose link is nowhere or at q.
 fn link_open(links: &[u8], p: Place, q: Place) -> bool
-    ensures { result ≡ linkOpen links.now p.code q.code }
+    ensures { result ≡ link_open links.now p.code q.code }
 {
     if p.code <= DANGLING {
         return false;
@@ -99,7 +99,7 @@ fn choice_exists(links: &[u8], k: usize) -> bool
 
 // Whether choice k puts a variable at a cell whose link is nowhere or at p.
 fn source_fits(links: &[u8], p: Place, k: usize) -> bool
-    ensures { result ≡ sourceFits links.now p.code k }
+    ensures { result ≡ source_fits links.now p.code k }
 {
     let n = links.len();
     if k < n {
@@ -125,7 +125,7 @@ fn source_fits(links: &[u8], p: Place, k: usize) -> bool
 
 // Whether choice k puts a variable at a cell whose link is nowhere or at that cell itself.
 fn itself_fits(links: &[u8], k: usize) -> bool
-    ensures { result ≡ itselfFits links.now k }
+    ensures { result ≡ itself_fits links.now k }
 {
     let n = links.len();
     if k < n {
@@ -140,7 +140,7 @@ fn itself_fits(links: &[u8], k: usize) -> bool
 
 // Whether choice k is wanted.
 pub fn is_wanted(links: &[u8], wanted: Wanted, k: usize) -> bool
-    ensures { result ≡ fitsIn links.now wanted k }
+    ensures { result ≡ fits_in links.now wanted k }
 {
     let n = links.len();
     match wanted {
@@ -158,7 +158,7 @@ pub fn is_wanted(links: &[u8], wanted: Wanted, k: usize) -> bool
 
 // All choices from one on up to another.
 fn one_by_one(from: usize, to: usize) -> Choices
-    ensures { result ≡ oneByOne from to }
+    ensures { result ≡ one_by_one from to }
 {
     Choices { from, step: 1, to }
 }
@@ -166,7 +166,7 @@ fn one_by_one(from: usize, to: usize) -> Choices
 // The choices of a target.
 fn target_choices(n: usize, p: Place, i: u8) -> Choices
     requires { n < 256 }
-    ensures { result ≡ targetChoices n p.code i }
+    ensures { result ≡ target_choices n p.code i }
 {
     let within = n + 2 + i as usize;
     if p.code == DANGLING {
@@ -189,7 +189,7 @@ fn target_choices(n: usize, p: Place, i: u8) -> Choices
 
 // The choices to try, which have all that are wanted among them.
 pub fn choices_of(n: u8, wanted: Wanted) -> Choices
-    ensures { result ≡ choicesOf n wanted }
+    ensures { result ≡ choices_of n wanted }
 {
     let cells = n as usize;
     let past = cells + (2 + cells);
@@ -224,7 +224,7 @@ fn target_of(links: &[u8], q: Place) -> Wanted
 
 // What is wanted of a variable that is to be at a cell, as the one at q is.
 fn cell_beside(q: Place) -> Wanted
-    ensures { result ≡ cellBeside q.code }
+    ensures { result ≡ cell_beside q.code }
 {
     if q.code <= DANGLING {
         return Wanted::Nothing;
@@ -253,7 +253,7 @@ fn wanted_beside(starting: u8, kind: u8, links: &[u8], q: Place) -> Wanted
 
 // Once, or nothing.
 fn once_if(test: bool) -> Wanted
-    ensures { result ≡ onceIf test }
+    ensures { result ≡ once_if test }
 {
     if test {
         return Wanted::Once;
@@ -263,7 +263,7 @@ fn once_if(test: bool) -> Wanted
 
 // What is wanted of a variable that is both a and b, and nowhere.
 fn wanted_of_one(kind: u8) -> Wanted
-    ensures { result ≡ wantedOne kind }
+    ensures { result ≡ wanted_one kind }
 {
     if kind == DIFFERENT {
         return Wanted::Nothing;
@@ -280,7 +280,7 @@ fn wanted_of_one(kind: u8) -> Wanted
 // What is wanted of the operand that is placed first, where a is at x and b at y: any choice of a where both are nowhere; where one has a place
 // there is nothing to place, and with one at * there is no choice.
 pub fn wanted_first(same: bool, x: Place, y: Place) -> Wanted
-    ensures { result ≡ wantedFirst same x y }
+    ensures { result ≡ wanted_first same x y }
 {
     if x.code == DANGLING {
         return Wanted::Nothing;
@@ -296,7 +296,7 @@ pub fn wanted_first(same: bool, x: Place, y: Place) -> Wanted
 
 // What is wanted of the operand that is placed last, a where it is nowhere and else b; the other one has a place.
 pub fn wanted_last(kind: u8, same: bool, links: &[u8], x: Place, y: Place) -> Wanted
-    ensures { result ≡ wantedLast kind same links.now x y }
+    ensures { result ≡ wanted_last kind same links.now x y }
 {
     if x.code == NOWHERE {
         if same {

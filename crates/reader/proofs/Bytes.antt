@@ -8,7 +8,7 @@ use lib.ListN.{length, get_or, take, drop}
 use lib.Seq.{drop-cons}
 use Rattle.number.specs.Number.{number_at}
 use Rattle.number.specs.declared.Read.TheVariants.{Number}
-use Rattle.number.proofs.Reading.{number-known}
+use Rattle.number.proofs.Reading.{number_known}
 use Rattle.shape.specs.Shape.{AllBelow}
 use Rattle.format.proofs.Sequence.{Reads, done, more}
 
@@ -20,7 +20,7 @@ pub record Single (s : List ℕ) (at n next : ℕ) : Type 0 where
 
 module _ (s : List ℕ) (at n next : ℕ) (g : number_at s at ≡ Number n next) where
   pub single : n < 128 → Single s at n next
-  single h = let t = number-known s at n next g in record { inside = omega (arith, t.some); value = t.value h; after = t.after h }
+  single h = let t = number_known s at n next g in record { inside = omega (arith, t.some); value = t.value h; after = t.after h }
 
 module _ {s : List ℕ} where
   -- numbers below 128 are as many bytes
@@ -30,7 +30,7 @@ module _ {s : List ℕ} where
       let t = single s at n mid g (small n (Memᴰ.head refl)) in
       let (same, after) = reads_bytes r (λ x i. small x (Memᴰ.tail i)) in
       let here : drop at s ≡ get_or s at 0 ∷ drop (suc at) s = drop-cons s at 0 t.inside in
-      let mid-is : mid ≡ suc at = omega (arith, t.after) in (
-        ap₂ ◌∷◌ t.value (same ∙ ap (λ m. take (length ns) (drop m s)) mid-is) ∙ ap (take (suc (length ns))) (sym here),
+      let mid_is : mid ≡ suc at = omega (arith, t.after) in (
+        ap₂ ◌∷◌ t.value (same ∙ ap (λ m. take (length ns) (drop m s)) mid_is) ∙ ap (take (suc (length ns))) (sym here),
         omega arith,
       )

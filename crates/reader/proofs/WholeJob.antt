@@ -5,75 +5,75 @@ use Prim.Native.Nat.{ℕ, ◌+◌, ◌*◌, ◌≤◌}
 use native.Mathlib.Omega.{arith}
 use lib.ListN.{length}
 use Rattle.run.specs.Run.{Transition, Located}
-use Rattle.format.specs.Job.{readLocated, readTransition, readJob, readWholeJob}
+use Rattle.format.specs.Job.{read_located, read_transition, read_job, read_whole_job}
 use Rattle.format.specs.JobNumbers.{JobFile}
-use Rattle.format.specs.Parser.{Reason, Parsed, parsed, fault, Parser, onward, ◌>>=◌, ◌>>◌, return, many, jobBuffer, ranged, end}
-use Rattle.format.proofs.Files.{located-exact, transition-exact, job-exact, whole-sound, end-sound, end-complete}
-use Rattle.format.proofs.Parsing.{then, many-exact, ranged-exact}
-use Rattle.format.proofs.Sequence.{reads-one, reads-inside}
-use Rattle.layout.specs.Entries.{versionOf}
-use Rattle.jobreader.proofs.PreambleNumbers.{readPreamble}
+use Rattle.format.specs.Parser.{Reason, Parsed, parsed, fault, Parser, onward, ◌>>=◌, ◌>>◌, return, many, job_buffer, ranged, end}
+use Rattle.format.proofs.Files.{located_exact, transition_exact, job_exact, whole_sound, end_sound, end_complete}
+use Rattle.format.proofs.Parsing.{then, many_exact, ranged_exact}
+use Rattle.format.proofs.Sequence.{reads_one, reads_inside}
+use Rattle.layout.specs.Entries.{version_of}
+use Rattle.jobreader.proofs.PreambleNumbers.{read_preamble}
 use Rattle.jobreader.specs.declared.Preamble.{Preamble}
-use Rattle.reader.specs.Job.{readRest, RestAnswered, JobRead, JobAnswered}
-use Rattle.reader.specs.Number.{withoutValue}
+use Rattle.reader.specs.Job.{read_rest, RestAnswered, JobRead, JobAnswered}
+use Rattle.reader.specs.Number.{without_value}
 use Rattle.reader.specs.declared.Header.{Header}
 use Rattle.reader.specs.declared.JobAnswer.{JobAnswer}
 use Rattle.reader.specs.declared.JobAnswer.TheVariants.{Job, Refused}
-use Rattle.number.proofs.Reading.{number-inside}
-use Rattle.reader.proofs.Jobs.{preamble-place}
-use Rattle.reader.proofs.Many.{remembered, without-value-fault, without-value-onward, bind_assoc}
-use Rattle.reader.proofs.Standing.{version-read, entries-read, transitions-read}
+use Rattle.number.proofs.Reading.{number_inside}
+use Rattle.reader.proofs.Jobs.{preamble_place}
+use Rattle.reader.proofs.Many.{remembered, without_value_fault, without_value_onward, bind_assoc}
+use Rattle.reader.proofs.Standing.{version_read, entries_read, transitions_read}
 
 module _ (job : List ℕ) where
-  fileRest : Preamble → List Transition → Parser JobFile
-  fileRest f transitions = do
-    bads ← ranged (jobBuffer job) 1 65
-    forbidden ← many bads (readLocated (versionOf job) (jobBuffer job) f.variables f.states)
-    end (jobBuffer job)
+  file_rest : Preamble → List Transition → Parser JobFile
+  file_rest f transitions = do
+    bads ← ranged (job_buffer job) 1 65
+    forbidden ← many bads (read_located (version_of job) (job_buffer job) f.variables f.states)
+    end (job_buffer job)
     return
         (record {
-          version = versionOf job;
+          version = version_of job;
           states = f.states;
           job = record { variables = f.variables; start = f.start; transitions = transitions; forbidden = forbidden };
         })
 
-  parts : readWholeJob (jobBuffer job) 0
-      ≡ onward (readPreamble (jobBuffer job) 0)
-      (λ f p. onward (many f.transitions (readTransition (versionOf job) (jobBuffer job) f.variables f.states) p) (fileRest f))
-  unfolding readWholeJob readJob readPreamble fileRest
-  parts = by-version (ranged (jobBuffer job) 1 3 0) refl
+  parts : read_whole_job (job_buffer job) 0
+      ≡ onward (read_preamble (job_buffer job) 0)
+      (λ f p. onward (many f.transitions (read_transition (version_of job) (job_buffer job) f.variables f.states) p) (file_rest f))
+  unfolding read_whole_job read_job read_preamble file_rest
+  parts = by_version (ranged (job_buffer job) 1 3 0) refl
     where
       -- the version is the first byte
-      by-version : (x : Parsed ℕ) → ranged (jobBuffer job) 1 3 0 ≡ x → readWholeJob (jobBuffer job) 0 ≡ onward (readPreamble (jobBuffer job) 0)
-          (λ f p. onward (many f.transitions (readTransition (versionOf job) (jobBuffer job) f.variables f.states) p) (fileRest f))
-      by-version (fault why place) e = rw e refl
-      by-version (parsed version a) e = let same = version-read (jobBuffer job) version a e in rw (e, same) (simp bind_assoc)
+      by_version : (x : Parsed ℕ) → ranged (job_buffer job) 1 3 0 ≡ x → read_whole_job (job_buffer job) 0 ≡ onward (read_preamble (job_buffer job) 0)
+          (λ f p. onward (many f.transitions (read_transition (version_of job) (job_buffer job) f.variables f.states) p) (file_rest f))
+      by_version (fault why place) e = rw e refl
+      by_version (parsed version a) e = let same = version_read (job_buffer job) version a e in rw (e, same) (simp bind_assoc)
 
   -- the rest is read alike, whatever is made of it
-  same_rest : (f : Preamble) (transitions : List Transition) (at : ℕ) → withoutValue (readRest job f at) ≡ withoutValue (fileRest f transitions at)
-  unfolding readRest fileRest
+  same_rest : (f : Preamble) (transitions : List Transition) (at : ℕ) → without_value (read_rest job f at) ≡ without_value (file_rest f transitions at)
+  unfolding read_rest file_rest
   same_rest f transitions at =
-      without-value-onward (ranged (jobBuffer job) 1 65 at) _ _
-      (λ bads p. without-value-onward (many bads (readLocated (versionOf job) (jobBuffer job) f.variables f.states) p) _ _
-      (λ ms q. without-value-onward (end (jobBuffer job) q) _ _ (λ u last. refl)))
+      without_value_onward (ranged (job_buffer job) 1 65 at) _ _
+      (λ bads p. without_value_onward (many bads (read_located (version_of job) (job_buffer job) f.variables f.states) p) _ _
+      (λ ms q. without_value_onward (end (job_buffer job) q) _ _ (λ u last. refl)))
 
   -- ---- refusals
 
-  pub preamble-lost : {why : Reason} {place : ℕ} → readPreamble (jobBuffer job) 0 ≡ fault why place → readWholeJob (jobBuffer job) 0 ≡ fault why place
-  preamble-lost e = rw (parts, e) refl
+  pub preamble_lost : {why : Reason} {place : ℕ} → read_preamble (job_buffer job) 0 ≡ fault why place → read_whole_job (job_buffer job) 0 ≡ fault why place
+  preamble_lost e = rw (parts, e) refl
 
-  module _ (f : Preamble) (e₁ : readPreamble (jobBuffer job) 0 ≡ parsed f f.at) where
+  module _ (f : Preamble) (e₁ : read_preamble (job_buffer job) 0 ≡ parsed f f.at) where
     abbrev steps : Parsed (List Transition)
-    steps = many f.transitions (readTransition (versionOf job) (jobBuffer job) f.variables f.states) f.at
+    steps = many f.transitions (read_transition (version_of job) (job_buffer job) f.variables f.states) f.at
 
-    pub transitions-lost : {why : Reason} {place : ℕ} → withoutValue steps ≡ fault why place → readWholeJob (jobBuffer job) 0 ≡ fault why place
-    transitions-lost {why} {place} e = rw (parts, e₁, without-value-fault steps why place e) refl
+    pub transitions_lost : {why : Reason} {place : ℕ} → without_value steps ≡ fault why place → read_whole_job (job_buffer job) 0 ≡ fault why place
+    transitions_lost {why} {place} e = rw (parts, e₁, without_value_fault steps why place e) refl
 
-    module _ (at : ℕ) (e₂ : withoutValue steps ≡ parsed tt at) where
-      pub rest-lost : {why : Reason} {place : ℕ} → readRest job f at ≡ fault why place → readWholeJob (jobBuffer job) 0 ≡ fault why place
-      rest-lost {why} {place} e =
+    module _ (at : ℕ) (e₂ : without_value steps ≡ parsed tt at) where
+      pub rest_lost : {why : Reason} {place : ℕ} → read_rest job f at ≡ fault why place → read_whole_job (job_buffer job) 0 ≡ fault why place
+      rest_lost {why} {place} e =
           let (ts, g) = remembered steps at e₂ in
-          rw (parts, e₁, g) (without-value-fault (fileRest f ts at) why place (sym (same_rest f ts at) ∙ ap withoutValue e))
+          rw (parts, e₁, g) (without_value_fault (file_rest f ts at) why place (sym (same_rest f ts at) ∙ ap without_value e))
 
       -- ---- a job that was read
 
@@ -89,57 +89,57 @@ module _ (job : List ℕ) where
             bads_at = p;
           }
 
-      made : (ts : List Transition) (bads p : ℕ) (ms : List Located) (last : ℕ) → steps ≡ parsed ts at → ranged (jobBuffer job) 1 65 at ≡ parsed bads p
-          → many bads (readLocated (versionOf job) (jobBuffer job) f.variables f.states) p ≡ parsed ms last → length job ≤ last → JobRead job (header bads p)
-      unfolding fileRest
+      made : (ts : List Transition) (bads p : ℕ) (ms : List Located) (last : ℕ) → steps ≡ parsed ts at → ranged (job_buffer job) 1 65 at ≡ parsed bads p
+          → many bads (read_located (version_of job) (job_buffer job) f.variables f.states) p ≡ parsed ms last → length job ≤ last → JobRead job (header bads p)
+      unfolding file_rest
       made ts bads p ms last g h₁ h₂ whole =
-          let s = jobBuffer job in
+          let s = job_buffer job in
           let file : JobFile =
-          record { version = versionOf job; states = f.states; job = record { variables = f.variables; start = f.start; transitions = ts; forbidden = ms } } in
-          let read : readWholeJob s 0 ≡ parsed file last = rw (parts, e₁, g, h₁, h₂, end-complete s last whole) refl in
-          let (reads, ok) = (job-exact s).sound 0 file last (whole-sound s 0 file last read).0 in
-          let last-is : last ≡ length job = omega (arith, reads-inside reads (omega arith)) in
-          let (_, (count-is, _)) = (many-exact s (transition-exact (versionOf job) s f.variables f.states) f.transitions).sound f.at ts at g in
-          let (_, (bads-are, _)) = (many-exact s (located-exact (versionOf job) s f.variables f.states) bads).sound p ms last h₂ in
-          let (ts-are, each, ts-end) =
-          transitions-read s f.variables f.states ok.states.1 ok.variables.1 f.at f.transitions 0 f.at ts at (omega arith) g in
-          let at-is : at ≡ f.at + 5 * f.transitions = omega arith in
-          let bads-read = reads-one ((ranged-exact s 1 65).sound at bads p h₁).0 in
-          let p-inside : p ≤ length job = number-inside job at bads p bads-read in
-          let es = entries-read s f.variables f.states ok.states.1 bads p ms last p-inside h₂ in
+          record { version = version_of job; states = f.states; job = record { variables = f.variables; start = f.start; transitions = ts; forbidden = ms } } in
+          let read : read_whole_job s 0 ≡ parsed file last = rw (parts, e₁, g, h₁, h₂, end_complete s last whole) refl in
+          let (reads, ok) = (job_exact s).sound 0 file last (whole_sound s 0 file last read).0 in
+          let last_is : last ≡ length job = omega (arith, reads_inside reads (omega arith)) in
+          let (_, (count_is, _)) = (many_exact s (transition_exact (version_of job) s f.variables f.states) f.transitions).sound f.at ts at g in
+          let (_, (bads-are, _)) = (many_exact s (located_exact (version_of job) s f.variables f.states) bads).sound p ms last h₂ in
+          let (ts_are, each, ts-end) =
+          transitions_read s f.variables f.states ok.states.1 ok.variables.1 f.at f.transitions 0 f.at ts at (omega arith) g in
+          let at_is : at ≡ f.at + 5 * f.transitions = omega arith in
+          let bads-read = reads_one ((ranged_exact s 1 65).sound at bads p h₁).0 in
+          let p_inside : p ≤ length job = number_inside job at bads p bads-read in
+          let es = entries_read s f.variables f.states ok.states.1 bads p ms last p_inside h₂ in
           record {
             file = file;
-            read = rw last-is at read;
-            version-is = refl;
-            variables-are = refl;
-            states-are = refl;
+            read = rw last_is at read;
+            version_is = refl;
+            variables_are = refl;
+            states_are = refl;
             start_is = refl;
-            transitions-are = ts-are;
-            forbidden-are = es.same;
+            transitions_are = ts_are;
+            forbidden_are = es.same;
             version = ok.version;
             variables = ok.variables;
             states = ok.states;
             start = ok.start;
-            transitions-number = omega (arith, ok.transitions-number);
-            transitions-place = preamble-place s 0 f f.at e₁;
+            transitions_number = omega (arith, ok.transitions_number);
+            transitions_place = preamble_place s 0 f f.at e₁;
             transitions = λ i b. each i (omega arith) (omega arith);
-            bads-number = rw bads-are at ok.forbidden-number;
-            bads-place = rw at-is at bads-read;
+            bads_number = rw bads-are at ok.forbidden_number;
+            bads_place = rw at_is at bads-read;
             bads = es.entries;
           }
 
-      pub job_read : (h : Header) (next : ℕ) → readRest job f at ≡ parsed h next → JobRead job h
-      unfolding readRest
+      pub job_read : (h : Header) (next : ℕ) → read_rest job f at ≡ parsed h next → JobRead job h
+      unfolding read_rest
       job_read h next e =
           let (ts, g) = remembered steps at e₂ in
-          then (ranged (jobBuffer job) 1 65 at) _
-          (λ bads p h₁. then (many bads (readLocated (versionOf job) (jobBuffer job) f.variables f.states) p) _
-          (λ ms last h₂. then (end (jobBuffer job) last) _
+          then (ranged (job_buffer job) 1 65 at) _
+          (λ bads p h₁. then (many bads (read_located (version_of job) (job_buffer job) f.variables f.states) p) _
+          (λ ms last h₂. then (end (job_buffer job) last) _
           (λ u stop h₃ r.
           let header_is : header bads p ≡ h = cc in
-          rw (← header_is) (made ts bads p ms last g h₁ h₂ (end-sound (jobBuffer job) last h₃).0))))
+          rw (← header_is) (made ts bads p ms last g h₁ h₂ (end_sound (job_buffer job) last h₃).0))))
           e
 
       pub answered : (r : JobAnswer) → RestAnswered job f at r → JobAnswered job r
       answered (Job h) (next, e) = job_read h next e
-      answered (Refused why place) e = rest-lost e
+      answered (Refused why place) e = rest_lost e

@@ -2,10 +2,10 @@
 use Rattle.std.proofs.Math.Option.{Option, none, some}
 use Rattle.std.specs.Prelude.{◌≡◌, ℕ, suc, ◌+◌, ◌-◌, ◌*◌}
 use Rattle.facts.specs.Facts.{Fact, FactOf}
-use Rattle.format.specs.Job.{readFact}
+use Rattle.format.specs.Job.{read_fact}
 use Rattle.format.specs.Parser.{Parsed, parsed, fault, Buffer}
 use Rattle.reader.specs.declared.Ranged.{Ranged}
-use Rattle.reader.specs.Number.{rangedOf}
+use Rattle.reader.specs.Number.{ranged_of}
 
 -- the rank of a fact, by which facts rise
 abbrev pub rank : Fact → ℕ
@@ -23,4 +23,4 @@ ranked (fault why place) = fault why place
 
 -- the answer is that of reading a fact about n cells, after one that this least rank is due after
 abbrev pub FactAnswered : Buffer → ℕ → ℕ → ℕ → Ranged → Type 0
-FactAnswered s n least at r = (last : Option Fact) → LeastAfter n last least → rangedOf r ≡ ranked (readFact s n last at)
+FactAnswered s n least at r = (last : Option Fact) → LeastAfter n last least → ranged_of r ≡ ranked (read_fact s n last at)

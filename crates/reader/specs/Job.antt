@@ -2,15 +2,15 @@
 use Rattle.std.specs.Prelude.{true, List, map, ◌≡◌, ℕ, ◌+◌, ◌*◌, ◌≤◌, ◌<◌, length, get_or}
 use Rattle.lists.specs.Range.{range}
 use Rattle.format.specs.JobBytes.{Between}
-use Rattle.format.specs.Job.{readLocated, readWholeJob}
+use Rattle.format.specs.Job.{read_located, read_whole_job}
 use Rattle.format.specs.JobNumbers.{JobFile}
-use Rattle.format.specs.Parser.{parsed, fault, Parser, ◌>>=◌, ◌>>◌, return, here, many, jobBuffer, ranged, end}
+use Rattle.format.specs.Parser.{parsed, fault, Parser, ◌>>=◌, ◌>>◌, return, here, many, job_buffer, ranged, end}
 use Rattle.kinds.specs.Kinds.{allowed}
-use Rattle.layout.specs.Entries.{versionOf, entries_at, EntriesIn}
-use Rattle.layout.specs.Transitions.{transitionAt}
+use Rattle.layout.specs.Entries.{version_of, entries_at, EntriesIn}
+use Rattle.layout.specs.Transitions.{transition_at}
 use Rattle.number.specs.Number.{number_at}
 use Rattle.number.specs.declared.Read.TheVariants.{Number}
-use Rattle.verdict.specs.Verdict.{reasonOf}
+use Rattle.verdict.specs.Verdict.{reason_of}
 use Rattle.jobreader.specs.declared.Preamble.{Preamble}
 use Rattle.reader.specs.declared.Header.{Header}
 use Rattle.reader.specs.declared.JobAnswer.{JobAnswer}
@@ -27,32 +27,32 @@ pub record TransitionIn (bytes : List ℕ) (variables states at : ℕ) : Type 0 
 -- the job's bytes are read as a job, and the header says what it is
 pub record JobRead (job : List ℕ) (h : Header) : Type 0 where
   pub file : JobFile
-  pub read : readWholeJob (jobBuffer job) 0 ≡ parsed file (length job)
-  pub version-is : file.version ≡ versionOf job
-  pub variables-are : file.job.variables ≡ h.variables
-  pub states-are : file.states ≡ h.states
+  pub read : read_whole_job (job_buffer job) 0 ≡ parsed file (length job)
+  pub version_is : file.version ≡ version_of job
+  pub variables_are : file.job.variables ≡ h.variables
+  pub states_are : file.states ≡ h.states
   pub start_is : file.job.start ≡ h.start
-  pub transitions-are : file.job.transitions ≡ map (λ i. transitionAt job (h.transitions_at + 5 * i)) (range 0 h.transitions)
-  pub forbidden-are : file.job.forbidden ≡ entries_at job h.variables h.bads_at h.bads
-  pub version : Between 1 2 (versionOf job)
+  pub transitions_are : file.job.transitions ≡ map (λ i. transition_at job (h.transitions_at + 5 * i)) (range 0 h.transitions)
+  pub forbidden_are : file.job.forbidden ≡ entries_at job h.variables h.bads_at h.bads
+  pub version : Between 1 2 (version_of job)
   pub variables : Between 1 8 h.variables
   pub states : Between 1 64 h.states
   pub start : h.start < h.states
-  pub transitions-number : h.transitions ≤ 256
+  pub transitions_number : h.transitions ≤ 256
   -- version, V, S and the start state are one byte each, so the number of transitions stands at place 4, and they follow it
-  pub transitions-place : number_at job 4 ≡ Number h.transitions h.transitions_at
+  pub transitions_place : number_at job 4 ≡ Number h.transitions h.transitions_at
   pub transitions : (i : ℕ) → i < h.transitions → TransitionIn job h.variables h.states (h.transitions_at + 5 * i)
-  pub bads-number : Between 1 64 h.bads
-  pub bads-place : number_at job (h.transitions_at + 5 * h.transitions) ≡ Number h.bads h.bads_at
+  pub bads_number : Between 1 64 h.bads
+  pub bads_place : number_at job (h.transitions_at + 5 * h.transitions) ≡ Number h.bads h.bads_at
   pub bads : EntriesIn job h.variables h.bads_at h.bads
 
 -- what follows the transitions: the forbidden shapes, and nothing after them; with the numbers before, it makes a header
-unfoldable pub readRest : List ℕ → Preamble → Parser Header
-readRest job f = do
-  bads ← ranged (jobBuffer job) 1 65
+unfoldable pub read_rest : List ℕ → Preamble → Parser Header
+read_rest job f = do
+  bads ← ranged (job_buffer job) 1 65
   bads-at ← here
-  many bads (readLocated (versionOf job) (jobBuffer job) f.variables f.states)
-  end (jobBuffer job)
+  many bads (read_located (version_of job) (job_buffer job) f.variables f.states)
+  end (job_buffer job)
   return
       (record {
         variables = f.variables;
@@ -65,9 +65,9 @@ readRest job f = do
       })
 
 abbrev pub RestAnswered : List ℕ → Preamble → ℕ → JobAnswer → Type 0
-RestAnswered job f at (Job h) = (next : ℕ) × (readRest job f at ≡ parsed h next)
-RestAnswered job f at (Refused r place) = readRest job f at ≡ fault (reasonOf r) place
+RestAnswered job f at (Job h) = (next : ℕ) × (read_rest job f at ≡ parsed h next)
+RestAnswered job f at (Refused r place) = read_rest job f at ≡ fault (reason_of r) place
 
 abbrev pub JobAnswered : List ℕ → JobAnswer → Type 0
 JobAnswered job (Job h) = JobRead job h
-JobAnswered job (Refused r place) = readWholeJob (jobBuffer job) 0 ≡ fault (reasonOf r) place
+JobAnswered job (Refused r place) = read_whole_job (job_buffer job) 0 ≡ fault (reason_of r) place

@@ -1,22 +1,22 @@
 -- The code's answers on single numbers as those of the parsers.
 use Rattle.std.specs.Prelude.{List, ℕ}
-use Rattle.format.specs.Parser.{Parsed, parsed, fault, Buffer, jobBuffer, certificateBuffer}
-use Rattle.verdict.specs.Verdict.{reasonOf}
+use Rattle.format.specs.Parser.{Parsed, parsed, fault, Buffer, job_buffer, certificate_buffer}
+use Rattle.verdict.specs.Verdict.{reason_of}
 use Rattle.reader.specs.declared.Ranged.{Ranged}
 use Rattle.reader.specs.declared.Ranged.TheVariants.{Value, Refused}
 use Rattle.reader.specs.declared.Input.{Input}
 use Rattle.reader.specs.declared.Input.TheVariants.{Job, Certificate}
 
 -- the buffer that is read, with its refusals
-abbrev pub bufferOf : Input → List ℕ → Buffer
-bufferOf Job bytes = jobBuffer bytes
-bufferOf Certificate bytes = certificateBuffer bytes
+abbrev pub buffer_of : Input → List ℕ → Buffer
+buffer_of Job bytes = job_buffer bytes
+buffer_of Certificate bytes = certificate_buffer bytes
 
-abbrev pub rangedOf : Ranged → Parsed ℕ
-rangedOf (Value n next) = parsed n next
-rangedOf (Refused r place) = fault (reasonOf r) place
+abbrev pub ranged_of : Ranged → Parsed ℕ
+ranged_of (Value n next) = parsed n next
+ranged_of (Refused r place) = fault (reason_of r) place
 
 -- what a parser answers, without the value
-abbrev pub withoutValue : {A : Type 0} → Parsed A → Parsed (Unit {0})
-withoutValue (parsed x next) = parsed tt next
-withoutValue (fault why place) = fault why place
+abbrev pub without_value : {A : Type 0} → Parsed A → Parsed (Unit {0})
+without_value (parsed x next) = parsed tt next
+without_value (fault why place) = fault why place

@@ -1,11 +1,11 @@
 // Facts, which files of version 2 have after the links of a shape.
 ghost use Rattle.std.proofs.Math.Option.{none};
 ghost use Rattle.std.specs.Prelude.{◌≡◌, ◌≤◌};
-ghost use Rattle.format.specs.Job.{factsAfter, readFacts};
-ghost use Rattle.layout.specs.Entries.{versionOf};
-ghost use Rattle.verdict.specs.Verdict.{reachedOf};
+ghost use Rattle.format.specs.Job.{facts_after, read_facts};
+ghost use Rattle.layout.specs.Entries.{version_of};
+ghost use Rattle.verdict.specs.Verdict.{reached_of};
 ghost use Rattle.reader.specs.Facts.{FactAnswered};
-ghost use Rattle.reader.specs.Number.{bufferOf, withoutValue};
+ghost use Rattle.reader.specs.Number.{buffer_of, without_value};
 
 use crate::{Input, Ranged, outside, reached, read_ranged};
 use layout::version_of;
@@ -15,7 +15,7 @@ use verdict::Reached;
 // the second; one below the least rank that is due is refused at its second cell.
 fn read_fact(input: Input, bytes: &[u8], first: usize, n: usize, least: usize) -> Ranged
     requires { n ≤ 12 }
-    ensures { FactAnswered (bufferOf input bytes.now) n least first result }
+    ensures { FactAnswered (buffer_of input bytes.now) n least first result }
 {
     let number = read_ranged(input, bytes, first, 0, 2);
     let Ranged::Value(kind, left_at) = number else {
@@ -39,7 +39,7 @@ fn read_fact(input: Input, bytes: &[u8], first: usize, n: usize, least: usize) -
 // So many facts about n cells, strictly rising.
 fn read_fact_list(input: Input, bytes: &[u8], first: usize, n: usize, count: usize) -> Reached
     requires { n ≤ 12 }
-    ensures { reachedOf result ≡ withoutValue (factsAfter (bufferOf input bytes.now) n count none first) }
+    ensures { reached_of result ≡ without_value (facts_after (buffer_of input bytes.now) n count none first) }
 {
     let mut at = first;
     let mut least = 0;
@@ -58,8 +58,8 @@ fn read_fact_list(input: Input, bytes: &[u8], first: usize, n: usize, count: usi
 
 // The number of facts about n cells and the facts, in version 2.
 fn read_counted(input: Input, bytes: &[u8], at: usize, n: usize) -> Reached
-    requires { (n ≤ 12) × (versionOf bytes.now ≡ 2) }
-    ensures { reachedOf result ≡ withoutValue (readFacts (bufferOf input bytes.now) n (versionOf bytes.now) at) }
+    requires { (n ≤ 12) × (version_of bytes.now ≡ 2) }
+    ensures { reached_of result ≡ without_value (read_facts (buffer_of input bytes.now) n (version_of bytes.now) at) }
 {
     let number = read_ranged(input, bytes, at, 0, 289);
     let Ranged::Value(count, first) = number else {
@@ -71,7 +71,7 @@ fn read_counted(input: Input, bytes: &[u8], at: usize, n: usize) -> Reached
 // The same, and nothing in version 1. It is short, so that it costs the reading of members of version 1 no call.
 pub(crate) fn read_facts(input: Input, bytes: &[u8], at: usize, n: usize) -> Reached
     requires { n ≤ 12 }
-    ensures { reachedOf result ≡ withoutValue (readFacts (bufferOf input bytes.now) n (versionOf bytes.now) at) }
+    ensures { reached_of result ≡ without_value (read_facts (buffer_of input bytes.now) n (version_of bytes.now) at) }
 {
     if version_of(bytes) != 2 {
         return Reached::At(at);

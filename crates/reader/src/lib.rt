@@ -1,16 +1,16 @@
 // Reads the numbers of a job and of the members of a certificate, each held to its range.
 ghost use Rattle.std.specs.Prelude.{cond, List, [], ◌≡◌, ℕ, ◌+◌, ◌-◌, ◌≤◌, ◌<◌, eqb, ltb, length, get_or};
 ghost use Rattle.lists.specs.Test.{all_from};
-ghost use Rattle.format.specs.Certificate.{readMember};
-ghost use Rattle.format.specs.Job.{readFacts, readLocated, readTransition};
-ghost use Rattle.format.specs.JobBytes.{lastKind};
-ghost use Rattle.format.specs.Parser.{refusal, onward, jobBuffer, certificateBuffer, many, ranged};
-ghost use Rattle.layout.specs.Entries.{versionOf};
+ghost use Rattle.format.specs.Certificate.{read_member};
+ghost use Rattle.format.specs.Job.{read_facts, read_located, read_transition};
+ghost use Rattle.format.specs.JobBytes.{last_kind};
+ghost use Rattle.format.specs.Parser.{refusal, onward, job_buffer, certificate_buffer, many, ranged};
+ghost use Rattle.layout.specs.Entries.{version_of};
 ghost use Rattle.number.specs.Number.{number_at};
-ghost use Rattle.verdict.specs.Verdict.{reasonOf, reachedOf};
+ghost use Rattle.verdict.specs.Verdict.{reason_of, reached_of};
 ghost use Rattle.reader.specs.Job.{RestAnswered, JobAnswered};
-ghost use Rattle.reader.specs.Members.{placesRead, memberPlaces, withPlaces, tested, MembersAnswered};
-ghost use Rattle.reader.specs.Number.{bufferOf, rangedOf, withoutValue};
+ghost use Rattle.reader.specs.Members.{places_read, member_places, with_places, tested, MembersAnswered};
+ghost use Rattle.reader.specs.Number.{buffer_of, ranged_of, without_value};
 
 use crate::factlist::read_facts;
 use crate::start::{may_refuse, test_members};
@@ -65,7 +65,7 @@ pub enum MembersAnswer {
 
 // The refusal of a number that can't be read.
 fn unreadable(input: Input) -> Refusal
-    ensures { reasonOf result ≡ (bufferOf input []).unreadable }
+    ensures { reason_of result ≡ (buffer_of input []).unreadable }
 {
     match input {
         Input::Job => Refusal::JobUnreadable,
@@ -75,7 +75,7 @@ fn unreadable(input: Input) -> Refusal
 
 // The refusal of a number that breaks its range.
 pub(crate) fn outside(input: Input) -> Refusal
-    ensures { reasonOf result ≡ (bufferOf input []).outside }
+    ensures { reason_of result ≡ (buffer_of input []).outside }
 {
     match input {
         Input::Job => Refusal::JobRange,
@@ -85,7 +85,7 @@ pub(crate) fn outside(input: Input) -> Refusal
 
 // What was read at a place, held to a range: from `low` on and below `limit`.
 fn check_range(input: Input, read: Read, at: usize, low: usize, limit: usize) -> Ranged
-    ensures { (bytes : List ℕ) → read ≡ number_at bytes at → rangedOf result ≡ ranged (bufferOf input bytes) low limit at }
+    ensures { (bytes : List ℕ) → read ≡ number_at bytes at → ranged_of result ≡ ranged (buffer_of input bytes) low limit at }
 {
     match read {
         Read::Unreadable(_) => Ranged::Refused(unreadable(input), at),
@@ -103,14 +103,14 @@ fn check_range(input: Input, read: Read, at: usize, low: usize, limit: usize) ->
 
 // The number at a place, from `low` on and below `limit`.
 pub(crate) fn read_ranged(input: Input, bytes: &[u8], at: usize, low: usize, limit: usize) -> Ranged
-    ensures { rangedOf result ≡ ranged (bufferOf input bytes.now) low limit at }
+    ensures { ranged_of result ≡ ranged (buffer_of input bytes.now) low limit at }
 {
     check_range(input, number::read_number(bytes, at), at, low, limit)
 }
 
 // The refusal of a job's number that has the number 3 or 4.
 fn job_refusal(number: usize) -> Refusal
-    ensures { reasonOf result ≡ refusal (cond (eqb number 3) 3 4) }
+    ensures { reason_of result ≡ refusal (cond (eqb number 3) 3 4) }
 {
     if number == 3 {
         Refusal::JobUnreadable
@@ -121,7 +121,7 @@ fn job_refusal(number: usize) -> Refusal
 
 // The number at a place of a job, by the reader that keeps the job together with the place.
 fn job_ranged(job: &[u8], at: usize, low: usize, limit: usize) -> Ranged
-    ensures { rangedOf result ≡ ranged (jobBuffer job.now) low limit at }
+    ensures { ranged_of result ≡ ranged (job_buffer job.now) low limit at }
 {
     let s = jobreader::read_at(job, at, low, limit);
     if s.refusal != 0 {
@@ -132,7 +132,7 @@ fn job_ranged(job: &[u8], at: usize, low: usize, limit: usize) -> Ranged
 
 // The place after a number, or the refusal that it ended in.
 pub(crate) fn reached(r: Ranged) -> Reached
-    ensures { reachedOf result ≡ withoutValue (rangedOf r) }
+    ensures { reached_of result ≡ without_value (ranged_of r) }
 {
     match r {
         Ranged::Value(_, next) => Reached::At(next),
@@ -142,7 +142,7 @@ pub(crate) fn reached(r: Ranged) -> Reached
 
 // So many numbers below a limit.
 fn read_codes(input: Input, bytes: &[u8], first: usize, count: usize, limit: usize) -> Reached
-    ensures { reachedOf result ≡ withoutValue (many count (ranged (bufferOf input bytes.now) 0 limit) first) }
+    ensures { reached_of result ≡ without_value (many count (ranged (buffer_of input bytes.now) 0 limit) first) }
 {
     let mut at = first;
     let mut i = 0;
@@ -159,7 +159,7 @@ fn read_codes(input: Input, bytes: &[u8], first: usize, count: usize, limit: usi
 
 // A state and a shape: state, n, the places of the variables, n links, and in version 2 facts.
 fn read_entry(input: Input, bytes: &[u8], first: usize, variables: usize, states: usize) -> Reached
-    ensures { reachedOf result ≡ withoutValue (readLocated (versionOf bytes.now) (bufferOf input bytes.now) variables states first) }
+    ensures { reached_of result ≡ without_value (read_located (version_of bytes.now) (buffer_of input bytes.now) variables states first) }
 {
     let state = read_ranged(input, bytes, first, 0, states);
     let Ranged::Value(_, n_at) = state else {
@@ -182,7 +182,7 @@ fn read_entry(input: Input, bytes: &[u8], first: usize, variables: usize, states
 
 // The last kind that a job's version has.
 fn last_kind(job: &[u8]) -> usize
-    ensures { result ≡ lastKind (versionOf job.now) }
+    ensures { result ≡ last_kind (version_of job.now) }
 {
     if version_of(job) == 2 {
         return 13;
@@ -193,7 +193,7 @@ fn last_kind(job: &[u8]) -> usize
 // One transition: from, kind, a, b, to.
 fn read_transition(job: &[u8], first: usize, variables: usize, states: usize) -> Reached
     requires { variables ≤ 8 }
-    ensures { reachedOf result ≡ withoutValue (readTransition (versionOf job.now) (jobBuffer job.now) variables states first) }
+    ensures { reached_of result ≡ without_value (read_transition (version_of job.now) (job_buffer job.now) variables states first) }
 {
     let from = read_ranged(Input::Job, job, first, 0, states);
     let Ranged::Value(_, kind_at) = from else {
@@ -224,7 +224,7 @@ fn read_transitions(
     states: usize,
 ) -> Reached
     requires { variables ≤ 8 }
-    ensures { reachedOf result ≡ withoutValue (many count (readTransition (versionOf job.now) (jobBuffer job.now) variables states) first) }
+    ensures { reached_of result ≡ without_value (many count (read_transition (version_of job.now) (job_buffer job.now) variables states) first) }
 {
     let mut at = first;
     let mut i = 0;
@@ -247,7 +247,7 @@ fn read_forbidden(
     variables: usize,
     states: usize,
 ) -> Reached
-    ensures { reachedOf result ≡ withoutValue (many count (readLocated (versionOf job.now) (jobBuffer job.now) variables states) first) }
+    ensures { reached_of result ≡ without_value (many count (read_located (version_of job.now) (job_buffer job.now) variables states) first) }
 {
     let mut at = first;
     let mut i = 0;
@@ -330,7 +330,7 @@ fn all_below(bytes: &[u8], first: usize, end: usize, limit: u8) -> bool
 
 // The place after the links of a member's entry, if each of its numbers up to there is one byte and in range; else 0, and the exact reader decides.
 fn quick_entry(cert: &[u8], at: usize, variables: usize, states: usize) -> usize
-    ensures { (result ≡ 0 → ⊥) → (at + 1 < length cert.now) × (get_or cert.now (at + 1) 0 ≤ 12) × (withoutValue (readLocated (versionOf cert.now) (certificateBuffer cert.now) variables states at) ≡ withoutValue (readFacts (certificateBuffer cert.now) (get_or cert.now (at + 1) 0) (versionOf cert.now) result)) }
+    ensures { (result ≡ 0 → ⊥) → (at + 1 < length cert.now) × (get_or cert.now (at + 1) 0 ≤ 12) × (without_value (read_located (version_of cert.now) (certificate_buffer cert.now) variables states at) ≡ without_value (read_facts (certificate_buffer cert.now) (get_or cert.now (at + 1) 0) (version_of cert.now) result)) }
 {
     if cert.len() <= at {
         return 0;
@@ -366,7 +366,7 @@ fn quick_entry(cert: &[u8], at: usize, variables: usize, states: usize) -> usize
 
 // A member's entry.
 fn read_member(cert: &[u8], at: usize, variables: usize, states: usize) -> Reached
-    ensures { reachedOf result ≡ withoutValue (readLocated (versionOf cert.now) (certificateBuffer cert.now) variables states at) }
+    ensures { reached_of result ≡ without_value (read_located (version_of cert.now) (certificate_buffer cert.now) variables states at) }
 {
     let links_end = quick_entry(cert, at, variables, states);
     if links_end == 0 {
@@ -391,8 +391,8 @@ fn read_entries(
     starts: &mut [u16],
 ) -> Reached
     requires { count ≤ length starts.old }
-    ensures answer { reachedOf result ≡ withoutValue (onward (many count (readMember (certificateBuffer cert.now) (versionOf cert.now) variables states) first) (tested start)) }
-    ensures starts { starts.new ≡ withPlaces (placesRead count (readMember (certificateBuffer cert.now) (versionOf cert.now) variables states) first) starts.old }
+    ensures answer { reached_of result ≡ without_value (onward (many count (read_member (certificate_buffer cert.now) (version_of cert.now) variables states) first) (tested start)) }
+    ensures starts { starts.new ≡ with_places (places_read count (read_member (certificate_buffer cert.now) (version_of cert.now) variables states) first) starts.old }
 {
     let mut at = first;
     let mut seen = false;
@@ -426,7 +426,7 @@ pub fn read_members(
     starts: &mut [u16; 512],
 ) -> MembersAnswer
     ensures answer { MembersAnswered cert.now version variables states start starts.new result }
-    ensures starts { starts.new ≡ withPlaces (memberPlaces (certificateBuffer cert.now) version variables states) starts.old }
+    ensures starts { starts.new ≡ with_places (member_places (certificate_buffer cert.now) version variables states) starts.old }
 {
     let own = read_ranged(Input::Certificate, cert, 0, 1, 3);
     let at = match own {

@@ -1,13 +1,13 @@
 // Refusal 8: a member at the start state that the empty heap satisfies.
 ghost use Rattle.std.specs.Prelude.{false, List, ◌≡◌, ℕ, ◌+◌, ◌≤◌, length};
 ghost use Rattle.run.specs.Run.{Located};
-ghost use Rattle.format.specs.Certificate.{Member, readMember, testStart};
-ghost use Rattle.format.specs.Job.{readLocated};
-ghost use Rattle.format.specs.Parser.{parsed, onward, certificateBuffer, many};
-ghost use Rattle.layout.specs.Entries.{versionOf};
-ghost use Rattle.verdict.specs.Verdict.{reachedOf};
+ghost use Rattle.format.specs.Certificate.{Member, read_member, test_start};
+ghost use Rattle.format.specs.Job.{read_located};
+ghost use Rattle.format.specs.Parser.{parsed, onward, certificate_buffer, many};
+ghost use Rattle.layout.specs.Entries.{version_of};
+ghost use Rattle.verdict.specs.Verdict.{reached_of};
 ghost use Rattle.reader.specs.Members.{empty_at, tested};
-ghost use Rattle.reader.specs.Number.{withoutValue};
+ghost use Rattle.reader.specs.Number.{without_value};
 
 use crate::factlist::read_facts;
 use crate::{Input, Ranged, reached, read_ranged};
@@ -30,8 +30,8 @@ fn empty_at(cert: &[u8], at: usize, variables: usize) -> bool
 
 // Whether the member at a place, which was read, may be refused. Where its state is one byte, it says so exactly.
 pub(crate) fn may_refuse(cert: &[u8], at: usize, variables: usize, start: usize) -> bool
-    requires { (states : ℕ) × (l : Located) × (next : ℕ) × (readLocated (versionOf cert.now) (certificateBuffer cert.now) variables states at ≡ parsed l next) }
-    ensures { (states : ℕ) (l : Located) (next : ℕ) → readLocated (versionOf cert.now) (certificateBuffer cert.now) variables states at ≡ parsed l next → result ≡ false → parsed tt next ≡ testStart start (record { first = at; located = l }) next }
+    requires { (states : ℕ) × (l : Located) × (next : ℕ) × (read_located (version_of cert.now) (certificate_buffer cert.now) variables states at ≡ parsed l next) }
+    ensures { (states : ℕ) (l : Located) (next : ℕ) → read_located (version_of cert.now) (certificate_buffer cert.now) variables states at ≡ parsed l next → result ≡ false → parsed tt next ≡ test_start start (record { first = at; located = l }) next }
 {
     let state = cert[at];
     if 127 < state {
@@ -45,8 +45,8 @@ pub(crate) fn may_refuse(cert: &[u8], at: usize, variables: usize, start: usize)
 
 // Tests the member at a place, which was read: refused if it is at the start state and the empty heap satisfies it.
 fn test_member(cert: &[u8], at: usize, variables: usize, states: usize, start: usize) -> Reached
-    requires { (l : Located) × (next : ℕ) × (readLocated (versionOf cert.now) (certificateBuffer cert.now) variables states at ≡ parsed l next) }
-    ensures { (l : Located) (next : ℕ) → readLocated (versionOf cert.now) (certificateBuffer cert.now) variables states at ≡ parsed l next → reachedOf result ≡ testStart start (record { first = at; located = l }) next }
+    requires { (l : Located) × (next : ℕ) × (read_located (version_of cert.now) (certificate_buffer cert.now) variables states at ≡ parsed l next) }
+    ensures { (l : Located) (next : ℕ) → read_located (version_of cert.now) (certificate_buffer cert.now) variables states at ≡ parsed l next → reached_of result ≡ test_start start (record { first = at; located = l }) next }
 {
     let number = read_ranged(Input::Certificate, cert, at, 0, states);
     let Ranged::Value(state, n_at) = number else {
@@ -75,8 +75,8 @@ pub(crate) fn test_members(
     states: usize,
     start: usize,
 ) -> Reached
-    requires { (ms : List Member) × (end : ℕ) × (many count (readMember (certificateBuffer cert.now) (versionOf cert.now) variables states) first ≡ parsed ms end) }
-    ensures { reachedOf result ≡ withoutValue (onward (many count (readMember (certificateBuffer cert.now) (versionOf cert.now) variables states) first) (tested start)) }
+    requires { (ms : List Member) × (end : ℕ) × (many count (read_member (certificate_buffer cert.now) (version_of cert.now) variables states) first ≡ parsed ms end) }
+    ensures { reached_of result ≡ without_value (onward (many count (read_member (certificate_buffer cert.now) (version_of cert.now) variables states) first) (tested start)) }
 {
     let mut at = first;
     let mut i = 0;

@@ -7,12 +7,12 @@ use mathlib.Core.Path.{◌≡◌, refl, sym}
 use Prim.Native.Nat.{ℕ, zero, suc}
 use native.Mathlib.Decide.{ℕ_discrete}
 use Rattle.lists.specs.List.{◌∈◌}
-use Rattle.lists.proofs.List.{every-none}
+use Rattle.lists.proofs.List.{every_none}
 use Rattle.heap.specs.Heap.{empty}
 use Rattle.heap.specs.Operation.{assign, enabled?, after}
 use Rattle.heap.specs.Place.{nowhere, null}
-use Rattle.heap.proofs.Empty.{null-enabled, null-assigned}
-use Rattle.shape.specs.Shape.{varAt}
+use Rattle.heap.proofs.Empty.{null_enabled, null_assigned}
+use Rattle.shape.specs.Shape.{var_at}
 use Rattle.shape.proofs.NoCells.{no_cells}
 use Rattle.run.specs.Run.{Transition, Located, Job, Entry, Config, fire, run, Safe}
 
@@ -25,8 +25,8 @@ abbrev pub at_null : Located
 at_null = record { state = 1; shape = record { vars = null ∷ []; links = []; facts = [] } }
 
 -- the job of P3 and P4 of document 01
-abbrev pub assignNull : Job
-assignNull = record { variables = 1; start = 0; transitions = assigning ∷ []; forbidden = at_null ∷ [] }
+abbrev pub assign_null : Job
+assign_null = record { variables = 1; start = 0; transitions = assigning ∷ []; forbidden = at_null ∷ [] }
 
 abbrev first : Config
 first = record { state = 0; heap = empty }
@@ -35,20 +35,20 @@ abbrev second : Config
 second = record { state = 1; heap = after (assign 1 0) 0 empty }
 
 fires : second ≡ fire assigning 0 first
-fires = sym (if_pos (Dec.and (ℕ_discrete 0 0) (enabled? (assign 1 0) 0 empty)) (refl, null-enabled 0) second first)
+fires = sym (if_pos (Dec.and (ℕ_discrete 0 0) (enabled? (assign 1 0) 0 empty)) (refl, null_enabled 0) second first)
 
 abbrev entries : List Entry
 entries = record { transition = 0; choice = 0 } ∷ []
 
 -- the one entry leads there
-reached : second ∈ run assignNull entries
+reached : second ∈ run assign_null entries
 reached = Memᴰ.tail (Memᴰ.head fires)
 
-stands : (v : ℕ) → varAt at_null.shape v ≢ nowhere → second.heap.var v ≡ varAt at_null.shape v
+stands : (v : ℕ) → var_at at_null.shape v ≢ nowhere → second.heap.var v ≡ var_at at_null.shape v
 unfolding ℕ_discrete
 stands zero z = refl
-stands (suc zero) z = null-assigned 0
+stands (suc zero) z = null_assigned 0
 stands (suc (suc v)) z = absurd (z refl)
 
-pub not-safe : ¬ Safe assignNull
-not-safe safe = safe entries second reached at_null (Memᴰ.head refl) refl (no_cells second.heap at_null.shape refl stands (every-none _))
+pub not_safe : ¬ Safe assign_null
+not_safe safe = safe entries second reached at_null (Memᴰ.head refl) refl (no_cells second.heap at_null.shape refl stands (every_none _))

@@ -10,220 +10,220 @@ use borrow.Author.Tests.{lt-ltb, le-ltb, le-leb, lt-leb, ne_eqb}
 use lib.Dec.{T}
 use lib.ListN.{length, get_or, drop, length-map}
 use lib.Seq.{get_or-take, get_or-drop, ext_get_or}
-use Rattle.lists.specs.List.{concatMap}
+use Rattle.lists.specs.List.{concat_map}
 use Rattle.lists.specs.Range.{range}
-use Rattle.lists.proofs.List.{at_mem, getD-mem, mem-getD, every-none}
+use Rattle.lists.proofs.List.{at_mem, get_d_mem, mem_get_d, every_none}
 use Rattle.facts.specs.Facts.{FactOf}
-use Rattle.lists.proofs.Reflect.{r_and, r-le, r-lt, cond_cases}
+use Rattle.lists.proofs.Reflect.{r_and, r_le, r_lt, cond_cases}
 use Rattle.heap.specs.Operation.{new}
 use Rattle.heap.specs.Place.{nowhere, null, cell}
-use Rattle.shape.specs.Placing.{setVar}
-use Rattle.shape.specs.Shape.{Shape, AllBelow, varAt, size}
-use Rattle.shape.proofs.Laws.{link-map}
-use Rattle.backward.specs.Predecessors.{removeAt, lower, removeCell, before}
-use Rattle.backward.proofs.Remove.{lower-low, lower-below, links-remove-length}
-use Rattle.layout.specs.ShapeArray.{cellCount, operand_at, linksIn, shapeIn, ShapeArray}
-use Rattle.shapes.specs.Change.{setOperand, slotFrom, slotWithout, arrayWithout}
+use Rattle.shape.specs.Placing.{set_var}
+use Rattle.shape.specs.Shape.{Shape, AllBelow, var_at, size}
+use Rattle.shape.proofs.Laws.{link_map}
+use Rattle.backward.specs.Predecessors.{remove_at, lower, remove_cell, before}
+use Rattle.backward.proofs.Remove.{lower_low, lower_below, links_remove_length}
+use Rattle.layout.specs.ShapeArray.{cell_count, operand_at, links_in, shape_in, ShapeArray}
+use Rattle.shapes.specs.Change.{set_operand, slot_from, slot_without, array_without}
 use Rattle.shapes.specs.Operands.{HoldsShape}
-use Rattle.shapes.specs.Without.{isFree, without}
-use Rattle.shapes.proofs.New.{r-isFree, new-at-cell, new-at-null, new-at-dangling, new-at-nowhere}
-use Rattle.shapes.proofs.Slots.{size_in, vars-in, var-in, link-in, links-in-range, shape-operand}
-use Rattle.shapes.proofs.Tables.{table-length, table_at, operands-all, vars-mapped}
+use Rattle.shapes.specs.Without.{is_free, without}
+use Rattle.shapes.proofs.New.{r_is_free, new_at_cell, new_at_null, new_at_dangling, new_at_nowhere}
+use Rattle.shapes.proofs.Slots.{size_in, vars_in, var_in_lem, link_in_lem, links_in_range, shape_operand}
+use Rattle.shapes.proofs.Tables.{table_length, table_at, operands_all, vars_mapped}
 
 -- ---- where a stands
 
 module _ (variables : ℕ) (s : List ℕ) (h : ShapeArray variables s) where
   abbrev shape : Shape
-  shape = shapeIn variables s
+  shape = shape_in variables s
 
-  pub vars-below : AllBelow (cell (cellCount s)) shape.vars
-  vars-below x m =
-      let (i, b, e) = mem-getD shape.vars x m in
+  pub vars_below : AllBelow (cell (cell_count s)) shape.vars
+  vars_below x m =
+      let (i, b, e) = mem_get_d shape.vars x m in
       let slot : 18 + i ≡ 17 + suc i = omega arith in
-      let e' = sym e ∙ get_or-take variables (drop 18 s) i nowhere (omega (arith, vars-in variables s h)) ∙ get_or-drop 18 s i nowhere ∙ ap (λ (j : ℕ). get_or s j nowhere) slot in
-      rw e' (h.operands-range (suc i))
+      let e' = sym e ∙ get_or-take variables (drop 18 s) i nowhere (omega (arith, vars_in variables s h)) ∙ get_or-drop 18 s i nowhere ∙ ap (λ (j : ℕ). get_or s j nowhere) slot in
+      rw e' (h.operands_range (suc i))
 
-  pub links-below : AllBelow (cell (size shape)) shape.links
-  links-below x m = let (i, b, e) = mem-getD shape.links x m in rw (sym e) (links-in-range variables s h i b)
+  pub links_below : AllBelow (cell (size shape)) shape.links
+  links_below x m = let (i, b, e) = mem_get_d shape.links x m in rw (sym e) (links_in_range variables s h i b)
 
   module _ (a : ℕ) (some : 1 ≤ a) (most : a ≤ variables) where
-    pub new-nowhere : operand_at s a ≡ nowhere → before (new a) shape ≡ concatMap (without shape) (range 0 (cellCount s)) ++ (shape ∷ [])
-    new-nowhere e =
-        new-at-nowhere shape a some (omega (arith, vars-in variables s h)) (rw (size_in variables s h) vars-below) links-below (every-none (FactOf (size shape))) (var-in variables s h a ∙ e)
-        ∙ ap (λ (m : ℕ). concatMap (without shape) (range 0 m) ++ (shape ∷ [])) (size_in variables s h)
+    pub new_nowhere : operand_at s a ≡ nowhere → before (new a) shape ≡ concat_map (without shape) (range 0 (cell_count s)) ++ (shape ∷ [])
+    new_nowhere e =
+        new_at_nowhere shape a some (omega (arith, vars_in variables s h)) (rw (size_in variables s h) vars_below) links_below (every_none (FactOf (size shape))) (var_in_lem variables s h a ∙ e)
+        ∙ ap (λ (m : ℕ). concat_map (without shape) (range 0 m) ++ (shape ∷ [])) (size_in variables s h)
 
     pub new_none : operand_at s a ≢ nowhere → operand_at s a < 3 → before (new a) shape ≡ []
-    new_none z b = go (operand_at s a) (var-in variables s h a) z b
+    new_none z b = go (operand_at s a) (var_in_lem variables s h a) z b
       where
-        go : (x : ℕ) → varAt shape a ≡ x → x ≢ nowhere → x < 3 → before (new a) shape ≡ []
+        go : (x : ℕ) → var_at shape a ≡ x → x ≢ nowhere → x < 3 → before (new a) shape ≡ []
         go zero e z b = absurd (z refl)
-        go (suc zero) e z b = new-at-null shape a e
-        go (suc (suc zero)) e z b = new-at-dangling shape a e
+        go (suc zero) e z b = new_at_null shape a e
+        go (suc (suc zero)) e z b = new_at_dangling shape a e
         go (suc (suc (suc x))) e z b = absurd (omega arith)
 
-    pub new-cell : (x : ℕ) → operand_at s a ≡ x → 3 ≤ x
-        → before (new a) shape ≡ concatMap (without (shapeIn variables (setOperand s a nowhere))) (range (x - 3) (x - 2 - (x - 3)))
-    new-cell x e b =
-        let x-is : x ≡ cell (x - 3) = omega arith in
+    pub new_cell : (x : ℕ) → operand_at s a ≡ x → 3 ≤ x
+        → before (new a) shape ≡ concat_map (without (shape_in variables (set_operand s a nowhere))) (range (x - 3) (x - 2 - (x - 3)))
+    new_cell x e b =
+        let x_is : x ≡ cell (x - 3) = omega arith in
         let one : x - 2 - (x - 3) ≡ 1 = omega arith in
-        new-at-cell shape a (x - 3) (var-in variables s h a ∙ e ∙ x-is)
-        ∙ sym (append-nil (without (setVar a nowhere shape) (x - 3)))
-        ∙ ap₂ (λ (t : Shape) (m : ℕ). concatMap (without t) (range (x - 3) m)) (sym (shape-operand variables s a nowhere h.cells_fit some)) (sym one)
+        new_at_cell shape a (x - 3) (var_in_lem variables s h a ∙ e ∙ x_is)
+        ∙ sym (append-nil (without (set_var a nowhere shape) (x - 3)))
+        ∙ ap₂ (λ (t : Shape) (m : ℕ). concat_map (without t) (range (x - 3) m)) (sym (shape_operand variables s a nowhere h.cells_fit some)) (sym one)
 
 -- ---- the array without cell k
 
-remove-low : (k i : ℕ) (l : List ℕ) → i < k → get_or (removeAt k l) i nowhere ≡ get_or l i nowhere
-remove-low k i [] h = refl
-remove-low zero i (x ∷ xs) h = absurd (omega arith)
-remove-low (suc k) zero (x ∷ xs) h = refl
-remove-low (suc k) (suc i) (x ∷ xs) h = remove-low k i xs (omega arith)
+remove_low : (k i : ℕ) (l : List ℕ) → i < k → get_or (remove_at k l) i nowhere ≡ get_or l i nowhere
+remove_low k i [] h = refl
+remove_low zero i (x ∷ xs) h = absurd (omega arith)
+remove_low (suc k) zero (x ∷ xs) h = refl
+remove_low (suc k) (suc i) (x ∷ xs) h = remove_low k i xs (omega arith)
 
-remove-high : (k i : ℕ) (l : List ℕ) → k ≤ i → get_or (removeAt k l) i nowhere ≡ get_or l (suc i) nowhere
-remove-high k i [] h = refl
-remove-high zero i (x ∷ xs) h = refl
-remove-high (suc k) zero (x ∷ xs) h = absurd (omega arith)
-remove-high (suc k) (suc i) (x ∷ xs) h = remove-high k i xs (omega arith)
+remove_high : (k i : ℕ) (l : List ℕ) → k ≤ i → get_or (remove_at k l) i nowhere ≡ get_or l (suc i) nowhere
+remove_high k i [] h = refl
+remove_high zero i (x ∷ xs) h = refl
+remove_high (suc k) zero (x ∷ xs) h = absurd (omega arith)
+remove_high (suc k) (suc i) (x ∷ xs) h = remove_high k i xs (omega arith)
 
 -- slot by slot
 module _ (s : List ℕ) (k : ℕ) where
-  pub slot-count : slotWithout s k 0 ≡ cellCount s - 1
-  unfolding slotWithout
-  slot-count = refl
+  pub slot_count : slot_without s k 0 ≡ cell_count s - 1
+  unfolding slot_without
+  slot_count = refl
 
-  pub slot-low : (i : ℕ) → i ≢ 0 → i < 3 → get_or s i 0 ≡ slotWithout s k i
-  unfolding slotWithout
-  slot-low i o h = simp (ne_eqb i 0 o, lt-ltb i 3 h)
+  pub slot_low : (i : ℕ) → i ≢ 0 → i < 3 → get_or s i 0 ≡ slot_without s k i
+  unfolding slot_without
+  slot_low i o h = simp (ne_eqb i 0 o, lt-ltb i 3 h)
 
   -- the slot of a link or an operand
-  pub slot-place : (i : ℕ) → 3 ≤ i → slotWithout s k i ≡ lower (cell k) (get_or s (slotFrom (cellCount s) k i) 0)
-  unfolding slotWithout
-  slot-place i h = simp (ne_eqb i 0 (omega arith), le-ltb i 3 h)
+  pub slot_place : (i : ℕ) → 3 ≤ i → slot_without s k i ≡ lower (cell k) (get_or s (slot_from (cell_count s) k i) 0)
+  unfolding slot_without
+  slot_place i h = simp (ne_eqb i 0 (omega arith), le-ltb i 3 h)
 
 module _ (n k i : ℕ) where
-  pub from-same : (cell k ≤ i → suc i < cell n → ⊥) → slotFrom n k i ≡ i
-  unfolding slotFrom
-  from-same o = go (dec_lt i (cell k)) (dec_lt (suc i) (cell n))
+  pub from_same : (cell k ≤ i → suc i < cell n → ⊥) → slot_from n k i ≡ i
+  unfolding slot_from
+  from_same o = go (dec_lt i (cell k)) (dec_lt (suc i) (cell n))
     where
-      go : Dec (i < cell k) → Dec (suc i < cell n) → slotFrom n k i ≡ i
+      go : Dec (i < cell k) → Dec (suc i < cell n) → slot_from n k i ≡ i
       go (yes l) d = simp (lt-leb (cell k) i l)
       go (no l) (yes m) = absurd (o (omega arith) m)
       go (no l) (no m) = simp (le-leb (cell k) i (omega arith), le-ltb (suc i) (cell n) (omega arith))
 
-  pub from_next : cell k ≤ i → suc i < cell n → slotFrom n k i ≡ suc i
-  unfolding slotFrom
+  pub from_next : cell k ≤ i → suc i < cell n → slot_from n k i ≡ suc i
+  unfolding slot_from
   from_next l m = simp (le-leb (cell k) i l, lt-ltb (suc i) (cell n) m)
 
-  pub from-most : n ≤ 14 → i < 28 → slotFrom n k i < 28
-  unfolding slotFrom
-  from-most b h = cond_cases (λ j. j < 28) (r_and (r-le (cell k) i) (r-lt (suc i) (cell n))) (λ (l, m). omega arith) (λ _. h)
+  pub from_most : n ≤ 14 → i < 28 → slot_from n k i < 28
+  unfolding slot_from
+  from_most b h = cond_cases (λ j. j < 28) (r_and (r_le (cell k) i) (r_lt (suc i) (cell n))) (λ (l, m). omega arith) (λ _. h)
 
-module _ (variables : ℕ) (s : List ℕ) (h : ShapeArray variables s) (k : ℕ) (is-cell : k < cellCount s) (free : T (isFree (cell k) (shapeIn variables s)))
-    (t : List ℕ) (t-length : length t ≡ 28) (t-at : (i : ℕ) → i < 28 → get_or t i 0 ≡ slotWithout s k i) where
+module _ (variables : ℕ) (s : List ℕ) (h : ShapeArray variables s) (k : ℕ) (is_cell : k < cell_count s) (free : T (is_free (cell k) (shape_in variables s)))
+    (t : List ℕ) (t-length : length t ≡ 28) (t-at : (i : ℕ) → i < 28 → get_or t i 0 ≡ slot_without s k i) where
   abbrev c : ℕ
   c = cell k
 
   abbrev old : Shape
-  old = shapeIn variables s
+  old = shape_in variables s
 
   low : lower c nowhere ≡ nowhere
-  low = lower-low c nowhere (omega arith)
+  low = lower_low c nowhere (omega arith)
 
-  count : cellCount t ≡ cellCount s - 1
-  count = t-at 0 (omega arith) ∙ slot-count s k
+  count : cell_count t ≡ cell_count s - 1
+  count = t-at 0 (omega arith) ∙ slot_count s k
 
   operand : (y : ℕ) → operand_at t y ≡ lower c (operand_at s y)
   operand =
-      operands-all (lower c) s t h.slots t-length low
-      (λ y b. t-at (17 + y) (omega arith) ∙ slot-place s k (17 + y) (omega arith)
-      ∙ ap (λ (j : ℕ). lower c (get_or s j 0)) (from-same (cellCount s) k (17 + y) (λ _ m. omega (arith, h.cells_fit))))
+      operands_all (lower c) s t h.slots t-length low
+      (λ y b. t-at (17 + y) (omega arith) ∙ slot_place s k (17 + y) (omega arith)
+      ∙ ap (λ (j : ℕ). lower c (get_or s j 0)) (from_same (cell_count s) k (17 + y) (λ _ m. omega (arith, h.cells_fit))))
 
   -- the link of cell i is that of the cell `was`
   record Link (i : ℕ) : Type 0 where
     was : ℕ
-    inside : was < cellCount s
+    inside : was < cell_count s
     slot : get_or t (cell i) nowhere ≡ lower c (get_or s (cell was) nowhere)
-    same : get_or (removeAt k (linksIn s)) i nowhere ≡ get_or (linksIn s) was nowhere
+    same : get_or (remove_at k (links_in s)) i nowhere ≡ get_or (links_in s) was nowhere
 
-  link : (i : ℕ) → i < cellCount s - 1 → Link i
+  link : (i : ℕ) → i < cell_count s - 1 → Link i
   link i b = go (dec_lt i k)
     where
-      at_slot : get_or t (cell i) nowhere ≡ lower c (get_or s (slotFrom (cellCount s) k (cell i)) 0)
-      at_slot = t-at (cell i) (omega (arith, h.cells_fit)) ∙ slot-place s k (cell i) (omega arith)
+      at_slot : get_or t (cell i) nowhere ≡ lower c (get_or s (slot_from (cell_count s) k (cell i)) 0)
+      at_slot = t-at (cell i) (omega (arith, h.cells_fit)) ∙ slot_place s k (cell i) (omega arith)
 
       go : Dec (i < k) → Link i
       go (yes l) =
           record {
             was = i;
             inside = omega arith;
-            slot = at_slot ∙ ap (λ (j : ℕ). lower c (get_or s j 0)) (from-same (cellCount s) k (cell i) (λ m _. omega arith));
-            same = remove-low k i (linksIn s) l;
+            slot = at_slot ∙ ap (λ (j : ℕ). lower c (get_or s j 0)) (from_same (cell_count s) k (cell i) (λ m _. omega arith));
+            same = remove_low k i (links_in s) l;
           }
       go (no l) =
           record {
             was = suc i;
             inside = omega arith;
-            slot = at_slot ∙ ap (λ (j : ℕ). lower c (get_or s j 0)) (from_next (cellCount s) k (cell i) (omega arith) (omega arith));
-            same = remove-high k i (linksIn s) (omega arith);
+            slot = at_slot ∙ ap (λ (j : ℕ). lower c (get_or s j 0)) (from_next (cell_count s) k (cell i) (omega arith) (omega arith));
+            same = remove_high k i (links_in s) (omega arith);
           }
 
   -- nothing stands at the cell
   no_operand : (y : ℕ) → operand_at s y ≢ c
-  no_operand y e = at y (var-in variables s h y ∙ e)
+  no_operand y e = at y (var_in_lem variables s h y ∙ e)
     where
-      at : (y : ℕ) → varAt old y ≡ c → ⊥
+      at : (y : ℕ) → var_at old y ≡ c → ⊥
       at zero z = let q : null ≡ c = z in omega arith
-      at (suc v) z = ((r-isFree c old).holds free).1.1.1 (at_mem old.vars v c (omega arith) z)
+      at (suc v) z = ((r_is_free c old).holds free).1.1.1 (at_mem old.vars v c (omega arith) z)
 
-  no-link : (j : ℕ) → j < cellCount s → get_or s (cell j) nowhere ≢ c
-  no-link j b e =
+  no_link : (j : ℕ) → j < cell_count s → get_or s (cell j) nowhere ≢ c
+  no_link j b e =
       let inside : j < length old.links = omega (arith, size_in variables s h) in
-      ((r-isFree c old).holds free).1.1.0 (Memᴰ.cast (sym (link-in s j b ∙ e)) (getD-mem old.links j inside))
+      ((r_is_free c old).holds free).1.1.0 (Memᴰ.cast (sym (link_in_lem s j b ∙ e)) (get_d_mem old.links j inside))
 
   array : ShapeArray variables t
   array =
       record {
         slots = t-length;
-        variables-fit = h.variables-fit;
+        variables_fit = h.variables_fit;
         cells_fit = rw count (omega (arith, h.cells_fit));
-        null-place = operand 0 ∙ ap (lower c) h.null-place ∙ lower-low c null (omega arith);
-        operands-range = λ y.
-            rw (count, operand y) (lower-below c (operand_at s y) (cell (cellCount s - 1)) (omega arith) (omega (arith, h.operands-range y)) (no_operand y));
-        operands-above = λ y a. operand y ∙ ap (lower c) (h.operands-above y a) ∙ low;
-        links-range = λ i b. rw count (range i (rw count at b));
+        null_place = operand 0 ∙ ap (lower c) h.null_place ∙ lower_low c null (omega arith);
+        operands_range = λ y.
+            rw (count, operand y) (lower_below c (operand_at s y) (cell (cell_count s - 1)) (omega arith) (omega (arith, h.operands_range y)) (no_operand y));
+        operands_above = λ y a. operand y ∙ ap (lower c) (h.operands_above y a) ∙ low;
+        links_range = λ i b. rw count (range i (rw count at b));
       }
     where
-      range : (i : ℕ) → i < cellCount s - 1 → get_or t (cell i) nowhere < cell (cellCount s - 1)
+      range : (i : ℕ) → i < cell_count s - 1 → get_or t (cell i) nowhere < cell (cell_count s - 1)
       range i b =
           let l = link i b in
           rw l.slot
-          (lower-below c (get_or s (cell l.was) nowhere) (cell (cellCount s - 1)) (omega arith) (omega (arith, h.links-range l.was l.inside))
-          (no-link l.was l.inside))
+          (lower_below c (get_or s (cell l.was) nowhere) (cell (cell_count s - 1)) (omega arith) (omega (arith, h.links_range l.was l.inside))
+          (no_link l.was l.inside))
 
-  links-same : linksIn t ≡ map (lower c) (removeAt k (linksIn s))
-  links-same =
-      ext_get_or nowhere (linksIn t) (map (lower c) (removeAt k (linksIn s))) (long ∙ sym (length-map (removeAt k (linksIn s)) (lower c) ∙ fewer))
-      (λ i b. let inside : i < cellCount s - 1 = omega (arith, long) in
+  links_same : links_in t ≡ map (lower c) (remove_at k (links_in s))
+  links_same =
+      ext_get_or nowhere (links_in t) (map (lower c) (remove_at k (links_in s))) (long ∙ sym (length-map (remove_at k (links_in s)) (lower c) ∙ fewer))
+      (λ i b. let inside : i < cell_count s - 1 = omega (arith, long) in
       let l = link i inside in
-      link-in t i (rw count inside) ∙ l.slot ∙ ap (lower c) (sym (link-in s l.was l.inside) ∙ sym l.same)
-      ∙ sym (link-map (lower c) low (removeAt k (linksIn s)) (cell i)))
+      link_in_lem t i (rw count inside) ∙ l.slot ∙ ap (lower c) (sym (link_in_lem s l.was l.inside) ∙ sym l.same)
+      ∙ sym (link_map (lower c) low (remove_at k (links_in s)) (cell i)))
     where
-      long : length (linksIn t) ≡ cellCount s - 1
+      long : length (links_in t) ≡ cell_count s - 1
       long = size_in variables t array ∙ count
 
-      fewer : length (removeAt k (linksIn s)) ≡ cellCount s - 1
-      fewer = omega (arith, links-remove-length c (linksIn s) (omega arith, omega (arith, size_in variables s h)), size_in variables s h)
+      fewer : length (remove_at k (links_in s)) ≡ cell_count s - 1
+      fewer = omega (arith, links_remove_length c (links_in s) (omega arith, omega (arith, size_in variables s h)), size_in variables s h)
 
-  holds-slots : HoldsShape variables t (removeCell (cell k) (shapeIn variables s))
-  holds-slots =
+  holds_slots : HoldsShape variables t (remove_cell (cell k) (shape_in variables s))
+  holds_slots =
       record {
         array = array;
         same =
             ap₂ (λ (v l : List ℕ). record { vars = v; links = l; facts = [] })
-            (vars-mapped (lower c) variables s t h.slots t-length h.variables-fit low operand) links-same;
+            (vars_mapped (lower c) variables s t h.slots t-length h.variables_fit low operand) links_same;
       }
 
 -- the array holds the shape without the cell
-pub holds-without : (variables : ℕ) (s : List ℕ) → ShapeArray variables s → (k : ℕ) → k < cellCount s → T (isFree (cell k) (shapeIn variables s))
-    → HoldsShape variables (arrayWithout s k) (removeCell (cell k) (shapeIn variables s))
-holds-without variables s h k is-cell free =
-    holds-slots variables s h k is-cell free (arrayWithout s k) (table-length (slotWithout s k)) (table_at (slotWithout s k))
+pub holds_without : (variables : ℕ) (s : List ℕ) → ShapeArray variables s → (k : ℕ) → k < cell_count s → T (is_free (cell k) (shape_in variables s))
+    → HoldsShape variables (array_without s k) (remove_cell (cell k) (shape_in variables s))
+holds_without variables s h k is_cell free =
+    holds_slots variables s h k is_cell free (array_without s k) (table_length (slot_without s k)) (table_at (slot_without s k))

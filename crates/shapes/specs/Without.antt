@@ -3,12 +3,12 @@ use Rattle.std.specs.Prelude.{Bool, ◌&&◌, List, ℕ}
 use Rattle.lists.specs.List.{absent, keep}
 use Rattle.heap.specs.Place.{dangling, cell}
 use Rattle.shape.specs.Shape.{Shape}
-use Rattle.backward.specs.Predecessors.{linkFits, unspoken, removeCell}
+use Rattle.backward.specs.Predecessors.{link_fits, unspoken, remove_cell}
 
 -- no fact is about the cell c, nothing stands at it, and its link is nowhere or *
-abbrev pub isFree : ℕ → Shape → Bool
-isFree c s = unspoken c s.facts && (linkFits c dangling s && (absent c s.links && absent c s.vars))
+abbrev pub is_free : ℕ → Shape → Bool
+is_free c s = unspoken c s.facts && (link_fits c dangling s && (absent c s.links && absent c s.vars))
 
 -- the shape without its cell i, if that is free
 abbrev pub without : Shape → ℕ → List Shape
-without s i = keep (isFree (cell i) s) (removeCell (cell i) s)
+without s i = keep (is_free (cell i) s) (remove_cell (cell i) s)

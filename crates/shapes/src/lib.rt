@@ -1,9 +1,9 @@
 // Shapes in arrays (layout/specs/ShapeArray.antt), undone by kinds 6 (new) and 7 (delete). Numbers that do not fit an array change nothing.
 ghost use Rattle.std.specs.Prelude.{cond, [], ◌≡◌, ◌≤◌, ◌<◌, length};
 ghost use Rattle.backward.specs.Predecessors.{lower};
-ghost use Rattle.layout.specs.ShapeArray.{cellCount, operand_at};
-ghost use Rattle.shapes.specs.Change.{isFreeCell, slotFrom, slotWithout, arrayWithout, casesOfNew, cases_of, operandForgotten, arrayPrepared, isBefore, arrayBefore};
-ghost use Rattle.shapes.specs.Without.{isFree};
+ghost use Rattle.layout.specs.ShapeArray.{cell_count, operand_at};
+ghost use Rattle.shapes.specs.Change.{is_free_cell, slot_from, slot_without, array_without, cases_of_new, cases_of, operand_forgotten, array_prepared, is_before, array_before};
+ghost use Rattle.shapes.specs.Without.{is_free};
 
 use crate::restore::{prepare_delete, stand_by_case};
 use kinds::DELETE;
@@ -14,7 +14,7 @@ mod restore;
 
 // Whether p is a cell, nothing stands at it and its link is nowhere or *.
 fn is_free(vars: &[u8], links: &[u8], p: Place) -> bool
-    ensures { result ≡ isFree p.code (record { vars = vars.entry.now; links = links.now; facts = [] }) }
+    ensures { result ≡ is_free p.code (record { vars = vars.entry.now; links = links.now; facts = [] }) }
 {
     if p.code < FIRST_CELL {
         return false;
@@ -34,7 +34,7 @@ fn is_free(vars: &[u8], links: &[u8], p: Place) -> bool
 
 // Whether the array has room for so many variables and for its cells, and cell k is one of them, and free.
 fn is_free_cell(variables: usize, s: &[u8; 28], k: u8) -> bool
-    ensures { result ≡ isFreeCell variables s.now k }
+    ensures { result ≡ is_free_cell variables s.now k }
 {
     if 9 < variables {
         return false;
@@ -54,7 +54,7 @@ fn is_free_cell(variables: usize, s: &[u8; 28], k: u8) -> bool
 // The slot from which slot i comes in a shape of n cells, once cell k is taken out.
 fn slot_from(n: u8, k: u8, i: usize) -> usize
     requires { (n ≤ 14) × (k < n) × (i < 28) }
-    ensures { result ≡ slotFrom n k i }
+    ensures { result ≡ slot_from n k i }
 {
     if i < 3 + k as usize {
         return i;
@@ -77,8 +77,8 @@ fn lowered(gone: u8, code: u8) -> u8
 
 // Slot i once cell k is taken out.
 fn slot_without(s: &[u8; 28], k: u8, i: usize) -> u8
-    requires { (cellCount s.now ≤ 14) × (k < cellCount s.now) × (i < 28) }
-    ensures { result ≡ slotWithout s.now k i }
+    requires { (cell_count s.now ≤ 14) × (k < cell_count s.now) × (i < 28) }
+    ensures { result ≡ slot_without s.now k i }
 {
     if i == 0 {
         return s[0] - 1;
@@ -92,8 +92,8 @@ fn slot_without(s: &[u8; 28], k: u8, i: usize) -> u8
 
 // Makes t the shape of s without its cell k.
 fn take_out(s: &[u8; 28], k: u8, t: &mut [u8])
-    requires { (cellCount s.now ≤ 14) × (k < cellCount s.now) × (length t.old ≡ 28) }
-    ensures { t.new ≡ arrayWithout s.now k }
+    requires { (cell_count s.now ≤ 14) × (k < cell_count s.now) × (length t.old ≡ 28) }
+    ensures { t.new ≡ array_without s.now k }
 {
     let mut i = 0;
     while i < 28 {
@@ -104,8 +104,8 @@ fn take_out(s: &[u8; 28], k: u8, t: &mut [u8])
 
 // Makes t the shape of s without its cell k, if that is free. Whether it is; without room for such a shape, it is not.
 fn remove_cell(variables: usize, s: &[u8; 28], k: u8, t: &mut [u8; 28]) -> bool
-    ensures free { result ≡ isFreeCell variables s.now k }
-    ensures shape { t.new ≡ cond result (arrayWithout s.now k) t.old }
+    ensures free { result ≡ is_free_cell variables s.now k }
+    ensures shape { t.new ≡ cond result (array_without s.now k) t.old }
 {
     if !is_free_cell(variables, s, k) {
         return false;
@@ -127,7 +127,7 @@ fn operand_at(s: &[u8], a: u8) -> u8
 
 // Puts an operand nowhere, if the array has a slot for it.
 fn forget_operand(s: &mut [u8; 28], a: u8)
-    ensures { s.new ≡ operandForgotten s.old a }
+    ensures { s.new ≡ operand_forgotten s.old a }
 {
     if 10 < a {
         return;
@@ -145,8 +145,8 @@ pub struct Cases {
 // The cases of kind 6, by the cell that was new: a's cell, or any where a is nowhere; the case after the last cell is one that the shape lacks. Puts
 // a nowhere.
 fn prepare_new(a: u8, s: &mut [u8; 28]) -> Cases
-    ensures cases { result ≡ casesOfNew (cellCount s.old) (operand_at s.old a) }
-    ensures shape { s.new ≡ operandForgotten s.old a }
+    ensures cases { result ≡ cases_of_new (cell_count s.old) (operand_at s.old a) }
+    ensures shape { s.new ≡ operand_forgotten s.old a }
 {
     let n = wide(s[0]);
     let x = operand_at(s, a);
@@ -171,7 +171,7 @@ fn prepare_new(a: u8, s: &mut [u8; 28]) -> Cases
 // common to them: by kind 7 no link stands at * and a stands at a fresh cell, by 6 a is nowhere.
 pub fn prepare_cases(variables: usize, kind: u8, a: u8, s: &mut [u8; 28]) -> Cases
     ensures cases { result ≡ cases_of variables kind a s.old }
-    ensures shape { s.new ≡ arrayPrepared variables kind a s.old }
+    ensures shape { s.new ≡ array_prepared variables kind a s.old }
 {
     if kind == DELETE {
         return prepare_delete(variables, a, s);
@@ -181,8 +181,8 @@ pub fn prepare_cases(variables: usize, kind: u8, a: u8, s: &mut [u8; 28]) -> Cas
 
 // Makes t, where what is common to all cases is done, the shape before by case k of so many, if there is one. Whether there is.
 pub fn undo_case(variables: usize, kind: u8, count: usize, k: usize, t: &mut [u8; 28]) -> bool
-    ensures is { result ≡ isBefore variables kind t.old k }
-    ensures shape { t.new ≡ cond result (arrayBefore variables kind count t.old k) t.old }
+    ensures is { result ≡ is_before variables kind t.old k }
+    ensures shape { t.new ≡ cond result (array_before variables kind count t.old k) t.old }
 {
     if kind == DELETE {
         return stand_by_case(variables, count, k, t);

@@ -1,7 +1,7 @@
 // Kind 7 (delete) undone: the deleted cell is restored, once, and the variables stand as each case says.
 ghost use Rattle.std.specs.Prelude.{cond, ◌&&◌, ◌≡◌, ◌≤◌, ◌<◌, leb, length};
-ghost use Rattle.layout.specs.ShapeArray.{cellCount};
-ghost use Rattle.shapes.specs.Change.{isRestorable, slotForgotten, arrayForgotten, arrayRestored, case_count, varsByCase, arrayByCase, casesOfDelete};
+ghost use Rattle.layout.specs.ShapeArray.{cell_count};
+ghost use Rattle.shapes.specs.Change.{is_restorable, slot_forgotten, array_forgotten, array_restored, case_count, vars_by_case, array_by_case, cases_of_delete};
 
 use crate::Cases;
 use place::{DANGLING, FIRST_CELL, NOWHERE, NULL};
@@ -9,7 +9,7 @@ use place::{DANGLING, FIRST_CELL, NOWHERE, NULL};
 // Slot i of a shape in which no link stands at *.
 fn slot_forgotten(s: &[u8; 28], i: usize) -> u8
     requires { i < 28 }
-    ensures { result ≡ slotForgotten s.now i }
+    ensures { result ≡ slot_forgotten s.now i }
 {
     let code = s[i];
     if i < 3 {
@@ -27,7 +27,7 @@ fn slot_forgotten(s: &[u8; 28], i: usize) -> u8
 // Makes t the shape of s in which no link stands at *.
 fn forget_links(s: &[u8; 28], t: &mut [u8])
     requires { length t.old ≡ 28 }
-    ensures { t.new ≡ arrayForgotten s.now }
+    ensures { t.new ≡ array_forgotten s.now }
 {
     let mut i = 0;
     while i < 28 {
@@ -39,8 +39,8 @@ fn forget_links(s: &[u8; 28], t: &mut [u8])
 // Makes t the shape of s in which no link stands at *, and a stands at a fresh cell without a link, if a is nowhere or at * and there is room for
 // all. Whether so.
 fn restore_deleted(variables: usize, a: u8, s: &[u8; 28], t: &mut [u8; 28]) -> bool
-    ensures is { result ≡ isRestorable variables a s.now }
-    ensures shape { t.new ≡ cond result (arrayRestored s.now a) t.old }
+    ensures is { result ≡ is_restorable variables a s.now }
+    ensures shape { t.new ≡ cond result (array_restored s.now a) t.old }
 {
     let n = s[0];
     if 9 < variables {
@@ -85,8 +85,8 @@ fn count_cases(vars: &[u8]) -> usize
 // The cases of where the variables stood. Changes s as is common to them: no link stands at *, and a stands at a fresh cell; without a shape before
 // there is no case, and s stays.
 pub(crate) fn prepare_delete(variables: usize, a: u8, s: &mut [u8; 28]) -> Cases
-    ensures cases { result ≡ casesOfDelete variables a s.old }
-    ensures shape { s.new ≡ cond (isRestorable variables a s.old) (arrayRestored s.old a) s.old }
+    ensures cases { result ≡ cases_of_delete variables a s.old }
+    ensures shape { s.new ≡ cond (is_restorable variables a s.old) (array_restored s.old a) s.old }
 {
     let old = *s;
     if restore_deleted(variables, a, &old, s) {
@@ -102,7 +102,7 @@ pub(crate) fn prepare_delete(variables: usize, a: u8, s: &mut [u8; 28]) -> Cases
 // Puts variables where they stood by case k of so many, `gone` being the deleted cell. In the first half of the cases a variable at * was there
 // already, in the second it stood at the deleted cell; then the next one at * has half as many.
 fn choose_case(vars: &mut [u8], gone: u8, count: usize, k: usize)
-    ensures { vars.new ≡ varsByCase gone count k vars.old }
+    ensures { vars.new ≡ vars_by_case gone count k vars.old }
 {
     let mut half = count;
     let mut left = k;
@@ -124,8 +124,8 @@ fn choose_case(vars: &mut [u8], gone: u8, count: usize, k: usize)
 // Whether there is.
 pub(crate) fn stand_by_case(variables: usize, count: usize, k: usize, t: &mut [u8]) -> bool
     requires { length t.old ≡ 28 }
-    ensures is { result ≡ (leb variables 9 && leb (cellCount t.old) 14) }
-    ensures shape { t.new ≡ cond result (arrayByCase variables count k t.old) t.old }
+    ensures is { result ≡ (leb variables 9 && leb (cell_count t.old) 14) }
+    ensures shape { t.new ≡ cond result (array_by_case variables count k t.old) t.old }
 {
     let n = t[0];
     if 9 < variables {

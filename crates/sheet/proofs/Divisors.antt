@@ -5,14 +5,14 @@ use Prim.Native.Nat.{ℕ, zero, suc, ◌-◌, ◌*◌, ◌/◌, ◌%◌, ◌<◌
 use native.Mathlib.Nat.{dvd_refl, dvd-zero, dvd-mod_iff, dvd_antisymm, dvd_of_mul-dvd-mul_right, mul-dvd-mul_right, eq-one_of_dvd-one, pos_of_dvd_of_pos, div-mul_cancel, mod-lt, not-suc-le-zero, eq-zero-or-pos, one-mul, zero-mul, mul_left_comm, ne_of_gt, mod-eq-sub-div-mul, mul-div-mul_right, mul_comm, mul-sub, mul_assoc, dvd-mul_right, dvd-mul_left, eq_of_mul-eq-mul_right, mul_right_comm}
 use native.Mathlib.Omega.{arith}
 use borrow.Author.Tests.{eq-eqb, ne_eqb}
-use Rattle.sheet.specs.Lowest.{gcdFrom, gcd, Greatest, Lowest}
+use Rattle.sheet.specs.Lowest.{gcd_from, gcd, Greatest, Lowest}
 
-greatest-from : (turns a b : ℕ) → b < turns → Greatest a b (gcdFrom turns a b)
-unfolding gcdFrom
-greatest-from zero a b h = absurd (not-suc-le-zero h)
-greatest-from (suc turns) a b h = by_size (eq-zero-or-pos b) (λ small. greatest-from turns b (a % b) small)
+greatest_from : (turns a b : ℕ) → b < turns → Greatest a b (gcd_from turns a b)
+unfolding gcd_from
+greatest_from zero a b h = absurd (not-suc-le-zero h)
+greatest_from (suc turns) a b h = by_size (eq-zero-or-pos b) (λ small. greatest_from turns b (a % b) small)
   where
-    by_size : (b ≡ 0) ⊎ (0 < b) → (a % b < turns → Greatest b (a % b) (gcdFrom turns b (a % b))) → Greatest a b (gcdFrom (suc turns) a b)
+    by_size : (b ≡ 0) ⊎ (0 < b) → (a % b < turns → Greatest b (a % b) (gcd_from turns b (a % b))) → Greatest a b (gcd_from (suc turns) a b)
     by_size (inl e) rest = rw (eq-eqb b 0 e, e) (record { left = dvd_refl a; right = dvd-zero a; most = λ k l r. l })
     by_size (inr p) rest =
         let g = rest (omega (arith, mod-lt a p)) in
@@ -23,46 +23,46 @@ greatest-from (suc turns) a b h = by_size (eq-zero-or-pos b) (λ small. greatest
           most = λ k l r. g.most k r ((dvd-mod_iff k r).1 l);
         })
 
-pub gcd-greatest : (a b : ℕ) → Greatest a b (gcd a b)
-gcd-greatest a b = greatest-from (suc b) a b (omega arith)
+pub gcd_greatest : (a b : ℕ) → Greatest a b (gcd a b)
+gcd_greatest a b = greatest_from (suc b) a b (omega arith)
 
 -- there is only one
-pub greatest-one : (a b g h : ℕ) → Greatest a b g → Greatest a b h → g ≡ h
-greatest-one a b g h x y = dvd_antisymm (y.most g x.left x.right) (x.most h y.left y.right)
+pub greatest_one : (a b g h : ℕ) → Greatest a b g → Greatest a b h → g ≡ h
+greatest_one a b g h x y = dvd_antisymm (y.most g x.left x.right) (x.most h y.left y.right)
 
 -- one turn
-pub gcd-none : (a b : ℕ) → b ≡ 0 → a ≡ gcd a b
-unfolding gcdFrom
-gcd-none a b e = rw (eq-eqb b 0 e)
+pub gcd_none : (a b : ℕ) → b ≡ 0 → a ≡ gcd a b
+unfolding gcd_from
+gcd_none a b e = rw (eq-eqb b 0 e)
 
-pub gcd-turn : (a b : ℕ) → 0 < b → gcd b (a % b) ≡ gcd a b
-gcd-turn a b p =
-    let g = gcd-greatest b (a % b) in
-    greatest-one a b _ _
+pub gcd_turn : (a b : ℕ) → 0 < b → gcd b (a % b) ≡ gcd a b
+gcd_turn a b p =
+    let g = gcd_greatest b (a % b) in
+    greatest_one a b _ _
     (record { left = (dvd-mod_iff _ g.left).0 g.right; right = g.left; most = λ k l r. g.most k r ((dvd-mod_iff k r).1 l) })
-    (gcd-greatest a b)
+    (gcd_greatest a b)
 
 -- the divisor is at least 1 where one of the two is
-pub gcd-some : (n d : ℕ) → 0 < d → 0 < gcd n d
-gcd-some n d p = pos_of_dvd_of_pos (gcd-greatest n d).right p
+pub gcd_some : (n d : ℕ) → 0 < d → 0 < gcd n d
+gcd_some n d p = pos_of_dvd_of_pos (gcd_greatest n d).right p
 
 -- "fractions in lowest terms"
-pub in-lowest : (n d : ℕ) → 0 < d → Lowest n d (n / gcd n d) (d / gcd n d)
-in-lowest n d p =
+pub in_lowest : (n d : ℕ) → 0 < d → Lowest n d (n / gcd n d) (d / gcd n d)
+in_lowest n d p =
     record {
-      some-parts = by_size (eq-zero-or-pos (d / gcd n d));
+      some_parts = by_size (eq-zero-or-pos (d / gcd n d));
       same = ap (λ (m : ℕ). n / gcd n d * m) (sym under) ∙ mul_left_comm (n / gcd n d) (d / gcd n d) (gcd n d) ∙ ap (λ (m : ℕ). d / gcd n d * m) over;
       lowest = λ k l r. eq-one_of_dvd-one (dvd_of_mul-dvd-mul_right k some (subst (λ (m : ℕ). k * gcd n d ∣ m) (sym (one-mul (gcd n d))) (both k l r)));
     }
   where
     some : 0 < gcd n d
-    some = gcd-some n d p
+    some = gcd_some n d p
 
     over : n / gcd n d * gcd n d ≡ n
-    over = div-mul_cancel (gcd n d) (gcd-greatest n d).left
+    over = div-mul_cancel (gcd n d) (gcd_greatest n d).left
 
     under : d / gcd n d * gcd n d ≡ d
-    under = div-mul_cancel (gcd n d) (gcd-greatest n d).right
+    under = div-mul_cancel (gcd n d) (gcd_greatest n d).right
 
     by_size : (d / gcd n d ≡ 0) ⊎ (0 < d / gcd n d) → 0 < d / gcd n d
     by_size (inl e) = let none : d ≡ 0 = sym under ∙ ap (λ (m : ℕ). m * gcd n d) e ∙ zero-mul (gcd n d) in absurd (omega arith)
@@ -70,39 +70,39 @@ in-lowest n d p =
 
     both : (k : ℕ) → k ∣ n / gcd n d → k ∣ d / gcd n d → k * gcd n d ∣ gcd n d
     both k l r =
-        (gcd-greatest n d).most (k * gcd n d)
+        (gcd_greatest n d).most (k * gcd n d)
         (subst (λ (m : ℕ). k * gcd n d ∣ m) over (mul-dvd-mul_right k l (gcd n d)))
         (subst (λ (m : ℕ). k * gcd n d ∣ m) under (mul-dvd-mul_right k r (gcd n d)))
 
 -- ---- there is only one fraction in lowest terms
 
-mod-scaled : (a b c : ℕ) → 0 < c → a * c % (b * c) ≡ a % b * c
-mod-scaled a b c h =
+mod_scaled : (a b c : ℕ) → 0 < c → a * c % (b * c) ≡ a % b * c
+mod_scaled a b c h =
     mod-eq-sub-div-mul (a * c) (b * c)
     ∙ ap (λ (k : ℕ). a * c - k * (b * c)) (mul-div-mul_right a b h)
     ∙ sym (ap (λ (k : ℕ). k * c) (mod-eq-sub-div-mul a b) ∙ mul_comm (a - a / b * b) c ∙ mul-sub c a (a / b * b) ∙ ap₂ ◌-◌ (mul_comm c a) (mul_comm c (a / b * b) ∙ mul_assoc (a / b) b c))
 
 -- what divides both multiples divides the divisor's
-most-scaled : (turns a b c k : ℕ) → 0 < c → b < turns → k ∣ a * c → k ∣ b * c → k ∣ gcdFrom turns a b * c
-unfolding gcdFrom
-most-scaled zero a b c k p h l r = absurd (not-suc-le-zero h)
-most-scaled (suc turns) a b c k p h l r = by_size (eq-zero-or-pos b) (λ small rest. most-scaled turns b (a % b) c k p small r rest)
+most_scaled : (turns a b c k : ℕ) → 0 < c → b < turns → k ∣ a * c → k ∣ b * c → k ∣ gcd_from turns a b * c
+unfolding gcd_from
+most_scaled zero a b c k p h l r = absurd (not-suc-le-zero h)
+most_scaled (suc turns) a b c k p h l r = by_size (eq-zero-or-pos b) (λ small rest. most_scaled turns b (a % b) c k p small r rest)
   where
-    by_size : (b ≡ 0) ⊎ (0 < b) → (a % b < turns → k ∣ a % b * c → k ∣ gcdFrom turns b (a % b) * c) → k ∣ gcdFrom (suc turns) a b * c
+    by_size : (b ≡ 0) ⊎ (0 < b) → (a % b < turns → k ∣ a % b * c → k ∣ gcd_from turns b (a % b) * c) → k ∣ gcd_from (suc turns) a b * c
     by_size (inl e) rest = rw (eq-eqb b 0 e) l
     by_size (inr q) rest =
         rw (ne_eqb b 0 (ne_of_gt q))
-        (rest (omega (arith, mod-lt a q)) (subst (λ (m : ℕ). k ∣ m) (mod-scaled a b c p) ((dvd-mod_iff k r).1 l)))
+        (rest (omega (arith, mod-lt a q)) (subst (λ (m : ℕ). k ∣ m) (mod_scaled a b c p) ((dvd-mod_iff k r).1 l)))
 
 -- what has no divisor in common with p and divides p * m divides m
-pub divides-other : (p q m : ℕ) → 0 < m → ((k : ℕ) → k ∣ p → k ∣ q → k ≡ 1) → q ∣ p * m → q ∣ m
-divides-other p q m some apart h =
-    let g = gcd-greatest p q in
+pub divides_other : (p q m : ℕ) → 0 < m → ((k : ℕ) → k ∣ p → k ∣ q → k ≡ 1) → q ∣ p * m → q ∣ m
+divides_other p q m some apart h =
+    let g = gcd_greatest p q in
     let one = apart (gcd p q) g.left g.right in
-    subst (λ (k : ℕ). q ∣ k) (ap (λ (k : ℕ). k * m) one ∙ one-mul m) (most-scaled (suc q) p q m q some (omega arith) h (dvd-mul_right q m))
+    subst (λ (k : ℕ). q ∣ k) (ap (λ (k : ℕ). k * m) one ∙ one-mul m) (most_scaled (suc q) p q m q some (omega arith) h (dvd-mul_right q m))
 
-pub lowest-one : (n d p q p' q' : ℕ) → 0 < d → Lowest n d p q → Lowest n d p' q' → (p ≡ p') × (q ≡ q')
-lowest-one n d p q p' q' some x y = (over, under)
+pub lowest_one : (n d p q p' q' : ℕ) → 0 < d → Lowest n d p q → Lowest n d p' q' → (p ≡ p') × (q ≡ q')
+lowest_one n d p q p' q' some x y = (over, under)
   where
     cross : p * q' ≡ p' * q
     cross =
@@ -112,8 +112,8 @@ lowest-one n d p q p' q' some x y = (over, under)
 
     under : q ≡ q'
     under =
-        dvd_antisymm (divides-other p q q' y.some-parts x.lowest (subst (λ (k : ℕ). q ∣ k) (sym cross) (dvd-mul_left q p')))
-        (divides-other p' q' q x.some-parts y.lowest (subst (λ (k : ℕ). q' ∣ k) cross (dvd-mul_left q' p)))
+        dvd_antisymm (divides_other p q q' y.some_parts x.lowest (subst (λ (k : ℕ). q ∣ k) (sym cross) (dvd-mul_left q p')))
+        (divides_other p' q' q x.some_parts y.lowest (subst (λ (k : ℕ). q' ∣ k) cross (dvd-mul_left q' p)))
 
     over : p ≡ p'
     over = eq_of_mul-eq-mul_right d some p p' (x.same ∙ ap (λ (k : ℕ). k * n) under ∙ sym y.same)

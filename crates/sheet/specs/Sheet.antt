@@ -6,23 +6,23 @@ use Rattle.sheet.specs.Lowest.{gcd}
 use Rattle.sheet.specs.declared.Reported.{Reported}
 
 -- "none"
-abbrev pub noneText : List ℕ
-noneText = 110 ∷ 111 ∷ 110 ∷ 101 ∷ []
+abbrev pub none_text : List ℕ
+none_text = 110 ∷ 111 ∷ 110 ∷ 101 ∷ []
 
 -- "share " and " covers "
-abbrev pub shareText : List ℕ
-shareText = 115 ∷ 104 ∷ 97 ∷ 114 ∷ 101 ∷ 32 ∷ []
+abbrev pub share_text : List ℕ
+share_text = 115 ∷ 104 ∷ 97 ∷ 114 ∷ 101 ∷ 32 ∷ []
 
-abbrev pub coversText : List ℕ
-coversText = 32 ∷ 99 ∷ 111 ∷ 118 ∷ 101 ∷ 114 ∷ 115 ∷ 32 ∷ []
+abbrev pub covers_text : List ℕ
+covers_text = 32 ∷ 99 ∷ 111 ∷ 118 ∷ 101 ∷ 114 ∷ 115 ∷ 32 ∷ []
 
 -- n/d in lowest terms, or `none`; 47 is "/"
-unfoldable pub fractionText : ℕ → ℕ → List ℕ
-fractionText n d = cond (eqb d 0) noneText (digits (n / gcd n d) ++ (47 ∷ []) ++ digits (d / gcd n d))
+unfoldable pub fraction_text : ℕ → ℕ → List ℕ
+fraction_text n d = cond (eqb d 0) none_text (digits (n / gcd n d) ++ (47 ∷ []) ++ digits (d / gcd n d))
 
 -- the accepted share, and the mean covers for each accepted certificate
-unfoldable pub sheetText : ℕ → ℕ → ℕ → List ℕ
-sheetText verdicts accepted covers = shareText ++ fractionText accepted verdicts ++ coversText ++ fractionText covers accepted
+unfoldable pub sheet_text : ℕ → ℕ → ℕ → List ℕ
+sheet_text verdicts accepted covers = share_text ++ fraction_text accepted verdicts ++ covers_text ++ fraction_text covers accepted
 
 -- 0 where the room is enough, else 12; with the text's length
 unfoldable pub reported : List ℕ → ℕ → Reported

@@ -3,7 +3,7 @@ ghost use Rattle.std.specs.Prelude.{◌≡◌, ◌+◌, ◌≤◌, length};
 ghost use Rattle.number.specs.CallResult.{lent};
 ghost use Rattle.putting.specs.Put.{Put};
 ghost use Rattle.sheet.specs.Lowest.{gcd};
-ghost use Rattle.sheet.specs.Sheet.{fractionText, sheetText, reported};
+ghost use Rattle.sheet.specs.Sheet.{fraction_text, sheet_text, reported};
 
 use putting::{put_all, put_number};
 
@@ -31,7 +31,7 @@ fn greatest(a: u32, b: u32) -> u32
 // Writes a fraction in lowest terms at a place; gives the place after it.
 fn put_fraction(text: &mut [u8], at: usize, n: u32, d: u32) -> usize
     requires { at + 21 ≤ length text.old }
-    ensures { (result ≤ at + 21) × Put at text.old (fractionText n d) result text.new }
+    ensures { (result ≤ at + 21) × Put at text.old (fraction_text n d) result text.new }
 {
     if d == 0 {
         return put_all(text, at, b"none");
@@ -44,7 +44,7 @@ fn put_fraction(text: &mut [u8], at: usize, n: u32, d: u32) -> usize
 
 // The sheet of so many verdicts, accepted ones and covers of these: written, or 12 where the room is short, and then nothing is written.
 pub fn report(verdicts: u32, accepted: u32, covers: u32, text: &mut [u8]) -> Reported
-    ensures { (result ≡ reported (sheetText verdicts accepted covers) (length text.old)) × (text.new ≡ lent (sheetText verdicts accepted covers) text.old) × (result.length ≤ 56) }
+    ensures { (result ≡ reported (sheet_text verdicts accepted covers) (length text.old)) × (text.new ≡ lent (sheet_text verdicts accepted covers) text.old) × (result.length ≤ 56) }
 {
     let mut sheet = [0u8; 56];
     let share = put_all(&mut sheet, 0, b"share ");

@@ -8,36 +8,36 @@ use native.Mathlib.Omega.{arith}
 use denote.Enum.Declared.{tag_of}
 use types.Run.{OneOf}
 use Rattle.stepper.specs.contracts.Outcome.{the_type}
-use Rattle.stepper.specs.Step.{outcomeCode, Steps}
+use Rattle.stepper.specs.Step.{outcome_code, Steps}
 use Rattle.stepper.specs.declared.Heap64.{Heap64}
 use Rattle.stepper.specs.declared.Outcome.{Outcome}
 use Rattle.stepper.specs.declared.Outcome.TheVariants.{Moved, Blocked, Refused}
 use Rattle.stepper.specs.declared.Stepped.{Stepped}
-use Rattle.heapbytes.specs.HeapBytes.{readable, heapFrom, heapBytes, bytesAfter, valuesAfter, StepsBytes}
+use Rattle.heapbytes.specs.HeapBytes.{readable, heap_from, heap_bytes, bytes_after, values_after, StepsBytes}
 
 module _ (bytes values : List ℕ) (kind a b value : ℕ) where
   pub unread : readable bytes values ≡ false → StepsBytes bytes values kind a b value 13 bytes values
   unread e = record { unreadable = λ z. (refl, refl, refl); stepped = λ z. let q : ◌≡◌ {A = ℕ} 0 1 = cc in absurd (omega arith) }
 
-  module _ (e : readable bytes values ≡ true) (t : Heap64) (t-is : t ≡ heapFrom bytes values) (s : Stepped) (steps : Steps t kind a b value s) where
-    pub done : (code : ℕ) (bytes' values' : List ℕ) → code ≡ outcomeCode s.outcome → bytes' ≡ bytesAfter s.outcome s.heap bytes
-        → values' ≡ valuesAfter s.outcome s.heap values → StepsBytes bytes values kind a b value code bytes' values'
+  module _ (e : readable bytes values ≡ true) (t : Heap64) (t_is : t ≡ heap_from bytes values) (s : Stepped) (steps : Steps t kind a b value s) where
+    pub done : (code : ℕ) (bytes' values' : List ℕ) → code ≡ outcome_code s.outcome → bytes' ≡ bytes_after s.outcome s.heap bytes
+        → values' ≡ values_after s.outcome s.heap values → StepsBytes bytes values kind a b value code bytes' values'
     done code bytes' values' c f g =
         record {
           unreadable = λ z. let q : ◌≡◌ {A = ℕ} 0 1 = cc in absurd (omega arith);
-          stepped = λ z. (s, subst (λ u. Steps u kind a b value s) t-is steps, c, f, g);
+          stepped = λ z. (s, subst (λ u. Steps u kind a b value s) t_is steps, c, f, g);
         }
 
 -- an outcome other than the first, moved, leaves the bytes and the numbers
 pub left : (o : Outcome) → OneOf (1 ∷ 2 ∷ []) (tag_of the_type o) → (t : Heap64) (bytes values : List ℕ)
-    → (bytes ≡ bytesAfter o t bytes) × (values ≡ valuesAfter o t values)
+    → (bytes ≡ bytes_after o t bytes) × (values ≡ values_after o t values)
 left Moved k t bytes values = ⊎_elim (λ w. absurd (omega arith)) (λ w. absurd (omega arith)) k
 left Blocked k t bytes values = (refl, refl)
 left (Refused r) k t bytes values = (refl, refl)
 
 -- moved: those of the heap after the step
 pub went : (o : Outcome) → o ≡ Moved → (t : Heap64) (bytes values : List ℕ)
-    → (0 ≡ outcomeCode o) × (heapBytes t ≡ bytesAfter o t bytes) × (t.values ≡ valuesAfter o t values)
+    → (0 ≡ outcome_code o) × (heap_bytes t ≡ bytes_after o t bytes) × (t.values ≡ values_after o t values)
 went o e t bytes values = rw e (refl, refl, refl)
 
 -- where 0 is not told, the values stay
@@ -45,11 +45,11 @@ pub kept : (bytes values : List ℕ) (kind a b value code : ℕ) (bytes' values'
     → (code ≡ 0 → ⊥) → values' ≡ values
 kept bytes values kind a b value code bytes' values' m n = go (readable bytes values) refl
   where
-    by-outcome : (o : Outcome) (t : Heap64) → code ≡ outcomeCode o → values' ≡ valuesAfter o t values → values' ≡ values
-    by-outcome Moved t c v = absurd (n c)
-    by-outcome Blocked t c v = v
-    by-outcome (Refused r) t c v = v
+    by_outcome : (o : Outcome) (t : Heap64) → code ≡ outcome_code o → values' ≡ values_after o t values → values' ≡ values
+    by_outcome Moved t c v = absurd (n c)
+    by_outcome Blocked t c v = v
+    by_outcome (Refused r) t c v = v
 
     go : (r : Bool) → readable bytes values ≡ r → values' ≡ values
     go false e = (m.unreadable e).2
-    go true e = let (s, _, c, _, v) = m.stepped e in by-outcome s.outcome s.heap c v
+    go true e = let (s, _, c, _, v) = m.stepped e in by_outcome s.outcome s.heap c v

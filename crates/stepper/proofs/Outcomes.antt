@@ -10,7 +10,7 @@ use Rattle.stepper.specs.contracts.Outcome.{the_type}
 use Rattle.stepper.specs.declared.Outcome.{Outcome}
 use Rattle.stepper.specs.declared.Outcome.TheVariants.{Moved, Blocked, Refused}
 
-pub other-outcome : (o : Outcome) → OneOf (1 ∷ 2 ∷ []) (tag_of the_type o) → o ≢ Moved
-other-outcome Moved k e = ⊎_elim (λ w. omega arith) (λ w. omega arith) k
-other-outcome Blocked k e = let z : ◌≡◌ {A = ℕ} 0 1 = cc in omega arith
-other-outcome (Refused r) k e = let z : ◌≡◌ {A = ℕ} 0 1 = cc in omega arith
+pub other_outcome : (o : Outcome) → OneOf (1 ∷ 2 ∷ []) (tag_of the_type o) → o ≢ Moved
+other_outcome Moved k e = ⊎_elim (λ w. omega arith) (λ w. omega arith) k
+other_outcome Blocked k e = let z : ◌≡◌ {A = ℕ} 0 1 = cc in omega arith
+other_outcome (Refused r) k e = let z : ◌≡◌ {A = ℕ} 0 1 = cc in omega arith

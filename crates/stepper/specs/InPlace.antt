@@ -13,20 +13,20 @@ use Rattle.stepper.specs.declared.Put.TheVariants.{Variable, Follow, Link, Other
 use Rattle.stepper.specs.declared.Turn.{Turn}
 
 -- variable v, from 0, at a place
-abbrev pub withVar : Heap64 → ℕ → Place → Heap64
-withVar t v p = record { variables = t.variables; vars = set t.vars v p; used = t.used; links = t.links; values = t.values }
+abbrev pub with_var : Heap64 → ℕ → Place → Heap64
+with_var t v p = record { variables = t.variables; vars = set t.vars v p; used = t.used; links = t.links; values = t.values }
 
 -- the link of cell i at a place
-abbrev pub withLink : Heap64 → ℕ → Place → Heap64
-withLink t i p = record { variables = t.variables; vars = t.vars; used = t.used; links = set t.links i p; values = t.values }
+abbrev pub with_link : Heap64 → ℕ → Place → Heap64
+with_link t i p = record { variables = t.variables; vars = t.vars; used = t.used; links = set t.links i p; values = t.values }
 
 -- what is put is inside the table, and then the step is done
 abbrev pub Does : Heap64 → Turn → Put → Type 0
-Does t o (Variable v p) = (v < 8) × Steps t o.kind o.a o.b 0 (stays (withVar t v p) Moved)
+Does t o (Variable v p) = (v < 8) × Steps t o.kind o.a o.b 0 (stays (with_var t v p) Moved)
 Does t o (Follow v i) =
     let p = get_or t.links i (place_of nowhere) in
-    (v < 8) × (i < 64) × (p.code ≢ dangling → Steps t o.kind o.a o.b 0 (stays (withVar t v p) Moved))
-Does t o (Link i p) = (i < 64) × Steps t o.kind o.a o.b 0 (stays (withLink t i p) Moved)
+    (v < 8) × (i < 64) × (p.code ≢ dangling → Steps t o.kind o.a o.b 0 (stays (with_var t v p) Moved))
+Does t o (Link i p) = (i < 64) × Steps t o.kind o.a o.b 0 (stays (with_link t i p) Moved)
 Does t o Other = Unit {0}
 
 -- `named` is what the table of kinds says where there are n variables

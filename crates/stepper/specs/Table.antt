@@ -1,7 +1,7 @@
 -- The stepper's heap as a table of 64 cells, and the heap that it stands for.
 use Rattle.std.specs.Prelude.{Bool, true, false, ◌&&◌, not, cond, List, map, ◌≡◌, ℕ, zero, suc, eqb, leb, ltb, length, get_or}
 use Rattle.std.proofs.Math.Option.{Option, none, some}
-use Rattle.heap.specs.Codes.{varIn, link_in}
+use Rattle.heap.specs.Codes.{var_in, link_in}
 use Rattle.heap.specs.Heap.{Heap}
 use Rattle.heap.specs.Place.{nowhere, dangling, cell}
 use Rattle.lists.specs.Range.{range}
@@ -31,9 +31,9 @@ abbrev pub code_in : List ℕ → ℕ → ℕ
 code_in values p = link_in values p
 
 -- the heap that a table stands for
-abbrev pub heapOf : Heap64 → Heap
-heapOf t =
-    record { link = link_in (codes t.links); var = varIn (codes t.vars); value = λ p. value_of (code_in t.values p) }
+abbrev pub heap_of : Heap64 → Heap
+heap_of t =
+    record { link = link_in (codes t.links); var = var_in (codes t.vars); value = λ p. value_of (code_in t.values p) }
 
 -- the table of a heap with so many variables, of its cells 0 to 63: "An unused cell has link code 0, and variable slots above V hold 0." The
 -- table of a heap with a value above 65,535 isn't well formed; no step gives one (`steps`).
@@ -59,41 +59,41 @@ abbrev pub aimed : List Bool → ℕ → Bool
 aimed used p = cond (ltb p 3) true (standing used p)
 
 -- "a nonzero slot above V, a variable .. that isn't at #, * or a used cell": slot i is right
-abbrev pub slotFits : Heap64 → ℕ → Bool
-slotFits t i = let p = get_or (codes t.vars) i nowhere in cond (ltb i t.variables) (standing t.used p) (eqb p nowhere)
+abbrev pub slot_fits : Heap64 → ℕ → Bool
+slot_fits t i = let p = get_or (codes t.vars) i nowhere in cond (ltb i t.variables) (standing t.used p) (eqb p nowhere)
 
 -- "a .. used link that isn't at #, * or a used cell, or an unused cell with a nonzero link": cell i is right
-abbrev pub cellFits : Heap64 → ℕ → Bool
-cellFits t i = let p = get_or (codes t.links) i nowhere in cond (get_or t.used i false) (standing t.used p) (eqb p nowhere)
+abbrev pub cell_fits : Heap64 → ℕ → Bool
+cell_fits t i = let p = get_or (codes t.links) i nowhere in cond (get_or t.used i false) (standing t.used p) (eqb p nowhere)
 
 -- Wish 6: "an unused cell of the stepper has no value"; a used one has none or one from 0 to 65,535: the largest code
-abbrev pub mostCode : Bool → ℕ
-mostCode used = cond used 65536 0
+abbrev pub most_code : Bool → ℕ
+most_code used = cond used 65536 0
 
 -- the code of the value of cell i is right
-abbrev pub valueFits : Heap64 → ℕ → Bool
-valueFits t i = leb (get_or t.values i 0) (mostCode (get_or t.used i false))
+abbrev pub value_fits : Heap64 → ℕ → Bool
+value_fits t i = leb (get_or t.values i 0) (most_code (get_or t.used i false))
 
 -- the opposite of refusal 13, "The stepper's heap is ill formed: V outside 1..8", and so on
-unfoldable pub wellFormed : Heap64 → Bool
-wellFormed t =
+unfoldable pub well_formed : Heap64 → Bool
+well_formed t =
     (leb 1 t.variables && leb t.variables 8)
-    && (all_from 8 0 (slotFits t) && (all_from 64 0 (cellFits t) && all_from 64 0 (valueFits t)))
+    && (all_from 8 0 (slot_fits t) && (all_from 64 0 (cell_fits t) && all_from 64 0 (value_fits t)))
 
 -- a table as the stepper works on it
 pub record FormedTable (t : Heap64) : Type 0 where
   pub sized : Sized t
-  pub formed : wellFormed t ≡ true
+  pub formed : well_formed t ≡ true
 
 -- a place, * instead of the place y
-abbrev pub danglePlace : ℕ → Place → Place
-danglePlace y p = cond (eqb p.code y) (place_of dangling) p
+abbrev pub dangle_place : ℕ → Place → Place
+dangle_place y p = cond (eqb p.code y) (place_of dangling) p
 
 -- "Delete turns every variable and link at that cell to *."
-abbrev pub dangleVars : Heap64 → ℕ → Heap64
-dangleVars t y =
-    record { variables = t.variables; vars = map (danglePlace y) t.vars; used = t.used; links = t.links; values = t.values }
+abbrev pub dangle_vars : Heap64 → ℕ → Heap64
+dangle_vars t y =
+    record { variables = t.variables; vars = map (dangle_place y) t.vars; used = t.used; links = t.links; values = t.values }
 
-abbrev pub dangleLinks : Heap64 → ℕ → Heap64
-dangleLinks t y =
-    record { variables = t.variables; vars = t.vars; used = t.used; links = map (danglePlace y) t.links; values = t.values }
+abbrev pub dangle_links : Heap64 → ℕ → Heap64
+dangle_links t y =
+    record { variables = t.variables; vars = t.vars; used = t.used; links = map (dangle_place y) t.links; values = t.values }

@@ -1,7 +1,7 @@
 -- Several steps in turn.
 use Rattle.std.specs.Prelude.{true, false, List, [], ◌∷◌, ◌≡◌, ℕ, zero, suc, ◌/◌, ◌%◌}
 use Rattle.stepper.specs.Step.{stays, Steps}
-use Rattle.stepper.specs.Table.{wellFormed}
+use Rattle.stepper.specs.Table.{well_formed}
 use Rattle.stepper.specs.declared.Heap64.{Heap64}
 use Rattle.stepper.specs.declared.Outcome.{Outcome}
 use Rattle.stepper.specs.declared.Outcome.TheVariants.{Moved, Blocked, Refused}
@@ -9,16 +9,16 @@ use Rattle.stepper.specs.declared.StepRefusal.TheVariants.{IllFormed}
 use Rattle.stepper.specs.declared.Stepped.{Stepped}
 
 -- where a step moved, `on`; where it did not, `over`
-abbrev pub onMoved : Outcome → Type 0 → Type 0 → Type 0
-onMoved Moved on over = on
-onMoved Blocked on over = over
-onMoved (Refused r) on over = over
+abbrev pub on_moved : Outcome → Type 0 → Type 0 → Type 0
+on_moved Moved on over = on
+on_moved Blocked on over = over
+on_moved (Refused r) on over = over
 
 -- r comes of n times the operation, by steps, and then of `rest`; the first step that does not move ends it
 abbrev pub Repeats : ℕ → ℕ → ℕ → ℕ → (Heap64 → Stepped → Type 0) → Heap64 → Stepped → Type 0
 Repeats kind a b zero rest t r = rest t r
 Repeats kind a b (suc n) rest t r =
-    (s : Stepped) × Steps t kind a b 0 s × onMoved s.outcome (Repeats kind a b n rest s.heap r) (r ≡ s)
+    (s : Stepped) × Steps t kind a b 0 s × on_moved s.outcome (Repeats kind a b n rest s.heap r) (r ≡ s)
 
 -- all of it is done
 abbrev pub ended : Heap64 → Stepped → Type 0
@@ -32,5 +32,5 @@ InTurn (turn ∷ turns) t r = Repeats (turn / 256 % 16) (turn / 16 % 16) (turn %
 
 -- What several steps promise: refusal 13, or what steps in turn give.
 pub record StepsInTurn (t : Heap64) (turns : List ℕ) (r : Stepped) : Type 0 where
-  pub ill-formed : wellFormed t ≡ false → r ≡ stays t (Refused IllFormed)
-  pub in-turn : wellFormed t ≡ true → InTurn turns t r
+  pub ill_formed : well_formed t ≡ false → r ≡ stays t (Refused IllFormed)
+  pub in_turn : well_formed t ≡ true → InTurn turns t r

@@ -1,14 +1,14 @@
 // The stepper: one operation on a heap of up to 64 cells, which may have values.
 ghost use Rattle.std.specs.Prelude.{true, ◌≡◌, ◌≤◌, length};
-ghost use Rattle.heap.specs.Codes.{varIn, link_in};
+ghost use Rattle.heap.specs.Codes.{var_in, link_in};
 ghost use Rattle.heap.specs.Operation.{assign, load, store, new, delete, copy, read, operation};
 ghost use Rattle.kinds.specs.Kinds.{allowed};
 ghost use Rattle.lists.specs.Test.{all_from};
 ghost use Rattle.place.specs.Place.{codes};
-ghost use Rattle.stepper.specs.Step.{outcomeCode, lowestUnused, comparison, valueTest, codesMeet, otherValue, codesDiffer, perform, performNamed, Performs, PerformsNamed, Steps};
+ghost use Rattle.stepper.specs.Step.{outcome_code, lowest_unused, comparison, value_test, codes_meet, other_value, codes_differ, perform, perform_named, Performs, PerformsNamed, Steps};
 ghost use Rattle.stepper.specs.Turns.{InTurn, StepsInTurn};
 ghost use Rattle.stepper.specs.InPlace.{LookedUp, Foretells, TurnOf};
-ghost use Rattle.stepper.specs.Table.{aimed, slotFits, cellFits, valueFits, wellFormed, Sized, FormedTable, code_in, mostCode, dangleVars, dangleLinks};
+ghost use Rattle.stepper.specs.Table.{aimed, slot_fits, cell_fits, value_fits, well_formed, Sized, FormedTable, code_in, most_code, dangle_vars, dangle_links};
 
 use place::{DANGLING, FIRST_CELL, NOWHERE, Place};
 
@@ -68,7 +68,7 @@ enum Put {
 
 // What a host is told of an outcome.
 pub fn outcome_code(outcome: Outcome) -> u32
-    ensures { result ≡ outcomeCode outcome }
+    ensures { result ≡ outcome_code outcome }
 {
     match outcome {
         Outcome::Moved => 0,
@@ -98,7 +98,7 @@ fn is_aimed(used: &[bool; 64], code: u8) -> bool
 
 // The largest code of a used cell's value, and of an unused one's.
 fn most_code(used: bool) -> u32
-    ensures { result ≡ mostCode used }
+    ensures { result ≡ most_code used }
 {
     if used {
         return 65536;
@@ -108,7 +108,7 @@ fn most_code(used: bool) -> u32
 
 // Whether codes of values are those of two equal values, or the first that of a value below the second's.
 fn codes_meet(equal: bool, v: u32, w: u32) -> bool
-    ensures { result ≡ codesMeet equal v w }
+    ensures { result ≡ codes_meet equal v w }
 {
     if v == 0 {
         return false;
@@ -121,7 +121,7 @@ fn codes_meet(equal: bool, v: u32, w: u32) -> bool
 
 // Whether w is the code of a value larger than v's, or smaller.
 fn codes_differ(larger: bool, v: u32, w: u32) -> bool
-    ensures { result ≡ codesDiffer larger v w }
+    ensures { result ≡ codes_differ larger v w }
 {
     if larger {
         return codes_meet(false, v, w);
@@ -132,7 +132,7 @@ fn codes_differ(larger: bool, v: u32, w: u32) -> bool
 // Where an operand stands.
 fn place_in(vars: [Place; 8], a: usize) -> Place
     requires { a ≤ 8 }
-    ensures { result.code ≡ varIn (codes vars) a }
+    ensures { result.code ≡ var_in (codes vars) a }
 {
     if a == 0 {
         return Place::NULL;
@@ -220,7 +220,7 @@ fn turn_of(number: u32, variables: usize) -> Turn
 impl Heap64 {
     // Whether the slots of variables are right.
     fn slots_fit(self) -> bool
-        ensures { result ≡ all_from 8 0 (slotFits self) }
+        ensures { result ≡ all_from 8 0 (slot_fits self) }
     {
         let used = self.used;
         let variables = self.variables as usize;
@@ -240,7 +240,7 @@ impl Heap64 {
 
     // Whether the links of cells are right: nowhere just where a cell is unused, and at used cells.
     fn cells_fit(self) -> bool
-        ensures { result ≡ all_from 64 0 (cellFits self) }
+        ensures { result ≡ all_from 64 0 (cell_fits self) }
     {
         let used = self.used;
         let mut i: usize = 0;
@@ -262,7 +262,7 @@ impl Heap64 {
 
     // Whether the codes of values are right: at most 65,536 where a cell is used, else 0.
     fn values_fit(self) -> bool
-        ensures { result ≡ all_from 64 0 (valueFits self) }
+        ensures { result ≡ all_from 64 0 (value_fits self) }
     {
         let mut fits = true;
         let mut i: usize = 0;
@@ -278,7 +278,7 @@ impl Heap64 {
 
     // Whether the heap is well formed.
     fn is_well_formed(self) -> bool
-        ensures { (result ≡ wellFormed self) × Sized self }
+        ensures { (result ≡ well_formed self) × Sized self }
     {
         let variables = self.variables;
         if variables < 1 {
@@ -313,7 +313,7 @@ impl Heap64 {
 
     // The lowest unused cell, 64 if all are used.
     fn lowest_unused(self) -> usize
-        ensures { result ≡ lowestUnused self.used }
+        ensures { result ≡ lowest_unused self.used }
     {
         let mut i: usize = 0;
         while i < 64 {
@@ -327,7 +327,7 @@ impl Heap64 {
 
     // Every variable at a place goes to *.
     fn dangle_vars(mut self, code: u8) -> Self
-        ensures { result ≡ dangleVars self code }
+        ensures { result ≡ dangle_vars self code }
     {
         let mut i: usize = 0;
         while i < 8 {
@@ -341,7 +341,7 @@ impl Heap64 {
 
     // Every link to a place goes to *.
     fn dangle_links(mut self, code: u8) -> Self
-        ensures { result ≡ dangleLinks self code }
+        ensures { result ≡ dangle_links self code }
     {
         let mut i: usize = 0;
         while i < 64 {
@@ -531,7 +531,7 @@ impl Heap64 {
     // The tests of two values: a's equals b's, or is below it.
     fn compare_values(self, equal: bool, a: usize, b: usize) -> Stepped
         requires { (FormedTable self) × (a ≤ self.variables) × (b ≤ self.variables) }
-        ensures { Performs self (valueTest equal a b) result }
+        ensures { Performs self (value_test equal a b) result }
     {
         let vars = self.vars;
         let p = place_in(vars, a);
@@ -594,7 +594,7 @@ impl Heap64 {
     // A larger value than b's, or a smaller: where the one that is lent is so, a's cell reads it.
     fn read_other(self, larger: bool, a: usize, b: usize, value: u16) -> Stepped
         requires { (FormedTable self) × (a ≤ self.variables) × (b ≤ self.variables) }
-        ensures { result ≡ perform self value (otherValue larger a b) }
+        ensures { result ≡ perform self value (other_value larger a b) }
     {
         let vars = self.vars;
         let q = place_in(vars, b);
@@ -627,7 +627,7 @@ impl Heap64 {
     // One of kinds 8 to 13.
     fn perform_on_values(self, kind: usize, a: usize, b: usize, value: u16) -> Stepped
         requires { (FormedTable self) × (8 ≤ kind) × (allowed self.variables kind a b ≡ true) }
-        ensures { result ≡ performNamed self value (operation self.variables kind a b) }
+        ensures { result ≡ perform_named self value (operation self.variables kind a b) }
     {
         match kind {
             8 => self.compare_values(true, a, b),

@@ -2,20 +2,20 @@
 use mathlib.Core.List.{List, [], ◌∷◌}
 use mathlib.Core.Path.{◌≡◌, refl}
 use Prim.Native.Nat.{ℕ}
-use Rattle.format.specs.Parser.{broken-rule}
+use Rattle.format.specs.Parser.{broken_rule}
 use Rattle.format.specs.Verdict.{refused}
 use Rattle.cases.specs.Rows.{J}
-use Rattle.cases.proofs.All.{all-rows}
-use Rattle.putting.specs.Digits.{digitsFrom}
-use Rattle.sheet.specs.Lowest.{gcdFrom}
-use Rattle.sheet.specs.Sheet.{fractionText, sheetText}
-use Rattle.tally.specs.Release.{tallied, verdictsOn}
-use Rattle.tally.specs.Tally.{begun, takeIn}
+use Rattle.cases.proofs.All.{all_rows}
+use Rattle.putting.specs.Digits.{digits_from}
+use Rattle.sheet.specs.Lowest.{gcd_from}
+use Rattle.sheet.specs.Sheet.{fraction_text, sheet_text}
+use Rattle.tally.specs.Release.{tallied, verdicts_on}
+use Rattle.tally.specs.Tally.{begun, take_in}
 use Rattle.tally.specs.declared.Tally.{Tally}
 
 -- the report of a tally
-abbrev sheetOf : Tally → List ℕ
-sheetOf t = sheetText t.verdicts t.accepted t.covers
+abbrev sheet_of : Tally → List ℕ
+sheet_of t = sheet_text t.verdicts t.accepted t.covers
 
 -- "share 1/2 covers 1/1"
 abbrev reads : List ℕ
@@ -27,15 +27,15 @@ P1 = 1 ∷ 1 ∷ 1 ∷ 0 ∷ 1 ∷ 0 ∷ []
 abbrev P2 : List ℕ
 P2 = 1 ∷ 1 ∷ 1 ∷ 0 ∷ 2 ∷ 0 ∷ []
 
-pub after_both : sheetOf (tallied begun (verdictsOn ((J 6, P1) ∷ (J 6, P2) ∷ []))) ≡ reads
-unfolding tallied takeIn sheetText fractionText digitsFrom gcdFrom
-after_both = rw (all-rows.0, all-rows.1.0) refl
+pub after_both : sheet_of (tallied begun (verdicts_on ((J 6, P1) ∷ (J 6, P2) ∷ []))) ≡ reads
+unfolding tallied take_in sheet_text fraction_text digits_from gcd_from
+after_both = rw (all_rows.0, all_rows.1.0) refl
 
 -- before the first verdict, `share none covers none`; where none was accepted, `share 0/1 covers none`
-pub after_none : sheetOf begun ≡ 115 ∷ 104 ∷ 97 ∷ 114 ∷ 101 ∷ 32 ∷ 110 ∷ 111 ∷ 110 ∷ 101 ∷ 32 ∷ 99 ∷ 111 ∷ 118 ∷ 101 ∷ 114 ∷ 115 ∷ 32 ∷ 110 ∷ 111 ∷ 110 ∷ 101 ∷ []
-unfolding sheetText fractionText
+pub after_none : sheet_of begun ≡ 115 ∷ 104 ∷ 97 ∷ 114 ∷ 101 ∷ 32 ∷ 110 ∷ 111 ∷ 110 ∷ 101 ∷ 32 ∷ 99 ∷ 111 ∷ 118 ∷ 101 ∷ 114 ∷ 115 ∷ 32 ∷ 110 ∷ 111 ∷ 110 ∷ 101 ∷ []
+unfolding sheet_text fraction_text
 after_none = refl
 
-pub after-refused : sheetOf (tallied begun (refused (broken-rule 3 1) 5 ∷ [])) ≡ 115 ∷ 104 ∷ 97 ∷ 114 ∷ 101 ∷ 32 ∷ 48 ∷ 47 ∷ 49 ∷ 32 ∷ 99 ∷ 111 ∷ 118 ∷ 101 ∷ 114 ∷ 115 ∷ 32 ∷ 110 ∷ 111 ∷ 110 ∷ 101 ∷ []
-unfolding tallied takeIn sheetText fractionText digitsFrom gcdFrom
-after-refused = refl
+pub after_refused : sheet_of (tallied begun (refused (broken_rule 3 1) 5 ∷ [])) ≡ 115 ∷ 104 ∷ 97 ∷ 114 ∷ 101 ∷ 32 ∷ 48 ∷ 47 ∷ 49 ∷ 32 ∷ 99 ∷ 111 ∷ 118 ∷ 101 ∷ 114 ∷ 115 ∷ 32 ∷ 110 ∷ 111 ∷ 110 ∷ 101 ∷ []
+unfolding tallied take_in sheet_text fraction_text digits_from gcd_from
+after_refused = refl

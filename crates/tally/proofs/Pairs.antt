@@ -4,50 +4,50 @@ use mathlib.Core.Path.{◌≡◌, refl}
 use Prim.Native.Nat.{ℕ, ◌≤◌}
 use native.Mathlib.Omega.{arith}
 use Rattle.format.specs.JobNumbers.{JobFile}
-use Rattle.format.specs.Meaning.{InJob, job-number, job-range, job-left, InCertificate, member-unread, cover-unread, version-range, member-range, cover-range, versions-differ, member-satisfied, cover-fails, certificate-left, Meaning, job-length, certificate-length, in-job, in-certificate}
-use Rattle.format.specs.Parser.{Reason, reasonNumber}
+use Rattle.format.specs.Meaning.{InJob, job_number, job_range, job_left, InCertificate, member_unread, cover_unread, version_range, member_range, cover_range, versions_differ, member_satisfied, cover_fails, certificate_left, Meaning, job_length, certificate_length, in_job, in_certificate}
+use Rattle.format.specs.Parser.{Reason, reason_number}
 use Rattle.format.specs.Verdict.{start_of, Verdict, accepted, refused, verdict}
 use Rattle.format.proofs.Means.{means}
-use Rattle.tally.specs.Release.{tallied, takenIn, SaysOf, Numbered, AllNumbered, verdictsOn}
+use Rattle.tally.specs.Release.{tallied, taken_in, SaysOf, Numbered, AllNumbered, verdicts_on}
 use Rattle.tally.specs.Tally.{begun}
 use Rattle.tally.proofs.Release.{says}
 
 abbrev InTable : Reason → Type 0
-InTable why = (1 ≤ reasonNumber why) × (reasonNumber why ≤ 31)
+InTable why = (1 ≤ reason_number why) × (reason_number why ≤ 31)
 
-of-job : {job : List ℕ} {why : Reason} {place : ℕ} → InJob job why place → InTable why
-of-job (job-number place u) = (omega arith, omega arith)
-of-job (job-range place o) = (omega arith, omega arith)
-of-job (job-left f place i l) = (omega arith, omega arith)
+of_job : {job : List ℕ} {why : Reason} {place : ℕ} → InJob job why place → InTable why
+of_job (job_number place u) = (omega arith, omega arith)
+of_job (job_range place o) = (omega arith, omega arith)
+of_job (job_left f place i l) = (omega arith, omega arith)
 
-of-certificate : {tested : ℕ} {f : JobFile} {certificate : List ℕ} {why : Reason} {place : ℕ} → InCertificate tested f certificate why place → InTable why
-of-certificate (member-unread place u) = (omega arith, omega arith)
-of-certificate (cover-unread place limit d u) = (omega arith, omega arith)
-of-certificate (version-range n next e b) = (omega arith, omega arith)
-of-certificate (member-range place p o) = (omega arith, omega arith)
-of-certificate (cover-range place limit d n next e l) = (omega arith, omega arith)
-of-certificate (versions-differ n next e b d) = (omega arith, omega arith)
-of-certificate (member-satisfied place s) = (omega arith, omega arith)
-of-certificate (cover-fails rule name place c) = (omega arith, omega arith)
-of-certificate (certificate-left place c l) = (omega arith, omega arith)
+of_certificate : {tested : ℕ} {f : JobFile} {certificate : List ℕ} {why : Reason} {place : ℕ} → InCertificate tested f certificate why place → InTable why
+of_certificate (member_unread place u) = (omega arith, omega arith)
+of_certificate (cover_unread place limit d u) = (omega arith, omega arith)
+of_certificate (version_range n next e b) = (omega arith, omega arith)
+of_certificate (member_range place p o) = (omega arith, omega arith)
+of_certificate (cover_range place limit d n next e l) = (omega arith, omega arith)
+of_certificate (versions_differ n next e b d) = (omega arith, omega arith)
+of_certificate (member_satisfied place s) = (omega arith, omega arith)
+of_certificate (cover_fails rule name place c) = (omega arith, omega arith)
+of_certificate (certificate_left place c l) = (omega arith, omega arith)
 
-of-both : {job certificate : List ℕ} {why : Reason} {place : ℕ} → Meaning job certificate why place → InTable why
-of-both (job-length b) = (omega arith, omega arith)
-of-both (certificate-length b c) = (omega arith, omega arith)
-of-both (in-job why place b c i) = of-job i
-of-both (in-certificate why place b c f i k) = of-certificate k
+of_both : {job certificate : List ℕ} {why : Reason} {place : ℕ} → Meaning job certificate why place → InTable why
+of_both (job_length b) = (omega arith, omega arith)
+of_both (certificate_length b c) = (omega arith, omega arith)
+of_both (in_job why place b c i) = of_job i
+of_both (in_certificate why place b c f i k) = of_certificate k
 
-verdict-numbered : (job certificate : List ℕ) → Numbered (verdict job certificate)
-verdict-numbered job certificate = go (verdict job certificate) refl
+verdict_numbered : (job certificate : List ℕ) → Numbered (verdict job certificate)
+verdict_numbered job certificate = go (verdict job certificate) refl
   where
     go : (v : Verdict) → verdict job certificate ≡ v → Numbered v
     go (accepted c) e = tt
-    go (refused why place) e = of-both (means start_of job certificate why place e)
+    go (refused why place) e = of_both (means start_of job certificate why place e)
 
-all-numbered : (pairs : List (List ℕ × List ℕ)) → AllNumbered (verdictsOn pairs)
-all-numbered [] = tt
-all-numbered ((job, certificate) ∷ pairs) = (verdict-numbered job certificate, all-numbered pairs)
+all_numbered : (pairs : List (List ℕ × List ℕ)) → AllNumbered (verdicts_on pairs)
+all_numbered [] = tt
+all_numbered ((job, certificate) ∷ pairs) = (verdict_numbered job certificate, all_numbered pairs)
 
 -- so a tally of any pairs of buffers says what the verdicts on them say
-pub release-says : (pairs : List (List ℕ × List ℕ)) → let vs = verdictsOn pairs in SaysOf (takenIn begun vs) (tallied begun vs)
-release-says pairs = says (verdictsOn pairs) (all-numbered pairs)
+pub release_says : (pairs : List (List ℕ × List ℕ)) → let vs = verdicts_on pairs in SaysOf (taken_in begun vs) (tallied begun vs)
+release_says pairs = says (verdicts_on pairs) (all_numbered pairs)

@@ -7,34 +7,34 @@ use native.Mathlib.Omega.{arith}
 use borrow.Author.Tests.{le-leb, lt-leb, leb-true, lt-ltb, ltb-true}
 use lib.Dec.{leb, ltb}
 use lib.ListN.{get_or, set}
-use Rattle.format.specs.Parser.{Reason, reasonNumber}
+use Rattle.format.specs.Parser.{Reason, reason_number}
 use Rattle.format.specs.Verdict.{Verdict, Counts, accepted, refused}
 use Rattle.lists.proofs.Test.{and_left, and_right}
-use Rattle.tally.specs.Tally.{limit, oneMore, after, count_of, fits, takeIn}
+use Rattle.tally.specs.Tally.{limit, one_more, after, count_of, fits, take_in}
 use Rattle.tally.specs.declared.Taken.{Taken}
 use Rattle.tally.specs.declared.Tally.{Tally}
 
 -- one more at a place, as a store
-pub one_more : (l : List ℕ) (i : ℕ) → set l i (get_or l i 0 + 1) ≡ oneMore i l
-one_more [] i = refl
-one_more (x ∷ xs) zero = refl
-one_more (x ∷ xs) (suc i) = ap (λ (l : List ℕ). x ∷ l) (one_more xs i)
+pub one_more_lem : (l : List ℕ) (i : ℕ) → set l i (get_or l i 0 + 1) ≡ one_more i l
+one_more_lem [] i = refl
+one_more_lem (x ∷ xs) zero = refl
+one_more_lem (x ∷ xs) (suc i) = ap (λ (l : List ℕ). x ∷ l) (one_more_lem xs i)
 
 -- ---- taken in, or turned away
 
 module _ (v : Verdict) (t : Tally) where
-  pub goes_in : fits v t ≡ true → record { number = 0; tally = after v t } ≡ takeIn v t
-  unfolding takeIn
+  pub goes_in : fits v t ≡ true → record { number = 0; tally = after v t } ≡ take_in v t
+  unfolding take_in
   goes_in e = rw e refl
 
-  pub is-full : fits v t ≡ false → record { number = 23; tally = t } ≡ takeIn v t
-  unfolding takeIn
-  is-full e = rw e refl
+  pub is_full : fits v t ≡ false → record { number = 23; tally = t } ≡ take_in v t
+  unfolding take_in
+  is_full e = rw e refl
 
   -- a law of what is taken in, by whether it fits
-  pub by-fit : (P : Taken → Type 0) → P (record { number = 0; tally = after v t }) → P (record { number = 23; tally = t }) → P (takeIn v t)
-  unfolding takeIn
-  by-fit P inn out = go (fits v t)
+  pub by_fit : (P : Taken → Type 0) → P (record { number = 0; tally = after v t }) → P (record { number = 23; tally = t }) → P (take_in v t)
+  unfolding take_in
+  by_fit P inn out = go (fits v t)
     where
       go : (b : Bool) → P (cond b (record { number = 0; tally = after v t }) (record { number = 23; tally = t }))
       go true = inn
@@ -44,13 +44,13 @@ module _ (v : Verdict) (t : Tally) where
 
 -- no count or sum that an accepted verdict changes passes the limit
 pub record FitsAccepted (t : Tally) (c : Counts) : Type 0 where
-  pub one-verdict : t.verdicts + 1 ≤ limit
-  pub one-accepted : t.accepted + 1 ≤ limit
-  pub its-members : t.members + c.members ≤ limit
-  pub its-covers : t.covers + c.covers ≤ limit
+  pub one_verdict : t.verdicts + 1 ≤ limit
+  pub one_accepted : t.accepted + 1 ≤ limit
+  pub its_members : t.members + c.members ≤ limit
+  pub its_covers : t.covers + c.covers ≤ limit
 
-pub fits-accepted : (t : Tally) (c : Counts) → fits (accepted c) t ≡ true → FitsAccepted t c
-fits-accepted t c e =
+pub fits_accepted : (t : Tally) (c : Counts) → fits (accepted c) t ≡ true → FitsAccepted t c
+fits_accepted t c e =
     let v = leb (t.verdicts + 1) limit in
     let a = leb (t.accepted + 1) limit in
     let m = leb (t.members + c.members) limit in
@@ -58,36 +58,36 @@ fits-accepted t c e =
     let vam = and_left (v && a && m) k e in
     let va = and_left (v && a) m vam in
     record {
-      one-verdict = leb-true _ _ (and_left v a va);
-      one-accepted = leb-true _ _ (and_right v a va);
-      its-members = leb-true _ _ (and_right (v && a) m vam);
-      its-covers = leb-true _ _ (and_right (v && a && m) k e);
+      one_verdict = leb-true _ _ (and_left v a va);
+      one_accepted = leb-true _ _ (and_right v a va);
+      its_members = leb-true _ _ (and_right (v && a) m vam);
+      its_covers = leb-true _ _ (and_right (v && a && m) k e);
     }
 
-pub accepted-fits : (t : Tally) (c : Counts) → FitsAccepted t c → fits (accepted c) t ≡ true
-accepted-fits t c f =
+pub accepted_fits : (t : Tally) (c : Counts) → FitsAccepted t c → fits (accepted c) t ≡ true
+accepted_fits t c f =
     simp (
-      le-leb (t.verdicts + 1) limit f.one-verdict,
-      le-leb (t.accepted + 1) limit f.one-accepted,
-      le-leb (t.members + c.members) limit f.its-members,
-      le-leb (t.covers + c.covers) limit f.its-covers,
+      le-leb (t.verdicts + 1) limit f.one_verdict,
+      le-leb (t.accepted + 1) limit f.one_accepted,
+      le-leb (t.members + c.members) limit f.its_members,
+      le-leb (t.covers + c.covers) limit f.its_covers,
     )
 
 -- nor one that a refusal changes
 pub record FitsRefused (t : Tally) (why : Reason) : Type 0 where
-  pub one-verdict : t.verdicts + 1 ≤ limit
-  pub one-count : count_of (reasonNumber why) t + 1 ≤ limit
+  pub one_verdict : t.verdicts + 1 ≤ limit
+  pub one_count : count_of (reason_number why) t + 1 ≤ limit
 
 module _ (t : Tally) (why : Reason) (place : ℕ) where
   pub fits_refused : fits (refused why place) t ≡ true → FitsRefused t why
   fits_refused e =
       record {
-        one-verdict = leb-true _ _ (and_left (leb (t.verdicts + 1) limit) (leb (count_of (reasonNumber why) t + 1) limit) e);
-        one-count = leb-true _ _ (and_right (leb (t.verdicts + 1) limit) (leb (count_of (reasonNumber why) t + 1) limit) e);
+        one_verdict = leb-true _ _ (and_left (leb (t.verdicts + 1) limit) (leb (count_of (reason_number why) t + 1) limit) e);
+        one_count = leb-true _ _ (and_right (leb (t.verdicts + 1) limit) (leb (count_of (reason_number why) t + 1) limit) e);
       }
 
-  pub refused-fits : FitsRefused t why → fits (refused why place) t ≡ true
-  refused-fits f = simp (le-leb (t.verdicts + 1) limit f.one-verdict, le-leb (count_of (reasonNumber why) t + 1) limit f.one-count)
+  pub refused_fits : FitsRefused t why → fits (refused why place) t ≡ true
+  refused_fits f = simp (le-leb (t.verdicts + 1) limit f.one_verdict, le-leb (count_of (reason_number why) t + 1) limit f.one_count)
 
 -- ---- the first number that is full
 
@@ -97,27 +97,27 @@ same_test true b f g = sym (f refl)
 same_test false true f g = g refl
 same_test false false f g = refl
 
-pub full-verdicts : (v : Verdict) (t : Tally) → limit ≤ t.verdicts → false ≡ fits v t
-full-verdicts (accepted c) t h = simp (lt-leb (t.verdicts + 1) limit (omega arith))
-full-verdicts (refused why place) t h = simp (lt-leb (t.verdicts + 1) limit (omega arith))
+pub full_verdicts : (v : Verdict) (t : Tally) → limit ≤ t.verdicts → false ≡ fits v t
+full_verdicts (accepted c) t h = simp (lt-leb (t.verdicts + 1) limit (omega arith))
+full_verdicts (refused why place) t h = simp (lt-leb (t.verdicts + 1) limit (omega arith))
 
 module _ (t : Tally) (c : Counts) (v : t.verdicts < limit) where
-  pub full-accepted : limit ≤ t.accepted → false ≡ fits (accepted c) t
-  full-accepted h = simp (le-leb (t.verdicts + 1) limit (omega arith), lt-leb (t.accepted + 1) limit (omega arith))
+  pub full_accepted : limit ≤ t.accepted → false ≡ fits (accepted c) t
+  full_accepted h = simp (le-leb (t.verdicts + 1) limit (omega arith), lt-leb (t.accepted + 1) limit (omega arith))
 
   module _ (a : t.accepted < limit) where
-    pub full-members : limit < t.members + c.members → false ≡ fits (accepted c) t
-    full-members h = simp (le-leb (t.verdicts + 1) limit (omega arith), le-leb (t.accepted + 1) limit (omega arith), lt-leb (t.members + c.members) limit h)
+    pub full_members : limit < t.members + c.members → false ≡ fits (accepted c) t
+    full_members h = simp (le-leb (t.verdicts + 1) limit (omega arith), le-leb (t.accepted + 1) limit (omega arith), lt-leb (t.members + c.members) limit h)
 
-    pub last-covers : t.members + c.members ≤ limit → t.covers ≤ limit → leb c.covers (limit - t.covers) ≡ fits (accepted c) t
-    last-covers m k =
+    pub last_covers : t.members + c.members ≤ limit → t.covers ≤ limit → leb c.covers (limit - t.covers) ≡ fits (accepted c) t
+    last_covers m k =
         same_test (leb c.covers (limit - t.covers)) (leb (t.covers + c.covers) limit)
         (λ e. le-leb (t.covers + c.covers) limit (omega (arith, leb-true c.covers (limit - t.covers) e)))
         (λ e. le-leb c.covers (limit - t.covers) (omega (arith, leb-true (t.covers + c.covers) limit e)))
         ∙ simp (le-leb (t.verdicts + 1) limit (omega arith), le-leb (t.accepted + 1) limit (omega arith), le-leb (t.members + c.members) limit m)
 
-pub last-count : (t : Tally) (why : Reason) (place : ℕ) → t.verdicts < limit → ltb (count_of (reasonNumber why) t) limit ≡ fits (refused why place) t
-last-count t why place v =
-    let n = count_of (reasonNumber why) t in
+pub last_count : (t : Tally) (why : Reason) (place : ℕ) → t.verdicts < limit → ltb (count_of (reason_number why) t) limit ≡ fits (refused why place) t
+last_count t why place v =
+    let n = count_of (reason_number why) t in
     same_test (ltb n limit) (leb (n + 1) limit) (λ e. le-leb (n + 1) limit (omega (arith, ltb-true n limit e))) (λ e. lt-ltb n limit (omega (arith, leb-true (n + 1) limit e)))
     ∙ simp (le-leb (t.verdicts + 1) limit (omega arith))

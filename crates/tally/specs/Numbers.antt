@@ -1,25 +1,25 @@
 -- A tally as the numbers that a host lends: verdicts, accepted, the sums of members and of covers, and from the fifth on the counts of refusals 1 to 31.
 use Rattle.std.specs.Prelude.{cond, List, [], ◌∷◌, ◌++◌, ℕ, ltb, length, get_or, take, drop}
 use Rattle.format.specs.Verdict.{Verdict}
-use Rattle.tally.specs.Tally.{takeIn}
+use Rattle.tally.specs.Tally.{take_in}
 use Rattle.tally.specs.declared.Tally.{Tally}
 
-abbrev pub numbersOf : Tally → List ℕ
-numbersOf t = t.verdicts ∷ t.accepted ∷ t.members ∷ t.covers ∷ t.refusals
+abbrev pub numbers_of : Tally → List ℕ
+numbers_of t = t.verdicts ∷ t.accepted ∷ t.members ∷ t.covers ∷ t.refusals
 
 -- the tally that a host's numbers are
-abbrev pub tallyFrom : List ℕ → Tally
-tallyFrom l = record { verdicts = get_or l 0 0; accepted = get_or l 1 0; members = get_or l 2 0; covers = get_or l 3 0; refusals = take 31 (drop 4 l) }
+abbrev pub tally_from : List ℕ → Tally
+tally_from l = record { verdicts = get_or l 0 0; accepted = get_or l 1 0; members = get_or l 2 0; covers = get_or l 3 0; refusals = take 31 (drop 4 l) }
 
 -- 12 where there are fewer than 35 numbers; else 0, or 23
-unfoldable pub numberTold : Verdict → List ℕ → ℕ
-numberTold v l = cond (ltb (length l) 35) 12 (takeIn v (tallyFrom l)).number
+unfoldable pub number_told : Verdict → List ℕ → ℕ
+number_told v l = cond (ltb (length l) 35) 12 (take_in v (tally_from l)).number
 
 -- the host's numbers after a verdict: none beyond the 35 is touched, and none at all where they are fewer
-unfoldable pub numbersAfter : Verdict → List ℕ → List ℕ
-numbersAfter v l = cond (ltb (length l) 35) l (numbersOf (takeIn v (tallyFrom l)).tally ++ drop 35 l)
+unfoldable pub numbers_after : Verdict → List ℕ → List ℕ
+numbers_after v l = cond (ltb (length l) 35) l (numbers_of (take_in v (tally_from l)).tally ++ drop 35 l)
 
 -- and after a list of verdicts, each taken in as it falls
-abbrev pub numbersAll : List ℕ → List Verdict → List ℕ
-numbersAll l [] = l
-numbersAll l (v ∷ vs) = numbersAll (numbersAfter v l) vs
+abbrev pub numbers_all : List ℕ → List Verdict → List ℕ
+numbers_all l [] = l
+numbers_all l (v ∷ vs) = numbers_all (numbers_after v l) vs

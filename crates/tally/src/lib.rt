@@ -1,8 +1,8 @@
 // The running tally of verdicts.
 ghost use Rattle.std.specs.Prelude.{true, ◌++◌, ◌≡◌, ◌≤◌, length, drop};
-ghost use Rattle.verdict.specs.Verdict.{verdictOf};
-ghost use Rattle.tally.specs.Numbers.{numbersOf, tallyFrom, numberTold, numbersAfter};
-ghost use Rattle.tally.specs.Tally.{begun, after, fits, takeIn};
+ghost use Rattle.verdict.specs.Verdict.{verdict_of};
+ghost use Rattle.tally.specs.Numbers.{numbers_of, tally_from, number_told, numbers_after};
+ghost use Rattle.tally.specs.Tally.{begun, after, fits, take_in};
 
 use verdict::Verdict;
 
@@ -45,7 +45,7 @@ pub fn begin() -> Tally
 
 // Whether every count and sum that a verdict changes stays within the limit.
 fn is_fitting(t: Tally, v: Verdict) -> bool
-    ensures { result ≡ fits (verdictOf v) t }
+    ensures { result ≡ fits (verdict_of v) t }
 {
     if LIMIT <= t.verdicts {
         return false;
@@ -70,8 +70,8 @@ fn is_fitting(t: Tally, v: Verdict) -> bool
 
 // The tally after a verdict that fits.
 fn counted(t: Tally, v: Verdict) -> Tally
-    requires { fits (verdictOf v) t ≡ true }
-    ensures { result ≡ after (verdictOf v) t }
+    requires { fits (verdict_of v) t ≡ true }
+    ensures { result ≡ after (verdict_of v) t }
 {
     let mut refusals = t.refusals;
     match v {
@@ -98,7 +98,7 @@ fn counted(t: Tally, v: Verdict) -> Tally
 
 // The tally after a verdict: the core, by value.
 pub fn added(t: Tally, v: Verdict) -> Taken
-    ensures { result ≡ takeIn (verdictOf v) t }
+    ensures { result ≡ take_in (verdict_of v) t }
 {
     if is_fitting(t, v) {
         let tally = counted(t, v);
@@ -112,7 +112,7 @@ pub fn added(t: Tally, v: Verdict) -> Taken
 
 // One running tally, lent: it takes in a verdict and tells 0, or stays as it is and tells 23.
 pub fn take_in(t: &mut Tally, v: Verdict) -> u32
-    ensures { (result ≡ (takeIn (verdictOf v) t.old).number) × (t.new ≡ (takeIn (verdictOf v) t.old).tally) }
+    ensures { (result ≡ (take_in (verdict_of v) t.old).number) × (t.new ≡ (take_in (verdict_of v) t.old).tally) }
 {
     let taken = added(*t, v);
     *t = taken.tally;
@@ -122,7 +122,7 @@ pub fn take_in(t: &mut Tally, v: Verdict) -> u32
 // The tally that a host's numbers are.
 fn tally_from(numbers: &[u32]) -> Tally
     requires { 35 ≤ length numbers.now }
-    ensures { result ≡ tallyFrom numbers.now }
+    ensures { result ≡ tally_from numbers.now }
 {
     let mut refusals = [0u32; 31];
     let mut i: usize = 0;
@@ -142,7 +142,7 @@ fn tally_from(numbers: &[u32]) -> Tally
 // Writes a tally as a host's numbers.
 fn put_tally(t: Tally, numbers: &mut [u32])
     requires { 35 ≤ length numbers.old }
-    ensures { numbers.new ≡ numbersOf t ++ drop 35 numbers.old }
+    ensures { numbers.new ≡ numbers_of t ++ drop 35 numbers.old }
 {
     numbers[0] = t.verdicts;
     numbers[1] = t.accepted;
@@ -158,7 +158,7 @@ fn put_tally(t: Tally, numbers: &mut [u32])
 
 // The same as `take_in`, on a tally that a host lends as numbers; 12 where they are too few.
 pub fn take_in_numbers(numbers: &mut [u32], v: Verdict) -> u32
-    ensures { (result ≡ numberTold (verdictOf v) numbers.old) × (numbers.new ≡ numbersAfter (verdictOf v) numbers.old) }
+    ensures { (result ≡ number_told (verdict_of v) numbers.old) × (numbers.new ≡ numbers_after (verdict_of v) numbers.old) }
 {
     if numbers.len() < NUMBERS {
         return 12;

@@ -6,9 +6,9 @@ use Prim.Native.Nat.{ℕ}
 use native.Mathlib.Omega.{arith}
 use Rattle.format.specs.Conditions.{Conditions, Acceptable}
 use Rattle.format.specs.JobBytes.{SafeBytes}
-use Rattle.format.specs.Parser.{Reason, reasonNumber}
+use Rattle.format.specs.Parser.{Reason, reason_number}
 use Rattle.format.specs.Verdict.{Verdict, Counts, accepted, refused, verdict}
-use Rattle.verdict.specs.Verdict.{reasonOf, countsTold, verdictOf, verdictResult}
+use Rattle.verdict.specs.Verdict.{reason_of, counts_told, verdict_of, verdict_result}
 use Rattle.verdict.specs.declared.Counts.{Counts as CountsAnswer}
 use Rattle.verdict.specs.declared.Refusal.{Refusal}
 use Rattle.verdict.specs.declared.Verdict.{Verdict as Answer}
@@ -23,27 +23,27 @@ Told job cert code = ((code ≡ 0) ↔ Acceptable job cert) × (code ≡ 0 → S
 module _
     (job cert : List ℕ)
     (r : Answer)
-    (is : verdictOf r ≡ verdict job cert)
-    (exact : (c : Counts) → (verdictOf r ≡ accepted c) ↔ Conditions job cert c)
+    (is : verdict_of r ≡ verdict job cert)
+    (exact : (c : Counts) → (verdict_of r ≡ accepted c) ↔ Conditions job cert c)
     (safe : (c : CountsAnswer) → r ≡ Accepted c → SafeBytes job)
   where
-    told-accepted : (c : CountsAnswer) → r ≡ Accepted c → Told job cert 0
-    told-accepted c r-is = ((λ z. (countsTold c, (exact (countsTold c)).0 (ap verdictOf r-is)), λ d. refl), λ z. safe c r-is)
+    told_accepted : (c : CountsAnswer) → r ≡ Accepted c → Told job cert 0
+    told_accepted c r-is = ((λ z. (counts_told c, (exact (counts_told c)).0 (ap verdict_of r-is)), λ d. refl), λ z. safe c r-is)
 
-    told-refused : (why : Refusal) (place code : ℕ) → r ≡ Refused why place → code ≡ reasonNumber (reasonOf why) → Told job cert code
-    told-refused why place code r-is code_is =
-        ((λ z. absurd (not-zero z), λ (c, d). absurd (not-accepted (sym ((exact c).1 d) ∙ ap verdictOf r-is))), λ z. absurd (not-zero z))
+    told_refused : (why : Refusal) (place code : ℕ) → r ≡ Refused why place → code ≡ reason_number (reason_of why) → Told job cert code
+    told_refused why place code r-is code_is =
+        ((λ z. absurd (not_zero z), λ (c, d). absurd (not_accepted (sym ((exact c).1 d) ∙ ap verdict_of r-is))), λ z. absurd (not_zero z))
       where
-        not-zero : ¬ (code ≡ 0)
-        not-zero z = absurd (omega (arith, (numbered why).0, code_is))
+        not_zero : ¬ (code ≡ 0)
+        not_zero z = absurd (omega (arith, (numbered why).0, code_is))
 
-        not-accepted : {c : Counts} {reason : Reason} {at : ℕ} → ¬ (◌≡◌ {A = Verdict} (accepted c) (refused reason at))
-        not-accepted e = let z : ◌≡◌ {A = ℕ} 0 1 = cc in absurd (omega arith)
+        not_accepted : {c : Counts} {reason : Reason} {at : ℕ} → ¬ (◌≡◌ {A = Verdict} (accepted c) (refused reason at))
+        not_accepted e = let z : ◌≡◌ {A = ℕ} 0 1 = cc in absurd (omega arith)
 
     -- so its number says it
-    pub told : (code : ℕ) → code ≡ (verdictResult (verdictOf r)).code → Told job cert code
+    pub told : (code : ℕ) → code ≡ (verdict_result (verdict_of r)).code → Told job cert code
     told code e = go r refl
       where
         go : (a : Answer) → r ≡ a → Told job cert code
-        go (Accepted c) r-is = subst (Told job cert) (sym (e ∙ ap (λ (a : Answer). (verdictResult (verdictOf a)).code) r-is)) (told-accepted c r-is)
-        go (Refused why place) r-is = told-refused why place code r-is (e ∙ ap (λ (a : Answer). (verdictResult (verdictOf a)).code) r-is)
+        go (Accepted c) r-is = subst (Told job cert) (sym (e ∙ ap (λ (a : Answer). (verdict_result (verdict_of a)).code) r-is)) (told_accepted c r-is)
+        go (Refused why place) r-is = told_refused why place code r-is (e ∙ ap (λ (a : Answer). (verdict_result (verdict_of a)).code) r-is)

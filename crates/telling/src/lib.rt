@@ -3,8 +3,8 @@ ghost use Rattle.std.specs.Prelude.{◌++◌, ◌≡◌, ◌+◌, ◌≤◌, len
 ghost use Rattle.number.specs.CallResult.{lent};
 ghost use Rattle.putting.specs.Digits.{digits};
 ghost use Rattle.putting.specs.Put.{Put};
-ghost use Rattle.verdict.specs.Verdict.{verdictOf, verdictResult};
-ghost use Rattle.telling.specs.Line.{verdictLine};
+ghost use Rattle.verdict.specs.Verdict.{verdict_of, verdict_result};
+ghost use Rattle.telling.specs.Line.{verdict_line};
 
 use lending::lend;
 use putting::{put_all, put_number};
@@ -12,7 +12,7 @@ use verdict::{Counts, Refusal, Verdict};
 
 // The verdict's number, 0 for accepted.
 pub fn verdict_number(v: Verdict) -> u32
-    ensures { result ≡ (verdictResult (verdictOf v)).code }
+    ensures { result ≡ (verdict_result (verdict_of v)).code }
 {
     match v {
         Verdict::Accepted(_) => 0,
@@ -22,7 +22,7 @@ pub fn verdict_number(v: Verdict) -> u32
 
 // Tells a host the verdict's number and, in an array that it lends, the four counts, or the place, the broken rule, its name and 0.
 pub fn tell(v: Verdict, out: &mut [u64]) -> u32
-    ensures { (result ≡ (verdictResult (verdictOf v)).code) × (out.new ≡ lent (verdictResult (verdictOf v)).values out.old) }
+    ensures { (result ≡ (verdict_result (verdict_of v)).code) × (out.new ≡ lent (verdict_result (verdict_of v)).values out.old) }
 {
     match v {
         Verdict::Accepted(counts) => {
@@ -57,7 +57,7 @@ fn put_worded(line: &mut [u8], at: usize, words: &[u8], n: u64) -> usize
 // Puts the line of an accepted pair, and gives its length.
 fn put_counts(counts: Counts, line: &mut [u8]) -> usize
     requires { 128 ≤ length line.old }
-    ensures { (result ≤ 128) × Put 0 line.old (verdictLine (verdictOf (Verdict.Accepted counts))) result line.new }
+    ensures { (result ≤ 128) × Put 0 line.old (verdict_line (verdict_of (Verdict.Accepted counts))) result line.new }
 {
     let bads = put_worded(line, 0, b"accepted bads ", counts.bads as u64);
     let members = put_worded(line, bads, b" members ", counts.members as u64);
@@ -68,7 +68,7 @@ fn put_counts(counts: Counts, line: &mut [u8]) -> usize
 // Puts the line of a refusal, and gives its length.
 fn put_refusal(refusal: Refusal, place: usize, line: &mut [u8]) -> usize
     requires { 128 ≤ length line.old }
-    ensures { (result ≤ 128) × Put 0 line.old (verdictLine (verdictOf (Verdict.Refused refusal place))) result line.new }
+    ensures { (result ≤ 128) × Put 0 line.old (verdict_line (verdict_of (Verdict.Refused refusal place))) result line.new }
 {
     let number = put_worded(
         line,
@@ -87,7 +87,7 @@ fn put_refusal(refusal: Refusal, place: usize, line: &mut [u8]) -> usize
 
 // Puts the verdict's line, without a line end, and gives its length.
 pub fn put_line(v: Verdict, line: &mut [u8; 128]) -> usize
-    ensures { (result ≤ 128) × Put 0 line.old (verdictLine (verdictOf v)) result line.new }
+    ensures { (result ≤ 128) × Put 0 line.old (verdict_line (verdict_of v)) result line.new }
 {
     match v {
         Verdict::Accepted(counts) => put_counts(counts, line),

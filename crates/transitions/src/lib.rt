@@ -1,6 +1,6 @@
 // Transitions in the bytes of a job: each is five bytes, from, kind, a, b, to.
 ghost use Rattle.std.specs.Prelude.{◌≡◌, ◌+◌, ◌*◌, ◌≤◌, leb, length};
-ghost use Rattle.transitions.specs.Transitions.{zeros, transitionFrom, transitionBytes, transitionNamed, to_byte, indexWith, indexed};
+ghost use Rattle.transitions.specs.Transitions.{zeros, transition_from, transition_bytes, transition_named, to_byte, index_with, indexed};
 
 // A transition by its bytes.
 #[derive(Drop)]
@@ -38,7 +38,7 @@ fn no_transition() -> Transition
 // The transition whose first byte is at a place.
 fn read_transition(job: &[u8], at: usize) -> Transition
     requires { at + 5 ≤ length job.now }
-    ensures { result ≡ transitionFrom job.now at }
+    ensures { result ≡ transition_from job.now at }
 {
     Transition {
         from: job[at],
@@ -51,7 +51,7 @@ fn read_transition(job: &[u8], at: usize) -> Transition
 
 // The transition at a place; five zeros where it is not whole.
 pub fn transition_at(job: &[u8], at: usize) -> Transition
-    ensures { result ≡ transitionBytes job.now at }
+    ensures { result ≡ transition_bytes job.now at }
 {
     if !are_there(job, at, 5) {
         return no_transition();
@@ -61,7 +61,7 @@ pub fn transition_at(job: &[u8], at: usize) -> Transition
 
 // The transition that an index names by k, one more than its number, of those from a place on; five zeros for 0, or where it is not whole.
 pub fn transition_named(job: &[u8], first: usize, k: u16) -> Transition
-    ensures { result ≡ transitionNamed job.now first k }
+    ensures { result ≡ transition_named job.now first k }
 {
     if k == 0 {
         return no_transition();
@@ -76,7 +76,7 @@ pub fn transition_named(job: &[u8], first: usize, k: u16) -> Transition
 // Puts the transitions from a place on in front of those of the index, last to first. A state that has no slot has no transitions.
 fn index_all(job: &[u8], first: usize, count: usize, index: &mut [u16])
     requires { (first + 5 * count ≤ length job.now) × (count ≤ 256) × (length index.old ≡ 320) }
-    ensures { index.new ≡ indexWith (to_byte job.now first) count index.old }
+    ensures { index.new ≡ index_with (to_byte job.now first) count index.old }
 {
     let mut i = count;
     while 0 < i {

@@ -8,15 +8,15 @@ use borrow.Author.Tests.{ne_eqb, lt-ltb, le-ltb, le-leb, lt-leb}
 use lib.ListN.{length, take, drop, replicate}
 use lib.Seq.{length-take-le}
 use Rattle.number.specs.CallResult.{lent}
-use Rattle.listing.specs.LineByLine.{reached, refused, begin, goOn, bytesAhead, translateBy}
-use Rattle.listing.specs.Names.{variablesFor}
+use Rattle.listing.specs.LineByLine.{reached, refused, begin, go_on, bytes_ahead, translate_by}
+use Rattle.listing.specs.Names.{variables_for}
 use Rattle.listing.specs.Promise.{Translates}
 use Rattle.listing.specs.Text.{lines_of}
-use Rattle.listing.specs.Written.{inRoom, translateResult, bytesAfter, marksAfter}
+use Rattle.listing.specs.Written.{in_room, translate_result, bytes_after, marks_after}
 use Rattle.listing.proofs.Promise.{translates}
-use Rattle.translating.specs.Answer.{answerResult, variablesOf}
+use Rattle.translating.specs.Answer.{answer_result, variables_of}
 use Rattle.translating.specs.Reading.{BlockRead}
-use Rattle.translating.specs.Work.{Work, faultNumber, transitionsIn, position_of, WorkWithin}
+use Rattle.translating.specs.Work.{Work, fault_number, transitions_in, position_of, WorkWithin}
 use Rattle.translating.specs.declared.Fault.{Fault}
 use Rattle.translating.specs.declared.Fault.TheVariants.{Grammar}
 use Rattle.translating.specs.declared.Translation.{Translation}
@@ -29,29 +29,29 @@ use Rattle.translating.specs.declared.steps.Progress.{Progress}
 
 -- what is told of bytes and marks, and what the outputs then hold
 pub record Writes (job states bytes marks : List ℕ) (r : Translation) (bytes' marks' : List ℕ) : Type 0 where
-  pub result : answerResult r ≡ translateResult (inRoom (length bytes) job states)
-  pub output : bytes' ≡ bytesAfter (inRoom (length bytes) job states) bytes
-  pub beside : marks' ≡ marksAfter (inRoom (length bytes) job states) marks
+  pub result : answer_result r ≡ translate_result (in_room (length bytes) job states)
+  pub output : bytes' ≡ bytes_after (in_room (length bytes) job states) bytes
+  pub beside : marks' ≡ marks_after (in_room (length bytes) job states) marks
 
 module _ (job states bytes marks : List ℕ) where
   pub writes_short : length bytes < length job → Writes job states bytes marks (TooShort (length job)) bytes marks
   writes_short h = let e = lt-ltb (length bytes) (length job) h in record { result = rw e refl; output = rw e refl; beside = rw e refl }
 
-  pub writes-all : (bytes' marks' : List ℕ) → length job ≤ length bytes → bytes' ≡ job ++ drop (length job) bytes → marks' ≡ lent states marks
+  pub writes_all : (bytes' marks' : List ℕ) → length job ≤ length bytes → bytes' ≡ job ++ drop (length job) bytes → marks' ≡ lent states marks
       → Writes job states bytes marks (Filled (length job)) bytes' marks'
-  writes-all bytes' marks' h b m = let e = le-ltb (length bytes) (length job) h in record { result = rw e refl; output = rw e b; beside = rw e m }
+  writes_all bytes' marks' h b m = let e = le-ltb (length bytes) (length job) h in record { result = rw e refl; output = rw e b; beside = rw e m }
 
-  pub lent-all : (marks' : List ℕ) → length states ≤ length marks → marks' ≡ states ++ drop (length states) marks → marks' ≡ lent states marks
+  pub lent_all : (marks' : List ℕ) → length states ≤ length marks → marks' ≡ states ++ drop (length states) marks → marks' ≡ lent states marks
   unfolding lent
-  lent-all marks' h e = simp (le-leb (length states) (length marks) h) e
+  lent_all marks' h e = simp (le-leb (length states) (length marks) h) e
 
   pub lent_none : length marks < length states → marks ≡ lent states marks
   unfolding lent
   lent_none h = simp (lt-leb (length states) (length marks) h)
 
-variables-by-number : (names : List ℕ) → variablesFor names ≡ variablesOf (length names)
-variables-by-number [] = refl
-variables-by-number (x ∷ names) = rw (ne_eqb (suc (length names)) 0 (λ e. omega arith)) refl
+variables_by_number : (names : List ℕ) → variables_for names ≡ variables_of (length names)
+variables_by_number [] = refl
+variables_by_number (x ∷ names) = rw (ne_eqb (suc (length names)) 0 (λ e. omega arith)) refl
 
 -- ---- answering
 
@@ -64,51 +64,51 @@ module _ (text job letters : List ℕ) (r : Block) (w : Work)
   w₀ = record { job = job; letters = letters; states = replicate 64 64 }
 
   -- the whole text, from the first line
-  over : (p : Progress) → r ≡ block.Over p → WorkWithin p w × (goOn (lines_of text) begin ≡ reached (position_of p w []))
-  unfolding goOn
+  over : (p : Progress) → r ≡ block.Over p → WorkWithin p w × (go_on (lines_of text) begin ≡ reached (position_of p w []))
+  unfolding go_on
   over p e = let (bounds, comes) = subst (λ x. BlockRead text 0 start w₀ x w) e read in (bounds, comes [] refl)
 
-  pub over-within : (p : Progress) → r ≡ block.Over p → WorkWithin p w
-  over-within p e = (over p e).0
+  pub over_within : (p : Progress) → r ≡ block.Over p → WorkWithin p w
+  over_within p e = (over p e).0
 
-  end-left : (p : Progress) → r ≡ block.Ended p → goOn (lines_of text) begin ≡ refused 17 (suc p.passed)
-  unfolding goOn
-  end-left p e = let (further, comes) = subst (λ x. BlockRead text 0 start w₀ x w) e read in comes [] refl
+  end_left : (p : Progress) → r ≡ block.Ended p → go_on (lines_of text) begin ≡ refused 17 (suc p.passed)
+  unfolding go_on
+  end_left p e = let (further, comes) = subst (λ x. BlockRead text 0 start w₀ x w) e read in comes [] refl
 
-  pub ended-within : (p : Progress) → r ≡ block.Ended p → WorkWithin p w
-  ended-within p e = let (further, comes) = subst (λ x. BlockRead text 0 start w₀ x w) e read in further.within
+  pub ended_within : (p : Progress) → r ≡ block.Ended p → WorkWithin p w
+  ended_within p e = let (further, comes) = subst (λ x. BlockRead text 0 start w₀ x w) e read in further.within
 
-  refused-at : (why : Fault) (n : ℕ) → r ≡ block.Refused why n → goOn (lines_of text) begin ≡ refused (faultNumber why) n
-  refused-at why n e = subst (λ x. BlockRead text 0 start w₀ x w) e read [] refl
+  refused_at : (why : Fault) (n : ℕ) → r ≡ block.Refused why n → go_on (lines_of text) begin ≡ refused (fault_number why) n
+  refused_at why n e = subst (λ x. BlockRead text 0 start w₀ x w) e read [] refl
 
   module _ (bytes marks : List ℕ) where
-    refuses : (number line : ℕ) (t : Translation) → goOn (lines_of text) begin ≡ refused number line → answerResult t ≡ record { code = number; values = line ∷ [] }
-        → Translates text bytes marks (answerResult t) bytes marks
+    refuses : (number line : ℕ) (t : Translation) → go_on (lines_of text) begin ≡ refused number line → answer_result t ≡ record { code = number; values = line ∷ [] }
+        → Translates text bytes marks (answer_result t) bytes marks
     refuses number line t e is =
-        translates text bytes marks bytes marks (answerResult t)
-        (is ∙ ap (λ o. translateResult (translateBy (length bytes) o)) (sym e))
-        (ap (λ o. bytesAfter (translateBy (length bytes) o) bytes) (sym e))
-        (ap (λ o. marksAfter (translateBy (length bytes) o) marks) (sym e))
+        translates text bytes marks bytes marks (answer_result t)
+        (is ∙ ap (λ o. translate_result (translate_by (length bytes) o)) (sym e))
+        (ap (λ o. bytes_after (translate_by (length bytes) o) bytes) (sym e))
+        (ap (λ o. marks_after (translate_by (length bytes) o) marks) (sym e))
 
-    pub answers-ended : (p : Progress) → r ≡ block.Ended p → Translates text bytes marks (answerResult (Refused Grammar (p.passed + 1))) bytes marks
-    answers-ended p e = refuses 17 (p.passed + 1) (Refused Grammar (p.passed + 1)) (end-left p e ∙ ap (refused 17) (sym (add-one p.passed))) refl
+    pub answers_ended : (p : Progress) → r ≡ block.Ended p → Translates text bytes marks (answer_result (Refused Grammar (p.passed + 1))) bytes marks
+    answers_ended p e = refuses 17 (p.passed + 1) (Refused Grammar (p.passed + 1)) (end_left p e ∙ ap (refused 17) (sym (add-one p.passed))) refl
 
-    pub answers-refused : (why : Fault) (n : ℕ) → r ≡ block.Refused why n → Translates text bytes marks (answerResult (Refused why n)) bytes marks
-    answers-refused why n e = refuses (faultNumber why) n (Refused why n) (refused-at why n e) refl
+    pub answers_refused : (why : Fault) (n : ℕ) → r ≡ block.Refused why n → Translates text bytes marks (answer_result (Refused why n)) bytes marks
+    answers_refused why n e = refuses (fault_number why) n (Refused why n) (refused_at why n e) refl
 
     -- the job with its numbers ahead is written
-    pub answers-over : (p : Progress) → r ≡ block.Over p → (job' : List ℕ)
-        → job' ≡ 1 ∷ variablesOf p.met ∷ suc p.passed ∷ 0 ∷ p.count ∷ transitionsIn p.count w.job
-        → (t : Translation) (bytes' marks' : List ℕ) → Writes job' w.states bytes marks t bytes' marks' → Translates text bytes marks (answerResult t) bytes' marks'
-    answers-over p e job' is t bytes' marks' writes =
+    pub answers_over : (p : Progress) → r ≡ block.Over p → (job' : List ℕ)
+        → job' ≡ 1 ∷ variables_of p.met ∷ suc p.passed ∷ 0 ∷ p.count ∷ transitions_in p.count w.job
+        → (t : Translation) (bytes' marks' : List ℕ) → Writes job' w.states bytes marks t bytes' marks' → Translates text bytes marks (answer_result t) bytes' marks'
+    answers_over p e job' is t bytes' marks' writes =
         let (bounds, comes) = over p e in
         let names = length-take-le p.met w.letters (omega (arith, bounds.met, bounds.letters)) in
-        let variables = variables-by-number (take p.met w.letters) ∙ ap variablesOf names in
-        let ahead : job' ≡ bytesAhead (position_of p w []) = is ∙ ap (λ v. 1 ∷ v ∷ suc p.passed ∷ 0 ∷ p.count ∷ transitionsIn p.count w.job) (sym variables) in
-        let passed = ap (λ j. inRoom (length bytes) j w.states) ahead ∙ ap (translateBy (length bytes)) (sym comes) in
-        translates text bytes marks bytes' marks' (answerResult t) (writes.result ∙ ap translateResult passed)
-        (writes.output ∙ ap (λ x. bytesAfter x bytes) passed) (writes.beside ∙ ap (λ x. marksAfter x marks) passed)
+        let variables = variables_by_number (take p.met w.letters) ∙ ap variables_of names in
+        let ahead : job' ≡ bytes_ahead (position_of p w []) = is ∙ ap (λ v. 1 ∷ v ∷ suc p.passed ∷ 0 ∷ p.count ∷ transitions_in p.count w.job) (sym variables) in
+        let passed = ap (λ j. in_room (length bytes) j w.states) ahead ∙ ap (translate_by (length bytes)) (sym comes) in
+        translates text bytes marks bytes' marks' (answer_result t) (writes.result ∙ ap translate_result passed)
+        (writes.output ∙ ap (λ x. bytes_after x bytes) passed) (writes.beside ∙ ap (λ x. marks_after x marks) passed)
 
-pub variables-most : (met : ℕ) → variablesOf met ≤ suc met
-variables-most zero = omega arith
-variables-most (suc met) = rw (ne_eqb (suc met) 0 (λ e. omega arith)) (omega arith)
+pub variables_most : (met : ℕ) → variables_of met ≤ suc met
+variables_most zero = omega arith
+variables_most (suc met) = rw (ne_eqb (suc met) 0 (λ e. omega arith)) (omega arith)

@@ -14,9 +14,9 @@ use lib.Seq.{length-take-le}
 use Rattle.lines.specs.Line.{opens}
 use Rattle.lines.specs.declared.Line.TheVariants.{Perform, Mark}
 use Rattle.lines.specs.declared.Operation.{Operation}
-use Rattle.listing.specs.LineByLine.{Open, LinePosition, reached, refused, numbered, arrowNumbers, skipNumbers, testNumbers, oppositeNumbers, marked, opened, closed, limited, advance}
-use Rattle.translating.specs.Reading.{namesAfter, Numbers, Adds, Leads, LineSteps, Begins, Closes}
-use Rattle.translating.specs.Work.{Work, openOf, transitionsIn, position_of, WorkWithin}
+use Rattle.listing.specs.LineByLine.{Open, LinePosition, reached, refused, numbered, arrow_numbers, skip_numbers, test_numbers, opposite_numbers, marked, opened, closed, limited, advance}
+use Rattle.translating.specs.Reading.{names_after, Numbers, Adds, Leads, LineSteps, Begins, Closes}
+use Rattle.translating.specs.Work.{Work, open_of, transitions_in, position_of, WorkWithin}
 use Rattle.translating.specs.declared.names.Numbered.{Numbered}
 use Rattle.translating.specs.declared.steps.Begun.TheVariants as begun
 use Rattle.translating.specs.declared.steps.Led.TheVariants as led
@@ -25,28 +25,28 @@ use Rattle.translating.specs.declared.steps.Progress.{Progress}
 
 -- ---- the limits
 
-or-true : (b : Bool) → b || true ≡ true
-or-true true = refl
-or-true false = refl
+or_true : (b : Bool) → b || true ≡ true
+or_true true = refl
+or_true false = refl
 
-limited-on : (s : LinePosition) → length s.names ≤ 8 → s.passed ≤ 63 → limited s ≡ reached s
-limited-on s n p = rw (le-ltb 8 (length s.names) n, le-ltb 64 (suc s.passed) (omega arith)) refl
+limited_on : (s : LinePosition) → length s.names ≤ 8 → s.passed ≤ 63 → limited s ≡ reached s
+limited_on s n p = rw (le-ltb 8 (length s.names) n, le-ltb 64 (suc s.passed) (omega arith)) refl
 
-limited-names : (s : LinePosition) → 8 < length s.names → limited s ≡ refused 19 s.passed
-limited-names s h = rw (lt-ltb 8 (length s.names) h) refl
+limited_names : (s : LinePosition) → 8 < length s.names → limited s ≡ refused 19 s.passed
+limited_names s h = rw (lt-ltb 8 (length s.names) h) refl
 
-limited-states : (s : LinePosition) → 63 < s.passed → limited s ≡ refused 19 s.passed
-limited-states s h = rw (lt-ltb 64 (suc s.passed) (omega arith), or-true (ltb 8 (length s.names))) refl
+limited_states : (s : LinePosition) → 63 < s.passed → limited s ≡ refused 19 s.passed
+limited_states s h = rw (lt-ltb 64 (suc s.passed) (omega arith), or_true (ltb 8 (length s.names))) refl
 
 -- `while` and `if` alike
-opens-line : (loops : Bool) (t : Operation) (s : LinePosition)
+opens_line_lem : (loops : Bool) (t : Operation) (s : LinePosition)
     → advance (opens loops t) s ≡ cond (leb 16 (length s.opens)) (refused 18 (suc s.passed)) (limited (opened loops t s))
-opens-line true t s = refl
-opens-line false t s = refl
+opens_line_lem true t s = refl
+opens_line_lem false t s = refl
 
-pub open-deep : (loops : Bool) (t : Operation) (p : Progress) (depth : ℕ) (w : Work) → 16 ≤ depth
+pub open_deep : (loops : Bool) (t : Operation) (p : Progress) (depth : ℕ) (w : Work) → 16 ≤ depth
     → LineSteps depth (opens loops t) p w (λ os. refused 18 (p.passed + 1))
-open-deep loops t p depth w h os e = opens-line loops t (position_of p w os) ∙ rw (le-leb 16 (length os) (omega arith), add-one p.passed) refl
+open_deep loops t p depth w h os e = opens_line_lem loops t (position_of p w os) ∙ rw (le-leb 16 (length os) (omega arith), add-one p.passed) refl
 
 -- inside a list any default will do
 get_d_any : (l : List ℕ) (i a b : ℕ) → i < length l → get_or l i a ≡ get_or l i b
@@ -62,14 +62,14 @@ after p met = record { at = p.at; passed = suc p.passed; count = suc p.count; me
 
 module _ (p : Progress) (job letters : List ℕ) (passed : p.passed ≤ 63) (count : p.count ≤ 2 * p.passed) where
   -- the new progress keeps to its bounds
-  within-after : (met : ℕ) (job' letters' states' : List ℕ) → met ≤ 8 → p.passed ≤ 62 → length job' ≡ 635 → length letters' ≡ 8 → length states' ≡ 64
+  within_after : (met : ℕ) (job' letters' states' : List ℕ) → met ≤ 8 → p.passed ≤ 62 → length job' ≡ 635 → length letters' ≡ 8 → length states' ≡ 64
       → WorkWithin (after p met) (record { job = job'; letters = letters'; states = states' })
-  within-after met job' letters' states' few room j l s = record { passed = omega arith; count = omega arith; met = few; job = j; letters = l; states = s }
+  within_after met job' letters' states' few room j l s = record { passed = omega arith; count = omega arith; met = few; job = j; letters = l; states = s }
 
   -- an operation whose operands are numbered, by which a line leads on: `o` on the line, `by` in the transition
   module _ (o : Operation) (n : Numbered) (letters' : List ℕ) (numbers : Numbers letters p.met o n letters') where
-    few-names : n.met ≤ 8 → length (namesAfter (take p.met letters) o) ≤ 8
-    few-names few = omega (arith, ap length (numbers.names few), length-take-le n.met letters' (omega (arith, numbers.size)))
+    few_names : n.met ≤ 8 → length (names_after (take p.met letters) o) ≤ 8
+    few_names few = omega (arith, ap length (numbers.names few), length-take-le n.met letters' (omega (arith, numbers.size)))
 
     -- the position that it leads to
     module _ (states : List ℕ) (size : length states ≡ 64) (by : Operation → Operation) where
@@ -79,25 +79,25 @@ module _ (p : Progress) (job letters : List ℕ) (passed : p.passed ≤ 63) (cou
       abbrev w' : List ℕ → Work
       w' job' = record { job = job'; letters = letters'; states = states }
 
-      abbrev led-to : List Open → LinePosition
-      led-to os =
+      abbrev led_to : List Open → LinePosition
+      led_to os =
           record {
             passed = suc p.passed;
-            names = namesAfter (take p.met letters) o;
+            names = names_after (take p.met letters) o;
             opens = os;
             count = suc p.count;
             transitions =
-                transitionsIn p.count job
-                ++ arrowNumbers p.passed (by (numbered (namesAfter (take p.met letters) o) o)) (suc p.passed);
+                transitions_in p.count job
+                ++ arrow_numbers p.passed (by (numbered (names_after (take p.met letters) o) o)) (suc p.passed);
             marks = states;
           }
 
-      leads-to : (job' : List ℕ) → n.met ≤ 8 → Adds job p.count p.passed (by n.operation) (suc p.passed) job'
-          → (os : List Open) → led-to os ≡ position_of (after p n.met) (w' job') os
-      leads-to job' few added os =
+      leads_to : (job' : List ℕ) → n.met ≤ 8 → Adds job p.count p.passed (by n.operation) (suc p.passed) job'
+          → (os : List Open) → led_to os ≡ position_of (after p n.met) (w' job') os
+      leads_to job' few added os =
           let names = numbers.names few in
           let operation = numbers.operation few ∙ ap (λ l. numbered l o) names in
-          let all = ap (λ x. transitionsIn p.count job ++ arrowNumbers p.passed (by x) (suc p.passed)) (sym operation) ∙ sym added.all in
+          let all = ap (λ x. transitions_in p.count job ++ arrow_numbers p.passed (by x) (suc p.passed)) (sym operation) ∙ sym added.all in
           λ i. record {
             passed = suc p.passed;
             names = sym names i;
@@ -107,16 +107,16 @@ module _ (p : Progress) (job letters : List ℕ) (passed : p.passed ≤ 63) (cou
             marks = states;
           }
 
-      limited-to : (job' : List ℕ) → n.met ≤ 8 → p.passed ≤ 62 → Adds job p.count p.passed (by n.operation) (suc p.passed) job'
-          → (os : List Open) → limited (led-to os) ≡ reached (position_of (after p n.met) (w' job') os)
-      limited-to job' few room added os = limited-on (led-to os) (few-names few) (omega arith) ∙ ap reached (leads-to job' few added os)
+      limited_to : (job' : List ℕ) → n.met ≤ 8 → p.passed ≤ 62 → Adds job p.count p.passed (by n.operation) (suc p.passed) job'
+          → (os : List Open) → limited (led_to os) ≡ reached (position_of (after p n.met) (w' job') os)
+      limited_to job' few room added os = limited_on (led_to os) (few_names few) (omega arith) ∙ ap reached (leads_to job' few added os)
 
-      limited-full : (n.met ≤ 8 → 62 < p.passed) → (os : List Open) → limited (led-to os) ≡ refused 19 (suc p.passed)
-      limited-full full os = go (dec_le n.met 8)
+      limited_full : (n.met ≤ 8 → 62 < p.passed) → (os : List Open) → limited (led_to os) ≡ refused 19 (suc p.passed)
+      limited_full full os = go (dec_le n.met 8)
         where
-          go : Dec (n.met ≤ 8) → limited (led-to os) ≡ refused 19 (suc p.passed)
-          go (yes few) = limited-states (led-to os) (omega (arith, full few))
-          go (no over) = limited-names (led-to os) (numbers.over (omega arith))
+          go : Dec (n.met ≤ 8) → limited (led_to os) ≡ refused 19 (suc p.passed)
+          go (yes few) = limited_states (led_to os) (omega (arith, full few))
+          go (no over) = limited_names (led_to os) (numbers.over (omega arith))
 
     module _ (states : List ℕ) (size : length states ≡ 64) where
       abbrev w₀ : Work
@@ -126,44 +126,44 @@ module _ (p : Progress) (job letters : List ℕ) (passed : p.passed ≤ 63) (cou
       w₁ job' = record { job = job'; letters = letters'; states = states }
 
       -- a line that is an operation
-      pub perform-on : (job' : List ℕ) (depth : ℕ) (q : Progress) → Leads p n.met n.operation job (led.On q) job'
+      pub perform_on : (job' : List ℕ) (depth : ℕ) (q : Progress) → Leads p n.met n.operation job (led.On q) job'
           → Begins depth (Perform o) p w₀ (begun.On q) (w₁ job')
-      perform-on job' depth q (few, room, is, added) =
+      perform_on job' depth q (few, room, is, added) =
           subst (λ x. Begins depth (Perform o) p w₀ (begun.On x) (w₁ job')) (sym is) (
-            (within-after n.met job' letters' states few room added.size numbers.size size, refl),
-            λ os e. limited-to states size (λ y. y) job' few room added os,
+            (within_after n.met job' letters' states few room added.size numbers.size size, refl),
+            λ os e. limited_to states size (λ y. y) job' few room added os,
           )
 
-      pub perform-full : (depth : ℕ) → (n.met ≤ 8 → 62 < p.passed) → LineSteps depth (Perform o) p w₀ (λ os. refused 19 (p.passed + 1))
-      perform-full depth full os e = rw (add-one p.passed) (limited-full states size (λ y. y) full os)
+      pub perform_full : (depth : ℕ) → (n.met ≤ 8 → 62 < p.passed) → LineSteps depth (Perform o) p w₀ (λ os. refused 19 (p.passed + 1))
+      perform_full depth full os e = rw (add-one p.passed) (limited_full states size (λ y. y) full os)
 
       -- `while T` and `if T`
       module _ (loops : Bool) (depth : ℕ) (h : depth < 16) where
         abbrev inner : Operation → Open
         inner t = record { loops = loops; test = t; state = p.passed }
 
-        abbrev numbered-test : Operation
-        numbered-test = numbered (namesAfter (take p.met letters) o) o
+        abbrev numbered_test : Operation
+        numbered_test = numbered (names_after (take p.met letters) o) o
 
-        pub open-on : (job' : List ℕ) (q : Progress) → Leads p n.met (testNumbers n.operation) job (led.On q) job'
+        pub open_on : (job' : List ℕ) (q : Progress) → Leads p n.met (test_numbers n.operation) job (led.On q) job'
             → Begins depth (opens loops o) p w₀ (begun.Opened q (record { loops = loops; test = n.operation; state = p.passed })) (w₁ job')
-        open-on job' q (few, room, is, added) =
-            let test : numbered-test ≡ n.operation = sym (numbers.operation few ∙ ap (λ l. numbered l o) (numbers.names few)) in
+        open_on job' q (few, room, is, added) =
+            let test : numbered_test ≡ n.operation = sym (numbers.operation few ∙ ap (λ l. numbered l o) (numbers.names few)) in
             subst (λ x. Begins depth (opens loops o) p w₀ (begun.Opened x (record { loops = loops; test = n.operation; state = p.passed })) (w₁ job')) (sym is) (
-              (within-after n.met job' letters' states few room added.size numbers.size size, refl),
+              (within_after n.met job' letters' states few room added.size numbers.size size, refl),
               h,
               omega arith,
               λ os e.
-                  opens-line loops o (position_of p w₀ os)
+                  opens_line_lem loops o (position_of p w₀ os)
                   ∙ rw (lt-leb 16 (length os) (omega arith))
-                  (limited-to states size testNumbers job' few room added (inner numbered-test ∷ os)
+                  (limited_to states size test_numbers job' few room added (inner numbered_test ∷ os)
                   ∙ ap (λ t. reached (position_of (after p n.met) (w₁ job') (inner t ∷ os))) test),
             )
 
         pub open_full : (n.met ≤ 8 → 62 < p.passed) → LineSteps depth (opens loops o) p w₀ (λ os. refused 19 (p.passed + 1))
         open_full full os e =
-            opens-line loops o (position_of p w₀ os)
-            ∙ rw (lt-leb 16 (length os) (omega arith), add-one p.passed) (limited-full states size testNumbers full (inner numbered-test ∷ os))
+            opens_line_lem loops o (position_of p w₀ os)
+            ∙ rw (lt-leb 16 (length os) (omega arith), add-one p.passed) (limited_full states size test_numbers full (inner numbered_test ∷ os))
 
   -- ---- a mark
 
@@ -171,26 +171,26 @@ module _ (p : Progress) (job letters : List ℕ) (passed : p.passed ≤ 63) (cou
     abbrev w₂ : Work
     w₂ = record { job = job; letters = letters; states = states }
 
-    pub mark-again : (depth : ℕ) → (get_or states k 0 ≡ 64 → ⊥) → LineSteps depth (Mark k) p w₂ (λ os. refused 17 (p.passed + 1))
-    mark-again depth taken os e =
+    pub mark_again : (depth : ℕ) → (get_or states k 0 ≡ 64 → ⊥) → LineSteps depth (Mark k) p w₂ (λ os. refused 17 (p.passed + 1))
+    mark_again depth taken os e =
         rw (ne_eqb (get_or states k 64) 64 (λ z. taken (get_d_any states k 0 64 (omega arith) ∙ z)), add-one p.passed) refl
 
     module _ (free : get_or states k 0 ≡ 64) where
-      is_free : eqb (get_or states k 64) 64 ≡ true
-      is_free = eq-eqb (get_or states k 64) 64 (sym (get_d_any states k 0 64 (omega arith)) ∙ free)
+      is_free_lem : eqb (get_or states k 64) 64 ≡ true
+      is_free_lem = eq-eqb (get_or states k 64) 64 (sym (get_d_any states k 0 64 (omega arith)) ∙ free)
 
       few : length (take p.met letters) ≤ 8
       few = omega (arith, length-take-le p.met letters (omega arith))
 
-      pub mark_on : (depth : ℕ) (q : Progress) (job' : List ℕ) → Leads p p.met skipNumbers job (led.On q) job'
+      pub mark_on : (depth : ℕ) (q : Progress) (job' : List ℕ) → Leads p p.met skip_numbers job (led.On q) job'
           → Begins depth (Mark k) p w₂ (begun.On q) (record { job = job'; letters = letters; states = set states k p.passed })
       mark_on depth q job' (m, room, is, added) =
-          let after-mark : Work = record { job = job'; letters = letters; states = set states k p.passed } in
-          subst (λ x. Begins depth (Mark k) p w₂ (begun.On x) after-mark) (sym is) (
-            (within-after p.met job' letters (set states k p.passed) met room added.size letters-size (length-set states k p.passed ∙ size), refl),
+          let after_mark : Work = record { job = job'; letters = letters; states = set states k p.passed } in
+          subst (λ x. Begins depth (Mark k) p w₂ (begun.On x) after_mark) (sym is) (
+            (within_after p.met job' letters (set states k p.passed) met room added.size letters-size (length-set states k p.passed ∙ size), refl),
             λ os e.
-                rw is_free
-                (limited-on (marked k (position_of p w₂ os)) few (omega arith)
+                rw is_free_lem
+                (limited_on (marked k (position_of p w₂ os)) few (omega arith)
                 ∙ (λ i. reached (record {
                   passed = suc p.passed;
                   names = take p.met letters;
@@ -201,25 +201,25 @@ module _ (p : Progress) (job letters : List ℕ) (passed : p.passed ≤ 63) (cou
                 }))),
           )
 
-      pub mark-full : (depth : ℕ) → (p.met ≤ 8 → 62 < p.passed) → LineSteps depth (Mark k) p w₂ (λ os. refused 19 (p.passed + 1))
-      mark-full depth full os e = rw (is_free, add-one p.passed) (limited-states (marked k (position_of p w₂ os)) (omega (arith, full met)))
+      pub mark_full : (depth : ℕ) → (p.met ≤ 8 → 62 < p.passed) → LineSteps depth (Mark k) p w₂ (λ os. refused 19 (p.passed + 1))
+      mark_full depth full os e = rw (is_free_lem, add-one p.passed) (limited_states (marked k (position_of p w₂ os)) (omega (arith, full met)))
 
 -- ---- an `end`
 
 module _ (p : Progress) (w : Work) (o : declared.Open) (bounds : WorkWithin p w) where
-  pub close-full : 62 < p.passed → (inner opens : List Open)
-      → limited (closed (openOf o) opens (position_of p w inner)) ≡ refused 19 (suc p.passed)
-  close-full h inner os = limited-states (closed (openOf o) os (position_of p w inner)) (omega arith)
+  pub close_full : 62 < p.passed → (inner opens : List Open)
+      → limited (closed (open_of o) opens (position_of p w inner)) ≡ refused 19 (suc p.passed)
+  close_full h inner os = limited_states (closed (open_of o) os (position_of p w inner)) (omega arith)
 
-  pub close-on : (job₁ job₂ : List ℕ) → p.passed ≤ 62
-      → Adds w.job p.count p.passed skipNumbers (cond o.loops o.state (suc p.passed)) job₁
-      → Adds job₁ (suc p.count) o.state (oppositeNumbers o.test) (suc p.passed) job₂
+  pub close_on : (job₁ job₂ : List ℕ) → p.passed ≤ 62
+      → Adds w.job p.count p.passed skip_numbers (cond o.loops o.state (suc p.passed)) job₁
+      → Adds job₁ (suc p.count) o.state (opposite_numbers o.test) (suc p.passed) job₂
       → Closes p w o (led.On (record { at = p.at; passed = suc p.passed; count = suc (suc p.count); met = p.met }))
       (record { job = job₂; letters = w.letters; states = w.states })
-  close-on job₁ job₂ room one two =
-      let back = arrowNumbers p.passed skipNumbers (cond o.loops o.state (suc p.passed)) in
-      let on = arrowNumbers o.state (oppositeNumbers o.test) (suc p.passed) in
-      let all = two.all ∙ ap (λ l. l ++ on) one.all ∙ append_assoc (transitionsIn p.count w.job) back on in (
+  close_on job₁ job₂ room one two =
+      let back = arrow_numbers p.passed skip_numbers (cond o.loops o.state (suc p.passed)) in
+      let on = arrow_numbers o.state (opposite_numbers o.test) (suc p.passed) in
+      let all = two.all ∙ ap (λ l. l ++ on) one.all ∙ append_assoc (transitions_in p.count w.job) back on in (
         (
           record {
             passed = omega arith;
@@ -232,7 +232,7 @@ module _ (p : Progress) (w : Work) (o : declared.Open) (bounds : WorkWithin p w)
           refl,
         ),
         λ inner os.
-            limited-on (closed (openOf o) os (position_of p w inner))
+            limited_on (closed (open_of o) os (position_of p w inner))
             (omega (arith, bounds.met, bounds.letters, length-take-le p.met w.letters (omega (arith, bounds.met, bounds.letters)))) (omega arith)
             ∙ (λ i. reached (record {
               passed = suc p.passed;

@@ -3,10 +3,10 @@ use Rattle.std.specs.Prelude.{List, [], ◌∷◌, ◌++◌, ◌≡◌, ℕ, suc
 use Rattle.lines.specs.declared.Line.{Line}
 use Rattle.lines.specs.declared.Line.TheVariants.{Perform, While, If, End, Mark, Other}
 use Rattle.lines.specs.declared.Operation.{Operation}
-use Rattle.listing.specs.LineByLine.{Open, Outcome, reached, refused, numbered, arrowNumbers, limited, closed, advance, goOn}
+use Rattle.listing.specs.LineByLine.{Open, Outcome, reached, refused, numbered, arrow_numbers, limited, closed, advance, go_on}
 use Rattle.listing.specs.Names.{meet, number_in}
 use Rattle.listing.specs.Text.{lines_of}
-use Rattle.translating.specs.Work.{Work, faultNumber, openOf, transitionsIn, position_of, WorkWithin}
+use Rattle.translating.specs.Work.{Work, fault_number, open_of, transitions_in, position_of, WorkWithin}
 use Rattle.translating.specs.declared.blocks.Block.{Block}
 use Rattle.translating.specs.declared.blocks.Block.TheVariants as block
 use Rattle.translating.specs.declared.blocks.Statement.{Statement}
@@ -28,19 +28,19 @@ pub record LettersMet (before : List ℕ) (met operand : ℕ) (r : Met) (after :
   pub number : r.met ≤ 8 → r.number ≡ number_in (take r.met after) operand
 
 -- the same of an operation
-abbrev pub namesAfter : List ℕ → Operation → List ℕ
-namesAfter names o = meet (meet names o.a) o.b
+abbrev pub names_after : List ℕ → Operation → List ℕ
+names_after names o = meet (meet names o.a) o.b
 
 pub record Numbers (before : List ℕ) (met : ℕ) (o : Operation) (r : Numbered) (after : List ℕ) : Type 0 where
   pub size : length after ≡ 8
-  pub over : 8 < r.met → 8 < length (namesAfter (take met before) o)
-  pub names : r.met ≤ 8 → take r.met after ≡ namesAfter (take met before) o
+  pub over : 8 < r.met → 8 < length (names_after (take met before) o)
+  pub names : r.met ≤ 8 → take r.met after ≡ names_after (take met before) o
   pub operation : r.met ≤ 8 → r.operation ≡ numbered (take r.met after) o
 
 -- a transition is put after those that are there
 pub record Adds (before : List ℕ) (count from : ℕ) (o : Operation) (to : ℕ) (after : List ℕ) : Type 0 where
   pub size : length after ≡ 635
-  pub all : transitionsIn (suc count) after ≡ transitionsIn count before ++ arrowNumbers from o to
+  pub all : transitions_in (suc count) after ≡ transitions_in count before ++ arrow_numbers from o to
 
 -- a step by an operation to a new state
 abbrev pub Leads : Progress → ℕ → Operation → List ℕ → Led → List ℕ → Type 0
@@ -60,9 +60,9 @@ Kept p q w = WorkWithin q w × (q.at ≡ p.at)
 abbrev pub Begins : ℕ → Line → Progress → Work → Begun → Work → Type 0
 Begins depth line p w (begun.On q) w' = Kept p q w' × LineSteps depth line p w (λ os. reached (position_of q w' os))
 Begins depth line p w (begun.Opened q o) w' =
-    Kept p q w' × (depth < 16) × (o.state < 64) × LineSteps depth line p w (λ os. reached (position_of q w' (openOf o ∷ os)))
+    Kept p q w' × (depth < 16) × (o.state < 64) × LineSteps depth line p w (λ os. reached (position_of q w' (open_of o ∷ os)))
 Begins depth line p w begun.Ended w' = (line ≡ End) × (w' ≡ w)
-Begins depth line p w (begun.Refused why n) w' = LineSteps depth line p w (λ os. refused (faultNumber why) n)
+Begins depth line p w (begun.Refused why n) w' = LineSteps depth line p w (λ os. refused (fault_number why) n)
 
 -- `mark k` has a k that the array of states has room for
 abbrev pub MarkIn : Line → Type 0
@@ -76,13 +76,13 @@ MarkIn Other = Unit {0}
 -- the end of a block that o opened, inside what else is open
 abbrev pub Closes : Progress → Work → declared.Open → Led → Work → Type 0
 Closes p w o (led.On q) w' =
-    Kept p q w' × ((inner opens : List Open) → limited (closed (openOf o) opens (position_of p w inner)) ≡ reached (position_of q w' opens))
+    Kept p q w' × ((inner opens : List Open) → limited (closed (open_of o) opens (position_of p w inner)) ≡ reached (position_of q w' opens))
 Closes p w o led.Full w' =
-    (inner opens : List Open) → limited (closed (openOf o) opens (position_of p w inner)) ≡ refused 19 (suc p.passed)
+    (inner opens : List Open) → limited (closed (open_of o) opens (position_of p w inner)) ≡ refused 19 (suc p.passed)
 
 -- from lines at a position, whatever is open, the reading comes to the same
 abbrev pub Comes : ℕ → List Line → Progress → Work → (List Open → Outcome) → Type 0
-Comes depth ls p w to = (opens : List Open) → length opens ≡ depth → goOn ls (position_of p w opens) ≡ to opens
+Comes depth ls p w to = (opens : List Open) → length opens ≡ depth → go_on ls (position_of p w opens) ≡ to opens
 
 -- reading goes on within bounds, further on in the text
 pub record Further (text : List ℕ) (p q : Progress) (w : Work) : Type 0 where
@@ -90,18 +90,18 @@ pub record Further (text : List ℕ) (p q : Progress) (w : Work) : Type 0 where
   pub on : p.at ≤ q.at
   pub inside : q.at ≤ length text
 
-abbrev pub restFrom : List ℕ → Progress → List Line
-restFrom text p = lines_of (drop p.at text)
+abbrev pub rest_from : List ℕ → Progress → List Line
+rest_from text p = lines_of (drop p.at text)
 
 abbrev pub BlockRead : List ℕ → ℕ → Progress → Work → Block → Work → Type 0
-BlockRead text depth p w (block.Over q) w' = WorkWithin q w' × Comes depth (restFrom text p) p w (λ os. goOn [] (position_of q w' os))
+BlockRead text depth p w (block.Over q) w' = WorkWithin q w' × Comes depth (rest_from text p) p w (λ os. go_on [] (position_of q w' os))
 BlockRead text depth p w (block.Ended q) w' =
-    Further text p q w' × Comes depth (restFrom text p) p w (λ os. goOn (End ∷ restFrom text q) (position_of q w' os))
-BlockRead text depth p w (block.Refused why n) w' = Comes depth (restFrom text p) p w (λ os. refused (faultNumber why) n)
+    Further text p q w' × Comes depth (rest_from text p) p w (λ os. go_on (End ∷ rest_from text q) (position_of q w' os))
+BlockRead text depth p w (block.Refused why n) w' = Comes depth (rest_from text p) p w (λ os. refused (fault_number why) n)
 
 abbrev pub StatementRead : List ℕ → Line → ℕ → Progress → Work → Statement → Work → Type 0
 StatementRead text line depth p w (statement.On q) w' =
-    Further text p q w' × Comes depth (line ∷ restFrom text p) p w (λ os. goOn (restFrom text q) (position_of q w' os))
+    Further text p q w' × Comes depth (line ∷ rest_from text p) p w (λ os. go_on (rest_from text q) (position_of q w' os))
 StatementRead text line depth p w (statement.Ended q) w' =
-    Further text p q w' × Comes depth (line ∷ restFrom text p) p w (λ os. goOn (End ∷ restFrom text q) (position_of q w' os))
-StatementRead text line depth p w (statement.Refused why n) w' = Comes depth (line ∷ restFrom text p) p w (λ os. refused (faultNumber why) n)
+    Further text p q w' × Comes depth (line ∷ rest_from text p) p w (λ os. go_on (End ∷ rest_from text q) (position_of q w' os))
+StatementRead text line depth p w (statement.Refused why n) w' = Comes depth (line ∷ rest_from text p) p w (λ os. refused (fault_number why) n)

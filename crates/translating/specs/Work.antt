@@ -14,17 +14,17 @@ pub record Work : Type 0 where
 
 -- Document 02, wish 4: "A line outside the grammar, an `end` with nothing open or one missing (at the line after the last) gets 17, deeper
 -- nesting 18, more than 8 names or 64 states 19".
-abbrev pub faultNumber : Fault → ℕ
-faultNumber Grammar = 17
-faultNumber Nesting = 18
-faultNumber Limits = 19
+abbrev pub fault_number : Fault → ℕ
+fault_number Grammar = 17
+fault_number Nesting = 18
+fault_number Limits = 19
 
-abbrev pub openOf : declared.Open → Open
-openOf o = record { loops = o.loops; test = o.test; state = o.state }
+abbrev pub open_of : declared.Open → Open
+open_of o = record { loops = o.loops; test = o.test; state = o.state }
 
 -- so many transitions, five numbers each
-abbrev pub transitionsIn : ℕ → List ℕ → List ℕ
-transitionsIn count job = take (5 * count) (drop 5 job)
+abbrev pub transitions_in : ℕ → List ℕ → List ℕ
+transitions_in count job = take (5 * count) (drop 5 job)
 
 -- the position, where these are open
 abbrev pub position_of : Progress → Work → List Open → LinePosition
@@ -34,7 +34,7 @@ position_of p w opens =
       names = take p.met w.letters;
       opens = opens;
       count = p.count;
-      transitions = transitionsIn p.count w.job;
+      transitions = transitions_in p.count w.job;
       marks = w.states;
     }
 

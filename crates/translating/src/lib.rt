@@ -2,9 +2,9 @@
 ghost use Rattle.std.specs.Prelude.{[], ◌∷◌, ◌++◌, ◌≡◌, suc, ◌+◌, ◌*◌, ◌≤◌, length, take, drop};
 ghost use Rattle.number.specs.CallResult.{lent};
 ghost use Rattle.listing.specs.Promise.{Translates};
-ghost use Rattle.listing.specs.Written.{inRoom, translateResult, bytesAfter, marksAfter};
-ghost use Rattle.translating.specs.Work.{transitionsIn};
-ghost use Rattle.translating.specs.Answer.{answerResult, variablesOf};
+ghost use Rattle.listing.specs.Written.{in_room, translate_result, bytes_after, marks_after};
+ghost use Rattle.translating.specs.Work.{transitions_in};
+ghost use Rattle.translating.specs.Answer.{answer_result, variables_of};
 
 use crate::blocks::{Block, read_block};
 use crate::steps::Progress;
@@ -44,7 +44,7 @@ fn fill(from: &[u8], to: &mut [u8])
 
 // How many variables a job with so many names has.
 fn variables_for(met: usize) -> usize
-    ensures { result ≡ variablesOf met }
+    ensures { result ≡ variables_of met }
 {
     if met == 0 {
         return 1;
@@ -55,7 +55,7 @@ fn variables_for(met: usize) -> usize
 // Puts the numbers ahead of the transitions: version, variables, states, start, transitions.
 fn put_header(p: Progress, job: &mut [u8; 635])
     requires { (length job.old ≡ 635) × (p.passed ≤ 63) × (p.count ≤ 2 * p.passed) × (p.met ≤ 8) }
-    ensures { (length job.new ≡ 635) × (take (5 + 5 * p.count) job.new ≡ 1 ∷ variablesOf p.met ∷ suc p.passed ∷ 0 ∷ p.count ∷ transitionsIn p.count job.old) }
+    ensures { (length job.new ≡ 635) × (take (5 + 5 * p.count) job.new ≡ 1 ∷ variables_of p.met ∷ suc p.passed ∷ 0 ∷ p.count ∷ transitions_in p.count job.old) }
 {
     job[0] = 1;
     job[1] = variables_for(p.met) as u8;
@@ -66,9 +66,9 @@ fn put_header(p: Progress, job: &mut [u8; 635])
 
 // Writes the job and the marks' states of a listing that was read; where there is no room for all marks, none is written.
 fn write(job: &[u8], states: &[u8], bytes: &mut [u8], marks: &mut [u8]) -> Translation
-    ensures result { answerResult result ≡ translateResult (inRoom (length bytes.old) job.now states.now) }
-    ensures bytes { bytes.new ≡ bytesAfter (inRoom (length bytes.old) job.now states.now) bytes.old }
-    ensures marks { marks.new ≡ marksAfter (inRoom (length bytes.old) job.now states.now) marks.old }
+    ensures result { answer_result result ≡ translate_result (in_room (length bytes.old) job.now states.now) }
+    ensures bytes { bytes.new ≡ bytes_after (in_room (length bytes.old) job.now states.now) bytes.old }
+    ensures marks { marks.new ≡ marks_after (in_room (length bytes.old) job.now states.now) marks.old }
 {
     if bytes.len() < job.len() {
         return Translation::TooShort(job.len());
@@ -82,7 +82,7 @@ fn write(job: &[u8], states: &[u8], bytes: &mut [u8], marks: &mut [u8]) -> Trans
 
 // The listing as a job ahead of B, and the state of each mark, 64 for none; a refusal leaves both outputs as they are.
 pub fn translate(text: &[u8], bytes: &mut [u8], marks: &mut [u8]) -> Translation
-    ensures { Translates text.now bytes.old marks.old (answerResult result) bytes.new marks.new }
+    ensures { Translates text.now bytes.old marks.old (answer_result result) bytes.new marks.new }
 {
     let mut job = [0u8; 635];
     let mut letters = [0u8; 8];

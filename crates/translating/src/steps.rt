@@ -2,7 +2,7 @@
 ghost use Rattle.std.specs.Prelude.{List, ◌≡◌, ℕ, ◌*◌, ◌≤◌, ◌<◌, cond, length};
 ghost use Rattle.lines.specs.Line.{opens};
 ghost use Rattle.lines.specs.declared.Line.TheVariants.{Perform, Mark};
-ghost use Rattle.listing.specs.LineByLine.{skipNumbers, testNumbers, oppositeNumbers};
+ghost use Rattle.listing.specs.LineByLine.{skip_numbers, test_numbers, opposite_numbers};
 ghost use Rattle.translating.specs.Work.{WorkWithin};
 ghost use Rattle.translating.specs.Reading.{Adds, Leads, Begins, MarkIn, Closes};
 
@@ -47,7 +47,7 @@ pub enum Begun {
 
 // null = null
 fn skip() -> Operation
-    ensures { result ≡ skipNumbers }
+    ensures { result ≡ skip_numbers }
 {
     Operation {
         kind: EQUAL,
@@ -58,7 +58,7 @@ fn skip() -> Operation
 
 // T as an operation.
 fn test_of(test: Operation) -> Operation
-    ensures { result ≡ testNumbers test }
+    ensures { result ≡ test_numbers test }
 {
     if test.kind == ANY {
         return skip();
@@ -68,7 +68,7 @@ fn test_of(test: Operation) -> Operation
 
 // The opposite of T.
 fn opposite_of(test: Operation) -> Operation
-    ensures { result ≡ oppositeNumbers test }
+    ensures { result ≡ opposite_numbers test }
 {
     if test.kind == ANY {
         return skip();

@@ -1,55 +1,55 @@
 -- The predecessors of a shape in an array, its facts in rows.
 use Rattle.std.specs.Prelude.{Bool, ◌&&◌, not, cond, List, [], ◌∷◌, ℕ, ◌-◌, eqb, ltb}
-use Rattle.lists.specs.List.{concatMap, keep}
+use Rattle.lists.specs.List.{concat_map, keep}
 use Rattle.lists.specs.Range.{range}
-use Rattle.shape.specs.Shape.{Shape, varAt}
-use Rattle.factrows.specs.Rows.{hasFact, cellNumber, lowered}
-use Rattle.layout.specs.ShapeArray.{cellCount, operand_at, shapeIn}
+use Rattle.shape.specs.Shape.{Shape, var_at}
+use Rattle.factrows.specs.Rows.{has_fact, cell_number, lowered}
+use Rattle.layout.specs.ShapeArray.{cell_count, operand_at, shape_in}
 use Rattle.placing.specs.Retained.{firsts}
-use Rattle.shapes.specs.Change.{cases_of, arrayPrepared, isBefore, arrayBefore}
-use Rattle.shapes.specs.Operands.{shapeUnder}
+use Rattle.shapes.specs.Change.{cases_of, array_prepared, is_before, array_before}
+use Rattle.shapes.specs.Operands.{shape_under}
 use Rattle.undoing.specs.Rowed.{Rowed, rowed}
-use Rattle.undoing.specs.Undone.{isUndone, rowsUndone}
+use Rattle.undoing.specs.Undone.{is_undone, rows_undone}
 
 -- ---- kinds 1 to 5, which leave the facts, and 8 to 13
 
 -- of a shape whose operands are placed: one, or none where a fact that is told puts a cell below itself
-unfoldable pub factsBefore : ℕ → ℕ → ℕ → List ℕ → Shape → List Rowed
-factsBefore kind a b rows s =
-    let c = cellNumber (varAt s a) in
-    let d = cellNumber (varAt s b) in
-    cond (ltb 5 kind) (keep (isUndone kind c d rows) (rowed (rowsUndone kind c d rows) s)) (rowed rows s ∷ [])
+unfoldable pub facts_before : ℕ → ℕ → ℕ → List ℕ → Shape → List Rowed
+facts_before kind a b rows s =
+    let c = cell_number (var_at s a) in
+    let d = cell_number (var_at s b) in
+    cond (ltb 5 kind) (keep (is_undone kind c d rows) (rowed (rows_undone kind c d rows) s)) (rowed rows s ∷ [])
 
 -- the same of a shape in an array, for kinds 8 to 13
-abbrev pub valuedBefore : ℕ → ℕ → ℕ → ℕ → List ℕ → List ℕ → List Rowed
-valuedBefore variables kind a b s rows =
-    let c = cellNumber (operand_at s a) in
-    let d = cellNumber (operand_at s b) in
-    keep (isUndone kind c d rows) (rowed (rowsUndone kind c d rows) (shapeIn variables s))
+abbrev pub valued_before : ℕ → ℕ → ℕ → ℕ → List ℕ → List ℕ → List Rowed
+valued_before variables kind a b s rows =
+    let c = cell_number (operand_at s a) in
+    let d = cell_number (operand_at s b) in
+    keep (is_undone kind c d rows) (rowed (rows_undone kind c d rows) (shape_in variables s))
 
 -- all of them; b may be the helper of kind 4, one above the variables
-abbrev pub choicesRowed : ℕ → ℕ → ℕ → ℕ → List ℕ → List ℕ → List Rowed
-choicesRowed variables kind a b s rows = concatMap (factsBefore kind a b rows) (firsts variables kind a b (shapeUnder variables b s))
+abbrev pub choices_rowed : ℕ → ℕ → ℕ → ℕ → List ℕ → List ℕ → List Rowed
+choices_rowed variables kind a b s rows = concat_map (facts_before kind a b rows) (firsts variables kind a b (shape_under variables b s))
 
 -- ---- kinds 6 and 7, by case k of so many of a prepared array
 
 -- cell k was the new one
-abbrev pub isTakenOut : ℕ → List ℕ → ℕ → Bool
-isTakenOut kind s k = eqb kind 6 && ltb k (cellCount s)
+abbrev pub is_taken_out : ℕ → List ℕ → ℕ → Bool
+is_taken_out kind s k = eqb kind 6 && ltb k (cell_count s)
 
 -- "A cell with any fact can't come from new"
-unfoldable pub isBeforeRowed : ℕ → ℕ → List ℕ → List ℕ → ℕ → Bool
-isBeforeRowed variables kind s rows k = isBefore variables kind s k && not (isTakenOut kind s k && hasFact rows 1 k k)
+unfoldable pub is_before_rowed : ℕ → ℕ → List ℕ → List ℕ → ℕ → Bool
+is_before_rowed variables kind s rows k = is_before variables kind s k && not (is_taken_out kind s k && has_fact rows 1 k k)
 
-unfoldable pub rowsBefore : ℕ → List ℕ → List ℕ → ℕ → List ℕ
-rowsBefore kind s rows k = cond (isTakenOut kind s k) (lowered k rows) rows
+unfoldable pub rows_before : ℕ → List ℕ → List ℕ → ℕ → List ℕ
+rows_before kind s rows k = cond (is_taken_out kind s k) (lowered k rows) rows
 
-unfoldable pub beforeRowed : ℕ → ℕ → ℕ → List ℕ → List ℕ → ℕ → List Rowed
-beforeRowed variables kind count s rows k =
-    keep (isBeforeRowed variables kind s rows k) (rowed (rowsBefore kind s rows k) (shapeIn variables (arrayBefore variables kind count s k)))
+unfoldable pub before_rowed : ℕ → ℕ → ℕ → List ℕ → List ℕ → ℕ → List Rowed
+before_rowed variables kind count s rows k =
+    keep (is_before_rowed variables kind s rows k) (rowed (rows_before kind s rows k) (shape_in variables (array_before variables kind count s k)))
 
 -- by all cases
-unfoldable pub casesRowed : ℕ → ℕ → ℕ → List ℕ → List ℕ → List Rowed
-casesRowed variables kind a s rows =
+unfoldable pub cases_rowed : ℕ → ℕ → ℕ → List ℕ → List ℕ → List Rowed
+cases_rowed variables kind a s rows =
     let cases = cases_of variables kind a s in
-    concatMap (beforeRowed variables kind cases.end (arrayPrepared variables kind a s) rows) (range cases.first (cases.end - cases.first))
+    concat_map (before_rowed variables kind cases.end (array_prepared variables kind a s) rows) (range cases.first (cases.end - cases.first))

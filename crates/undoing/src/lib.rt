@@ -1,14 +1,14 @@
 // The facts before an operation, as rows: of kinds 8 to 13, which name cells c and d, and of kind 6, by the cell that was new.
 ghost use Rattle.std.specs.Prelude.{cond, not, ◌≡◌};
-ghost use Rattle.factrows.specs.Rows.{hasFact, lowered};
-ghost use Rattle.undoing.specs.Undone.{factKind, leftCell, rightCell, isUndone, rowsUndone};
+ghost use Rattle.factrows.specs.Rows.{has_fact, lowered};
+ghost use Rattle.undoing.specs.Undone.{fact_kind, left_cell, right_cell, is_undone, rows_undone};
 
 use factrows::{add_fact, clashes, drop_cell, has_fact, remove_cell};
 use kinds::{BELOW_VALUE, COPY, EQUAL_VALUE, LARGER, READ};
 
 // The kind of the fact that an operation tells: 1, that two cells are equal, by a test for equal or a copy; else 0, that one is below the other.
 fn fact_kind(kind: u8) -> usize
-    ensures { result ≡ factKind kind }
+    ensures { result ≡ fact_kind kind }
 {
     if kind == EQUAL_VALUE {
         return 1;
@@ -21,7 +21,7 @@ fn fact_kind(kind: u8) -> usize
 
 // The first cell of that fact: d, where a larger value was written to c.
 fn left_cell(kind: u8, c: usize, d: usize) -> usize
-    ensures { result ≡ leftCell kind c d }
+    ensures { result ≡ left_cell kind c d }
 {
     if kind == LARGER {
         return d;
@@ -31,7 +31,7 @@ fn left_cell(kind: u8, c: usize, d: usize) -> usize
 
 // The second.
 fn right_cell(kind: u8, c: usize, d: usize) -> usize
-    ensures { result ≡ rightCell kind c d }
+    ensures { result ≡ right_cell kind c d }
 {
     if kind == LARGER {
         return c;
@@ -41,8 +41,8 @@ fn right_cell(kind: u8, c: usize, d: usize) -> usize
 
 // Makes the rows those before an operation of kinds 8 to 13, if there is a shape before: none where its fact puts a cell below itself. Whether there is.
 pub fn undo_values(rows: &mut [u16; 28], kind: u8, c: usize, d: usize) -> bool
-    ensures is { result ≡ isUndone kind c d rows.old }
-    ensures rows { rows.new ≡ cond result (rowsUndone kind c d rows.old) rows.old }
+    ensures is { result ≡ is_undone kind c d rows.old }
+    ensures rows { rows.new ≡ cond result (rows_undone kind c d rows.old) rows.old }
 {
     if kind == READ {
         drop_cell(rows, c);
@@ -72,7 +72,7 @@ pub fn undo_values(rows: &mut [u16; 28], kind: u8, c: usize, d: usize) -> bool
 
 // Takes cell c out, if it is in no fact. Whether it is in none.
 pub fn take_out(rows: &mut [u16; 28], c: usize) -> bool
-    ensures is { result ≡ not (hasFact rows.old 1 c c) }
+    ensures is { result ≡ not (has_fact rows.old 1 c c) }
     ensures rows { rows.new ≡ cond result (lowered c rows.old) rows.old }
 {
     if has_fact(rows, 1, c, c) {

@@ -1,13 +1,13 @@
 -- The numbers of refusals.
 use Prim.Native.Nat.{◌≤◌}
 use native.Mathlib.Omega.{arith}
-use Rattle.format.specs.Parser.{reasonNumber}
-use Rattle.verdict.specs.Verdict.{reasonOf}
+use Rattle.format.specs.Parser.{reason_number}
+use Rattle.verdict.specs.Verdict.{reason_of}
 use Rattle.verdict.specs.declared.Refusal.{Refusal}
 use Rattle.verdict.specs.declared.Refusal.TheVariants.{JobLength, CertificateLength, JobUnreadable, JobRange, JobLeft, CertificateUnreadable, CertificateRange, StartSatisfied, CoverFails, CertificateLeft, VersionsDiffer}
 
 -- each refusal has a number from 1 to 20, so none is taken for the 23 of a full tally
-pub numbered : (r : Refusal) → (1 ≤ reasonNumber (reasonOf r)) × (reasonNumber (reasonOf r) ≤ 20)
+pub numbered : (r : Refusal) → (1 ≤ reason_number (reason_of r)) × (reason_number (reason_of r) ≤ 20)
 numbered JobLength = (omega arith, omega arith)
 numbered CertificateLength = (omega arith, omega arith)
 numbered JobUnreadable = (omega arith, omega arith)

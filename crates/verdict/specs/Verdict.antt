@@ -1,6 +1,6 @@
 -- The code's answers in the numbers of documents 01 and 02.
 use Rattle.std.specs.Prelude.{[], ◌∷◌, ℕ}
-use Rattle.format.specs.Parser.{Reason, refusal, broken-rule, reasonNumber, Parsed, parsed, fault}
+use Rattle.format.specs.Parser.{Reason, refusal, broken_rule, reason_number, Parsed, parsed, fault}
 use Rattle.format.specs.Verdict.{Counts, Verdict, accepted, refused}
 use Rattle.number.specs.CallResult.{CallResult}
 use Rattle.verdict.specs.declared.Counts.{Counts as CountsAnswer}
@@ -12,43 +12,43 @@ use Rattle.verdict.specs.declared.Verdict.{Verdict as Answer}
 use Rattle.verdict.specs.declared.Verdict.TheVariants.{Accepted, Refused}
 
 -- document 01, "Refusals, in checking order"
-abbrev pub reasonOf : Refusal → Reason
-reasonOf JobLength = refusal 1
-reasonOf CertificateLength = refusal 2
-reasonOf JobUnreadable = refusal 3
-reasonOf JobRange = refusal 4
-reasonOf JobLeft = refusal 5
-reasonOf CertificateUnreadable = refusal 6
-reasonOf CertificateRange = refusal 7
-reasonOf StartSatisfied = refusal 8
-reasonOf (CoverFails broken) = broken-rule broken.rule broken.name
-reasonOf CertificateLeft = refusal 10
-reasonOf VersionsDiffer = refusal 20
+abbrev pub reason_of : Refusal → Reason
+reason_of JobLength = refusal 1
+reason_of CertificateLength = refusal 2
+reason_of JobUnreadable = refusal 3
+reason_of JobRange = refusal 4
+reason_of JobLeft = refusal 5
+reason_of CertificateUnreadable = refusal 6
+reason_of CertificateRange = refusal 7
+reason_of StartSatisfied = refusal 8
+reason_of (CoverFails broken) = broken_rule broken.rule broken.name
+reason_of CertificateLeft = refusal 10
+reason_of VersionsDiffer = refusal 20
 
 -- the number of the rule that broke, and the name; 0 where none did
-abbrev pub ruleTold : Reason → ℕ
-ruleTold (refusal number) = 0
-ruleTold (broken-rule rule name) = rule
+abbrev pub rule_told : Reason → ℕ
+rule_told (refusal number) = 0
+rule_told (broken_rule rule name) = rule
 
-abbrev pub nameTold : Reason → ℕ
-nameTold (refusal number) = 0
-nameTold (broken-rule rule name) = name
+abbrev pub name_told : Reason → ℕ
+name_told (refusal number) = 0
+name_told (broken_rule rule name) = name
 
 -- the counts of the definitions that the code's are
-abbrev pub countsTold : CountsAnswer → Counts
-countsTold c = record { bads = c.bads; members = c.members; covers = c.covers; links = c.links }
+abbrev pub counts_told : CountsAnswer → Counts
+counts_told c = record { bads = c.bads; members = c.members; covers = c.covers; links = c.links }
 
 -- the verdict of the definitions that an answer of the code is
-abbrev pub verdictOf : Answer → Verdict
-verdictOf (Accepted c) = accepted (countsTold c)
-verdictOf (Refused r place) = refused (reasonOf r) place
+abbrev pub verdict_of : Answer → Verdict
+verdict_of (Accepted c) = accepted (counts_told c)
+verdict_of (Refused r place) = refused (reason_of r) place
 
 -- what a place reached, or a refusal, is as the answer of a parser
-abbrev pub reachedOf : Reached → Parsed (Unit {0})
-reachedOf (At next) = parsed tt next
-reachedOf (ReachedRefused r place) = fault (reasonOf r) place
+abbrev pub reached_of : Reached → Parsed (Unit {0})
+reached_of (At next) = parsed tt next
+reached_of (ReachedRefused r place) = fault (reason_of r) place
 
 -- what a host is told: 0 with the four counts, or document 01's number with the place, the rule that broke, the name and 0
-abbrev pub verdictResult : Verdict → CallResult
-verdictResult (accepted c) = record { code = 0; values = c.bads ∷ c.members ∷ c.covers ∷ c.links ∷ [] }
-verdictResult (refused why place) = record { code = reasonNumber why; values = place ∷ ruleTold why ∷ nameTold why ∷ 0 ∷ [] }
+abbrev pub verdict_result : Verdict → CallResult
+verdict_result (accepted c) = record { code = 0; values = c.bads ∷ c.members ∷ c.covers ∷ c.links ∷ [] }
+verdict_result (refused why place) = record { code = reason_number why; values = place ∷ rule_told why ∷ name_told why ∷ 0 ∷ [] }

@@ -1,7 +1,7 @@
 // The verdict on a job and a certificate: four counts, or a refusal with its place.
 ghost use Rattle.std.specs.Prelude.{◌≡◌};
-ghost use Rattle.format.specs.Parser.{reasonNumber};
-ghost use Rattle.verdict.specs.Verdict.{reasonOf, ruleTold, nameTold};
+ghost use Rattle.format.specs.Parser.{reason_number};
+ghost use Rattle.verdict.specs.Verdict.{reason_of, rule_told, name_told};
 
 // The rules of a cover, by document 02's numbers.
 pub const WRONG_STATE: u8 = 1;
@@ -64,7 +64,7 @@ pub enum Reached {
 
 // Document 01's number of a refusal.
 pub fn refusal_number(refusal: Refusal) -> u32
-    ensures { result ≡ reasonNumber (reasonOf refusal) }
+    ensures { result ≡ reason_number (reason_of refusal) }
 {
     match refusal {
         Refusal::JobLength => 1,
@@ -83,7 +83,7 @@ pub fn refusal_number(refusal: Refusal) -> u32
 
 // Document 02's number of the rule that broke, 0 where none did.
 pub fn rule_number(refusal: Refusal) -> u32
-    ensures { result ≡ ruleTold (reasonOf refusal) }
+    ensures { result ≡ rule_told (reason_of refusal) }
 {
     match refusal {
         Refusal::JobLength => 0,
@@ -102,7 +102,7 @@ pub fn rule_number(refusal: Refusal) -> u32
 
 // The cell or variable that is named with it, 0 where none is.
 pub fn rule_name(refusal: Refusal) -> u32
-    ensures { result ≡ nameTold (reasonOf refusal) }
+    ensures { result ≡ name_told (reason_of refusal) }
 {
     match refusal {
         Refusal::JobLength => 0,

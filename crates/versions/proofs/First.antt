@@ -6,10 +6,10 @@ use mathlib.Core.Option.{Option, none, some}
 use mathlib.Core.Path.{◌≡◌, refl, sym, ap, ◌∙◌}
 use Prim.Native.Nat.{ℕ}
 use native.Mathlib.Omega.{arith}
-use Rattle.lists.specs.List.{Every, concatMap}
-use Rattle.lists.proofs.List.{every-none, every-cons, every-head, every-tail, concatMap-append}
-use Rattle.lists.proofs.Reflect.{Reflect, cond-true, cond-false, cond_cases}
-use Rattle.versions.specs.Carry.{beforeFirst}
+use Rattle.lists.specs.List.{Every, concat_map}
+use Rattle.lists.proofs.List.{every_none, every_cons, every_head, every_tail, concat_map_append}
+use Rattle.lists.proofs.Reflect.{Reflect, cond_true, cond_false, cond_cases}
+use Rattle.versions.specs.Carry.{before_first}
 use Rattle.versions.specs.Carries.{FirstNew}
 
 pub not_some : {A : Type 0} (x : A) → some x ≡ none → ⊥
@@ -23,13 +23,13 @@ module _ {A : Type 0} (New : A → Type 0) (test : A → Bool) (r : (x : A) → 
   First = FirstNew New ahead numbers
 
   abbrev found : List ℕ → List A → Option (List ℕ)
-  found = beforeFirst test ahead numbers
+  found = before_first test ahead numbers
 
   first_found : (so_far : List ℕ) (xs : List A) (before : List ℕ) → found so_far xs ≡ some before → First so_far xs before
   first_found so_far [] before e = absurd (not_some before (sym e))
   first_found so_far (x ∷ xs) before e =
       cond_cases (λ o. o ≡ some before → First so_far (x ∷ xs) before) (r x)
-      (λ k z. record { earlier = []; first = x; later = xs; all_are = refl; none-new = every-none (λ y. ¬ New y); new = k; before-is = cc })
+      (λ k z. record { earlier = []; first = x; later = xs; all_are = refl; none_new = every_none (λ y. ¬ New y); new = k; before_is = cc })
       (λ k z.
       let t = first_found (so_far ++ numbers x) xs before z in
       record {
@@ -37,53 +37,53 @@ module _ {A : Type 0} (New : A → Type 0) (test : A → Bool) (r : (x : A) → 
         first = t.first;
         later = t.later;
         all_are = ap (λ (l : List A). x ∷ l) t.all_are;
-        none-new = every-cons (λ y. ¬ New y) k t.none-new;
+        none_new = every_cons (λ y. ¬ New y) k t.none_new;
         new = t.new;
-        before-is = sym (regroup so_far (numbers x) (concatMap numbers t.earlier) (ahead t.first)) ∙ t.before-is;
+        before_is = sym (regroup so_far (numbers x) (concat_map numbers t.earlier) (ahead t.first)) ∙ t.before_is;
       }) e
 
   found_first : (so_far : List ℕ) (earlier : List A) (x : A) (later : List A) → Every (λ y. ¬ New y) earlier → New x
-      → found so_far (earlier ++ (x ∷ later)) ≡ some (so_far ++ (concatMap numbers earlier ++ ahead x))
-  found_first so_far [] x later old k = cond-true (test x) (some (so_far ++ ahead x)) (found (so_far ++ numbers x) later) ((r x).tests k)
+      → found so_far (earlier ++ (x ∷ later)) ≡ some (so_far ++ (concat_map numbers earlier ++ ahead x))
+  found_first so_far [] x later old k = cond_true (test x) (some (so_far ++ ahead x)) (found (so_far ++ numbers x) later) ((r x).tests k)
   found_first so_far (y ∷ ys) x later old k =
-      cond-false (test y) (some (so_far ++ ahead y)) (found (so_far ++ numbers y) (ys ++ (x ∷ later))) (λ t. every-head old ((r y).holds t))
-      ∙ found_first (so_far ++ numbers y) ys x later (every-tail old) k
-      ∙ ap some (regroup so_far (numbers y) (concatMap numbers ys) (ahead x))
+      cond_false (test y) (some (so_far ++ ahead y)) (found (so_far ++ numbers y) (ys ++ (x ∷ later))) (λ t. every_head old ((r y).holds t))
+      ∙ found_first (so_far ++ numbers y) ys x later (every_tail old) k
+      ∙ ap some (regroup so_far (numbers y) (concat_map numbers ys) (ahead x))
 
   -- the numbers that are found are those before the first that is new
-  pub first-exact : (so_far : List ℕ) (xs : List A) (before : List ℕ) → (found so_far xs ≡ some before) ↔ First so_far xs before
-  first-exact so_far xs before = (
+  pub first_exact : (so_far : List ℕ) (xs : List A) (before : List ℕ) → (found so_far xs ≡ some before) ↔ First so_far xs before
+  first_exact so_far xs before = (
     first_found so_far xs before,
-    λ k. ap (found so_far) k.all_are ∙ found_first so_far k.earlier k.first k.later k.none-new k.new ∙ ap some k.before-is,
+    λ k. ap (found so_far) k.all_are ∙ found_first so_far k.earlier k.first k.later k.none_new k.new ∙ ap some k.before_is,
   )
 
   none_found : (so_far : List ℕ) (xs : List A) → found so_far xs ≡ none → Every (λ x. ¬ New x) xs
-  none_found so_far [] e = every-none (λ x. ¬ New x)
+  none_found so_far [] e = every_none (λ x. ¬ New x)
   none_found so_far (x ∷ xs) e =
       cond_cases (λ o. o ≡ none → Every (λ y. ¬ New y) (x ∷ xs)) (r x) (λ k z. absurd (not_some (so_far ++ ahead x) z))
-      (λ k z. every-cons (λ y. ¬ New y) k (none_found (so_far ++ numbers x) xs z)) e
+      (λ k z. every_cons (λ y. ¬ New y) k (none_found (so_far ++ numbers x) xs z)) e
 
   found_none : (so_far : List ℕ) (xs : List A) → Every (λ x. ¬ New x) xs → found so_far xs ≡ none
   found_none so_far [] old = refl
   found_none so_far (x ∷ xs) old =
-      cond-false (test x) (some (so_far ++ ahead x)) (found (so_far ++ numbers x) xs) (λ t. every-head old ((r x).holds t))
-      ∙ found_none (so_far ++ numbers x) xs (every-tail old)
+      cond_false (test x) (some (so_far ++ ahead x)) (found (so_far ++ numbers x) xs) (λ t. every_head old ((r x).holds t))
+      ∙ found_none (so_far ++ numbers x) xs (every_tail old)
 
   -- none is found where none is new
-  pub none-exact : (so_far : List ℕ) (xs : List A) → (found so_far xs ≡ none) ↔ Every (λ x. ¬ New x) xs
-  none-exact so_far xs = (none_found so_far xs, found_none so_far xs)
+  pub none_exact : (so_far : List ℕ) (xs : List A) → (found so_far xs ≡ none) ↔ Every (λ x. ¬ New x) xs
+  none_exact so_far xs = (none_found so_far xs, found_none so_far xs)
 
 -- the number that is new stands behind them
-pub first-splits : {A : Type 0} {New : A → Type 0} {ahead numbers : A → List ℕ} {so_far : List ℕ} {xs : List A} {before : List ℕ}
+pub first_splits : {A : Type 0} {New : A → Type 0} {ahead numbers : A → List ℕ} {so_far : List ℕ} {xs : List A} {before : List ℕ}
     (k : FirstNew New ahead numbers so_far xs before) (n : ℕ) (rest : List ℕ) → numbers k.first ≡ ahead k.first ++ (n ∷ rest)
-    → so_far ++ concatMap numbers xs ≡ before ++ (n ∷ (rest ++ concatMap numbers k.later))
-first-splits {A} {ahead = ahead} {numbers = numbers} {so_far = so_far} k n rest e =
-    let behind = concatMap numbers k.later in
-    ap (λ (l : List A). so_far ++ concatMap numbers l) k.all_are
-    ∙ ap (λ (l : List ℕ). so_far ++ l) (concatMap-append numbers k.earlier (k.first ∷ k.later))
-    ∙ ap (λ (l : List ℕ). so_far ++ (concatMap numbers k.earlier ++ (l ++ behind))) e
-    ∙ reorder so_far (concatMap numbers k.earlier) (ahead k.first) (n ∷ rest) behind
-    ∙ ap (λ (l : List ℕ). l ++ (n ∷ (rest ++ behind))) k.before-is
+    → so_far ++ concat_map numbers xs ≡ before ++ (n ∷ (rest ++ concat_map numbers k.later))
+first_splits {A} {ahead = ahead} {numbers = numbers} {so_far = so_far} k n rest e =
+    let behind = concat_map numbers k.later in
+    ap (λ (l : List A). so_far ++ concat_map numbers l) k.all_are
+    ∙ ap (λ (l : List ℕ). so_far ++ l) (concat_map_append numbers k.earlier (k.first ∷ k.later))
+    ∙ ap (λ (l : List ℕ). so_far ++ (concat_map numbers k.earlier ++ (l ++ behind))) e
+    ∙ reorder so_far (concat_map numbers k.earlier) (ahead k.first) (n ∷ rest) behind
+    ∙ ap (λ (l : List ℕ). l ++ (n ∷ (rest ++ behind))) k.before_is
   where
     reorder : (a b c d e : List ℕ) → a ++ (b ++ ((c ++ d) ++ e)) ≡ (a ++ (b ++ c)) ++ (d ++ e)
     reorder a b c d e = simp append_assoc

@@ -4,7 +4,7 @@ use Prim.Native.Nat.{ℕ}
 use native.Mathlib.Omega.{arith}
 use lib.ListN.{length, length-map}
 use Rattle.blocklist.specs.Answers.{MetFromHead, Inserts}
-use Rattle.blocklist.proofs.Answering.{Found, found-list, insert-none, insert-past, insert-by}
+use Rattle.blocklist.proofs.Answering.{Found, found_list, insert_none, insert_past, insert_by}
 use Rattle.blocklist.proofs.Bound as bound
 use borrow.Author.Rules.{rules}
 use Rattle.blocklist.proofs.insert.Statement.{statement}
@@ -25,57 +25,57 @@ module _ (k : tie.After-known-told) where
   cells = k.before.length.given.0.0
 
   found : Found start.args.heap cells
-  found = found-list start.args.heap cells (sym k.before.length.given.1 ∙ k.before.before.before.length-of.ensures)
+  found = found_list start.args.heap cells (sym k.before.length.given.1 ∙ k.before.before.before.length-of.ensures)
 
 -- ---- what is to be shown
 
-length-of-requires : tie.Need-length-of-requires
-length-of-requires c κs = search rules
+length_of_requires : tie.Need-length-of-requires
+length_of_requires c κs = search rules
 
-enum-known-length : tie.Need-enum-known-length
-enum-known-length c = search rules
+enum_known_length : tie.Need-enum-known-length
+enum_known_length c = search rules
 
 enum_told : tie.Need-enum-told
 enum_told c = search rules
 
-refused-requires : tie.Need-refused-requires
-refused-requires c κs = search rules
+refused_requires : tie.Need-refused-requires
+refused_requires c κs = search rules
 
 returns : tie.Need-returns
 returns c =
     let o = c.before.before.before in
     let a = o.before.args in
     let g = c.before.enum_told.given in
-    subst (Inserts a.heap a.n) (sym c.refused.ensures) (insert-none a.heap (met o.before) a.n g.0.0 (sym g.1 ∙ o.length-of.ensures))
+    subst (Inserts a.heap a.n) (sym c.refused.ensures) (insert_none a.heap (met o.before) a.n g.0.0 (sym g.1 ∙ o.length-of.ensures))
 
-refused-requires-2 : tie.Need-refused-requires-2
-refused-requires-2 c κs = search rules
+refused_requires_2 : tie.Need-refused-requires-2
+refused_requires_2 c κs = search rules
 
-returns-2 : tie.Need-returns-2
-returns-2 c =
+returns_2 : tie.Need-returns-2
+returns_2 c =
     let k = c.before.before in
     let a = (start k).args in
-    subst (Inserts a.heap a.n) (sym c.refused2.ensures) (insert-past a.heap (met (start k)) (cells k) (found k) a.n c.before.if1.true)
+    subst (Inserts a.heap a.n) (sym c.refused2.ensures) (insert_past a.heap (met (start k)) (cells k) (found k) a.n c.before.if1.true)
 
-put-in-requires : tie.Need-put-in-requires
-put-in-requires c κs = omega (arith, c.if1.false, (found c.before).most)
+put_in_requires : tie.Need-put-in-requires
+put_in_requires c κs = omega (arith, c.if1.false, (found c.before).most)
 
-returns-3 : tie.Need-returns-3
-returns-3 c =
+returns_3 : tie.Need-returns-3
+returns_3 c =
     let k = c.before.before in
     let a = (start k).args in
-    insert-by a.heap (met (start k)) (cells k) (found k) a.n c.before.if1.false c.put_in.result c.put_in.ensures
+    insert_by a.heap (met (start k)) (cells k) (found k) a.n c.before.if1.false c.put_in.result c.put_in.ensures
 
-pub insert-spec : {M : Type 1} → statement M
-insert-spec =
+pub insert_spec : {M : Type 1} → statement M
+insert_spec =
     tie.close
     (tie.spec
-    length-of-requires
-    enum-known-length
+    length_of_requires
+    enum_known_length
     enum_told
-    refused-requires
+    refused_requires
     returns
-    refused-requires-2
-    returns-2
-    put-in-requires
-    returns-3)
+    refused_requires_2
+    returns_2
+    put_in_requires
+    returns_3)

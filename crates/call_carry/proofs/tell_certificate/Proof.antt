@@ -7,20 +7,20 @@ use borrow.Author.Rules.{rules}
 use Rattle.call_carry.proofs.tell_certificate.Statement.{statement}
 use Rattle.call_carry.proofs.tell_certificate.Tie as tie
 
-value-of-requires : tie.Need-value-of-requires
-value-of-requires c κs = search rules
+value_of_requires : tie.Need-value-of-requires
+value_of_requires c κs = search rules
 
-file-of-requires : tie.Need-file-of-requires
-file-of-requires c κs = search rules
+file_of_requires : tie.Need-file-of-requires
+file_of_requires c κs = search rules
 
-slice-aggregate-lend : tie.Need-slice-aggregate-lend
-slice-aggregate-lend c = search rules
+slice_aggregate_lend : tie.Need-slice-aggregate-lend
+slice_aggregate_lend c = search rules
 
-lend-requires : tie.Need-lend-requires
-lend-requires c κs = search rules
+lend_requires : tie.Need-lend-requires
+lend_requires c κs = search rules
 
-number-of-requires : tie.Need-number-of-requires
-number-of-requires c κs = search rules
+number_of_requires : tie.Need-number-of-requires
+number_of_requires c κs = search rules
 
 same_length : tie.Need-same-length
 same_length c = search rules
@@ -34,14 +34,14 @@ returns c =
       l.lend.ensures ∙ ap₂ (λ (x y : ℕ). lent (x ∷ y ∷ []) v.before.before.args.out.now) v.value_of_lem.ensures f.file-of.ensures,
     )
 
-pub tell-certificate-spec : {M : Type 1} → statement M
-tell-certificate-spec =
+pub tell_certificate_spec : {M : Type 1} → statement M
+tell_certificate_spec =
     tie.close
     (tie.spec
-    value-of-requires
-    file-of-requires
-    slice-aggregate-lend
-    lend-requires
-    number-of-requires
+    value_of_requires
+    file_of_requires
+    slice_aggregate_lend
+    lend_requires
+    number_of_requires
     same_length
     returns)

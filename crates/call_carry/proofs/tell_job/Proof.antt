@@ -7,17 +7,17 @@ use borrow.Author.Rules.{rules}
 use Rattle.call_carry.proofs.tell_job.Statement.{statement}
 use Rattle.call_carry.proofs.tell_job.Tie as tie
 
-value-of-requires : tie.Need-value-of-requires
-value-of-requires c κs = search rules
+value_of_requires : tie.Need-value-of-requires
+value_of_requires c κs = search rules
 
-slice-aggregate-lend : tie.Need-slice-aggregate-lend
-slice-aggregate-lend c = search rules
+slice_aggregate_lend : tie.Need-slice-aggregate-lend
+slice_aggregate_lend c = search rules
 
-lend-requires : tie.Need-lend-requires
-lend-requires c κs = search rules
+lend_requires : tie.Need-lend-requires
+lend_requires c κs = search rules
 
-number-of-requires : tie.Need-number-of-requires
-number-of-requires c κs = search rules
+number_of_requires : tie.Need-number-of-requires
+number_of_requires c κs = search rules
 
 same_length : tie.Need-same-length
 same_length c = search rules
@@ -28,13 +28,13 @@ returns c =
     let v = l.before.before.before in
     (c.number_of_lem.ensures, l.lend.ensures ∙ ap (λ (x : ℕ). lent (x ∷ []) v.before.before.args.out.now) v.value_of_lem.ensures)
 
-pub tell-job-spec : {M : Type 1} → statement M
-tell-job-spec =
+pub tell_job_spec : {M : Type 1} → statement M
+tell_job_spec =
     tie.close
     (tie.spec
-    value-of-requires
-    slice-aggregate-lend
-    lend-requires
-    number-of-requires
+    value_of_requires
+    slice_aggregate_lend
+    lend_requires
+    number_of_requires
     same_length
     returns)

@@ -4,17 +4,17 @@ use borrow.Author.Rules.{rules}
 use Rattle.call_forbid.proofs.vorruda_forbid_not_list.Statement.{statement}
 use Rattle.call_forbid.proofs.vorruda_forbid_not_list.Tie as tie
 
-rewrite-job-requires : tie.Need-rewrite-job-requires
-rewrite-job-requires c κs = search rules
+rewrite_job_requires : tie.Need-rewrite-job-requires
+rewrite_job_requires c κs = search rules
 
-tell-requires : tie.Need-tell-requires
-tell-requires c κs = search rules
+tell_requires : tie.Need-tell-requires
+tell_requires c κs = search rules
 
 same_length : tie.Need-same-length
 same_length c = search rules
 
-same-length-2 : tie.Need-same-length-2
-same-length-2 c = search rules
+same_length_2 : tie.Need-same-length-2
+same_length_2 c = search rules
 
 returns : tie.Need-returns
 returns c =
@@ -23,6 +23,6 @@ returns c =
     let t = o.tell in
     forbids _ _ _ _ r.result _ _ _ r.ensures t.ensures.0 t.ensures.1
 
-pub vorruda-forbid-not-list-spec : {M : Type 1} → statement M
-vorruda-forbid-not-list-spec =
-    tie.close (tie.spec rewrite-job-requires tell-requires same_length same-length-2 returns)
+pub vorruda_forbid_not_list_spec : {M : Type 1} → statement M
+vorruda_forbid_not_list_spec =
+    tie.close (tie.spec rewrite_job_requires tell_requires same_length same_length_2 returns)

@@ -4,11 +4,11 @@ use borrow.Author.Rules.{rules}
 use Rattle.call_join.proofs.vorruda_join.Statement.{statement}
 use Rattle.call_join.proofs.vorruda_join.Tie as tie
 
-join-requires : tie.Need-join-requires
-join-requires c κs = search rules
+join_requires : tie.Need-join-requires
+join_requires c κs = search rules
 
-tell-requires : tie.Need-tell-requires
-tell-requires c κs = search rules
+tell_requires : tie.Need-tell-requires
+tell_requires c κs = search rules
 
 same_length : tie.Need-same-length
 same_length c = search rules
@@ -21,5 +21,5 @@ returns c =
     let (is, (means, safe)) = j.join.ensures in
     promised a.job1.now a.cert1.now a.job2.now a.cert2.now a.state j.join.result is means safe t.tell.result a.out.now _ t.tell.ensures.0 t.tell.ensures.1
 
-pub vorruda-join-spec : {M : Type 1} → statement M
-vorruda-join-spec = tie.close (tie.spec join-requires tell-requires same_length returns)
+pub vorruda_join_spec : {M : Type 1} → statement M
+vorruda_join_spec = tie.close (tie.spec join_requires tell_requires same_length returns)

@@ -6,8 +6,8 @@ use Rattle.call_step.proofs.link_kind.Tie as tie
 returns : tie.Need-returns
 returns c = simp (lt-leb c.before.args.kind 7 c.if1.true)
 
-returns-2 : tie.Need-returns-2
-returns-2 c = simp (le-leb c.before.args.kind 7 c.if1.false)
+returns_2 : tie.Need-returns-2
+returns_2 c = simp (le-leb c.before.args.kind 7 c.if1.false)
 
-pub link-kind-spec : {M : Type 1} → statement M
-link-kind-spec = tie.close (tie.spec returns returns-2)
+pub link_kind_spec : {M : Type 1} → statement M
+link_kind_spec = tie.close (tie.spec returns returns_2)

@@ -5,8 +5,8 @@ use Prim.Native.Nat.{ℕ}
 use lib.ListN.{length}
 use Rattle.heapbytes.specs.HeapBytes.{StepsBytes}
 use Rattle.heapbytes.proofs.RoundTrip.{codes_same}
-use Rattle.heapcodec.proofs.Codec.{values-written}
-use Rattle.heapbytes.proofs.Bytes.{other-count}
+use Rattle.heapcodec.proofs.Codec.{values_written_lem}
+use Rattle.heapbytes.proofs.Bytes.{other_count}
 use Rattle.stepbytes.proofs.Bytes.{unread, kept}
 use borrow.Author.Rules.{rules}
 use Rattle.call_step_values.proofs.vorruda_step_values.Statement.{statement}
@@ -40,57 +40,57 @@ stepped c =
 returns : tie.Need-returns
 returns c =
     let a = c.before.before.before.args in
-    unread a.heap.now a.values.now a.kind a.a a.b a.value (other-count a.heap.now a.values.now c.if1.true)
+    unread a.heap.now a.values.now a.kind a.a a.b a.value (other_count a.heap.now a.values.now c.if1.true)
 
-read-values-requires : tie.Need-read-values-requires
-read-values-requires c κs = search rules
+read_values_requires : tie.Need-read-values-requires
+read_values_requires c κs = search rules
 
-step-bytes-requires : tie.Need-step-bytes-requires
-step-bytes-requires c κs = search rules
+step_bytes_requires : tie.Need-step-bytes-requires
+step_bytes_requires c κs = search rules
 
-write-values-requires : tie.Need-write-values-requires
-write-values-requires c κs = search rules
+write_values_requires : tie.Need-write-values-requires
+write_values_requires c κs = search rules
 
 same_length : tie.Need-same-length
 same_length c = search rules
 
-same-length-2 : tie.Need-same-length-2
-same-length-2 c = search rules
+same_length_2 : tie.Need-same-length-2
+same_length_2 c = search rules
 
 -- the values after it are written
-returns-2 : tie.Need-returns-2
-returns-2 c =
+returns_2 : tie.Need-returns-2
+returns_2 c =
     let p = c.before.before in
     let o = made p in
     let a = (begun o).args in
-    subst (StepsBytes a.heap.now a.values.now a.kind a.a a.b a.value o.step-bytes.result.number o.step-bytes.last.0) (sym (p.write-values.ensures ∙ values-written o.step-bytes.result.values a.values.now (count o))) (stepped o)
+    subst (StepsBytes a.heap.now a.values.now a.kind a.a a.b a.value o.step-bytes.result.number o.step-bytes.last.0) (sym (p.write-values.ensures ∙ values_written_lem o.step-bytes.result.values a.values.now (count o))) (stepped o)
 
-same-length-3 : tie.Need-same-length-3
-same-length-3 c = search rules
+same_length_3 : tie.Need-same-length-3
+same_length_3 c = search rules
 
-same-length-4 : tie.Need-same-length-4
-same-length-4 c = search rules
+same_length_4 : tie.Need-same-length-4
+same_length_4 c = search rules
 
 -- or they are what they were
-returns-3 : tie.Need-returns-3
-returns-3 c =
+returns_3 : tie.Need-returns-3
+returns_3 c =
     let o = c.before.before.before.before in
     let a = (begun o).args in
     let m = stepped o in
     subst (StepsBytes a.heap.now a.values.now a.kind a.a a.b a.value o.step-bytes.result.number o.step-bytes.new.0)
     (kept _ _ a.kind a.a a.b a.value _ _ _ m c.if2.false) m
 
-pub vorruda-step-values-spec : {M : Type 1} → statement M
-vorruda-step-values-spec =
+pub vorruda_step_values_spec : {M : Type 1} → statement M
+vorruda_step_values_spec =
     tie.close
     (tie.spec
     returns
-    read-values-requires
-    step-bytes-requires
-    write-values-requires
+    read_values_requires
+    step_bytes_requires
+    write_values_requires
     same_length
-    same-length-2
-    returns-2
-    same-length-3
-    same-length-4
-    returns-3)
+    same_length_2
+    returns_2
+    same_length_3
+    same_length_4
+    returns_3)

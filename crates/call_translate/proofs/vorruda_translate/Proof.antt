@@ -8,20 +8,20 @@ use Rattle.call_translate.proofs.vorruda_translate.Tie as tie
 abbrev made : tie.After-tell → tie.After-translate
 made c = c.before.before.before.before.before.before
 
-translate-requires : tie.Need-translate-requires
-translate-requires c κs = search rules
+translate_requires : tie.Need-translate-requires
+translate_requires c κs = search rules
 
-tell-requires : tie.Need-tell-requires
-tell-requires c κs = search rules
+tell_requires : tie.Need-tell-requires
+tell_requires c κs = search rules
 
 same_length : tie.Need-same-length
 same_length c = search rules
 
-same-length-2 : tie.Need-same-length-2
-same-length-2 c = search rules
+same_length_2 : tie.Need-same-length-2
+same_length_2 c = search rules
 
-same-length-3 : tie.Need-same-length-3
-same-length-3 c = search rules
+same_length_3 : tie.Need-same-length-3
+same_length_3 c = search rules
 
 returns : tie.Need-returns
 returns c =
@@ -29,7 +29,7 @@ returns c =
     let r = (made t).translate in
     translated _ _ _ _ _ r.result _ _ _ r.ensures t.tell.ensures.0 t.tell.ensures.1
 
-pub vorruda-translate-spec : {M : Type 1} → statement M
-vorruda-translate-spec =
+pub vorruda_translate_spec : {M : Type 1} → statement M
+vorruda_translate_spec =
     tie.close
-    (tie.spec translate-requires tell-requires same_length same-length-2 same-length-3 returns)
+    (tie.spec translate_requires tell_requires same_length same_length_2 same_length_3 returns)

@@ -1,6 +1,6 @@
 -- The length needed is known before a byte is written.
 use native.Mathlib.Omega.{arith}
-use Rattle.carrying.proofs.Answers.{entries-few, too_long, too_short, room_for, filled}
+use Rattle.carrying.proofs.Answers.{entries_few, too_long, too_short, room_for, filled}
 use borrow.Author.Rules.{rules}
 use Rattle.carrying.proofs.carry_file.Statement.{statement}
 use Rattle.carrying.proofs.carry_file.Tie as tie
@@ -13,11 +13,11 @@ begun c = c.before.before.before
 
 -- ---- what is to be shown
 
-length-after-requires : tie.Need-length-after-requires
-length-after-requires c κs =
+length_after_requires : tie.Need-length-after-requires
+length_after_requires c κs =
     let s = c.before.before in
     let a = s.args in
-    (omega (arith, entries-few a.file.now a.variables a.first a.count s.requires.1.entries), s.requires.4)
+    (omega (arith, entries_few a.file.now a.variables a.first a.count s.requires.1.entries), s.requires.4)
 
 returns : tie.Need-returns
 returns c =
@@ -26,15 +26,15 @@ returns c =
     let p = s.pre in
     too_long _ _ _ _ p.1 p.2 p.3 s.args.way p.0 _ n.length-after.ensures s.args.bytes.now c.if1.true
 
-returns-2 : tie.Need-returns-2
-returns-2 c =
+returns_2 : tie.Need-returns-2
+returns_2 c =
     let n = c.before.before in
     let s = begun n in
     let p = s.pre in
     too_short _ _ _ _ p.1 p.2 p.3 s.args.way p.0 _ n.length-after.ensures s.args.bytes.now c.before.if1.false c.if2.true
 
-put-file-requires : tie.Need-put-file-requires
-put-file-requires c κs =
+put_file_requires : tie.Need-put-file-requires
+put_file_requires c κs =
     let n = c.before.before.before in
     let s = begun n in
     let p = s.pre in (
@@ -49,8 +49,8 @@ put-file-requires c κs =
 same_length : tie.Need-same-length
 same_length c = search rules
 
-returns-3 : tie.Need-returns-3
-returns-3 c =
+returns_3 : tie.Need-returns-3
+returns_3 c =
     let o = c.before.before in
     let e = o.before.before in
     let n = e.before.before in
@@ -59,7 +59,7 @@ returns-3 c =
     filled _ _ _ _ p.1 p.2 p.3 s.args.way p.0 _ n.length-after.ensures s.args.bytes.now e.before.if1.false e.if2.false _ _
     o.put-file.ensures
 
-pub carry-file-spec : {M : Type 1} → statement M
-carry-file-spec =
+pub carry_file_spec : {M : Type 1} → statement M
+carry_file_spec =
     tie.close
-    (tie.spec length-after-requires returns returns-2 put-file-requires same_length returns-3)
+    (tie.spec length_after_requires returns returns_2 put_file_requires same_length returns_3)

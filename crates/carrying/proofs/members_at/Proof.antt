@@ -9,8 +9,8 @@ use Rattle.carrying.proofs.members_at.Tie as tie
 returns : tie.Need-returns
 returns c = omega (arith, ap length (one c.before.args.count c.if1.true))
 
-returns-2 : tie.Need-returns-2
-returns-2 c = omega (arith, ap length (two c.before.args.count c.if1.false (omega arith)))
+returns_2 : tie.Need-returns-2
+returns_2 c = omega (arith, ap length (two c.before.args.count c.if1.false (omega arith)))
 
-pub members-at-spec : {M : Type 1} → statement M
-members-at-spec = tie.close (tie.spec returns returns-2)
+pub members_at_spec : {M : Type 1} → statement M
+members_at_spec = tie.close (tie.spec returns returns_2)

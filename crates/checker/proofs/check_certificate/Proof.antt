@@ -3,15 +3,15 @@ use mathlib.Core.Path.{◌≡◌, ap, ◌∙◌, sym, subst}
 use Prim.Native.Nat.{ℕ}
 use native.Mathlib.Omega.{arith}
 use lib.Seq.{length-take-le}
-use Rattle.format.specs.Parser.{parsed, certificateBuffer}
+use Rattle.format.specs.Parser.{parsed, certificate_buffer}
 use Rattle.format.specs.Verdict.{conclude}
-use Rattle.layout.specs.Entries.{versionOf}
-use Rattle.reader.specs.Members.{memberPlaces, withPlaces, readTested, Bounds, MembersRead}
-use Rattle.checker.specs.Jobs.{fileIn, readCovers}
+use Rattle.layout.specs.Entries.{version_of}
+use Rattle.reader.specs.Members.{member_places, with_places, read_tested, Bounds, MembersRead}
+use Rattle.checker.specs.Jobs.{file_in, read_covers}
 use Rattle.checker.specs.Pairs.{placed}
-use Rattle.verdict.specs.Verdict.{countsTold, verdictOf}
-use Rattle.checker.proofs.Pairs.{not-accepted, members_kept}
-use Rattle.checker.proofs.Verdicts.{bounds, certificate-refused, certificate-members}
+use Rattle.verdict.specs.Verdict.{counts_told, verdict_of}
+use Rattle.checker.proofs.Pairs.{not_accepted, members_kept}
+use Rattle.checker.proofs.Verdicts.{bounds, certificate_refused, certificate_members}
 use borrow.Author.Rules.{rules}
 use Rattle.checker.proofs.check_certificate.Statement.{statement}
 use Rattle.checker.proofs.check_certificate.Tie as tie
@@ -41,34 +41,34 @@ limits s = bounds s.args.job.now s.args.cert.now s.args.h s.requires.0 s.require
 -- the places by the job's version
 placed_by : (s : tie.Start) {version : ℕ}
     → let a = s.args in
-    version ≡ versionOf a.job.now
-    → withPlaces (memberPlaces (certificateBuffer a.cert.now) version a.h.variables a.h.states) a.starts.now
-    ≡ placed a.cert.now (fileIn a.job.now a.h) a.starts.now
+    version ≡ version_of a.job.now
+    → with_places (member_places (certificate_buffer a.cert.now) version a.h.variables a.h.states) a.starts.now
+    ≡ placed a.cert.now (file_in a.job.now a.h) a.starts.now
 placed_by s e =
     let a = s.args in
-    ap (λ (v : ℕ). withPlaces (memberPlaces (certificateBuffer a.cert.now) v a.h.variables a.h.states) a.starts.now) e
+    ap (λ (v : ℕ). with_places (member_places (certificate_buffer a.cert.now) v a.h.variables a.h.states) a.starts.now) e
 
 -- ---- what is to be shown
 
-version-of-requires : tie.Need-version-of-requires
-version-of-requires c κs = search rules
+version_of_requires : tie.Need-version-of-requires
+version_of_requires c κs = search rules
 
-read-members-requires : tie.Need-read-members-requires
-read-members-requires c κs = search rules
+read_members_requires : tie.Need-read-members-requires
+read_members_requires c κs = search rules
 
-enum-known-r : tie.Need-enum-known-r
-enum-known-r c = search rules
+enum_known_r : tie.Need-enum-known-r
+enum_known_r c = search rules
 
-enum-known-r-2 : tie.Need-enum-known-r-2
-enum-known-r-2 c = search rules
+enum_known_r_2 : tie.Need-enum-known-r-2
+enum_known_r_2 c = search rules
 
-slice-aggregate-check-covers : tie.Need-slice-aggregate-check-covers
-slice-aggregate-check-covers c =
+slice_aggregate_check_covers : tie.Need-slice-aggregate-check-covers
+slice_aggregate_check_covers c =
     let m = members c.before.before.before in
-    sym (length-take-le _ _ (omega (arith, m.size, m.number-range.1)))
+    sym (length-take-le _ _ (omega (arith, m.size, m.number_range.1)))
 
-check-covers-requires : tie.Need-check-covers-requires
-check-covers-requires c κs =
+check_covers_requires : tie.Need-check-covers-requires
+check_covers_requires c κs =
     let told = c.before.before.before in
     let m = members told in
     let s = begun (read told) in
@@ -79,39 +79,39 @@ returns c =
     let o = c.before.before.before in
     let a = (begun o).args in
     let version = o.before.before.version_of.ensures in (
-      certificate-refused a.judged a.tested a.cert.now (fileIn a.job.now a.h) _ _ (rw (c.before.r.given.1, version) at o.read-members.ensures.0),
-      (λ k e. absurd (not-accepted e), o.read-members.ensures.1 ∙ placed_by (begun o) version),
+      certificate_refused a.judged a.tested a.cert.now (file_in a.job.now a.h) _ _ (rw (c.before.r.given.1, version) at o.read-members.ensures.0),
+      (λ k e. absurd (not_accepted e), o.read-members.ensures.1 ∙ placed_by (begun o) version),
     )
 
-returns-2 : tie.Need-returns-2
-returns-2 c =
+returns_2 : tie.Need-returns-2
+returns_2 c =
     let told = c.before.before.before.before in
     let m = members told in
     let next = told.before.r2.given.0.1.0 in
     let o = read told in
     let s = begun o in
     let a = s.args in
-    let f = fileIn a.job.now a.h in
+    let f = file_in a.job.now a.h in
     let version = o.before.before.version_of.ensures in (
       c.check-covers.ensures
-          ∙ ap conclude (ap (λ ms. readCovers a.judged a.cert.now f.job ms next) (sym (m.members-are (limits s)))
-          ∙ certificate-members a.judged a.tested a.cert.now f m.members next
-          (subst (λ (w : ℕ). readTested (certificateBuffer a.cert.now) w a.h.variables a.h.states a.tested 0 ≡ parsed m.members next) version m.read)),
+          ∙ ap conclude (ap (λ ms. read_covers a.judged a.cert.now f.job ms next) (sym (m.members_are (limits s)))
+          ∙ certificate_members a.judged a.tested a.cert.now f m.members next
+          (subst (λ (w : ℕ). read_tested (certificate_buffer a.cert.now) w a.h.variables a.h.states a.tested 0 ≡ parsed m.members next) version m.read)),
       (
-        λ k e. members_kept a.judged a.job.now a.cert.now a.h f.job a.tested _ _ next _ (countsTold k) version m (sym (ap verdictOf e) ∙ c.check-covers.ensures),
+        λ k e. members_kept a.judged a.job.now a.cert.now a.h f.job a.tested _ _ next _ (counts_told k) version m (sym (ap verdict_of e) ∙ c.check-covers.ensures),
         o.read-members.ensures.1 ∙ placed_by (begun o) version,
       ),
     )
 
-pub check-certificate-spec : {M : Type 1} → statement M
-check-certificate-spec =
+pub check_certificate_spec : {M : Type 1} → statement M
+check_certificate_spec =
     tie.close
     (tie.spec
-    version-of-requires
-    read-members-requires
-    enum-known-r
-    enum-known-r-2
-    slice-aggregate-check-covers
-    check-covers-requires
+    version_of_requires
+    read_members_requires
+    enum_known_r
+    enum_known_r_2
+    slice_aggregate_check_covers
+    check_covers_requires
     returns
-    returns-2)
+    returns_2)

@@ -3,11 +3,11 @@ use native.Mathlib.Omega.{arith}
 use mathlib.Core.List.{List}
 use mathlib.Core.Path.{sym}
 use lib.ListN.{length-map}
-use Rattle.layout.specs.Entries.{locatedAt, membersAt}
+use Rattle.layout.specs.Entries.{located_at, members_at}
 use Rattle.run.specs.Run.{Located}
-use Rattle.checker.specs.Jobs.{fileIn}
-use Rattle.checker.proofs.Verdicts.{covers-refused, covers-left, covers-taken}
-use Rattle.layout.proofs.Entries.{entries-number}
+use Rattle.checker.specs.Jobs.{file_in}
+use Rattle.checker.proofs.Verdicts.{covers_refused, covers_left, covers_taken}
+use Rattle.layout.proofs.Entries.{entries_number}
 use borrow.Author.Rules.{rules}
 use Rattle.checker.proofs.check_covers.Statement.{statement}
 use Rattle.checker.proofs.check_covers.Tie as tie
@@ -27,18 +27,18 @@ ended c = c.before.before.before
 
 -- all members
 abbrev members : tie.Start → List Located
-members s = membersAt s.args.cert.now s.args.h.variables s.args.starts.now
+members s = members_at s.args.cert.now s.args.h.variables s.args.starts.now
 
 -- ---- what is to be shown
 
-check-owed-requires : tie.Need-check-owed-requires
-check-owed-requires c κs = c.before.before.before.requires
+check_owed_requires : tie.Need-check-owed-requires
+check_owed_requires c κs = c.before.before.before.requires
 
-enum-known-g : tie.Need-enum-known-g
-enum-known-g c = search rules
+enum_known_g : tie.Need-enum-known-g
+enum_known_g c = search rules
 
-enum-known-g-2 : tie.Need-enum-known-g-2
-enum-known-g-2 c = search rules
+enum_known_g_2 : tie.Need-enum-known-g-2
+enum_known_g_2 c = search rules
 
 returns : tie.Need-returns
 returns c =
@@ -47,49 +47,49 @@ returns c =
     let s = begun o in
     let a = s.args in
     let v = told.before.g2.given in
-    covers-left a.judged a.cert.now (fileIn a.job.now a.h).job (members s) a.at _ o.check-owed.ensures v.0.0 v.1 (omega arith)
+    covers_left a.judged a.cert.now (file_in a.job.now a.h).job (members s) a.at _ o.check-owed.ensures v.0.0 v.1 (omega arith)
 
-cast-t15 : tie.Need-overflow-cast-t15
-cast-t15 c = omega (arith, (begun (reached (ended c))).requires.0.bads-number)
+cast_t15 : tie.Need-overflow-cast-t15
+cast_t15 c = omega (arith, (begun (reached (ended c))).requires.0.bads_number)
 
-cast-t16 : tie.Need-overflow-cast-t16
-cast-t16 c = omega (arith, (begun (reached (ended c))).requires.1.count_most)
+cast_t16 : tie.Need-overflow-cast-t16
+cast_t16 c = omega (arith, (begun (reached (ended c))).requires.1.count_most)
 
-cast-t18 : tie.Need-overflow-cast-t18
-cast-t18 c = search rules
+cast_t18 : tie.Need-overflow-cast-t18
+cast_t18 c = search rules
 
-cast-t20 : tie.Need-overflow-cast-t20
-cast-t20 c = search rules
+cast_t20 : tie.Need-overflow-cast-t20
+cast_t20 c = search rules
 
-returns-2 : tie.Need-returns-2
-returns-2 c =
+returns_2 : tie.Need-returns-2
+returns_2 c =
     let o = c.before.before.before in
     let s = begun o in
     let a = s.args in
     let v = c.before.g.given in
-    covers-refused a.judged a.cert.now (fileIn a.job.now a.h).job (members s) a.at _ o.check-owed.ensures v.0.0 v.0.1.0 v.1
+    covers_refused a.judged a.cert.now (file_in a.job.now a.h).job (members s) a.at _ o.check-owed.ensures v.0.0 v.0.1.0 v.1
 
-returns-3 : tie.Need-returns-3
-returns-3 c =
+returns_3 : tie.Need-returns-3
+returns_3 c =
     let told = ended c.before.before in
     let o = reached told in
     let s = begun o in
     let a = s.args in
     let v = told.before.g2.given in
-    covers-taken a.judged a.cert.now (fileIn a.job.now a.h).job (members s) a.at _ o.check-owed.ensures v.0.0 v.1 a.h.bads _ (omega arith)
-    (sym (entries-number a.job.now a.h.variables a.h.bads_at a.h.bads)) (sym (length-map a.starts.now (locatedAt a.cert.now a.h.variables)))
+    covers_taken a.judged a.cert.now (file_in a.job.now a.h).job (members s) a.at _ o.check-owed.ensures v.0.0 v.1 a.h.bads _ (omega arith)
+    (sym (entries_number a.job.now a.h.variables a.h.bads_at a.h.bads)) (sym (length-map a.starts.now (located_at a.cert.now a.h.variables)))
 
-pub check-covers-spec : {M : Type 1} → statement M
-check-covers-spec =
+pub check_covers_spec : {M : Type 1} → statement M
+check_covers_spec =
     tie.close
     (tie.spec
-    check-owed-requires
-    enum-known-g
-    enum-known-g-2
+    check_owed_requires
+    enum_known_g
+    enum_known_g_2
     returns
-    cast-t15
-    cast-t16
-    cast-t18
-    cast-t20
-    returns-2
-    returns-3)
+    cast_t15
+    cast_t16
+    cast_t18
+    cast_t20
+    returns_2
+    returns_3)

@@ -6,11 +6,11 @@ use Prim.Native.Nat.{ℕ}
 use Rattle.format.specs.Verdict.{Verdict, conclude, fits}
 use Rattle.reader.specs.Job.{JobRead, JobAnswered}
 use Rattle.reader.specs.declared.Header.{Header}
-use Rattle.verdict.specs.Verdict.{verdictOf}
-use Rattle.checker.specs.Jobs.{fileIn, readFor, verdictFor}
-use Rattle.checker.specs.Pairs.{testedIf, placesRead, keptOf}
-use Rattle.checker.proofs.Pairs.{pair-not-accepted, kept-tested, kept-untested, kept-refused, kept-accepted, places-read, kept_by, never_both}
-use Rattle.checker.proofs.Verdicts.{fits-most, job-length, certificate-length, job-refused, job_read, promised-pair}
+use Rattle.verdict.specs.Verdict.{verdict_of}
+use Rattle.checker.specs.Jobs.{file_in, read_for, verdict_for}
+use Rattle.checker.specs.Pairs.{tested_if, places_read, kept_of}
+use Rattle.checker.proofs.Pairs.{pair_not_accepted, kept_tested, kept_untested, kept_refused, kept_accepted, places_read_lem, kept_by, never_both}
+use Rattle.checker.proofs.Verdicts.{fits_most, job_length, certificate_length, job_refused, job_read, promised_pair}
 use borrow.Author.Tests.{not-true, not-false}
 use borrow.Author.Rules.{rules}
 use Rattle.checker.proofs.check_pair.Statement.{statement}
@@ -25,11 +25,11 @@ sized c = c.before.before.before.before
 abbrev begun : tie.Else2 → tie.Start
 begun c = sized c.before.before
 
-job-fits : (c : tie.Else1) → fits (sized c).args.job.now ≡ true
-job-fits c = sym c.before.fits2.ensures ∙ not-false _ c.if1.false
+job_fits : (c : tie.Else1) → fits (sized c).args.job.now ≡ true
+job_fits c = sym c.before.fits2.ensures ∙ not-false _ c.if1.false
 
-cert-fits : (c : tie.Else2) → fits (begun c).args.cert.now ≡ true
-cert-fits c = sym c.before.fits3.ensures ∙ not-false _ c.if2.false
+cert_fits : (c : tie.Else2) → fits (begun c).args.cert.now ≡ true
+cert_fits c = sym c.before.fits3.ensures ∙ not-false _ c.if2.false
 
 -- where the job was read, once the certificate is checked, and the beginning
 abbrev read_at : tie.After-check-certificate → tie.After-read-job
@@ -46,105 +46,105 @@ read : (k : tie.After-check-certificate) → JobRead (started k).args.job.now (h
 read k = subst (JobAnswered (started k).args.job.now) k.before.before.before.before.r2.given.1 (read_at k).read-job.ensures
 
 -- the certificate's verdict is that of the pair
-verdict-is : (k : tie.After-check-certificate)
+verdict_is : (k : tie.After-check-certificate)
     → let a = (started k).args in
-    verdictOf k.check-certificate.result ≡ verdictFor a.judged (testedIf a.tested) a.job.now a.cert.now
-verdict-is k =
+    verdict_of k.check-certificate.result ≡ verdict_for a.judged (tested_if a.tested) a.job.now a.cert.now
+verdict_is k =
     let a = (started k).args in
     let i = (read_at k).before in
     k.check-certificate.ensures.0
-    ∙ ap (λ (q : ℕ). conclude (readFor a.judged q a.cert.now (fileIn a.job.now (header k)))) (k.before.before.tested-state.ensures a.job.now)
-    ∙ job_read a.judged (testedIf a.tested) a.job.now a.cert.now (job-fits i.before.before) (cert-fits i) (header k) (read k)
+    ∙ ap (λ (q : ℕ). conclude (read_for a.judged q a.cert.now (file_in a.job.now (header k)))) (k.before.before.tested-state.ensures a.job.now)
+    ∙ job_read a.judged (tested_if a.tested) a.job.now a.cert.now (job_fits i.before.before) (cert_fits i) (header k) (read k)
 
 -- ---- what is to be shown
 
-fits-requires : tie.Need-fits-requires
-fits-requires c κs = search rules
+fits_requires : tie.Need-fits-requires
+fits_requires c κs = search rules
 
 returns : tie.Need-returns
 returns c =
     let a = c.before.before.before.before.args in
-    let tested = testedIf a.tested in
-    let is = job-length a.judged tested a.job.now a.cert.now (sym c.before.fits2.ensures ∙ not-true _ c.if1.true) in
-    let (exact, (judged, accepted)) = promised-pair a.job.now a.cert.now a.judged tested _ is in
-    (exact, (judged, (accepted, (λ k h e. absurd (pair-not-accepted e), kept-refused a.tested _ _ _ is))))
+    let tested = tested_if a.tested in
+    let is = job_length a.judged tested a.job.now a.cert.now (sym c.before.fits2.ensures ∙ not-true _ c.if1.true) in
+    let (exact, (judged, accepted)) = promised_pair a.job.now a.cert.now a.judged tested _ is in
+    (exact, (judged, (accepted, (λ k h e. absurd (pair_not_accepted e), kept_refused a.tested _ _ _ is))))
 
-fits-requires-2 : tie.Need-fits-requires-2
-fits-requires-2 c κs = search rules
+fits_requires_2 : tie.Need-fits-requires-2
+fits_requires_2 c κs = search rules
 
-returns-2 : tie.Need-returns-2
-returns-2 c =
+returns_2 : tie.Need-returns-2
+returns_2 c =
     let i = c.before.before in
     let a = (sized i).args in
-    let tested = testedIf a.tested in
-    let is = certificate-length a.judged tested a.job.now a.cert.now (job-fits i) (sym c.before.fits3.ensures ∙ not-true _ c.if2.true) in
-    let (exact, (judged, accepted)) = promised-pair a.job.now a.cert.now a.judged tested _ is in
-    (exact, (judged, (accepted, (λ k h e. absurd (pair-not-accepted e), kept-refused a.tested _ _ _ is))))
+    let tested = tested_if a.tested in
+    let is = certificate_length a.judged tested a.job.now a.cert.now (job_fits i) (sym c.before.fits3.ensures ∙ not-true _ c.if2.true) in
+    let (exact, (judged, accepted)) = promised_pair a.job.now a.cert.now a.judged tested _ is in
+    (exact, (judged, (accepted, (λ k h e. absurd (pair_not_accepted e), kept_refused a.tested _ _ _ is))))
 
-read-job-requires : tie.Need-read-job-requires
-read-job-requires c κs = search rules
+read_job_requires : tie.Need-read-job-requires
+read_job_requires c κs = search rules
 
-enum-known-r : tie.Need-enum-known-r
-enum-known-r c = search rules
+enum_known_r : tie.Need-enum-known-r
+enum_known_r c = search rules
 
-enum-known-r-2 : tie.Need-enum-known-r-2
-enum-known-r-2 c = search rules
+enum_known_r_2 : tie.Need-enum-known-r-2
+enum_known_r_2 c = search rules
 
-tested-state-requires : tie.Need-tested-state-requires
-tested-state-requires c κs = search rules
+tested_state_requires : tie.Need-tested-state-requires
+tested_state_requires c κs = search rules
 
-check-certificate-requires : tie.Need-check-certificate-requires
-check-certificate-requires c κs =
+check_certificate_requires : tie.Need-check-certificate-requires
+check_certificate_requires c κs =
     let o = c.before.before.before.before.before in
-    (rw c.before.before.before.r2.given.1 at o.read-job.ensures, fits-most (begun o.before).args.cert.now (cert-fits o.before))
+    (rw c.before.before.before.r2.given.1 at o.read-job.ensures, fits_most (begun o.before).args.cert.now (cert_fits o.before))
 
-with-job-requires : tie.Need-with-job-requires
-with-job-requires c κs = search rules
+with_job_requires : tie.Need-with-job-requires
+with_job_requires c κs = search rules
 
-returns-3 : tie.Need-returns-3
-returns-3 c =
+returns_3 : tie.Need-returns-3
+returns_3 c =
     let k = c.before.before in
     let a = (started k).args in
-    let at-start = c.before.if3.true in
-    let (exact, (judged, accepted)) = promised-pair a.job.now a.cert.now a.judged (testedIf a.tested) _ (c.with-job.ensures.0 ∙ verdict-is k) in (
+    let at_start = c.before.if3.true in
+    let (exact, (judged, accepted)) = promised_pair a.job.now a.cert.now a.judged (tested_if a.tested) _ (c.with-job.ensures.0 ∙ verdict_is k) in (
       exact,
       (
         judged,
         (
           accepted,
           (
-            λ q g e. (subst (JobRead a.job.now) (sym (c.with-job.ensures.1 q g e).1) (read k), λ f. absurd (never_both at-start f)),
-            kept-tested _ _ _ at-start,
+            λ q g e. (subst (JobRead a.job.now) (sym (c.with-job.ensures.1 q g e).1) (read k), λ f. absurd (never_both at_start f)),
+            kept_tested _ _ _ at_start,
           ),
         ),
       ),
     )
 
-keep-places-requires : tie.Need-keep-places-requires
-keep-places-requires c κs = λ q is. (c.before.before.before.check-certificate.ensures.1.0 q is).1.number-range.1
+keep_places_requires : tie.Need-keep-places-requires
+keep_places_requires c κs = λ q is. (c.before.before.before.check-certificate.ensures.1.0 q is).1.number_range.1
 
-with-job-requires-2 : tie.Need-with-job-requires-2
-with-job-requires-2 c κs = search rules
+with_job_requires_2 : tie.Need-with-job-requires-2
+with_job_requires_2 c κs = search rules
 
-returns-4 : tie.Need-returns-4
-returns-4 c =
+returns_4 : tie.Need-returns-4
+returns_4 c =
     let o = c.before.before.before in
     let i = o.before in
     let a = (begun i).args in
-    let tested = testedIf a.tested in
-    let is = job-refused a.judged tested a.job.now a.cert.now (job-fits i.before.before) (cert-fits i) _ _ (rw c.before.r.given.1 at o.read-job.ensures) in
-    let (exact, (judged, accepted)) = promised-pair a.job.now a.cert.now a.judged tested _ is in
-    (exact, (judged, (accepted, (λ k h e. absurd (pair-not-accepted e), kept-refused a.tested _ _ _ is))))
+    let tested = tested_if a.tested in
+    let is = job_refused a.judged tested a.job.now a.cert.now (job_fits i.before.before) (cert_fits i) _ _ (rw c.before.r.given.1 at o.read-job.ensures) in
+    let (exact, (judged, accepted)) = promised_pair a.job.now a.cert.now a.judged tested _ is in
+    (exact, (judged, (accepted, (λ k h e. absurd (pair_not_accepted e), kept_refused a.tested _ _ _ is))))
 
-returns-5 : tie.Need-returns-5
-returns-5 c =
+returns_5 : tie.Need-returns-5
+returns_5 c =
     let p = c.before in
     let untested = p.before.before.before.if3.false in
     let k = p.before.before.before.before in
     let a = (started k).args in
     let kept = p.keep-places.ensures.0 in
-    let tested-is = k.before.before.tested-state.ensures a.job.now ∙ ap (λ j. testedIf j (fileIn a.job.now (header k))) untested in
-    let (exact, (judged, accepted)) = promised-pair a.job.now a.cert.now a.judged (testedIf a.tested) _ (c.with-job2.ensures.0 ∙ verdict-is k) in (
+    let tested-is = k.before.before.tested-state.ensures a.job.now ∙ ap (λ j. tested_if j (file_in a.job.now (header k))) untested in
+    let (exact, (judged, accepted)) = promised_pair a.job.now a.cert.now a.judged (tested_if a.tested) _ (c.with-job2.ensures.0 ∙ verdict_is k) in (
       exact,
       (
         judged,
@@ -154,34 +154,34 @@ returns-5 c =
             λ q g e.
                 let (is, same) = c.with-job2.ensures.1 q g e in
                 let members =
-                kept-accepted a.job.now a.cert.now (header k) _ _ q _ a.starts.now is (p.keep-places.ensures.1 q is) (k.check-certificate.ensures.1.0 q is) in
+                kept_accepted a.job.now a.cert.now (header k) _ _ q _ a.starts.now is (p.keep-places.ensures.1 q is) (k.check-certificate.ensures.1.0 q is) in
                 let (d, m) = kept_by a.job.now a.cert.now (header k) g _ q.members _ _ same tested-is kept (read k) members in
                 (d, λ f. m),
             kept
-                ∙ ap₂ (λ (w : Verdict) (l : List ℕ). keptOf w l a.starts.now) (verdict-is k)
-                (k.check-certificate.ensures.1.1 ∙ places-read a.job.now a.cert.now (header k) (read k))
-                ∙ kept-untested _ (placesRead a.job.now a.cert.now) a.starts.now untested,
+                ∙ ap₂ (λ (w : Verdict) (l : List ℕ). kept_of w l a.starts.now) (verdict_is k)
+                (k.check-certificate.ensures.1.1 ∙ places_read_lem a.job.now a.cert.now (header k) (read k))
+                ∙ kept_untested _ (places_read a.job.now a.cert.now) a.starts.now untested,
           ),
         ),
       ),
     )
 
-pub check-pair-spec : {M : Type 1} → statement M
-check-pair-spec =
+pub check_pair_spec : {M : Type 1} → statement M
+check_pair_spec =
     tie.close
     (tie.spec
-    fits-requires
+    fits_requires
     returns
-    fits-requires-2
-    returns-2
-    read-job-requires
-    enum-known-r
-    enum-known-r-2
-    tested-state-requires
-    check-certificate-requires
-    with-job-requires
-    returns-3
-    keep-places-requires
-    with-job-requires-2
-    returns-4
-    returns-5)
+    fits_requires_2
+    returns_2
+    read_job_requires
+    enum_known_r
+    enum_known_r_2
+    tested_state_requires
+    check_certificate_requires
+    with_job_requires
+    returns_3
+    keep_places_requires
+    with_job_requires_2
+    returns_4
+    returns_5)

@@ -3,62 +3,62 @@ use Prim.Native.Nat.{◌-◌}
 use native.Mathlib.Nat.{zero-add}
 use native.Mathlib.Omega.{arith}
 use mathlib.Core.Path.{sym}
-use Rattle.layout.proofs.Loading.{Copying, copy-none, copy_more, copy-all}
+use Rattle.layout.proofs.Loading.{Copying, copy_none, copy_more, copy_all}
 use borrow.Author.Rules.{rules}
 use Rattle.checker.proofs.copy_places.Statement.{statement}
 use Rattle.checker.proofs.copy_places.Tie as tie
 
-abbrev invariant-loop : tie.invariant-loop
-invariant-loop table count starts₀ i₀ starts i = Copying starts₀ 0 table 0 count starts i
+abbrev invariant_loop : tie.invariant-loop
+invariant_loop table count starts₀ i₀ starts i = Copying starts₀ 0 table 0 count starts i
 
-abbrev decreases-loop : tie.decreases-loop
-decreases-loop table count starts₀ i₀ starts i = count - i
+abbrev decreases_loop : tie.decreases-loop
+decreases_loop table count starts₀ i₀ starts i = count - i
 
-loop-holds : tie.Need-loop-init invariant-loop decreases-loop
-loop-holds c = let a = c.args in copy-none a.starts.now 0 a.table.now 0 a.count
+loop_holds : tie.Need-loop-init invariant_loop decreases_loop
+loop_holds c = let a = c.args in copy_none a.starts.now 0 a.table.now 0 a.count
 
-mul-starts : tie.Need-overflow-mul-starts invariant-loop decreases-loop
-mul-starts c = search rules
+mul_starts : tie.Need-overflow-mul-starts invariant_loop decreases_loop
+mul_starts c = search rules
 
-shared-slice-read-starts : tie.Need-shared-slice-read-starts invariant-loop decreases-loop
-shared-slice-read-starts c = search rules
+shared_slice_read_starts : tie.Need-shared-slice-read-starts invariant_loop decreases_loop
+shared_slice_read_starts c = search rules
 
-mul-starts-2 : tie.Need-overflow-mul-starts-2 invariant-loop decreases-loop
-mul-starts-2 c = search rules
+mul_starts_2 : tie.Need-overflow-mul-starts-2 invariant_loop decreases_loop
+mul_starts_2 c = search rules
 
-slice-write-starts : tie.Need-slice-write-starts invariant-loop decreases-loop
-slice-write-starts c = search rules
+slice_write_starts : tie.Need-slice-write-starts invariant_loop decreases_loop
+slice_write_starts c = search rules
 
-add-i : tie.Need-overflow-add-i invariant-loop decreases-loop
-add-i c = search rules
+add_i : tie.Need-overflow-add-i invariant_loop decreases_loop
+add_i c = search rules
 
-loop-less : tie.Need-loop-smaller invariant-loop decreases-loop
-loop-less c = search rules
+loop_less : tie.Need-loop-smaller invariant_loop decreases_loop
+loop_less c = search rules
 
-loop-again : tie.Need-loop-preserved invariant-loop decreases-loop
-loop-again c =
+loop_again : tie.Need-loop-preserved invariant_loop decreases_loop
+loop_again c =
     let i = c.before.before.loop.i in
     rw zero-add at (copy_more c.before.before.loop.invariant i (sym (zero-add i)) (omega arith) (omega arith) (omega arith))
 
-same_length : tie.Need-same-length invariant-loop decreases-loop
+same_length : tie.Need-same-length invariant_loop decreases_loop
 same_length c = c.before.loop.invariant.same
 
-returns : tie.Need-returns invariant-loop decreases-loop
-returns c = rw zero-add at (copy-all c.before.loop.invariant (omega arith))
+returns : tie.Need-returns invariant_loop decreases_loop
+returns c = rw zero-add at (copy_all c.before.loop.invariant (omega arith))
 
-pub copy-places-spec : {M : Type 1} → statement M
-copy-places-spec =
+pub copy_places_spec : {M : Type 1} → statement M
+copy_places_spec =
     tie.close
     (tie.spec
-    invariant-loop
-    decreases-loop
-    loop-holds
-    mul-starts
-    shared-slice-read-starts
-    mul-starts-2
-    slice-write-starts
-    add-i
-    loop-less
-    loop-again
+    invariant_loop
+    decreases_loop
+    loop_holds
+    mul_starts
+    shared_slice_read_starts
+    mul_starts_2
+    slice_write_starts
+    add_i
+    loop_less
+    loop_again
     same_length
     returns)

@@ -6,8 +6,8 @@ use Rattle.checker.proofs.tested_state.Tie as tie
 returns : tie.Need-returns
 returns c = λ job. rw c.if1.true refl
 
-returns-2 : tie.Need-returns-2
-returns-2 c = λ job. rw c.if1.false refl
+returns_2 : tie.Need-returns-2
+returns_2 c = λ job. rw c.if1.false refl
 
-pub tested-state-spec : {M : Type 1} → statement M
-tested-state-spec = tie.close (tie.spec returns returns-2)
+pub tested_state_spec : {M : Type 1} → statement M
+tested_state_spec = tie.close (tie.spec returns returns_2)

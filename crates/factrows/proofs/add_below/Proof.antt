@@ -3,18 +3,18 @@ use borrow.Author.Rules.{rules}
 use Rattle.factrows.proofs.add_below.Statement.{statement}
 use Rattle.factrows.proofs.add_below.Tie as tie
 
-put-self-requires : tie.Need-put-self-requires
-put-self-requires c κs = search rules
+put_self_requires : tie.Need-put-self-requires
+put_self_requires c κs = search rules
 
-put-self-requires-2 : tie.Need-put-self-requires-2
-put-self-requires-2 c κs = search rules
+put_self_requires_2 : tie.Need-put-self-requires-2
+put_self_requires_2 c κs = search rules
 
-below-rows-requires : tie.Need-below-rows-requires
-below-rows-requires c κs = search rules
+below_rows_requires : tie.Need-below-rows-requires
+below_rows_requires c κs = search rules
 
 returns : tie.Need-returns
 returns c = rw (← c.before.before.before.before.put_self.ensures, ← c.before.before.put-self2.ensures) c.below_rows.ensures
 
-pub add-below-spec : {M : Type 1} → statement M
-add-below-spec =
-    tie.close (tie.spec put-self-requires put-self-requires-2 below-rows-requires returns)
+pub add_below_spec : {M : Type 1} → statement M
+add_below_spec =
+    tie.close (tie.spec put_self_requires put_self_requires_2 below_rows_requires returns)

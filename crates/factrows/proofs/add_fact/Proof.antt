@@ -14,32 +14,32 @@ begun c = c.before.before
 returns : tie.Need-returns
 returns c = let a = c.before.args in rw (le-ltb a.c 14 (omega arith)) refl
 
-returns-2 : tie.Need-returns-2
-returns-2 c = let a = c.before.before.args in rw (lt-ltb a.c 14 (omega arith), le-ltb a.d 14 (omega arith)) refl
+returns_2 : tie.Need-returns-2
+returns_2 c = let a = c.before.before.args in rw (lt-ltb a.c 14 (omega arith), le-ltb a.d 14 (omega arith)) refl
 
-add-below-requires : tie.Need-add-below-requires
-add-below-requires c κs = search rules
+add_below_requires : tie.Need-add-below-requires
+add_below_requires c κs = search rules
 
-returns-3 : tie.Need-returns-3
-returns-3 c = let a = (begun c.before.before.before).args in rw (lt-ltb a.c 14 (omega arith), lt-ltb a.d 14 (omega arith), c.before.before.if3.true) c.add-below.ensures
+returns_3 : tie.Need-returns-3
+returns_3 c = let a = (begun c.before.before.before).args in rw (lt-ltb a.c 14 (omega arith), lt-ltb a.d 14 (omega arith), c.before.before.if3.true) c.add-below.ensures
 
-add-equal-requires : tie.Need-add-equal-requires
-add-equal-requires c κs = search rules
+add_equal_requires : tie.Need-add-equal-requires
+add_equal_requires c κs = search rules
 
-returns-4 : tie.Need-returns-4
-returns-4 c = let a = (begun c.before.before.before.before).args in rw (lt-ltb a.c 14 (omega arith), lt-ltb a.d 14 (omega arith), c.before.before.if4.true) c.add-equal.ensures
+returns_4 : tie.Need-returns-4
+returns_4 c = let a = (begun c.before.before.before.before).args in rw (lt-ltb a.c 14 (omega arith), lt-ltb a.d 14 (omega arith), c.before.before.if4.true) c.add-equal.ensures
 
-returns-5 : tie.Need-returns-5
-returns-5 c = let a = (begun c.before.before).args in rw (lt-ltb a.c 14 (omega arith), lt-ltb a.d 14 (omega arith)) (no_kind a.rows.now a.c a.d a.kind c.before.if3.false c.if4.false)
+returns_5 : tie.Need-returns-5
+returns_5 c = let a = (begun c.before.before).args in rw (lt-ltb a.c 14 (omega arith), lt-ltb a.d 14 (omega arith)) (no_kind a.rows.now a.c a.d a.kind c.before.if3.false c.if4.false)
 
-pub add-fact-spec : {M : Type 1} → statement M
-add-fact-spec =
+pub add_fact_spec : {M : Type 1} → statement M
+add_fact_spec =
     tie.close
     (tie.spec
     returns
-    returns-2
-    add-below-requires
-    returns-3
-    add-equal-requires
-    returns-4
-    returns-5)
+    returns_2
+    add_below_requires
+    returns_3
+    add_equal_requires
+    returns_4
+    returns_5)

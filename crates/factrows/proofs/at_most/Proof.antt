@@ -5,17 +5,17 @@ use borrow.Author.Rules.{rules}
 use Rattle.factrows.proofs.at_most.Statement.{statement}
 use Rattle.factrows.proofs.at_most.Tie as tie
 
-up-of-requires : tie.Need-up-of-requires
-up-of-requires c κs = search rules
+up_of_requires : tie.Need-up-of-requires
+up_of_requires c κs = search rules
 
-is-on-requires : tie.Need-is-on-requires
-is-on-requires c κs = search rules
+is_on_requires : tie.Need-is-on-requires
+is_on_requires c κs = search rules
 
 returns : tie.Need-returns
 returns c = let a = c.before.args in rw (eq-eqb a.p a.q c.if1.true) refl
 
-returns-2 : tie.Need-returns-2
-returns-2 c = let a = c.before.before.before.args in rw (ne_eqb a.p a.q c.before.before.if1.false, ← c.before.up_of.ensures) c.is-on.ensures
+returns_2 : tie.Need-returns-2
+returns_2 c = let a = c.before.before.before.args in rw (ne_eqb a.p a.q c.before.before.if1.false, ← c.before.up_of.ensures) c.is-on.ensures
 
-pub at-most-spec : {M : Type 1} → statement M
-at-most-spec = tie.close (tie.spec up-of-requires is-on-requires returns returns-2)
+pub at_most_spec : {M : Type 1} → statement M
+at_most_spec = tie.close (tie.spec up_of_requires is_on_requires returns returns_2)

@@ -4,66 +4,66 @@ use Prim.Native.Nat.{ℕ, ◌-◌, ◌≤◌}
 use native.Mathlib.Omega.{arith}
 use borrow.Author.Tests.{not-true, not-false}
 use Rattle.lists.specs.Test.{all_from}
-use Rattle.lists.proofs.Test.{all-passed, all-failed, all_done}
-use Rattle.factrows.specs.Listed.{count, holdsFor}
+use Rattle.lists.proofs.Test.{all_passed, all_failed, all_done}
+use Rattle.factrows.specs.Listed.{count, holds_for}
 use borrow.Author.Rules.{rules}
 use Rattle.factrows.proofs.cell_holds.Statement.{statement}
 use Rattle.factrows.proofs.cell_holds.Tie as tie
 
-abbrev invariant-loop : tie.invariant-loop
-invariant-loop rows s images p n i₀ i = (n ≡ count s) × ((i ≤ n) × (all_from (count s) 0 (holdsFor rows s images p) ≡ all_from (count s - i) i (holdsFor rows s images p)))
+abbrev invariant_loop : tie.invariant-loop
+invariant_loop rows s images p n i₀ i = (n ≡ count s) × ((i ≤ n) × (all_from (count s) 0 (holds_for rows s images p) ≡ all_from (count s - i) i (holds_for rows s images p)))
 
-abbrev decreases-loop : tie.decreases-loop
-decreases-loop rows s images p n i₀ i = n - i
+abbrev decreases_loop : tie.decreases-loop
+decreases_loop rows s images p n i₀ i = n - i
 
 -- the beginning, from the loop
-abbrev begun : tie.At-loop invariant-loop decreases-loop → tie.Start invariant-loop decreases-loop
+abbrev begun : tie.At-loop invariant_loop decreases_loop → tie.Start invariant_loop decreases_loop
 begun c = c.before.before
 
-loop-holds : tie.Need-loop-init invariant-loop decreases-loop
-loop-holds c =
+loop_holds : tie.Need-loop-init invariant_loop decreases_loop
+loop_holds c =
     let a = c.before.args in
-    (refl, (omega arith, ap (λ (k : ℕ). all_from k 0 (holdsFor a.rows.now a.s.now a.images.now a.p)) (omega arith)))
+    (refl, (omega arith, ap (λ (k : ℕ). all_from k 0 (holds_for a.rows.now a.s.now a.images.now a.p)) (omega arith)))
 
-holds-for-requires : tie.Need-holds-for-requires invariant-loop decreases-loop
-holds-for-requires c κs = search rules
+holds_for_requires : tie.Need-holds-for-requires invariant_loop decreases_loop
+holds_for_requires c κs = search rules
 
-returns : tie.Need-returns invariant-loop decreases-loop
+returns : tie.Need-returns invariant_loop decreases_loop
 returns c =
     let o = c.before.before.before in
     let a = (begun o).args in
     let at = o.loop in
-    sym (at.invariant.1.1 ∙ all-failed (holdsFor a.rows.now a.s.now a.images.now a.p) (count a.s.now) at.i (omega (arith, at.invariant.0)) (sym c.before.holds-for.ensures ∙ not-true _ c.if1.true))
+    sym (at.invariant.1.1 ∙ all_failed (holds_for a.rows.now a.s.now a.images.now a.p) (count a.s.now) at.i (omega (arith, at.invariant.0)) (sym c.before.holds-for.ensures ∙ not-true _ c.if1.true))
 
-add-i : tie.Need-overflow-add-i invariant-loop decreases-loop
-add-i c = search rules
+add_i : tie.Need-overflow-add-i invariant_loop decreases_loop
+add_i c = search rules
 
-loop-less : tie.Need-loop-smaller invariant-loop decreases-loop
-loop-less c = search rules
+loop_less : tie.Need-loop-smaller invariant_loop decreases_loop
+loop_less c = search rules
 
-loop-again : tie.Need-loop-preserved invariant-loop decreases-loop
-loop-again c =
+loop_again : tie.Need-loop-preserved invariant_loop decreases_loop
+loop_again c =
     let o = c.before.before.before in
     let a = (begun o).args in
     let at = o.loop in
-    (at.invariant.0, (omega arith, at.invariant.1.1 ∙ all-passed (holdsFor a.rows.now a.s.now a.images.now a.p) (count a.s.now) at.i (omega (arith, at.invariant.0)) (sym c.before.holds-for.ensures ∙ not-false _ c.if1.false)))
+    (at.invariant.0, (omega arith, at.invariant.1.1 ∙ all_passed (holds_for a.rows.now a.s.now a.images.now a.p) (count a.s.now) at.i (omega (arith, at.invariant.0)) (sym c.before.holds-for.ensures ∙ not-false _ c.if1.false)))
 
-returns-2 : tie.Need-returns-2 invariant-loop decreases-loop
-returns-2 c =
+returns_2 : tie.Need-returns-2 invariant_loop decreases_loop
+returns_2 c =
     let a = (begun c.before).args in
     let at = c.before.loop in
-    sym (at.invariant.1.1 ∙ all_done (holdsFor a.rows.now a.s.now a.images.now a.p) (count a.s.now) at.i (omega (arith, at.invariant.0)))
+    sym (at.invariant.1.1 ∙ all_done (holds_for a.rows.now a.s.now a.images.now a.p) (count a.s.now) at.i (omega (arith, at.invariant.0)))
 
-pub cell-holds-spec : {M : Type 1} → statement M
-cell-holds-spec =
+pub cell_holds_spec : {M : Type 1} → statement M
+cell_holds_spec =
     tie.close
     (tie.spec
-    invariant-loop
-    decreases-loop
-    loop-holds
-    holds-for-requires
+    invariant_loop
+    decreases_loop
+    loop_holds
+    holds_for_requires
     returns
-    add-i
-    loop-less
-    loop-again
-    returns-2)
+    add_i
+    loop_less
+    loop_again
+    returns_2)

@@ -1,20 +1,20 @@
 -- By the test.
 use mathlib.Core.Path.{refl, sym, ◌∙◌}
-use Rattle.factrows.specs.Rows.{classRow}
+use Rattle.factrows.specs.Rows.{class_row}
 use borrow.Author.Rules.{rules}
 use Rattle.factrows.proofs.class_row.Statement.{statement}
 use Rattle.factrows.proofs.class_row.Tie as tie
 
-is-on-requires : tie.Need-is-on-requires
-is-on-requires c κs = search rules
+is_on_requires : tie.Need-is-on-requires
+is_on_requires c κs = search rules
 
 returns : tie.Need-returns
-unfolding classRow
+unfolding class_row
 returns c = rw (sym c.before.is-on.ensures ∙ c.if1.true) refl
 
-returns-2 : tie.Need-returns-2
-unfolding classRow
-returns-2 c = rw (sym c.before.is-on.ensures ∙ c.if1.false) refl
+returns_2 : tie.Need-returns-2
+unfolding class_row
+returns_2 c = rw (sym c.before.is-on.ensures ∙ c.if1.false) refl
 
-pub class-row-spec : {M : Type 1} → statement M
-class-row-spec = tie.close (tie.spec is-on-requires returns returns-2)
+pub class_row_spec : {M : Type 1} → statement M
+class_row_spec = tie.close (tie.spec is_on_requires returns returns_2)

@@ -1,28 +1,28 @@
 -- By the two tests.
 use mathlib.Core.Path.{refl, sym, ◌∙◌}
-use Rattle.factrows.specs.Rows.{equalRow}
+use Rattle.factrows.specs.Rows.{equal_row}
 use borrow.Author.Rules.{rules}
 use Rattle.factrows.proofs.equal_row.Statement.{statement}
 use Rattle.factrows.proofs.equal_row.Tie as tie
 
-is-either-on-requires : tie.Need-is-either-on-requires
-is-either-on-requires c κs = search rules
+is_either_on_requires : tie.Need-is-either-on-requires
+is_either_on_requires c κs = search rules
 
 returns : tie.Need-returns
-unfolding equalRow
+unfolding equal_row
 returns c = rw (sym c.before.is-either-on.ensures ∙ c.if1.true) refl
 
-is-on-requires : tie.Need-is-on-requires
-is-on-requires c κs = search rules
+is_on_requires : tie.Need-is-on-requires
+is_on_requires c κs = search rules
 
-returns-2 : tie.Need-returns-2
-unfolding equalRow
-returns-2 c = rw (sym c.before.before.before.is-either-on.ensures ∙ c.before.before.if1.false, sym c.before.is-on.ensures ∙ c.if2.true) refl
+returns_2 : tie.Need-returns-2
+unfolding equal_row
+returns_2 c = rw (sym c.before.before.before.is-either-on.ensures ∙ c.before.before.if1.false, sym c.before.is-on.ensures ∙ c.if2.true) refl
 
-returns-3 : tie.Need-returns-3
-unfolding equalRow
-returns-3 c = rw (sym c.before.before.before.is-either-on.ensures ∙ c.before.before.if1.false, sym c.before.is-on.ensures ∙ c.if2.false) refl
+returns_3 : tie.Need-returns-3
+unfolding equal_row
+returns_3 c = rw (sym c.before.before.before.is-either-on.ensures ∙ c.before.before.if1.false, sym c.before.is-on.ensures ∙ c.if2.false) refl
 
-pub equal-row-spec : {M : Type 1} → statement M
-equal-row-spec =
-    tie.close (tie.spec is-either-on-requires returns is-on-requires returns-2 returns-3)
+pub equal_row_spec : {M : Type 1} → statement M
+equal_row_spec =
+    tie.close (tie.spec is_either_on_requires returns is_on_requires returns_2 returns_3)

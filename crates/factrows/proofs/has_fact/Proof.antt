@@ -13,52 +13,52 @@ begun c = c.before.before
 returns : tie.Need-returns
 returns c = let a = c.before.args in rw (le-ltb a.p 14 (omega arith)) refl
 
-returns-2 : tie.Need-returns-2
-returns-2 c = let a = c.before.before.args in rw (lt-ltb a.p 14 (omega arith), le-ltb a.q 14 (omega arith)) refl
+returns_2 : tie.Need-returns-2
+returns_2 c = let a = c.before.before.args in rw (lt-ltb a.p 14 (omega arith), le-ltb a.q 14 (omega arith)) refl
 
-mul-is-on : tie.Need-overflow-mul-is-on
-mul-is-on c = search rules
+mul_is_on : tie.Need-overflow-mul-is-on
+mul_is_on c = search rules
 
-element-copy-out-is-on : tie.Need-element-copy-out-is-on
-element-copy-out-is-on c = search rules
+element_copy_out_is_on : tie.Need-element-copy-out-is-on
+element_copy_out_is_on c = search rules
 
-is-on-requires : tie.Need-is-on-requires
-is-on-requires c κs = search rules
+is_on_requires : tie.Need-is-on-requires
+is_on_requires c κs = search rules
 
-returns-3 : tie.Need-returns-3
-returns-3 c = let a = (begun c.before.before.before).args in rw (lt-ltb a.p 14 (omega arith), lt-ltb a.q 14 (omega arith), c.before.before.if3.true) c.is-on.ensures
+returns_3 : tie.Need-returns-3
+returns_3 c = let a = (begun c.before.before.before).args in rw (lt-ltb a.p 14 (omega arith), lt-ltb a.q 14 (omega arith), c.before.before.if3.true) c.is-on.ensures
 
-add-is-on : tie.Need-overflow-add-is-on
-add-is-on c = search rules
+add_is_on : tie.Need-overflow-add-is-on
+add_is_on c = search rules
 
-mul-is-on-2 : tie.Need-overflow-mul-is-on-2
-mul-is-on-2 c = search rules
+mul_is_on_2 : tie.Need-overflow-mul-is-on-2
+mul_is_on_2 c = search rules
 
-element-copy-out-is-on-2 : tie.Need-element-copy-out-is-on-2
-element-copy-out-is-on-2 c = search rules
+element_copy_out_is_on_2 : tie.Need-element-copy-out-is-on-2
+element_copy_out_is_on_2 c = search rules
 
-is-on-requires-2 : tie.Need-is-on-requires-2
-is-on-requires-2 c κs = search rules
+is_on_requires_2 : tie.Need-is-on-requires-2
+is_on_requires_2 c κs = search rules
 
-returns-4 : tie.Need-returns-4
-returns-4 c = let a = (begun c.before.before.before.before).args in rw (lt-ltb a.p 14 (omega arith), lt-ltb a.q 14 (omega arith), c.before.before.if4.true) c.is-on2.ensures
+returns_4 : tie.Need-returns-4
+returns_4 c = let a = (begun c.before.before.before.before).args in rw (lt-ltb a.p 14 (omega arith), lt-ltb a.q 14 (omega arith), c.before.before.if4.true) c.is-on2.ensures
 
-returns-5 : tie.Need-returns-5
-returns-5 c = let a = (begun c.before.before).args in rw (lt-ltb a.p 14 (omega arith), lt-ltb a.q 14 (omega arith), le-ltb a.kind 2 (omega arith)) refl
+returns_5 : tie.Need-returns-5
+returns_5 c = let a = (begun c.before.before).args in rw (lt-ltb a.p 14 (omega arith), lt-ltb a.q 14 (omega arith), le-ltb a.kind 2 (omega arith)) refl
 
-pub has-fact-spec : {M : Type 1} → statement M
-has-fact-spec =
+pub has_fact_spec : {M : Type 1} → statement M
+has_fact_spec =
     tie.close
     (tie.spec
     returns
-    returns-2
-    mul-is-on
-    element-copy-out-is-on
-    is-on-requires
-    returns-3
-    add-is-on
-    mul-is-on-2
-    element-copy-out-is-on-2
-    is-on-requires-2
-    returns-4
-    returns-5)
+    returns_2
+    mul_is_on
+    element_copy_out_is_on
+    is_on_requires
+    returns_3
+    add_is_on
+    mul_is_on_2
+    element_copy_out_is_on_2
+    is_on_requires_2
+    returns_4
+    returns_5)

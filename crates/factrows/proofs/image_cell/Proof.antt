@@ -12,18 +12,18 @@ returns c = let a = c.before.args in rw (le-ltb a.p 12 (omega arith)) refl
 add_wide : tie.Need-overflow-add-wide
 add_wide c = search rules
 
-element-copy-out-wide : tie.Need-element-copy-out-wide
-element-copy-out-wide c = search rules
+element_copy_out_wide : tie.Need-element-copy-out-wide
+element_copy_out_wide c = search rules
 
-wide-requires : tie.Need-wide-requires
-wide-requires c κs = search rules
+wide_requires : tie.Need-wide-requires
+wide_requires c κs = search rules
 
-returns-2 : tie.Need-returns-2
-returns-2 c = let a = c.before.before.before.before.args in rw (lt-ltb a.p 12 (omega arith), ← c.before.wide.ensures.0, lt-ltb c.before.wide.result 3 (omega arith)) refl
+returns_2 : tie.Need-returns-2
+returns_2 c = let a = c.before.before.before.before.args in rw (lt-ltb a.p 12 (omega arith), ← c.before.wide.ensures.0, lt-ltb c.before.wide.result 3 (omega arith)) refl
 
-returns-3 : tie.Need-returns-3
-returns-3 c = let a = c.before.before.before.before.args in rw (lt-ltb a.p 12 (omega arith), ← c.before.wide.ensures.0, le-ltb c.before.wide.result 3 (omega arith)) refl
+returns_3 : tie.Need-returns-3
+returns_3 c = let a = c.before.before.before.before.args in rw (lt-ltb a.p 12 (omega arith), ← c.before.wide.ensures.0, le-ltb c.before.wide.result 3 (omega arith)) refl
 
-pub image-cell-spec : {M : Type 1} → statement M
-image-cell-spec =
-    tie.close (tie.spec returns add_wide element-copy-out-wide wide-requires returns-2 returns-3)
+pub image_cell_spec : {M : Type 1} → statement M
+image_cell_spec =
+    tie.close (tie.spec returns add_wide element_copy_out_wide wide_requires returns_2 returns_3)

@@ -4,65 +4,65 @@ use Prim.Native.Nat.{◌-◌, ◌≤◌}
 use native.Mathlib.Omega.{arith}
 use mathlib.Core.Bool.{not}
 use Rattle.lists.specs.Test.{all_from}
-use Rattle.lists.proofs.Test.{all-passed, all-failed, all_done}
-use Rattle.factrows.specs.Rows.{loose_at, isConsistent}
+use Rattle.lists.proofs.Test.{all_passed, all_failed, all_done}
+use Rattle.factrows.specs.Rows.{loose_at, is_consistent}
 use borrow.Author.Rules.{rules}
 use Rattle.factrows.proofs.is_consistent.Statement.{statement}
 use Rattle.factrows.proofs.is_consistent.Tie as tie
 
-abbrev invariant-loop : tie.invariant-loop
-invariant-loop rows p₀ p = (p ≤ 14) × (isConsistent rows ≡ all_from (14 - p) p (loose_at rows))
+abbrev invariant_loop : tie.invariant-loop
+invariant_loop rows p₀ p = (p ≤ 14) × (is_consistent rows ≡ all_from (14 - p) p (loose_at rows))
 
-abbrev decreases-loop : tie.decreases-loop
-decreases-loop rows p₀ p = 14 - p
+abbrev decreases_loop : tie.decreases-loop
+decreases_loop rows p₀ p = 14 - p
 
 -- the beginning, in the loop's turn
-abbrev begun : tie.In-loop invariant-loop decreases-loop → tie.Start invariant-loop decreases-loop
+abbrev begun : tie.In-loop invariant_loop decreases_loop → tie.Start invariant_loop decreases_loop
 begun c = c.before.before
 
-loop-holds : tie.Need-loop-init invariant-loop decreases-loop
-loop-holds c = (omega arith, refl)
+loop_holds : tie.Need-loop-init invariant_loop decreases_loop
+loop_holds c = (omega arith, refl)
 
-mul-is-on : tie.Need-overflow-mul-is-on invariant-loop decreases-loop
-mul-is-on c = search rules
+mul_is_on : tie.Need-overflow-mul-is-on invariant_loop decreases_loop
+mul_is_on c = search rules
 
-element-copy-out-is-on : tie.Need-element-copy-out-is-on invariant-loop decreases-loop
-element-copy-out-is-on c = search rules
+element_copy_out_is_on : tie.Need-element-copy-out-is-on invariant_loop decreases_loop
+element_copy_out_is_on c = search rules
 
-is-on-requires : tie.Need-is-on-requires invariant-loop decreases-loop
-is-on-requires c κs = search rules
+is_on_requires : tie.Need-is-on-requires invariant_loop decreases_loop
+is_on_requires c κs = search rules
 
-returns : tie.Need-returns invariant-loop decreases-loop
+returns : tie.Need-returns invariant_loop decreases_loop
 returns c =
     let at = c.before.before.before.before.loop in
-    sym (at.invariant.1 ∙ all-failed (loose_at (begun c.before.before.before).args.rows.now) 14 at.p (omega arith) (ap not (sym c.before.is-on.ensures ∙ c.if1.true)))
+    sym (at.invariant.1 ∙ all_failed (loose_at (begun c.before.before.before).args.rows.now) 14 at.p (omega arith) (ap not (sym c.before.is-on.ensures ∙ c.if1.true)))
 
-add-p : tie.Need-overflow-add-p invariant-loop decreases-loop
-add-p c = search rules
+add_p : tie.Need-overflow-add-p invariant_loop decreases_loop
+add_p c = search rules
 
-loop-less : tie.Need-loop-smaller invariant-loop decreases-loop
-loop-less c = search rules
+loop_less : tie.Need-loop-smaller invariant_loop decreases_loop
+loop_less c = search rules
 
-loop-again : tie.Need-loop-preserved invariant-loop decreases-loop
-loop-again c =
+loop_again : tie.Need-loop-preserved invariant_loop decreases_loop
+loop_again c =
     let at = c.before.before.before.before.loop in
-    (omega arith, at.invariant.1 ∙ all-passed (loose_at (begun c.before.before.before).args.rows.now) 14 at.p (omega arith) (ap not (sym c.before.is-on.ensures ∙ c.if1.false)))
+    (omega arith, at.invariant.1 ∙ all_passed (loose_at (begun c.before.before.before).args.rows.now) 14 at.p (omega arith) (ap not (sym c.before.is-on.ensures ∙ c.if1.false)))
 
-returns-2 : tie.Need-returns-2 invariant-loop decreases-loop
-returns-2 c = let at = c.before.loop in sym (at.invariant.1 ∙ all_done (loose_at c.before.before.args.rows.now) 14 at.p (omega arith))
+returns_2 : tie.Need-returns-2 invariant_loop decreases_loop
+returns_2 c = let at = c.before.loop in sym (at.invariant.1 ∙ all_done (loose_at c.before.before.args.rows.now) 14 at.p (omega arith))
 
-pub is-consistent-spec : {M : Type 1} → statement M
-is-consistent-spec =
+pub is_consistent_spec : {M : Type 1} → statement M
+is_consistent_spec =
     tie.close
     (tie.spec
-    invariant-loop
-    decreases-loop
-    loop-holds
-    mul-is-on
-    element-copy-out-is-on
-    is-on-requires
+    invariant_loop
+    decreases_loop
+    loop_holds
+    mul_is_on
+    element_copy_out_is_on
+    is_on_requires
     returns
-    add-p
-    loop-less
-    loop-again
-    returns-2)
+    add_p
+    loop_less
+    loop_again
+    returns_2)

@@ -5,15 +5,15 @@ use borrow.Author.Rules.{rules}
 use Rattle.factrows.proofs.is_on.Statement.{statement}
 use Rattle.factrows.proofs.is_on.Tie as tie
 
-cast-result : tie.Need-overflow-cast-result
-cast-result c = search rules
+cast_result : tie.Need-overflow-cast-result
+cast_result c = search rules
 
-shr-result : tie.Need-overflow-shr-result
-shr-result c = search rules
+shr_result : tie.Need-overflow-shr-result
+shr_result c = search rules
 
 returns : tie.Need-returns
 unfolding digit
 returns c = refl
 
-pub is-on-spec : {M : Type 1} → statement M
-is-on-spec = tie.close (tie.spec cast-result shr-result returns)
+pub is_on_spec : {M : Type 1} → statement M
+is_on_spec = tie.close (tie.spec cast_result shr_result returns)

@@ -1,27 +1,27 @@
 -- The rows of below of the two.
 use mathlib.Core.Path.{refl}
-use Rattle.factrows.specs.Rows.{overOf}
+use Rattle.factrows.specs.Rows.{over_of}
 use borrow.Author.Rules.{rules}
 use Rattle.factrows.proofs.over_of.Statement.{statement}
 use Rattle.factrows.proofs.over_of.Tie as tie
 
-mul-result : tie.Need-overflow-mul-result
-mul-result c = search rules
+mul_result : tie.Need-overflow-mul-result
+mul_result c = search rules
 
-element-copy-out-result : tie.Need-element-copy-out-result
-element-copy-out-result c = search rules
+element_copy_out_result : tie.Need-element-copy-out-result
+element_copy_out_result c = search rules
 
-mul-result-2 : tie.Need-overflow-mul-result-2
-mul-result-2 c = search rules
+mul_result_2 : tie.Need-overflow-mul-result-2
+mul_result_2 c = search rules
 
-element-copy-out-result-2 : tie.Need-element-copy-out-result-2
-element-copy-out-result-2 c = search rules
+element_copy_out_result_2 : tie.Need-element-copy-out-result-2
+element_copy_out_result_2 c = search rules
 
 returns : tie.Need-returns
-unfolding overOf
+unfolding over_of
 returns c = refl
 
-pub over-of-spec : {M : Type 1} → statement M
-over-of-spec =
+pub over_of_spec : {M : Type 1} → statement M
+over_of_spec =
     tie.close
-    (tie.spec mul-result element-copy-out-result mul-result-2 element-copy-out-result-2 returns)
+    (tie.spec mul_result element_copy_out_result mul_result_2 element_copy_out_result_2 returns)

@@ -13,28 +13,28 @@ begun c = c.before.before.before
 returns : tie.Need-returns
 returns c = let a = c.before.args in rw (le-ltb a.c 14 (omega arith)) refl
 
-shrink-rows-requires : tie.Need-shrink-rows-requires
-shrink-rows-requires c κs = search rules
+shrink_rows_requires : tie.Need-shrink-rows-requires
+shrink_rows_requires c κs = search rules
 
-move-rows-requires : tie.Need-move-rows-requires
-move-rows-requires c κs = search rules
+move_rows_requires : tie.Need-move-rows-requires
+move_rows_requires c κs = search rules
 
-add-move-rows : tie.Need-overflow-add-move-rows
-add-move-rows c = search rules
+add_move_rows : tie.Need-overflow-add-move-rows
+add_move_rows c = search rules
 
-move-rows-requires-2 : tie.Need-move-rows-requires-2
-move-rows-requires-2 c κs = search rules
+move_rows_requires_2 : tie.Need-move-rows-requires-2
+move_rows_requires_2 c κs = search rules
 
-returns-2 : tie.Need-returns-2
-returns-2 c = let a = (begun c.before.before.before.before).args in rw (lt-ltb a.c 14 (omega arith), ← c.before.before.before.before.shrink-rows.ensures, ← c.before.before.move-rows.ensures) c.move-rows2.ensures
+returns_2 : tie.Need-returns-2
+returns_2 c = let a = (begun c.before.before.before.before).args in rw (lt-ltb a.c 14 (omega arith), ← c.before.before.before.before.shrink-rows.ensures, ← c.before.before.move-rows.ensures) c.move-rows2.ensures
 
-pub remove-cell-spec : {M : Type 1} → statement M
-remove-cell-spec =
+pub remove_cell_spec : {M : Type 1} → statement M
+remove_cell_spec =
     tie.close
     (tie.spec
     returns
-    shrink-rows-requires
-    move-rows-requires
-    add-move-rows
-    move-rows-requires-2
-    returns-2)
+    shrink_rows_requires
+    move_rows_requires
+    add_move_rows
+    move_rows_requires_2
+    returns_2)

@@ -7,24 +7,24 @@ use borrow.Author.Rules.{rules}
 use Rattle.forbidding.proofs.count_place.Statement.{statement}
 use Rattle.forbidding.proofs.count_place.Tie as tie
 
-mul-result : tie.Need-overflow-mul-result
-mul-result c = search rules
+mul_result : tie.Need-overflow-mul-result
+mul_result c = search rules
 
-add-result : tie.Need-overflow-add-result
-add-result c = search rules
+add_result : tie.Need-overflow-add-result
+add_result c = search rules
 
 returns : tie.Need-returns
 returns c = omega (arith, ap length (one c.before.args.transitions c.if1.true))
 
-mul-result-2 : tie.Need-overflow-mul-result-2
-mul-result-2 c = search rules
+mul_result_2 : tie.Need-overflow-mul-result-2
+mul_result_2 c = search rules
 
-add-result-2 : tie.Need-overflow-add-result-2
-add-result-2 c = search rules
+add_result_2 : tie.Need-overflow-add-result-2
+add_result_2 c = search rules
 
-returns-2 : tie.Need-returns-2
-returns-2 c = omega (arith, ap length (two c.before.args.transitions c.if1.false (omega arith)))
+returns_2 : tie.Need-returns-2
+returns_2 c = omega (arith, ap length (two c.before.args.transitions c.if1.false (omega arith)))
 
-pub count-place-spec : {M : Type 1} → statement M
-count-place-spec =
-    tie.close (tie.spec mul-result add-result returns mul-result-2 add-result-2 returns-2)
+pub count_place_spec : {M : Type 1} → statement M
+count_place_spec =
+    tie.close (tie.spec mul_result add_result returns mul_result_2 add_result_2 returns_2)

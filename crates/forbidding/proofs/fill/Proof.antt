@@ -4,8 +4,8 @@ use native.Mathlib.Omega.{arith}
 use lib.ListN.{length-set}
 use Rattle.number.specs.Range.{AtMost}
 use Rattle.putting.specs.Put.{Put}
-use Rattle.forbidding.proofs.Answers.{count-inside, put-job}
-use Rattle.number.proofs.RoundTrip.{bytes-at-most}
+use Rattle.forbidding.proofs.Answers.{count_inside, put_job}
+use Rattle.number.proofs.RoundTrip.{bytes_at_most}
 use borrow.Author.Rules.{rules}
 use Rattle.forbidding.proofs.fill.Statement.{statement}
 use Rattle.forbidding.proofs.fill.Tie as tie
@@ -22,7 +22,7 @@ copied c = c.before.before.before
 
 -- the job's bytes are bytes
 bytes : (c : tie.After-put-all) → AtMost 255 (begun c).args.job.now
-bytes c = bytes-at-most (begun c).args.job.now (λ i. omega (arith, c.before.before.before.shared-slice-known.given i))
+bytes c = bytes_at_most (begun c).args.job.now (λ i. omega (arith, c.before.before.before.shared-slice-known.given i))
 
 -- the copy
 copy : (c : tie.After-put-all) → Put 0 (begun c).args.bytes.now (begun c).args.job.now c.put_all_lem.result c.put_all_lem.new.0
@@ -30,30 +30,30 @@ copy c = c.put_all_lem.ensures.room (omega (arith, (begun c).requires.3))
 
 -- ---- what is to be shown
 
-put-all-requires : tie.Need-put-all-requires
-put-all-requires c κs = search rules
+put_all_requires : tie.Need-put-all-requires
+put_all_requires c κs = search rules
 
-cast-bytes : tie.Need-overflow-cast-bytes
-cast-bytes c = search rules
+cast_bytes : tie.Need-overflow-cast-bytes
+cast_bytes c = search rules
 
-count-place-requires : tie.Need-count-place-requires
-count-place-requires c κs = search rules
+count_place_requires : tie.Need-count-place-requires
+count_place_requires c κs = search rules
 
-slice-write-bytes : tie.Need-slice-write-bytes
-slice-write-bytes c =
+slice_write_bytes : tie.Need-slice-write-bytes
+slice_write_bytes c =
     let o = copied c in
     let s = begun o in
     let p = copy o in
-    omega (arith, count-inside s.args.job.now s.args.h s.pre.0 (bytes o), c.count-place.ensures, p.same, p.inside, p.next-is)
+    omega (arith, count_inside s.args.job.now s.args.h s.pre.0 (bytes o), c.count-place.ensures, p.same, p.inside, p.next_is)
 
-put-set-requires : tie.Need-put-set-requires
-put-set-requires c κs =
+put_set_requires : tie.Need-put-set-requires
+put_set_requires c κs =
     let o = copied c.before in
     let s = begun o in
     let p = copy o in (
       s.pre.0,
       s.pre.1,
-      omega (arith, length-set o.put_all_lem.last.0 c.before.count-place.result s.args.count, p.same, p.next-is, s.pre.3),
+      omega (arith, length-set o.put_all_lem.last.0 c.before.count-place.result s.args.count, p.same, p.next_is, s.pre.3),
     )
 
 same_length : tie.Need-same-length
@@ -67,16 +67,16 @@ returns c =
     let p = c.before.before.before.before in
     let o = copied p in
     let s = begun o in
-    put-job s.args.job.now s.args.h s.pre.0 p.count-place.result s.args.count _ (bytes o) p.count-place.ensures (copy o) c.before.before.put-set.ensures
+    put_job s.args.job.now s.args.h s.pre.0 p.count-place.result s.args.count _ (bytes o) p.count-place.ensures (copy o) c.before.before.put-set.ensures
 
 pub fill_spec : {M : Type 1} → statement M
 fill_spec =
     tie.close
     (tie.spec
-    put-all-requires
-    cast-bytes
-    count-place-requires
-    slice-write-bytes
-    put-set-requires
+    put_all_requires
+    cast_bytes
+    count_place_requires
+    slice_write_bytes
+    put_set_requires
     same_length
     returns)

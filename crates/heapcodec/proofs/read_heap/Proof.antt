@@ -6,9 +6,9 @@ use Prim.Native.Nat.{ℕ}
 use native.Mathlib.Omega.{arith}
 use borrow.Author.Tests.{not-true, not-false}
 use lib.ListN.{length, get_or}
-use Rattle.heapbytes.specs.HeapBytes.{bytesReadable, heapFrom}
+use Rattle.heapbytes.specs.HeapBytes.{bytes_readable, heap_from}
 use Rattle.heapbytes.proofs.RoundTrip.{codes_same}
-use Rattle.heapcodec.proofs.Codec.{readable-length, no-heap-read, heap-read}
+use Rattle.heapcodec.proofs.Codec.{readable_length, no_heap_read, heap_read}
 use borrow.Author.Rules.{rules}
 use Rattle.heapcodec.proofs.read_heap.Statement.{statement}
 use Rattle.heapcodec.proofs.read_heap.Tie as tie
@@ -27,38 +27,38 @@ module _ (c : tie.Else1) where
   abbrev bytes : List ℕ
   bytes = start.args.bytes.now
 
-  reads-well : bytesReadable bytes ≡ true
-  reads-well = sym c.before.is-readable.ensures ∙ not-false c.before.is-readable.result c.if1.false
+  reads_well : bytes_readable bytes ≡ true
+  reads_well = sym c.before.is-readable.ensures ∙ not-false c.before.is-readable.result c.if1.false
 
   size : length bytes ≡ 137
-  size = readable-length bytes reads-well
+  size = readable_length bytes reads_well
 
 -- ---- what is to be shown
 
-is-readable-requires : tie.Need-is-readable-requires
-is-readable-requires c κs = search rules
+is_readable_requires : tie.Need-is-readable-requires
+is_readable_requires c κs = search rules
 
 returns : tie.Need-returns
 returns c =
     let o = c.before.is-readable in
     let a = (begun c.before).args in
-    sym (no-heap-read a.bytes.now a.values (sym o.ensures ∙ not-true o.result c.if1.true))
+    sym (no_heap_read a.bytes.now a.values (sym o.ensures ∙ not-true o.result c.if1.true))
 
-shared-slice-read-t12 : tie.Need-shared-slice-read-t12
-shared-slice-read-t12 c = omega (arith, size c.before)
+shared_slice_read_t12 : tie.Need-shared-slice-read-t12
+shared_slice_read_t12 c = omega (arith, size c.before)
 
-slots-from-requires : tie.Need-slots-from-requires
-slots-from-requires c κs = size c.before
+slots_from_requires : tie.Need-slots-from-requires
+slots_from_requires c κs = size c.before
 
-marks-from-requires : tie.Need-marks-from-requires
-marks-from-requires c κs = size c.before.before
+marks_from_requires : tie.Need-marks-from-requires
+marks_from_requires c κs = size c.before.before
 
-links-from-requires : tie.Need-links-from-requires
-links-from-requires c κs = size c.before.before.before
+links_from_requires : tie.Need-links-from-requires
+links_from_requires c κs = size c.before.before.before
 
-returns-2 : tie.Need-returns-2
-unfolding heapFrom
-returns-2 c =
+returns_2 : tie.Need-returns-2
+unfolding heap_from
+returns_2 c =
     let well = c.before.before.before.before in
     let values = (start well).args.values in
     let count : length values ≡ 64 = search rules in
@@ -73,16 +73,16 @@ returns-2 c =
             values = sym (codes_same values count) k;
           };
     })
-    ∙ sym (heap-read (bytes well) values (reads-well well))
+    ∙ sym (heap_read (bytes well) values (reads_well well))
 
-pub read-heap-spec : {M : Type 1} → statement M
-read-heap-spec =
+pub read_heap_spec : {M : Type 1} → statement M
+read_heap_spec =
     tie.close
     (tie.spec
-    is-readable-requires
+    is_readable_requires
     returns
-    shared-slice-read-t12
-    slots-from-requires
-    marks-from-requires
-    links-from-requires
-    returns-2)
+    shared_slice_read_t12
+    slots_from_requires
+    marks_from_requires
+    links_from_requires
+    returns_2)

@@ -3,53 +3,53 @@ use Prim.Native.Nat.{◌+◌, ◌-◌}
 use mathlib.Core.Path.{refl}
 use native.Mathlib.Omega.{arith}
 use lib.ListN.{get_or}
-use Rattle.lists.proofs.Range.{Filled, fill_none, fill_more, fill-all}
+use Rattle.lists.proofs.Range.{Filled, fill_none, fill_more, fill_all}
 use Rattle.place.specs.Place.{place_of}
 use borrow.Author.Rules.{rules}
 use Rattle.heapcodec.proofs.slots_from.Statement.{statement}
 use Rattle.heapcodec.proofs.slots_from.Tie as tie
 
-abbrev invariant-loop : tie.invariant-loop
-invariant-loop bytes vars₀ i₀ vars i = Filled (λ i. place_of (get_or bytes (1 + i) 0)) (place_of 0) 8 vars i
+abbrev invariant_loop : tie.invariant-loop
+invariant_loop bytes vars₀ i₀ vars i = Filled (λ i. place_of (get_or bytes (1 + i) 0)) (place_of 0) 8 vars i
 
-abbrev decreases-loop : tie.decreases-loop
-decreases-loop bytes vars₀ i₀ vars i = 8 - i
+abbrev decreases_loop : tie.decreases-loop
+decreases_loop bytes vars₀ i₀ vars i = 8 - i
 
-loop-holds : tie.Need-loop-init invariant-loop decreases-loop
-loop-holds c = fill_none _ _ _ _ refl
+loop_holds : tie.Need-loop-init invariant_loop decreases_loop
+loop_holds c = fill_none _ _ _ _ refl
 
-add-t6 : tie.Need-overflow-add-t6 invariant-loop decreases-loop
-add-t6 c = search rules
+add_t6 : tie.Need-overflow-add-t6 invariant_loop decreases_loop
+add_t6 c = search rules
 
-shared-slice-read-t8 : tie.Need-shared-slice-read-t8 invariant-loop decreases-loop
-shared-slice-read-t8 c = search rules
+shared_slice_read_t8 : tie.Need-shared-slice-read-t8 invariant_loop decreases_loop
+shared_slice_read_t8 c = search rules
 
-array-set-from-vars : tie.Need-array-set-from-vars invariant-loop decreases-loop
-array-set-from-vars c = search rules
+array_set_from_vars : tie.Need-array-set-from-vars invariant_loop decreases_loop
+array_set_from_vars c = search rules
 
-add-i : tie.Need-overflow-add-i invariant-loop decreases-loop
-add-i c = search rules
+add_i : tie.Need-overflow-add-i invariant_loop decreases_loop
+add_i c = search rules
 
-loop-less : tie.Need-loop-smaller invariant-loop decreases-loop
-loop-less c = search rules
+loop_less : tie.Need-loop-smaller invariant_loop decreases_loop
+loop_less c = search rules
 
-loop-again : tie.Need-loop-preserved invariant-loop decreases-loop
-loop-again c = fill_more _ _ _ _ _ _ c.before.before.loop.invariant (omega arith) refl
+loop_again : tie.Need-loop-preserved invariant_loop decreases_loop
+loop_again c = fill_more _ _ _ _ _ _ c.before.before.loop.invariant (omega arith) refl
 
-returns : tie.Need-returns invariant-loop decreases-loop
-returns c = fill-all _ _ _ _ _ c.before.loop.invariant (omega arith)
+returns : tie.Need-returns invariant_loop decreases_loop
+returns c = fill_all _ _ _ _ _ c.before.loop.invariant (omega arith)
 
-pub slots-from-spec : {M : Type 1} → statement M
-slots-from-spec =
+pub slots_from_spec : {M : Type 1} → statement M
+slots_from_spec =
     tie.close
     (tie.spec
-    invariant-loop
-    decreases-loop
-    loop-holds
-    add-t6
-    shared-slice-read-t8
-    array-set-from-vars
-    add-i
-    loop-less
-    loop-again
+    invariant_loop
+    decreases_loop
+    loop_holds
+    add_t6
+    shared_slice_read_t8
+    array_set_from_vars
+    add_i
+    loop_less
+    loop_again
     returns)

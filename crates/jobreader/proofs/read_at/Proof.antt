@@ -39,11 +39,11 @@ use denote.Triple.Table.{entered, cited}
 use denote.Triple.Walked.{says, Stays, stay_none_slice, walk_of, Goes-none_slice, Walks, ends_at, walked, walk_Meets, stay_none, Goes-none}
 use denote.Exit.{yes}
 use denote.Triple.Clauses.{ensured}
-use Rattle.format.specs.Parser.{jobBuffer, ranged}
-use Rattle.jobreader.specs.Reader.{lastReadOf, lastReadAfter, lastReadIn}
+use Rattle.format.specs.Parser.{job_buffer, ranged}
+use Rattle.jobreader.specs.Reader.{last_read_of, last_read_after, last_read_in}
 use Rattle.jobreader.specs.declared.LastRead.{LastRead}
 use Rattle.jobreader.specs.declared.Reader.{Reader}
-use Rattle.jobreader.proofs.Readers.{B, New, Next, OwnSlice, to-new, goes-new, NewSaid, new-said, to-next, goes-next, NextSaid, next-said, Fits, fits}
+use Rattle.jobreader.proofs.Readers.{B, New, Next, OwnSlice, to_new, goes_new, NewSaid, new_said, to_next, goes_next, NextSaid, next_said, Fits, fits}
 use Rattle.jobreader.specs.contracts.Reader as T
 use Rattle.jobreader.proofs.Reader.TheLaws as T'
 use Rattle.jobreader.specs.contracts.LastRead as S
@@ -92,10 +92,10 @@ module _ {M : Type 1} {𝓤 : Ura M} (𝓛 : Logic 𝓤) (mem : Memory → SProp
   made r = record { at = r.at; number = r.number; refusal = r.refusal }
 
   -- what the two calls say together
-  told : (r₀ : Reader) (u₀ : Val) (r₁ : Reader) → NewSaid 𝓛 mem run κ q s n r₀ → NextSaid 𝓛 mem run κ q r₀ u₀ low limit r₁ → made r₁ ≡ lastReadOf (ranged (jobBuffer s.now) low limit n)
-  told r₀ u₀ r₁ (src-is, at-is, _, none) (_, e) = e ∙ ap (λ (x : Bor (List ℕ)). lastReadAfter (lastReadIn r₀) (ranged (jobBuffer x.now) low limit)) src-is ∙ rw (at-is, none) refl
+  told : (r₀ : Reader) (u₀ : Val) (r₁ : Reader) → NewSaid 𝓛 mem run κ q s n r₀ → NextSaid 𝓛 mem run κ q r₀ u₀ low limit r₁ → made r₁ ≡ last_read_of (ranged (job_buffer s.now) low limit n)
+  told r₀ u₀ r₁ (src-is, at_is, _, none) (_, e) = e ∙ ap (λ (x : Bor (List ℕ)). last_read_after (last_read_in r₀) (ranged (job_buffer x.now) low limit)) src-is ∙ rw (at_is, none) refl
 
-  exits : (r : Reader) → made r ≡ lastReadOf (ranged (jobBuffer s.now) low limit n) → Fits 𝓛 mem run κ q r → ent 𝓤 (⋆ 𝓛 ((‵ (flft κ q) ⊛ ‵ ftrue) ∷ ‵ (OwnSlice 𝓛 mem run κ q s n) ∷ [])) (Post (S'.lowered (made r)))
+  exits : (r : Reader) → made r ≡ last_read_of (ranged (job_buffer s.now) low limit n) → Fits 𝓛 mem run κ q r → ent 𝓤 (⋆ 𝓛 ((‵ (flft κ q) ⊛ ‵ ftrue) ∷ ‵ (OwnSlice 𝓛 mem run κ q s n) ∷ [])) (Post (S'.lowered (made r)))
   exits r e ok =
       qed 𝓛 ((‵ (flft κ q) ⊛ ‵ ftrue) ∷ ‵ (OwnSlice 𝓛 mem run κ q s n) ∷ []) ∵
       suffices ! _ (ends_at 𝓛 read_at.ended stayed (read_at.clauses 𝓛 mem run) (((κ, tt), (q, tt), tt, a, at), tt) (S'.lowered (made r)) (made r) (tt, (tt, (tt, (tt, tt)))) (tt, (tt, (tt, (tt, tt))))) $ says ! e $
@@ -111,16 +111,16 @@ module _ {M : Type 1} {𝓤 : Ura M} (𝓛 : Logic 𝓤) (mem : Memory → SProp
         alloc1 ! (λ l₀. alloc1 ! (λ l₁. alloc1 ! (λ l₂. alloc1 ! (λ l₃. alloc1 ! (λ l₄. alloc1 ! (λ l₅. alloc1 ! (λ l₆. alloc1 ! (λ l₇. alloc1 ! (λ l₈. alloc1 ! (λ l₉. alloc0 ! $ params1 ! $
         pass1 ! (init ! 16 refl ((shr_slice_Lawful 𝓛 (named 0) κ u8).typed s (v ∷ []) p).0) $ pass1 ! (init ! 14 refl (tt, record { fits = n-ok })) $ pass1 ! (init ! 12 refl (tt, record { fits = low_ok })) $ pass1 ! (init ! 10 refl (tt, record { fits = limit-ok })) $ pass0 ! $
         -- the slice is kept, and the numbers' facts are let go
-        move ! (21 ∷ []) $ fsplit ! $ move ! (1 ∷ []) $ drop ! $ move ! (0 ∷ 21 ∷ []) $ use2 𝓛 (raw ((New 𝓛 mem run).pre (to-new 𝓛 mem run κ q s n)) ⊛ ‵ (OwnSlice 𝓛 mem run κ q s n)) (goes-new 𝓛 mem run κ q s n n-ok) $ split ! $
-        calls_at ! fm (New 𝓛 mem run) known-new (to-new 𝓛 mem run κ q s n) (and_then ! (load ! (from ! (stop !)) (look ! 18 refl)) (and_then ! (load ! (from ! (stop !)) (look ! 16 refl)) (no_more !))) (λ u₀.
+        move ! (21 ∷ []) $ fsplit ! $ move ! (1 ∷ []) $ drop ! $ move ! (0 ∷ 21 ∷ []) $ use2 𝓛 (raw ((New 𝓛 mem run).pre (to_new 𝓛 mem run κ q s n)) ⊛ ‵ (OwnSlice 𝓛 mem run κ q s n)) (goes_new 𝓛 mem run κ q s n n-ok) $ split ! $
+        calls_at ! fm (New 𝓛 mem run) known-new (to_new 𝓛 mem run κ q s n) (and_then ! (load ! (from ! (stop !)) (look ! 18 refl)) (and_then ! (load ! (from ! (stop !)) (look ! 16 refl)) (no_more !))) (λ u₀.
         use1 𝓛 (later (some (λ (r : Reader). ((‵ (flft κ q) ⊛ ‵ ftrue) ⊛ ‵ ((B (κ, tt)).own_val r (u₀ ∷ []))) ⊛ raw (ensured 𝓛 new.ended (new.clauses 𝓛 mem run) (κ, tt) (s, (n, tt)) tt r)))) (id⊢ 𝓤 _) $ await ! tt $ pick ! (λ r₀.
-        split ! $ move ! (1 ∷ []) $ use1 𝓛 (raw (fact 𝓤 (NewSaid 𝓛 mem run κ q s n r₀))) (new-said 𝓛 mem run κ q s n r₀) $ heard ! (NewSaid 𝓛 mem run κ q s n r₀) (λ e₀. split ! $ move ! (1 ∷ []) $
+        split ! $ move ! (1 ∷ []) $ use1 𝓛 (raw (fact 𝓤 (NewSaid 𝓛 mem run κ q s n r₀))) (new_said 𝓛 mem run κ q s n r₀) $ heard ! (NewSaid 𝓛 mem run κ q s n r₀) (λ e₀. split ! $ move ! (1 ∷ []) $
         peeks ! (B (κ, tt)) (Is (B (κ, tt))) (shows 𝓛 (B (κ, tt))) r₀ (u₀ ∷ []) (λ is₀.
         land ! (from ! (stop !)) (init ! 9 refl ((LL.lawful (T.the_type αᵉ) (T'.the_laws αᵉ) 𝓛).typed r₀ _ is₀).0) $
-        use2 𝓛 (raw ((Next 𝓛 mem run).pre (to-next 𝓛 mem run κ q r₀ u₀ low limit))) (goes-next 𝓛 mem run κ q r₀ u₀ low limit low_ok limit-ok) $
-        calls_at ! fm (Next 𝓛 mem run) known_next (to-next 𝓛 mem run κ q r₀ u₀ low limit) (and_then ! (load ! (from ! (stop !)) (look ! 8 refl)) (and_then ! (load ! (from ! (stop !)) (look ! 14 refl)) (and_then ! (load ! (from ! (stop !)) (look ! 12 refl)) (no_more !)))) (λ u₁.
+        use2 𝓛 (raw ((Next 𝓛 mem run).pre (to_next 𝓛 mem run κ q r₀ u₀ low limit))) (goes_next 𝓛 mem run κ q r₀ u₀ low limit low_ok limit-ok) $
+        calls_at ! fm (Next 𝓛 mem run) known_next (to_next 𝓛 mem run κ q r₀ u₀ low limit) (and_then ! (load ! (from ! (stop !)) (look ! 8 refl)) (and_then ! (load ! (from ! (stop !)) (look ! 14 refl)) (and_then ! (load ! (from ! (stop !)) (look ! 12 refl)) (no_more !)))) (λ u₁.
         use1 𝓛 (later (some (λ (t : Reader). ((‵ (flft κ q) ⊛ ‵ ftrue) ⊛ ‵ ((B (κ, tt)).own_val t (u₁ ∷ []))) ⊛ raw (ensured 𝓛 next.ended (next.clauses 𝓛 mem run) (κ, tt) (r₀, (low, (limit, tt))) tt t)))) (id⊢ 𝓤 _) $ await ! tt $ pick ! (λ r₁.
-        split ! $ move ! (1 ∷ []) $ use1 𝓛 (raw (fact 𝓤 (NextSaid 𝓛 mem run κ q r₀ u₀ low limit r₁))) (next-said 𝓛 mem run κ q r₀ u₀ low limit r₁) $ heard ! (NextSaid 𝓛 mem run κ q r₀ u₀ low limit r₁) (λ e₁. split ! $ move ! (1 ∷ []) $
+        split ! $ move ! (1 ∷ []) $ use1 𝓛 (raw (fact 𝓤 (NextSaid 𝓛 mem run κ q r₀ u₀ low limit r₁))) (next_said 𝓛 mem run κ q r₀ u₀ low limit r₁) $ heard ! (NextSaid 𝓛 mem run κ q r₀ u₀ low limit r₁) (λ e₁. split ! $ move ! (1 ∷ []) $
         peeks ! (B (κ, tt)) (Is (B (κ, tt))) (shows 𝓛 (B (κ, tt))) r₁ (u₁ ∷ []) (λ is₁.
         land ! (from ! (stop !)) (init ! 11 refl ((LL.lawful (T.the_type αᵉ) (T'.the_laws αᵉ) 𝓛).typed r₁ _ is₁).0) $
         rewrite ! 11 (λ (x : Val). ‵ (fat full_share (T'.mir erased) l₅ 0 x)) (ap only ((T'.lowers (named_lft 1 0 tt (κ, tt))).val_is r₁ _ is₁)) refl $
@@ -134,22 +134,22 @@ module _ {M : Type 1} {𝓤 : Ura M} (𝓛 : Logic 𝓤) (mem : Memory → SProp
 module _ {M : Type 1} {𝓤 : Ura M} (𝓛 : Logic 𝓤) (mem : Memory → SProp 𝓤) (run : Routine → Fun 𝓤) where
   open 𝓛 use {H}
 
-  read-at-walks : (C : Calls 𝓤 H) (Λ : Loops 𝓤 H) → FmC 𝓤 H 𝓛.laws C → Triple 𝓤 (C #jobreader·new) (New 𝓛 mem run) → Triple 𝓤 (C #jobreader·next) (Next 𝓛 mem run)
+  read_at_walks : (C : Calls 𝓤 H) (Λ : Loops 𝓤 H) → FmC 𝓤 H 𝓛.laws C → Triple 𝓤 (C #jobreader·new) (New 𝓛 mem run) → Triple 𝓤 (C #jobreader·next) (Next 𝓛 mem run)
       → Walks 𝓛 read_at.ended stayed (WpFn 𝓤 H C Λ code.function) (read_at.clauses 𝓛 mem run)
-  read-at-walks C Λ fm known-new known_next = walked 𝓛 read_at.ended stayed (read_at.clauses 𝓛 mem run) (WpFn 𝓤 H C Λ code.function) (λ κs. (shr_slice_vals, (uint_vals w64, (uint_vals w64, (uint_vals w64, tt))))) (λ κs. (shr_slice_Tells (named 0) κs.0 u8, (uint_Tells w64, (uint_Tells w64, (uint_Tells w64, tt)))))
+  read_at_walks C Λ fm known-new known_next = walked 𝓛 read_at.ended stayed (read_at.clauses 𝓛 mem run) (WpFn 𝓤 H C Λ code.function) (λ κs. (shr_slice_vals, (uint_vals w64, (uint_vals w64, (uint_vals w64, tt))))) (λ κs. (shr_slice_Tells (named 0) κs.0 u8, (uint_Tells w64, (uint_Tells w64, (uint_Tells w64, tt)))))
       (λ κs qs bounds a g are. via 𝓤 _ (fst∗ 𝓤 _ (emp 𝓤)) (walk 𝓛 mem run κs.0 qs.0 a.0 a.1.0 a.1.1.0 a.1.1.1.0 are.1.0.1 are.1.1.0.1 are.1.1.1.0.1 C Λ fm known-new known_next are.0))
 
-read-at-meets : {M : Type 1} {𝓤 : Ura M} (𝓛 : Logic 𝓤) (mem : Memory → SProp 𝓤) (run : Routine → Fun 𝓤) (𝓣 : Tables 𝓤 𝓛.H)
+read_at_meets : {M : Type 1} {𝓤 : Ura M} (𝓛 : Logic 𝓤) (mem : Memory → SProp 𝓤) (run : Routine → Fun 𝓤) (𝓣 : Tables 𝓤 𝓛.H)
     → Triple 𝓤 (𝓣.C #jobreader·new) (New 𝓛 mem run) → Triple 𝓤 (𝓣.C #jobreader·next) (Next 𝓛 mem run)
     → Meets 𝓛 read_at.signature (WpFn 𝓤 𝓛.H 𝓣.C 𝓣.Λ code.function) (read_at.spec 𝓛 mem run)
-read-at-meets {𝓤 = 𝓤} 𝓛 mem run 𝓣 known-new known_next = walk_Meets 𝓛 read_at.ended stayed (Goes-none_slice 𝓛 1 (0 ∷ []) tt (plain (λ _. u8)) yes, (Goes-none 𝓛 1 (λ _. usize) yes (λ κs x f. refl), (Goes-none 𝓛 1 (λ _. usize) yes (λ κs x f. refl), (Goes-none 𝓛 1 (λ _. usize) yes (λ κs x f. refl), tt)))) (read_at.clauses 𝓛 mem run) (WpFn 𝓤 𝓛.H 𝓣.C 𝓣.Λ code.function) (WpFn-mono 𝓤 𝓛.H 𝓛.laws 𝓣 code.function)
-    (read-at-walks 𝓛 mem run 𝓣.C 𝓣.Λ (fm_of 𝓤 𝓛.H 𝓛.laws 𝓣) known-new known_next)
+read_at_meets {𝓤 = 𝓤} 𝓛 mem run 𝓣 known-new known_next = walk_Meets 𝓛 read_at.ended stayed (Goes-none_slice 𝓛 1 (0 ∷ []) tt (plain (λ _. u8)) yes, (Goes-none 𝓛 1 (λ _. usize) yes (λ κs x f. refl), (Goes-none 𝓛 1 (λ _. usize) yes (λ κs x f. refl), (Goes-none 𝓛 1 (λ _. usize) yes (λ κs x f. refl), tt)))) (read_at.clauses 𝓛 mem run) (WpFn 𝓤 𝓛.H 𝓣.C 𝓣.Λ code.function) (WpFn-mono 𝓤 𝓛.H 𝓛.laws 𝓣 code.function)
+    (read_at_walks 𝓛 mem run 𝓣.C 𝓣.Λ (fm_of 𝓤 𝓛.H 𝓛.laws 𝓣) known-new known_next)
 
-pub read-at-spec : {M : Type 1} → stated.statement M
+pub read_at_spec : {M : Type 1} → stated.statement M
 unfolding code.routine tables_of
-read-at-spec 𝓤 𝓛 𝓜 𝓡 =
+read_at_spec 𝓤 𝓛 𝓜 𝓡 =
     entered 𝓤 𝓛.H (triple_of 𝓛 read_at.signature (read_at.spec 𝓛 𝓜.mem 𝓡.run))
     (tables 𝓤 𝓛.H 𝓜 𝓡 code.env).C (tables 𝓤 𝓛.H 𝓜 𝓡 code.env).Λ #jobreader·read-at code.function (code.unfolded 𝓤 𝓛.H 𝓜 𝓡)
-    (read-at-meets 𝓛 𝓜.mem 𝓡.run (tables_of 𝓤 𝓛.H 𝓜 (tables 𝓤 𝓛.H 𝓜 𝓡 code.env))
+    (read_at_meets 𝓛 𝓜.mem 𝓡.run (tables_of 𝓤 𝓛.H 𝓜 (tables 𝓤 𝓛.H 𝓜 𝓡 code.env))
     (cited 𝓤 𝓛.H (New 𝓛 𝓜.mem 𝓡.run) 𝓜 𝓡 code.env #jobreader·new new-def.routine code.calls-jobreader::new (new-thm.met 𝓤 𝓛 𝓜 𝓡))
     (cited 𝓤 𝓛.H (Next 𝓛 𝓜.mem 𝓡.run) 𝓜 𝓡 code.env #jobreader·next next-def.routine code.calls-jobreader::next (next-thm.met 𝓤 𝓛 𝓜 𝓡)))

@@ -40,12 +40,12 @@ use denote.Triple.Table.{entered, cited}
 use denote.Triple.Walked.{says, Stays, stay_none_slice, walk_of, Goes-none_slice, Walks, ends_at, walked, walk_Meets}
 use denote.Exit.{yes}
 use denote.Triple.Clauses.{ensured}
-use Rattle.format.specs.Parser.{jobBuffer, ranged}
-use Rattle.jobreader.specs.Reader.{lastReadOf, lastReadAfter, lastReadIn, preambleRead}
+use Rattle.format.specs.Parser.{job_buffer, ranged}
+use Rattle.jobreader.specs.Reader.{last_read_of, last_read_after, last_read_in, preamble_read}
 use Rattle.jobreader.specs.declared.Preamble.{Preamble}
 use Rattle.jobreader.specs.declared.Reader.{Reader}
 use Rattle.jobreader.specs.declared.LastRead.{LastRead}
-use Rattle.jobreader.proofs.Readers.{B, New, Next, OwnSlice, to-new, goes-new, NewSaid, new-said, to-next, goes-next, NextSaid, next-said, Fits, fits}
+use Rattle.jobreader.proofs.Readers.{B, New, Next, OwnSlice, to_new, goes_new, NewSaid, new_said, to_next, goes_next, NextSaid, next_said, Fits, fits}
 use Rattle.jobreader.specs.contracts.Reader as T
 use Rattle.jobreader.proofs.Reader.TheLaws as T'
 use Rattle.jobreader.specs.contracts.Preamble as S
@@ -85,35 +85,35 @@ module _ {M : Type 1} {𝓤 : Ura M} (𝓛 : Logic 𝓤) (mem : Memory → SProp
   made r₂ r₃ r₄ r₅ = record { variables = r₂.number; states = r₃.number; start = r₄.number; transitions = r₅.number; at = r₅.at; refusal = r₅.refusal }
 
   -- what a call of `next` says where the reader passed has the job, and what it read before is known
-  read_next : (r t : Reader) (low limit : ℕ) (x : LastRead) → r.src ≡ s → lastReadIn r ≡ x → lastReadIn t ≡ lastReadAfter (lastReadIn r) (ranged (jobBuffer r.src.now) low limit)
-      → lastReadIn t ≡ lastReadAfter x (ranged (jobBuffer s.now) low limit)
+  read_next : (r t : Reader) (low limit : ℕ) (x : LastRead) → r.src ≡ s → last_read_in r ≡ x → last_read_in t ≡ last_read_after (last_read_in r) (ranged (job_buffer r.src.now) low limit)
+      → last_read_in t ≡ last_read_after x (ranged (job_buffer s.now) low limit)
   read_next r t low limit x src-is r-is e =
-      e ∙ ap (λ (y : Bor (List ℕ)). lastReadAfter (lastReadIn r) (ranged (jobBuffer y.now) low limit)) src-is ∙ ap (λ (y : LastRead). lastReadAfter y (ranged (jobBuffer s.now) low limit)) r-is
+      e ∙ ap (λ (y : Bor (List ℕ)). last_read_after (last_read_in r) (ranged (job_buffer y.now) low limit)) src-is ∙ ap (λ (y : LastRead). last_read_after y (ranged (job_buffer s.now) low limit)) r-is
 
   -- what the six calls say together
   told : (r₀ : Reader) (u₀ : Val) (r₁ : Reader) (u₁ : Val) (r₂ : Reader) (u₂ : Val) (r₃ : Reader) (u₃ : Val) (r₄ : Reader) (u₄ : Val) (r₅ : Reader)
       → NewSaid 𝓛 mem run κ q s 0 r₀ → NextSaid 𝓛 mem run κ q r₀ u₀ 1 3 r₁ → NextSaid 𝓛 mem run κ q r₁ u₁ 1 9 r₂ → NextSaid 𝓛 mem run κ q r₂ u₂ 1 65 r₃
-      → NextSaid 𝓛 mem run κ q r₃ u₃ 0 r₃.number r₄ → NextSaid 𝓛 mem run κ q r₄ u₄ 0 257 r₅ → made r₂ r₃ r₄ r₅ ≡ preambleRead (jobBuffer s.now)
-  unfolding preambleRead
+      → NextSaid 𝓛 mem run κ q r₃ u₃ 0 r₃.number r₄ → NextSaid 𝓛 mem run κ q r₄ u₄ 0 257 r₅ → made r₂ r₃ r₄ r₅ ≡ preamble_read (job_buffer s.now)
+  unfolding preamble_read
   told r₀ u₀ r₁ u₁ r₂ u₂ r₃ u₃ r₄ u₄ r₅ (s₀, at_first, _, none) (s₁, e₁) (s₂, e₂) (s₃, e₃) (s₄, e₄) (s₅, e₅) =
-      let p = ranged (jobBuffer s.now) in
-      let version : LastRead = lastReadOf (p 1 3 0) in
-      let variables : LastRead = lastReadAfter version (p 1 9) in
-      let states : LastRead = lastReadAfter variables (p 1 65) in
-      let start : LastRead = lastReadAfter states (p 0 states.number) in
-      let transitions : LastRead = lastReadAfter start (p 0 257) in
+      let p = ranged (job_buffer s.now) in
+      let version : LastRead = last_read_of (p 1 3 0) in
+      let variables : LastRead = last_read_after version (p 1 9) in
+      let states : LastRead = last_read_after variables (p 1 65) in
+      let start : LastRead = last_read_after states (p 0 states.number) in
+      let transitions : LastRead = last_read_after start (p 0 257) in
       let z₁ : r₁.src ≡ s = s₁ ∙ s₀ in
       let z₂ : r₂.src ≡ s = s₂ ∙ z₁ in
       let z₃ : r₃.src ≡ s = s₃ ∙ z₂ in
       let z₄ : r₄.src ≡ s = s₄ ∙ z₃ in
-      let q₁ : lastReadIn r₁ ≡ version = read_next r₀ r₁ 1 3 (lastReadIn r₀) s₀ refl e₁ ∙ rw (at_first, none) refl in
-      let q₂ : lastReadIn r₂ ≡ variables = read_next r₁ r₂ 1 9 version z₁ q₁ e₂ in
-      let q₃ : lastReadIn r₃ ≡ states = read_next r₂ r₃ 1 65 variables z₂ q₂ e₃ in
-      let q₄ : lastReadIn r₄ ≡ start = read_next r₃ r₄ 0 r₃.number states z₃ q₃ e₄ ∙ ap (λ (n : ℕ). lastReadAfter states (p 0 n)) (ap (λ (x : LastRead). x.number) q₃) in
-      let q₅ : lastReadIn r₅ ≡ transitions = read_next r₄ r₅ 0 257 start z₄ q₄ e₅ in
+      let q₁ : last_read_in r₁ ≡ version = read_next r₀ r₁ 1 3 (last_read_in r₀) s₀ refl e₁ ∙ rw (at_first, none) refl in
+      let q₂ : last_read_in r₂ ≡ variables = read_next r₁ r₂ 1 9 version z₁ q₁ e₂ in
+      let q₃ : last_read_in r₃ ≡ states = read_next r₂ r₃ 1 65 variables z₂ q₂ e₃ in
+      let q₄ : last_read_in r₄ ≡ start = read_next r₃ r₄ 0 r₃.number states z₃ q₃ e₄ ∙ ap (λ (n : ℕ). last_read_after states (p 0 n)) (ap (λ (x : LastRead). x.number) q₃) in
+      let q₅ : last_read_in r₅ ≡ transitions = read_next r₄ r₅ 0 257 start z₄ q₄ e₅ in
       λ i. record { variables = (q₂ i).number; states = (q₃ i).number; start = (q₄ i).number; transitions = (q₅ i).number; at = (q₅ i).at; refusal = (q₅ i).refusal }
 
-  exits : (r₂ r₃ r₄ r₅ : Reader) → made r₂ r₃ r₄ r₅ ≡ preambleRead (jobBuffer s.now) → r₂.number < 2 ^ 64 → r₃.number < 2 ^ 64 → r₄.number < 2 ^ 64 → Fits 𝓛 mem run κ q r₅
+  exits : (r₂ r₃ r₄ r₅ : Reader) → made r₂ r₃ r₄ r₅ ≡ preamble_read (job_buffer s.now) → r₂.number < 2 ^ 64 → r₃.number < 2 ^ 64 → r₄.number < 2 ^ 64 → Fits 𝓛 mem run κ q r₅
       → ent 𝓤 (⋆ 𝓛 ((‵ (flft κ q) ⊛ ‵ ftrue) ∷ ‵ (OwnSlice 𝓛 mem run κ q s 0) ∷ [])) (Post (S'.lowered (made r₂ r₃ r₄ r₅)))
   exits r₂ r₃ r₄ r₅ e ok₂ ok₃ ok₄ ok =
       qed 𝓛 ((‵ (flft κ q) ⊛ ‵ ftrue) ∷ ‵ (OwnSlice 𝓛 mem run κ q s 0) ∷ []) ∵
@@ -130,47 +130,47 @@ module _ {M : Type 1} {𝓤 : Ura M} (𝓛 : Logic 𝓤) (mem : Memory → SProp
         qed 𝓛 ((‵ (flft κ q) ⊛ ‵ ftrue) ∷ ‵ (owns (ShrSlice (named 0) κ u8 ∷ []) (s, tt) (v ∷ [], tt)) ∷ []) ∵ enter ! C Λ code.function (v ∷ []) _ $
         alloc1 ! (λ l₀. alloc1 ! (λ l₁. alloc1 ! (λ l₂. alloc1 ! (λ l₃. alloc1 ! (λ l₄. alloc1 ! (λ l₅. alloc1 ! (λ l₆. alloc1 ! (λ l₇. alloc1 ! (λ l₈. alloc1 ! (λ l₉. alloc1 ! (λ l₁₀. alloc1 ! (λ l₁₁. alloc1 ! (λ l₁₂. alloc1 ! (λ l₁₃. alloc1 ! (λ l₁₄. alloc1 ! (λ l₁₅. alloc1 ! (λ l₁₆. alloc1 ! (λ l₁₇. alloc1 ! (λ l₁₈. alloc0 ! $ params1 ! $
         pass1 ! (init ! 34 refl ((shr_slice_Lawful 𝓛 (named 0) κ u8).typed s (v ∷ []) p).0) $ pass0 ! $
-        move ! (39 ∷ []) $ fsplit ! $ move ! (1 ∷ []) $ drop ! $ move ! (0 ∷ 39 ∷ []) $ use2 𝓛 (raw ((New 𝓛 mem run).pre (to-new 𝓛 mem run κ q s 0)) ⊛ ‵ (OwnSlice 𝓛 mem run κ q s 0)) (goes-new 𝓛 mem run κ q s 0 (omega arith)) $ split ! $
+        move ! (39 ∷ []) $ fsplit ! $ move ! (1 ∷ []) $ drop ! $ move ! (0 ∷ 39 ∷ []) $ use2 𝓛 (raw ((New 𝓛 mem run).pre (to_new 𝓛 mem run κ q s 0)) ⊛ ‵ (OwnSlice 𝓛 mem run κ q s 0)) (goes_new 𝓛 mem run κ q s 0 (omega arith)) $ split ! $
         -- a reader at place 0; the version; V; S, whose number is the limit of the start state; the start state; T
-        calls_at ! fm (New 𝓛 mem run) known-new (to-new 𝓛 mem run κ q s 0) (and_then ! (load ! (from ! (stop !)) (look ! 36 refl)) (and_then ! (lit ! tt) (no_more !))) (λ u₀.
+        calls_at ! fm (New 𝓛 mem run) known-new (to_new 𝓛 mem run κ q s 0) (and_then ! (load ! (from ! (stop !)) (look ! 36 refl)) (and_then ! (lit ! tt) (no_more !))) (λ u₀.
         use1 𝓛 (later (some (λ (r : Reader). ((‵ (flft κ q) ⊛ ‵ ftrue) ⊛ ‵ ((B (κ, tt)).own_val r (u₀ ∷ []))) ⊛ raw (ensured 𝓛 new.ended (new.clauses 𝓛 mem run) (κ, tt) (s, (0, tt)) tt r)))) (id⊢ 𝓤 _) $ await ! tt $ pick ! (λ r₀.
-        split ! $ move ! (1 ∷ []) $ use1 𝓛 (raw (fact 𝓤 (NewSaid 𝓛 mem run κ q s 0 r₀))) (new-said 𝓛 mem run κ q s 0 r₀) $ heard ! (NewSaid 𝓛 mem run κ q s 0 r₀) (λ e₀. split ! $ move ! (1 ∷ []) $
+        split ! $ move ! (1 ∷ []) $ use1 𝓛 (raw (fact 𝓤 (NewSaid 𝓛 mem run κ q s 0 r₀))) (new_said 𝓛 mem run κ q s 0 r₀) $ heard ! (NewSaid 𝓛 mem run κ q s 0 r₀) (λ e₀. split ! $ move ! (1 ∷ []) $
         peeks ! (B (κ, tt)) (Is (B (κ, tt))) (shows 𝓛 (B (κ, tt))) r₀ (u₀ ∷ []) (λ is₀.
         land ! (from ! (stop !)) (init ! 25 refl ((LL.lawful (T.the_type αᵉ) (T'.the_laws αᵉ) 𝓛).typed r₀ _ is₀).0) $
-        use2 𝓛 (raw ((Next 𝓛 mem run).pre (to-next 𝓛 mem run κ q r₀ u₀ 1 3))) (goes-next 𝓛 mem run κ q r₀ u₀ 1 3 (omega arith) (omega arith)) $
-        calls_at ! fm (Next 𝓛 mem run) known_next (to-next 𝓛 mem run κ q r₀ u₀ 1 3) (and_then ! (load ! (from ! (stop !)) (look ! 24 refl)) (and_then ! (lit ! tt) (and_then ! (lit ! tt) (no_more !)))) (λ u₁.
+        use2 𝓛 (raw ((Next 𝓛 mem run).pre (to_next 𝓛 mem run κ q r₀ u₀ 1 3))) (goes_next 𝓛 mem run κ q r₀ u₀ 1 3 (omega arith) (omega arith)) $
+        calls_at ! fm (Next 𝓛 mem run) known_next (to_next 𝓛 mem run κ q r₀ u₀ 1 3) (and_then ! (load ! (from ! (stop !)) (look ! 24 refl)) (and_then ! (lit ! tt) (and_then ! (lit ! tt) (no_more !)))) (λ u₁.
         use1 𝓛 (later (some (λ (t : Reader). ((‵ (flft κ q) ⊛ ‵ ftrue) ⊛ ‵ ((B (κ, tt)).own_val t (u₁ ∷ []))) ⊛ raw (ensured 𝓛 next.ended (next.clauses 𝓛 mem run) (κ, tt) (r₀, (1, (3, tt))) tt t)))) (id⊢ 𝓤 _) $ await ! tt $ pick ! (λ r₁.
-        split ! $ move ! (1 ∷ []) $ use1 𝓛 (raw (fact 𝓤 (NextSaid 𝓛 mem run κ q r₀ u₀ 1 3 r₁))) (next-said 𝓛 mem run κ q r₀ u₀ 1 3 r₁) $ heard ! (NextSaid 𝓛 mem run κ q r₀ u₀ 1 3 r₁) (λ e₁. split ! $ move ! (1 ∷ []) $
+        split ! $ move ! (1 ∷ []) $ use1 𝓛 (raw (fact 𝓤 (NextSaid 𝓛 mem run κ q r₀ u₀ 1 3 r₁))) (next_said 𝓛 mem run κ q r₀ u₀ 1 3 r₁) $ heard ! (NextSaid 𝓛 mem run κ q r₀ u₀ 1 3 r₁) (λ e₁. split ! $ move ! (1 ∷ []) $
         peeks ! (B (κ, tt)) (Is (B (κ, tt))) (shows 𝓛 (B (κ, tt))) r₁ (u₁ ∷ []) (λ is₁.
         land ! (from ! (stop !)) (init ! 35 refl ((LL.lawful (T.the_type αᵉ) (T'.the_laws αᵉ) 𝓛).typed r₁ _ is₁).0) $
         assigns ! (of_opd ! (load ! (from ! (stop !)) (look ! 35 refl))) (from ! (stop !)) (init ! 23 refl ((LL.lawful (T.the_type αᵉ) (T'.the_laws αᵉ) 𝓛).typed r₁ _ is₁).0) $
-        use2 𝓛 (raw ((Next 𝓛 mem run).pre (to-next 𝓛 mem run κ q r₁ u₁ 1 9))) (goes-next 𝓛 mem run κ q r₁ u₁ 1 9 (omega arith) (omega arith)) $
-        calls_at ! fm (Next 𝓛 mem run) known_next (to-next 𝓛 mem run κ q r₁ u₁ 1 9) (and_then ! (load ! (from ! (stop !)) (look ! 22 refl)) (and_then ! (lit ! tt) (and_then ! (lit ! tt) (no_more !)))) (λ u₂.
+        use2 𝓛 (raw ((Next 𝓛 mem run).pre (to_next 𝓛 mem run κ q r₁ u₁ 1 9))) (goes_next 𝓛 mem run κ q r₁ u₁ 1 9 (omega arith) (omega arith)) $
+        calls_at ! fm (Next 𝓛 mem run) known_next (to_next 𝓛 mem run κ q r₁ u₁ 1 9) (and_then ! (load ! (from ! (stop !)) (look ! 22 refl)) (and_then ! (lit ! tt) (and_then ! (lit ! tt) (no_more !)))) (λ u₂.
         use1 𝓛 (later (some (λ (t : Reader). ((‵ (flft κ q) ⊛ ‵ ftrue) ⊛ ‵ ((B (κ, tt)).own_val t (u₂ ∷ []))) ⊛ raw (ensured 𝓛 next.ended (next.clauses 𝓛 mem run) (κ, tt) (r₁, (1, (9, tt))) tt t)))) (id⊢ 𝓤 _) $ await ! tt $ pick ! (λ r₂.
-        split ! $ move ! (1 ∷ []) $ use1 𝓛 (raw (fact 𝓤 (NextSaid 𝓛 mem run κ q r₁ u₁ 1 9 r₂))) (next-said 𝓛 mem run κ q r₁ u₁ 1 9 r₂) $ heard ! (NextSaid 𝓛 mem run κ q r₁ u₁ 1 9 r₂) (λ e₂. split ! $ move ! (1 ∷ []) $
+        split ! $ move ! (1 ∷ []) $ use1 𝓛 (raw (fact 𝓤 (NextSaid 𝓛 mem run κ q r₁ u₁ 1 9 r₂))) (next_said 𝓛 mem run κ q r₁ u₁ 1 9 r₂) $ heard ! (NextSaid 𝓛 mem run κ q r₁ u₁ 1 9 r₂) (λ e₂. split ! $ move ! (1 ∷ []) $
         peeks ! (B (κ, tt)) (Is (B (κ, tt))) (shows 𝓛 (B (κ, tt))) r₂ (u₂ ∷ []) (λ is₂.
         land ! (from ! (stop !)) (init ! 33 refl ((LL.lawful (T.the_type αᵉ) (T'.the_laws αᵉ) 𝓛).typed r₂ _ is₂).0) $
         assigns ! (of_opd ! (load ! (from ! (stop !)) (look ! 33 refl))) (from ! (stop !)) (init ! 21 refl ((LL.lawful (T.the_type αᵉ) (T'.the_laws αᵉ) 𝓛).typed r₂ _ is₂).0) $
-        use2 𝓛 (raw ((Next 𝓛 mem run).pre (to-next 𝓛 mem run κ q r₂ u₂ 1 65))) (goes-next 𝓛 mem run κ q r₂ u₂ 1 65 (omega arith) (omega arith)) $
-        calls_at ! fm (Next 𝓛 mem run) known_next (to-next 𝓛 mem run κ q r₂ u₂ 1 65) (and_then ! (load ! (from ! (stop !)) (look ! 20 refl)) (and_then ! (lit ! tt) (and_then ! (lit ! tt) (no_more !)))) (λ u₃.
+        use2 𝓛 (raw ((Next 𝓛 mem run).pre (to_next 𝓛 mem run κ q r₂ u₂ 1 65))) (goes_next 𝓛 mem run κ q r₂ u₂ 1 65 (omega arith) (omega arith)) $
+        calls_at ! fm (Next 𝓛 mem run) known_next (to_next 𝓛 mem run κ q r₂ u₂ 1 65) (and_then ! (load ! (from ! (stop !)) (look ! 20 refl)) (and_then ! (lit ! tt) (and_then ! (lit ! tt) (no_more !)))) (λ u₃.
         use1 𝓛 (later (some (λ (t : Reader). ((‵ (flft κ q) ⊛ ‵ ftrue) ⊛ ‵ ((B (κ, tt)).own_val t (u₃ ∷ []))) ⊛ raw (ensured 𝓛 next.ended (next.clauses 𝓛 mem run) (κ, tt) (r₂, (1, (65, tt))) tt t)))) (id⊢ 𝓤 _) $ await ! tt $ pick ! (λ r₃.
-        split ! $ move ! (1 ∷ []) $ use1 𝓛 (raw (fact 𝓤 (NextSaid 𝓛 mem run κ q r₂ u₂ 1 65 r₃))) (next-said 𝓛 mem run κ q r₂ u₂ 1 65 r₃) $ heard ! (NextSaid 𝓛 mem run κ q r₂ u₂ 1 65 r₃) (λ e₃. split ! $ move ! (1 ∷ []) $
+        split ! $ move ! (1 ∷ []) $ use1 𝓛 (raw (fact 𝓤 (NextSaid 𝓛 mem run κ q r₂ u₂ 1 65 r₃))) (next_said 𝓛 mem run κ q r₂ u₂ 1 65 r₃) $ heard ! (NextSaid 𝓛 mem run κ q r₂ u₂ 1 65 r₃) (λ e₃. split ! $ move ! (1 ∷ []) $
         peeks ! (B (κ, tt)) (Is (B (κ, tt))) (shows 𝓛 (B (κ, tt))) r₃ (u₃ ∷ []) (λ is₃.
         land ! (from ! (stop !)) (init ! 31 refl ((LL.lawful (T.the_type αᵉ) (T'.the_laws αᵉ) 𝓛).typed r₃ _ is₃).0) $
         assigns ! (of_opd ! (load ! (from ! (stop !)) (look ! 31 refl))) (from ! (stop !)) (init ! 19 refl ((LL.lawful (T.the_type αᵉ) (T'.the_laws αᵉ) 𝓛).typed r₃ _ is₃).0) $
         rewrite ! 31 (λ (x : Val). ‵ (fat full_share (T'.mir erased) l₄ 0 x)) (ap only ((T'.lowers (named_lft 1 0 tt (κ, tt))).val_is r₃ _ is₃)) refl $
         assigns ! (of_opd ! (load ! (from ! (fld ! refl (stop !))) (look_in ! 31 (sub ! 2 refl (whole !))))) (from ! (stop !)) (init ! 17 refl (tt, record { fits = (fits 𝓛 mem run κ q r₃ u₃ is₃).1 })) $
-        use2 𝓛 (raw ((Next 𝓛 mem run).pre (to-next 𝓛 mem run κ q r₃ u₃ 0 r₃.number))) (goes-next 𝓛 mem run κ q r₃ u₃ 0 r₃.number (omega arith) (fits 𝓛 mem run κ q r₃ u₃ is₃).1) $
-        calls_at ! fm (Next 𝓛 mem run) known_next (to-next 𝓛 mem run κ q r₃ u₃ 0 r₃.number) (and_then ! (load ! (from ! (stop !)) (look ! 18 refl)) (and_then ! (lit ! tt) (and_then ! (load ! (from ! (stop !)) (look ! 16 refl)) (no_more !)))) (λ u₄.
+        use2 𝓛 (raw ((Next 𝓛 mem run).pre (to_next 𝓛 mem run κ q r₃ u₃ 0 r₃.number))) (goes_next 𝓛 mem run κ q r₃ u₃ 0 r₃.number (omega arith) (fits 𝓛 mem run κ q r₃ u₃ is₃).1) $
+        calls_at ! fm (Next 𝓛 mem run) known_next (to_next 𝓛 mem run κ q r₃ u₃ 0 r₃.number) (and_then ! (load ! (from ! (stop !)) (look ! 18 refl)) (and_then ! (lit ! tt) (and_then ! (load ! (from ! (stop !)) (look ! 16 refl)) (no_more !)))) (λ u₄.
         use1 𝓛 (later (some (λ (t : Reader). ((‵ (flft κ q) ⊛ ‵ ftrue) ⊛ ‵ ((B (κ, tt)).own_val t (u₄ ∷ []))) ⊛ raw (ensured 𝓛 next.ended (next.clauses 𝓛 mem run) (κ, tt) (r₃, (0, (r₃.number, tt))) tt t)))) (id⊢ 𝓤 _) $ await ! tt $ pick ! (λ r₄.
-        split ! $ move ! (1 ∷ []) $ use1 𝓛 (raw (fact 𝓤 (NextSaid 𝓛 mem run κ q r₃ u₃ 0 r₃.number r₄))) (next-said 𝓛 mem run κ q r₃ u₃ 0 r₃.number r₄) $ heard ! (NextSaid 𝓛 mem run κ q r₃ u₃ 0 r₃.number r₄) (λ e₄. split ! $ move ! (1 ∷ []) $
+        split ! $ move ! (1 ∷ []) $ use1 𝓛 (raw (fact 𝓤 (NextSaid 𝓛 mem run κ q r₃ u₃ 0 r₃.number r₄))) (next_said 𝓛 mem run κ q r₃ u₃ 0 r₃.number r₄) $ heard ! (NextSaid 𝓛 mem run κ q r₃ u₃ 0 r₃.number r₄) (λ e₄. split ! $ move ! (1 ∷ []) $
         peeks ! (B (κ, tt)) (Is (B (κ, tt))) (shows 𝓛 (B (κ, tt))) r₄ (u₄ ∷ []) (λ is₄.
         land ! (from ! (stop !)) (init ! 29 refl ((LL.lawful (T.the_type αᵉ) (T'.the_laws αᵉ) 𝓛).typed r₄ _ is₄).0) $
         assigns ! (of_opd ! (load ! (from ! (stop !)) (look ! 29 refl))) (from ! (stop !)) (init ! 15 refl ((LL.lawful (T.the_type αᵉ) (T'.the_laws αᵉ) 𝓛).typed r₄ _ is₄).0) $
-        use2 𝓛 (raw ((Next 𝓛 mem run).pre (to-next 𝓛 mem run κ q r₄ u₄ 0 257))) (goes-next 𝓛 mem run κ q r₄ u₄ 0 257 (omega arith) (omega arith)) $
-        calls_at ! fm (Next 𝓛 mem run) known_next (to-next 𝓛 mem run κ q r₄ u₄ 0 257) (and_then ! (load ! (from ! (stop !)) (look ! 14 refl)) (and_then ! (lit ! tt) (and_then ! (lit ! tt) (no_more !)))) (λ u₅.
+        use2 𝓛 (raw ((Next 𝓛 mem run).pre (to_next 𝓛 mem run κ q r₄ u₄ 0 257))) (goes_next 𝓛 mem run κ q r₄ u₄ 0 257 (omega arith) (omega arith)) $
+        calls_at ! fm (Next 𝓛 mem run) known_next (to_next 𝓛 mem run κ q r₄ u₄ 0 257) (and_then ! (load ! (from ! (stop !)) (look ! 14 refl)) (and_then ! (lit ! tt) (and_then ! (lit ! tt) (no_more !)))) (λ u₅.
         use1 𝓛 (later (some (λ (t : Reader). ((‵ (flft κ q) ⊛ ‵ ftrue) ⊛ ‵ ((B (κ, tt)).own_val t (u₅ ∷ []))) ⊛ raw (ensured 𝓛 next.ended (next.clauses 𝓛 mem run) (κ, tt) (r₄, (0, (257, tt))) tt t)))) (id⊢ 𝓤 _) $ await ! tt $ pick ! (λ r₅.
-        split ! $ move ! (1 ∷ []) $ use1 𝓛 (raw (fact 𝓤 (NextSaid 𝓛 mem run κ q r₄ u₄ 0 257 r₅))) (next-said 𝓛 mem run κ q r₄ u₄ 0 257 r₅) $ heard ! (NextSaid 𝓛 mem run κ q r₄ u₄ 0 257 r₅) (λ e₅. split ! $ move ! (1 ∷ []) $
+        split ! $ move ! (1 ∷ []) $ use1 𝓛 (raw (fact 𝓤 (NextSaid 𝓛 mem run κ q r₄ u₄ 0 257 r₅))) (next_said 𝓛 mem run κ q r₄ u₄ 0 257 r₅) $ heard ! (NextSaid 𝓛 mem run κ q r₄ u₄ 0 257 r₅) (λ e₅. split ! $ move ! (1 ∷ []) $
         peeks ! (B (κ, tt)) (Is (B (κ, tt))) (shows 𝓛 (B (κ, tt))) r₅ (u₅ ∷ []) (λ is₅.
         land ! (from ! (stop !)) (init ! 27 refl ((LL.lawful (T.the_type αᵉ) (T'.the_laws αᵉ) 𝓛).typed r₅ _ is₅).0) $
         -- the numbers of the readers
@@ -191,22 +191,22 @@ module _ {M : Type 1} {𝓤 : Ura M} (𝓛 : Logic 𝓤) (mem : Memory → SProp
 module _ {M : Type 1} {𝓤 : Ura M} (𝓛 : Logic 𝓤) (mem : Memory → SProp 𝓤) (run : Routine → Fun 𝓤) where
   open 𝓛 use {H}
 
-  read-preamble-walks : (C : Calls 𝓤 H) (Λ : Loops 𝓤 H) → FmC 𝓤 H 𝓛.laws C → Triple 𝓤 (C #jobreader·new) (New 𝓛 mem run) → Triple 𝓤 (C #jobreader·next) (Next 𝓛 mem run)
+  read_preamble_walks : (C : Calls 𝓤 H) (Λ : Loops 𝓤 H) → FmC 𝓤 H 𝓛.laws C → Triple 𝓤 (C #jobreader·new) (New 𝓛 mem run) → Triple 𝓤 (C #jobreader·next) (Next 𝓛 mem run)
       → Walks 𝓛 read-preamble.ended stayed (WpFn 𝓤 H C Λ code.function) (read-preamble.clauses 𝓛 mem run)
-  read-preamble-walks C Λ fm known-new known_next = walked 𝓛 read-preamble.ended stayed (read-preamble.clauses 𝓛 mem run) (WpFn 𝓤 H C Λ code.function) (λ κs. (shr_slice_vals, tt)) (λ κs. (shr_slice_Tells (named 0) κs.0 u8, tt))
+  read_preamble_walks C Λ fm known-new known_next = walked 𝓛 read-preamble.ended stayed (read-preamble.clauses 𝓛 mem run) (WpFn 𝓤 H C Λ code.function) (λ κs. (shr_slice_vals, tt)) (λ κs. (shr_slice_Tells (named 0) κs.0 u8, tt))
       (λ κs qs bounds a g are. via 𝓤 _ (fst∗ 𝓤 _ (emp 𝓤)) (walk 𝓛 mem run κs.0 qs.0 a.0 C Λ fm known-new known_next are.0))
 
-read-preamble-meets : {M : Type 1} {𝓤 : Ura M} (𝓛 : Logic 𝓤) (mem : Memory → SProp 𝓤) (run : Routine → Fun 𝓤) (𝓣 : Tables 𝓤 𝓛.H)
+read_preamble_meets : {M : Type 1} {𝓤 : Ura M} (𝓛 : Logic 𝓤) (mem : Memory → SProp 𝓤) (run : Routine → Fun 𝓤) (𝓣 : Tables 𝓤 𝓛.H)
     → Triple 𝓤 (𝓣.C #jobreader·new) (New 𝓛 mem run) → Triple 𝓤 (𝓣.C #jobreader·next) (Next 𝓛 mem run)
     → Meets 𝓛 read-preamble.signature (WpFn 𝓤 𝓛.H 𝓣.C 𝓣.Λ code.function) (read-preamble.spec 𝓛 mem run)
-read-preamble-meets {𝓤 = 𝓤} 𝓛 mem run 𝓣 known-new known_next = walk_Meets 𝓛 read-preamble.ended stayed (Goes-none_slice 𝓛 1 (0 ∷ []) tt (plain (λ _. u8)) yes, tt) (read-preamble.clauses 𝓛 mem run) (WpFn 𝓤 𝓛.H 𝓣.C 𝓣.Λ code.function) (WpFn-mono 𝓤 𝓛.H 𝓛.laws 𝓣 code.function)
-    (read-preamble-walks 𝓛 mem run 𝓣.C 𝓣.Λ (fm_of 𝓤 𝓛.H 𝓛.laws 𝓣) known-new known_next)
+read_preamble_meets {𝓤 = 𝓤} 𝓛 mem run 𝓣 known-new known_next = walk_Meets 𝓛 read-preamble.ended stayed (Goes-none_slice 𝓛 1 (0 ∷ []) tt (plain (λ _. u8)) yes, tt) (read-preamble.clauses 𝓛 mem run) (WpFn 𝓤 𝓛.H 𝓣.C 𝓣.Λ code.function) (WpFn-mono 𝓤 𝓛.H 𝓛.laws 𝓣 code.function)
+    (read_preamble_walks 𝓛 mem run 𝓣.C 𝓣.Λ (fm_of 𝓤 𝓛.H 𝓛.laws 𝓣) known-new known_next)
 
-pub read-preamble-spec : {M : Type 1} → stated.statement M
+pub read_preamble_spec : {M : Type 1} → stated.statement M
 unfolding code.routine tables_of
-read-preamble-spec 𝓤 𝓛 𝓜 𝓡 =
+read_preamble_spec 𝓤 𝓛 𝓜 𝓡 =
     entered 𝓤 𝓛.H (triple_of 𝓛 read-preamble.signature (read-preamble.spec 𝓛 𝓜.mem 𝓡.run))
     (tables 𝓤 𝓛.H 𝓜 𝓡 code.env).C (tables 𝓤 𝓛.H 𝓜 𝓡 code.env).Λ #jobreader·read-preamble code.function (code.unfolded 𝓤 𝓛.H 𝓜 𝓡)
-    (read-preamble-meets 𝓛 𝓜.mem 𝓡.run (tables_of 𝓤 𝓛.H 𝓜 (tables 𝓤 𝓛.H 𝓜 𝓡 code.env))
+    (read_preamble_meets 𝓛 𝓜.mem 𝓡.run (tables_of 𝓤 𝓛.H 𝓜 (tables 𝓤 𝓛.H 𝓜 𝓡 code.env))
     (cited 𝓤 𝓛.H (New 𝓛 𝓜.mem 𝓡.run) 𝓜 𝓡 code.env #jobreader·new new-def.routine code.calls-jobreader::new (new-thm.met 𝓤 𝓛 𝓜 𝓡))
     (cited 𝓤 𝓛.H (Next 𝓛 𝓜.mem 𝓡.run) 𝓜 𝓡 code.env #jobreader·next next-def.routine code.calls-jobreader::next (next-thm.met 𝓤 𝓛 𝓜 𝓡)))

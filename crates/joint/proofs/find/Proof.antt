@@ -3,17 +3,17 @@ use mathlib.Core.Path.{sym, ◌∙◌}
 use Rattle.joint.proofs.find.Statement.{statement}
 use Rattle.joint.proofs.find.Tie as tie
 
-look-on-requires : tie.Need-look-on-requires
-look-on-requires c κs = let s = c.before.before in (s.requires.0, s.requires.2, s.requires.3)
+look_on_requires : tie.Need-look-on-requires
+look_on_requires c κs = let s = c.before.before in (s.requires.0, s.requires.2, s.requires.3)
 
 returns : tie.Need-returns
 returns c = let o = c.before.look-on.ensures in (c.if1.true ∙ sym (o.0 c.if1.true), o.1)
 
-is-listed-requires : tie.Need-is-listed-requires
-is-listed-requires c κs = let s = c.before.before.before.before in (s.requires.1, s.requires.2, s.requires.3)
+is_listed_requires : tie.Need-is-listed-requires
+is_listed_requires c κs = let s = c.before.before.before.before in (s.requires.1, s.requires.2, s.requires.3)
 
-returns-2 : tie.Need-returns-2
-returns-2 c = (c.is-listed.ensures, c.before.before.before.before.before.requires.0)
+returns_2 : tie.Need-returns-2
+returns_2 c = (c.is-listed.ensures, c.before.before.before.before.before.requires.0)
 
 pub find_spec : {M : Type 1} → statement M
-find_spec = tie.close (tie.spec look-on-requires returns is-listed-requires returns-2)
+find_spec = tie.close (tie.spec look_on_requires returns is_listed_requires returns_2)

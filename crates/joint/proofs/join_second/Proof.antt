@@ -9,10 +9,10 @@ use Rattle.checker.specs.Pairs.{pair_of, MembersKept}
 use Rattle.checker.proofs.Verdicts.{bounds}
 use Rattle.format.specs.Parser.{parsed}
 use Rattle.format.specs.Verdict.{Verdict}
-use Rattle.joining.specs.Join.{readJoint, afterPairs, afterSecond}
+use Rattle.joining.specs.Join.{read_joint, after_pairs, after_second}
 use Rattle.reader.specs.Job.{JobRead}
-use Rattle.verdict.specs.Verdict.{countsTold}
-use Rattle.joint.proofs.Reading.{joint-read}
+use Rattle.verdict.specs.Verdict.{counts_told}
+use Rattle.joint.proofs.Reading.{joint_read}
 use borrow.Author.Rules.{rules}
 use Rattle.joint.proofs.join_second.Statement.{statement}
 use Rattle.joint.proofs.join_second.Tie as tie
@@ -40,45 +40,45 @@ kept c =
     (d, m refl)
 
 short : (c : tie.After-known-told2) → length (begun (checked c)).args.cert2.now ≤ 65536
-short c = let v = c.before.v2.given in (((checked c).check-pair.ensures.1.1.0 refl (countsTold v.0.0)).0 (ap pair_of v.1)).certificate-length.1
+short c = let v = c.before.v2.given in (((checked c).check-pair.ensures.1.1.0 refl (counts_told v.0.0)).0 (ap pair_of v.1)).certificate_length.1
 
 -- ---- what is to be shown
 
-check-pair-requires : tie.Need-check-pair-requires
-check-pair-requires c κs = search rules
+check_pair_requires : tie.Need-check-pair-requires
+check_pair_requires c κs = search rules
 
-enum-known-v : tie.Need-enum-known-v
-enum-known-v c = search rules
+enum_known_v : tie.Need-enum-known-v
+enum_known_v c = search rules
 
-enum-known-v-2 : tie.Need-enum-known-v-2
-enum-known-v-2 c = search rules
+enum_known_v_2 : tie.Need-enum-known-v-2
+enum_known_v_2 c = search rules
 
-cast-members : tie.Need-overflow-cast-members
-cast-members c = search rules
+cast_members : tie.Need-overflow-cast-members
+cast_members c = search rules
 
-slice-aggregate-all : tie.Need-slice-aggregate-all
-slice-aggregate-all c = sym (kept c.before.before).1.1.size
+slice_aggregate_all : tie.Need-slice-aggregate-all
+slice_aggregate_all c = sym (kept c.before.before).1.1.size
 
-slice-aggregate-joint-refusal : tie.Need-slice-aggregate-joint-refusal
-slice-aggregate-joint-refusal c =
+slice_aggregate_joint_refusal : tie.Need-slice-aggregate-joint-refusal
+slice_aggregate_joint_refusal c =
     let m = (kept c.before.before.before).1.1 in
-    sym (length-take-le _ _ (omega (arith, m.size, m.number-range.1)))
+    sym (length-take-le _ _ (omega (arith, m.size, m.number_range.1)))
 
-joint-refusal-requires : tie.Need-joint-refusal-requires
-joint-refusal-requires c κs =
+joint_refusal_requires : tie.Need-joint-refusal-requires
+joint_refusal_requires c κs =
     let told = c.before.before.before in
     let a = (begun (checked told)).args in
     let (d, (_, m)) = kept told in
     ((begun (checked told)).requires, m.table_is (bounds a.job2.now a.cert2.now _ d (short told)))
 
-tell-requires : tie.Need-tell-requires
-tell-requires c κs = search rules
+tell_requires : tie.Need-tell-requires
+tell_requires c κs = search rules
 
 returns : tie.Need-returns
 returns c = rw (← c.before.before.before.check-pair.ensures.1.0 refl, c.before.v.given.1) refl
 
-returns-2 : tie.Need-returns-2
-returns-2 c =
+returns_2 : tie.Need-returns-2
+returns_2 c =
     let j = c.before in
     let told = j.before.before.before.before in
     let v = told.before.v2.given in
@@ -86,24 +86,24 @@ returns-2 c =
     let s = begun o in
     let a = s.args in
     let (d, m) = kept told in
-    let (at, is) = joint-read a.job1.now a.job2.now a.cert2.now a.state a.first s.pre v.0.1.0 d v.0.0.members _ (short told) m in
-    let read = readJoint a.job1.now a.job2.now a.cert2.now a.state in
+    let (at, is) = joint_read a.job1.now a.job2.now a.cert2.now a.state a.first s.pre v.0.1.0 d v.0.0.members _ (short told) m in
+    let read = read_joint a.job1.now a.job2.now a.cert2.now a.state in
     c.tell.ensures at
-    ∙ ap (λ (r : Option ℕ). afterPairs (countsTold a.a) (countsTold v.0.0) (parsed r at)) (j.joint-refusal.ensures a.job2.now)
-    ∙ ap (afterPairs (countsTold a.a) (countsTold v.0.0)) (sym is)
-    ∙ ap (λ (w : Verdict). afterSecond (countsTold a.a) w read) (sym (ap pair_of v.1) ∙ o.check-pair.ensures.1.0 refl)
+    ∙ ap (λ (r : Option ℕ). after_pairs (counts_told a.a) (counts_told v.0.0) (parsed r at)) (j.joint-refusal.ensures a.job2.now)
+    ∙ ap (after_pairs (counts_told a.a) (counts_told v.0.0)) (sym is)
+    ∙ ap (λ (w : Verdict). after_second (counts_told a.a) w read) (sym (ap pair_of v.1) ∙ o.check-pair.ensures.1.0 refl)
 
-pub join-second-spec : {M : Type 1} → statement M
-join-second-spec =
+pub join_second_spec : {M : Type 1} → statement M
+join_second_spec =
     tie.close
     (tie.spec
-    check-pair-requires
-    enum-known-v
-    enum-known-v-2
-    cast-members
-    slice-aggregate-all
-    slice-aggregate-joint-refusal
-    joint-refusal-requires
-    tell-requires
+    check_pair_requires
+    enum_known_v
+    enum_known_v_2
+    cast_members
+    slice_aggregate_all
+    slice_aggregate_joint_refusal
+    joint_refusal_requires
+    tell_requires
     returns
-    returns-2)
+    returns_2)

@@ -5,21 +5,21 @@ use borrow.Author.Rules.{rules}
 use Rattle.joint.proofs.settle.Statement.{statement}
 use Rattle.joint.proofs.settle.Tie as tie
 
-shared-slice-read-wide : tie.Need-shared-slice-read-wide
-shared-slice-read-wide c = search rules
+shared_slice_read_wide : tie.Need-shared-slice-read-wide
+shared_slice_read_wide c = search rules
 
-wide-requires : tie.Need-wide-requires
-wide-requires c κs = search rules
+wide_requires : tie.Need-wide-requires
+wide_requires c κs = search rules
 
 returns : tie.Need-returns
 returns c = (rw (ne_eqb _ _ (λ e. c.if1.true (c.before.wide.ensures.0 ∙ e))) refl, c.before.before.before.before.before.requires.0)
 
-find-requires : tie.Need-find-requires
-find-requires c κs = c.before.before.before.before.before.requires
+find_requires : tie.Need-find-requires
+find_requires c κs = c.before.before.before.before.before.requires
 
-returns-2 : tie.Need-returns-2
-returns-2 c = (rw (eq-eqb _ _ (sym c.before.before.wide.ensures.0 ∙ c.before.if1.false)) c.find.ensures.0, c.find.ensures.1)
+returns_2 : tie.Need-returns-2
+returns_2 c = (rw (eq-eqb _ _ (sym c.before.before.wide.ensures.0 ∙ c.before.if1.false)) c.find.ensures.0, c.find.ensures.1)
 
-pub settle-spec : {M : Type 1} → statement M
-settle-spec =
-    tie.close (tie.spec shared-slice-read-wide wide-requires returns find-requires returns-2)
+pub settle_spec : {M : Type 1} → statement M
+settle_spec =
+    tie.close (tie.spec shared_slice_read_wide wide_requires returns find_requires returns_2)

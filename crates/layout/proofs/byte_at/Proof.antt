@@ -10,20 +10,20 @@ use Rattle.layout.proofs.byte_at.Lts as lts
 use Rattle.number.proofs.wide.Reads as wide-reads
 
 -- src/lib.rt:30:21
-shared-slice-read-wide : tie.Need-shared-slice-read-wide
-shared-slice-read-wide c = search rules
+shared_slice_read_wide : tie.Need-shared-slice-read-wide
+shared_slice_read_wide c = search rules
 
 -- src/lib.rt:30:9
-wide-requires : tie.Need-wide-requires
-wide-requires c κs = search rules
+wide_requires : tie.Need-wide-requires
+wide_requires c κs = search rules
 
 -- src/lib.rt:30:9
 returns : tie.Need-returns
 returns c = search rules
 
 -- src/lib.rt:26:1
-returns-2 : tie.Need-returns-2
-returns-2 c = let a = c.before.before.args in (sym (get_or-eq_default a.bytes.now 0 {n = a.at} (omega arith)), omega arith)
+returns_2 : tie.Need-returns-2
+returns_2 c = let a = c.before.before.args in (sym (get_or-eq_default a.bytes.now 0 {n = a.at} (omega arith)), omega arith)
 
-pub byte-at-spec : {M : Type 1} → statement M
-byte-at-spec = tie.close (tie.spec shared-slice-read-wide wide-requires returns returns-2)
+pub byte_at_spec : {M : Type 1} → statement M
+byte_at_spec = tie.close (tie.spec shared_slice_read_wide wide_requires returns returns_2)

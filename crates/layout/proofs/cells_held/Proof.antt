@@ -5,14 +5,14 @@ use borrow.Author.Rules.{rules}
 use Rattle.layout.proofs.cells_held.Statement.{statement}
 use Rattle.layout.proofs.cells_held.Tie as tie
 
-shared-slice-read-n : tie.Need-shared-slice-read-n
-shared-slice-read-n c = search rules
+shared_slice_read_n : tie.Need-shared-slice-read-n
+shared_slice_read_n c = search rules
 
-cast-n : tie.Need-overflow-cast-n
-cast-n c = omega (arith, c.shared-slice-known.given 0)
+cast_n : tie.Need-overflow-cast-n
+cast_n c = omega (arith, c.shared-slice-known.given 0)
 
-sub-most : tie.Need-overflow-sub-most
-sub-most c = search rules
+sub_most : tie.Need-overflow-sub-most
+sub_most c = search rules
 
 returns : tie.Need-returns
 returns c =
@@ -20,11 +20,11 @@ returns c =
     let l = c.before.before.all.given in
     (omega arith, omega arith, omega (arith, length-take (get_or s 0 0) (drop 3 s), length-drop 3 s))
 
-returns-2 : tie.Need-returns-2
-returns-2 c =
+returns_2 : tie.Need-returns-2
+returns_2 c =
     let s = c.before.before.before.args.s.now in
     let l = c.before.before.all.given in
     (omega arith, omega arith, omega (arith, length-take (get_or s 0 0) (drop 3 s), length-drop 3 s))
 
-pub cells-held-spec : {M : Type 1} → statement M
-cells-held-spec = tie.close (tie.spec shared-slice-read-n cast-n sub-most returns returns-2)
+pub cells_held_spec : {M : Type 1} → statement M
+cells_held_spec = tie.close (tie.spec shared_slice_read_n cast_n sub_most returns returns_2)

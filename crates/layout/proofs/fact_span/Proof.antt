@@ -1,9 +1,9 @@
 -- From 0 up to 0 where the entry is not whole, or of version 1; else from where they begin to the entry's end.
 use mathlib.Core.Path.{◌≡◌, ◌∙◌, sym}
 use native.Mathlib.Omega.{arith}
-use Rattle.layout.specs.Entries.{versionOf, Whole}
-use Rattle.layout.proofs.Whole.{end-told, end-some, end_whole}
-use Rattle.layout.proofs.Facts.{facts-none, facts-lost, span_none, span-lost, facts-end, facts-told, span-told}
+use Rattle.layout.specs.Entries.{version_of, Whole}
+use Rattle.layout.proofs.Whole.{end_told_lem, end_some, end_whole}
+use Rattle.layout.proofs.Facts.{facts_none, facts_lost, span_none, span_lost, facts_end_lem, facts_told, span_told}
 use borrow.Author.Rules.{rules}
 use Rattle.layout.proofs.fact_span.Statement.{statement}
 use Rattle.layout.proofs.fact_span.Tie as tie
@@ -18,26 +18,26 @@ use Rattle.number.proofs.wide.Reads as wide-reads
 abbrev begun : tie.Else1 → tie.Start
 begun c = c.before.before.before
 
-entry-end-requires : tie.Need-entry-end-requires
-entry-end-requires c κs = search rules
+entry_end_requires : tie.Need-entry-end-requires
+entry_end_requires c κs = search rules
 
 returns : tie.Need-returns
 returns c =
     let a = c.before.before.before.args in
     let lost : ¬ Whole a.bytes.now a.variables a.at =
-    λ w. end-some a.bytes.now a.variables a.at c.before.entry-end.result c.before.entry-end.ensures w c.if1.true in
-    let places = span-lost a.bytes.now a.variables a.at lost in
-    (omega arith, omega arith, sym (facts-lost a.bytes.now a.variables a.at lost), places.0, places.1)
+    λ w. end_some a.bytes.now a.variables a.at c.before.entry-end.result c.before.entry-end.ensures w c.if1.true in
+    let places = span_lost a.bytes.now a.variables a.at lost in
+    (omega arith, omega arith, sym (facts_lost a.bytes.now a.variables a.at lost), places.0, places.1)
 
-version-of-requires : tie.Need-version-of-requires
-version-of-requires c κs = search rules
+version_of_requires : tie.Need-version-of-requires
+version_of_requires c κs = search rules
 
-returns-2 : tie.Need-returns-2
-returns-2 c =
+returns_2 : tie.Need-returns-2
+returns_2 c =
     let a = (begun c.before.before).args in
-    let other : ¬ (versionOf a.bytes.now ≡ 2) = λ e. c.if2.true (c.before.version_of.ensures ∙ e) in
+    let other : ¬ (version_of a.bytes.now ≡ 2) = λ e. c.if2.true (c.before.version_of.ensures ∙ e) in
     let places = span_none a.bytes.now a.variables a.at other in
-    (omega arith, omega arith, sym (facts-none a.bytes.now a.variables a.at other), places.0, places.1)
+    (omega arith, omega arith, sym (facts_none a.bytes.now a.variables a.at other), places.0, places.1)
 
 -- the entry is whole
 stands : (c : tie.Else2) → let a = (begun c.before.before).args in Whole a.bytes.now a.variables a.at
@@ -46,56 +46,56 @@ stands c =
     let o = c.before.before in
     end_whole a.bytes.now a.variables a.at o.before.entry-end.result o.before.entry-end.ensures o.if1.false
 
-add-facts-first : tie.Need-overflow-add-facts-first
-add-facts-first c = let w = stands c in omega arith
+add_facts_first : tie.Need-overflow-add-facts-first
+add_facts_first c = let w = stands c in omega arith
 
-add-facts-first-2 : tie.Need-overflow-add-facts-first-2
-add-facts-first-2 c = let w = stands c in omega arith
+add_facts_first_2 : tie.Need-overflow-add-facts-first-2
+add_facts_first_2 c = let w = stands c in omega arith
 
 add_wide : tie.Need-overflow-add-wide
 add_wide c = let w = stands c in omega arith
 
-shared-slice-read-wide : tie.Need-shared-slice-read-wide
-shared-slice-read-wide c = let w = stands c.before in omega arith
+shared_slice_read_wide : tie.Need-shared-slice-read-wide
+shared_slice_read_wide c = let w = stands c.before in omega arith
 
-wide-requires : tie.Need-wide-requires
-wide-requires c κs = search rules
+wide_requires : tie.Need-wide-requires
+wide_requires c κs = search rules
 
-add-facts-first-3 : tie.Need-overflow-add-facts-first-3
-add-facts-first-3 c = let w = stands c.before.before in omega (arith, c.wide.ensures.0)
+add_facts_first_3 : tie.Need-overflow-add-facts-first-3
+add_facts_first_3 c = let w = stands c.before.before in omega (arith, c.wide.ensures.0)
 
-facts-first-requires : tie.Need-facts-first-requires
-facts-first-requires c κs = let w = stands c.before.before in omega (arith, c.wide.ensures.0, w.inside)
+facts_first_requires : tie.Need-facts-first-requires
+facts_first_requires c κs = let w = stands c.before.before in omega (arith, c.wide.ensures.0, w.inside)
 
-returns-3 : tie.Need-returns-3
-returns-3 c =
+returns_3 : tie.Need-returns-3
+returns_3 c =
     let e = c.before.before.before in
     let a = (begun e.before.before).args in
     let w = stands e in
     let second = sym e.before.version_of.ensures ∙ e.if2.false in
     let first = rw c.before.wide.ensures.0 at c.facts-first.ensures.0 in
-    let end = e.before.before.before.entry-end.ensures ∙ sym (end-told a.bytes.now a.variables a.at w) in
-    let places = span-told a.bytes.now a.variables a.at second _ _ first end w in (
-      omega (arith, first, end, facts-end a.bytes.now a.variables a.at second),
-      omega (arith, end, w.facts-inside),
-      facts-told a.bytes.now a.variables a.at second _ _ first end w,
+    let end = e.before.before.before.entry-end.ensures ∙ sym (end_told_lem a.bytes.now a.variables a.at w) in
+    let places = span_told a.bytes.now a.variables a.at second _ _ first end w in (
+      omega (arith, first, end, facts_end_lem a.bytes.now a.variables a.at second),
+      omega (arith, end, w.facts_inside),
+      facts_told a.bytes.now a.variables a.at second _ _ first end w,
       places.0,
       places.1,
     )
 
-pub fact-span-spec : {M : Type 1} → statement M
-fact-span-spec =
+pub fact_span_spec : {M : Type 1} → statement M
+fact_span_spec =
     tie.close
     (tie.spec
-    entry-end-requires
+    entry_end_requires
     returns
-    version-of-requires
-    returns-2
-    add-facts-first
-    add-facts-first-2
+    version_of_requires
+    returns_2
+    add_facts_first
+    add_facts_first_2
     add_wide
-    shared-slice-read-wide
-    wide-requires
-    add-facts-first-3
-    facts-first-requires
-    returns-3)
+    shared_slice_read_wide
+    wide_requires
+    add_facts_first_3
+    facts_first_requires
+    returns_3)

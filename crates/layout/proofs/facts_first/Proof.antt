@@ -2,7 +2,7 @@
 use mathlib.Core.Path.{refl}
 use native.Mathlib.Omega.{arith}
 use borrow.Author.Tests.{lt-ltb, le-ltb}
-use Rattle.layout.specs.Entries.{factsFirst}
+use Rattle.layout.specs.Entries.{facts_first}
 use borrow.Author.Rules.{rules}
 use Rattle.layout.proofs.facts_first.Statement.{statement}
 use Rattle.layout.proofs.facts_first.Tie as tie
@@ -11,26 +11,26 @@ use Rattle.layout.proofs.facts_first.Lts as lts
 use Rattle.layout.proofs.byte_at.Reads as byte-at-reads
 
 -- src/lib.rt:52:8
-byte-at-requires : tie.Need-byte-at-requires
-byte-at-requires c κs = search rules
+byte_at_requires : tie.Need-byte-at-requires
+byte_at_requires c κs = search rules
 
 -- src/lib.rt:53:16
-add-result : tie.Need-overflow-add-result
-add-result c = search rules
+add_result : tie.Need-overflow-add-result
+add_result c = search rules
 
 -- src/lib.rt:53:9
 returns : tie.Need-returns
-unfolding factsFirst
+unfolding facts_first
 returns c = (rw (← c.before.byte_at.ensures.0, lt-ltb c.before.byte_at.result 128 (omega arith)) refl, omega arith)
 
 -- src/lib.rt:55:5
-add-result-2 : tie.Need-overflow-add-result-2
-add-result-2 c = search rules
+add_result_2 : tie.Need-overflow-add-result-2
+add_result_2 c = search rules
 
 -- src/lib.rt:48:1
-returns-2 : tie.Need-returns-2
-unfolding factsFirst
-returns-2 c = (rw (← c.before.byte_at.ensures.0, le-ltb c.before.byte_at.result 128 (omega arith)) refl, omega arith)
+returns_2 : tie.Need-returns-2
+unfolding facts_first
+returns_2 c = (rw (← c.before.byte_at.ensures.0, le-ltb c.before.byte_at.result 128 (omega arith)) refl, omega arith)
 
-pub facts-first-spec : {M : Type 1} → statement M
-facts-first-spec = tie.close (tie.spec byte-at-requires add-result returns add-result-2 returns-2)
+pub facts_first_spec : {M : Type 1} → statement M
+facts_first_spec = tie.close (tie.spec byte_at_requires add_result returns add_result_2 returns_2)

@@ -1,9 +1,9 @@
--- The eight bytes go to the front of an array of eight, and from there (`copy-through`).
+-- The eight bytes go to the front of an array of eight, and from there (`copy_through`).
 use mathlib.Core.Path.{◌≡◌, ap, ◌∙◌}
 use native.Mathlib.Omega.{arith}
 use lib.ListN.{length, drop, length-drop, replicate}
 use lib.Seq.{paste, length-paste}
-use Rattle.layout.proofs.Copies.{copy-through}
+use Rattle.layout.proofs.Copies.{copy_through}
 use borrow.Author.Rules.{rules}
 use Rattle.layout.proofs.move_eight.Statement.{statement}
 use Rattle.layout.proofs.move_eight.Tie as tie
@@ -12,17 +12,17 @@ use Rattle.layout.proofs.move_eight.Tie as tie
 abbrev begun : tie.After-eight → tie.Start
 begun c = c.before.before.before
 
-slice-aggregate-copy-bytes : tie.Need-slice-aggregate-copy-bytes
-slice-aggregate-copy-bytes c = search rules
+slice_aggregate_copy_bytes : tie.Need-slice-aggregate-copy-bytes
+slice_aggregate_copy_bytes c = search rules
 
-copy-bytes-requires : tie.Need-copy-bytes-requires
-copy-bytes-requires c κs = search rules
+copy_bytes_requires : tie.Need-copy-bytes-requires
+copy_bytes_requires c κs = search rules
 
-slice-aggregate-copy-bytes-2 : tie.Need-slice-aggregate-copy-bytes-2
-slice-aggregate-copy-bytes-2 c = search rules
+slice_aggregate_copy_bytes_2 : tie.Need-slice-aggregate-copy-bytes-2
+slice_aggregate_copy_bytes_2 c = search rules
 
-copy-bytes-requires-2 : tie.Need-copy-bytes-requires-2
-copy-bytes-requires-2 c κs = search rules
+copy_bytes_requires_2 : tie.Need-copy-bytes-requires-2
+copy_bytes_requires_2 c κs = search rules
 
 -- what the slice holds at the end
 held : (c : tie.After-slice-known2)
@@ -34,7 +34,7 @@ held c =
     let a = (begun o.before.before.before).args in
     c.before.before.copy-bytes2.ensures
     ∙ rw o.before.before.copy-bytes.ensures
-    (copy-through a.to.now a.at (replicate 8 0) (drop a.first a.bytes.now) 8 (omega (arith, length-drop a.first a.bytes.now)))
+    (copy_through a.to.now a.at (replicate 8 0) (drop a.first a.bytes.now) 8 (omega (arith, length-drop a.first a.bytes.now)))
 
 same_length : tie.Need-same-length
 same_length c =
@@ -46,13 +46,13 @@ same_length c =
 returns : tie.Need-returns
 returns c = held c
 
-pub move-eight-spec : {M : Type 1} → statement M
-move-eight-spec =
+pub move_eight_spec : {M : Type 1} → statement M
+move_eight_spec =
     tie.close
     (tie.spec
-    slice-aggregate-copy-bytes
-    copy-bytes-requires
-    slice-aggregate-copy-bytes-2
-    copy-bytes-requires-2
+    slice_aggregate_copy_bytes
+    copy_bytes_requires
+    slice_aggregate_copy_bytes_2
+    copy_bytes_requires_2
     same_length
     returns)

@@ -13,12 +13,12 @@ returns : tie.Need-returns
 returns c = let a = c.before.args in sym (get_or-eq_default a.bytes.now 0 {n = 0} (omega arith))
 
 -- src/lib.rt:22:5
-shared-slice-read-result : tie.Need-shared-slice-read-result
-shared-slice-read-result c = search rules
+shared_slice_read_result : tie.Need-shared-slice-read-result
+shared_slice_read_result c = search rules
 
 -- src/lib.rt:16:1
-returns-2 : tie.Need-returns-2
-returns-2 c = search rules
+returns_2 : tie.Need-returns-2
+returns_2 c = search rules
 
-pub version-of-spec : {M : Type 1} → statement M
-version-of-spec = tie.close (tie.spec returns shared-slice-read-result returns-2)
+pub version_of_spec : {M : Type 1} → statement M
+version_of_spec = tie.close (tie.spec returns shared_slice_read_result returns_2)

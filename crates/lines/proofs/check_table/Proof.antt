@@ -5,16 +5,16 @@ use borrow.Author.Rules.{rules}
 use Rattle.lines.proofs.check_table.Statement.{statement}
 use Rattle.lines.proofs.check_table.Tie as tie
 
-allows-requires : tie.Need-allows-requires
-allows-requires c κs = search rules
+allows_requires : tie.Need-allows-requires
+allows_requires c κs = search rules
 
 returns : tie.Need-returns
 unfolding checked
 returns c = simp (sym c.before.allows.ensures ∙ c.if1.true)
 
-returns-2 : tie.Need-returns-2
+returns_2 : tie.Need-returns-2
 unfolding checked
-returns-2 c = simp (sym c.before.allows.ensures ∙ c.if1.false)
+returns_2 c = simp (sym c.before.allows.ensures ∙ c.if1.false)
 
-pub check-table-spec : {M : Type 1} → statement M
-check-table-spec = tie.close (tie.spec allows-requires returns returns-2)
+pub check_table_spec : {M : Type 1} → statement M
+check_table_spec = tie.close (tie.spec allows_requires returns returns_2)

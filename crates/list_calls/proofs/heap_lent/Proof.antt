@@ -2,11 +2,11 @@
 use mathlib.Core.List.{List}
 use mathlib.Core.Path.{◌≡◌, sym, ap, ◌∙◌}
 use Prim.Native.Nat.{ℕ}
-use Rattle.heapbytes.specs.HeapBytes.{codesFrom}
-use Rattle.heapbytes.proofs.Bytes.{other-count, with_values}
-use Rattle.heapcodec.specs.Codec.{readHeap}
+use Rattle.heapbytes.specs.HeapBytes.{codes_from}
+use Rattle.heapbytes.proofs.Bytes.{other_count, with_values}
+use Rattle.heapcodec.specs.Codec.{read_heap}
 use Rattle.heapcodec.specs.declared.HeapRead.{HeapRead}
-use Rattle.heapcodec.proofs.Codec.{tells-readable}
+use Rattle.heapcodec.proofs.Codec.{tells_readable}
 use borrow.Author.Rules.{rules}
 use Rattle.list_calls.proofs.heap_lent.Statement.{statement}
 use Rattle.list_calls.proofs.heap_lent.Tie as tie
@@ -22,30 +22,30 @@ module _ (c : tie.After-read-heap) where
   abbrev values : List ℕ
   values = start.args.values.now
 
-  read_is : c.read-heap.result ≡ readHeap bytes (codesFrom values)
-  read_is = c.read-heap.ensures ∙ ap (readHeap bytes) c.before.read-values.ensures
+  read_is : c.read-heap.result ≡ read_heap bytes (codes_from values)
+  read_is = c.read-heap.ensures ∙ ap (read_heap bytes) c.before.read-values.ensures
 
-read-values-requires : tie.Need-read-values-requires
-read-values-requires c κs = search rules
+read_values_requires : tie.Need-read-values-requires
+read_values_requires c κs = search rules
 
-read-heap-requires : tie.Need-read-heap-requires
-read-heap-requires c κs = search rules
+read_heap_requires : tie.Need-read-heap-requires
+read_heap_requires c κs = search rules
 
 returns : tie.Need-returns
 returns c =
     let p = c.before.before in
     record {
-      readable-is = sym (other-count (bytes p) (values p) c.before.if1.true);
+      readable_is = sym (other_count (bytes p) (values p) c.before.if1.true);
       heap_is = ap (λ (r : HeapRead). r.heap) (read_is p);
     }
 
-returns-2 : tie.Need-returns-2
-returns-2 c =
+returns_2 : tie.Need-returns-2
+returns_2 c =
     let p = c.before in
     record {
-      readable-is = ap (λ (r : HeapRead). r.readable) (read_is p) ∙ tells-readable (bytes p) (codesFrom (values p)) ∙ with_values (bytes p) (values p) c.if1.false;
+      readable_is = ap (λ (r : HeapRead). r.readable) (read_is p) ∙ tells_readable (bytes p) (codes_from (values p)) ∙ with_values (bytes p) (values p) c.if1.false;
       heap_is = ap (λ (r : HeapRead). r.heap) (read_is p);
     }
 
-pub heap-lent-spec : {M : Type 1} → statement M
-heap-lent-spec = tie.close (tie.spec read-values-requires read-heap-requires returns returns-2)
+pub heap_lent_spec : {M : Type 1} → statement M
+heap_lent_spec = tie.close (tie.spec read_values_requires read_heap_requires returns returns_2)

@@ -1,7 +1,7 @@
 -- Written, or not.
 use mathlib.Core.Path.{sym, ap, ◌∙◌}
 use Rattle.blocklist.specs.declared.Edit.{Edit}
-use Rattle.list_calls.specs.ListBytes.{editNumber, bytesWritten, numbersWritten}
+use Rattle.list_calls.specs.ListBytes.{edit_number, bytes_written, numbers_written}
 use borrow.Author.Rules.{rules}
 use Rattle.list_calls.proofs.put_back.Statement.{statement}
 use Rattle.list_calls.proofs.put_back.Tie as tie
@@ -9,23 +9,23 @@ use Rattle.list_calls.proofs.put_back.Tie as tie
 enum_told : tie.Need-enum-told
 enum_told c = search rules
 
-write-heap-requires : tie.Need-write-heap-requires
-write-heap-requires c κs = search rules
+write_heap_requires : tie.Need-write-heap-requires
+write_heap_requires c κs = search rules
 
-write-values-requires : tie.Need-write-values-requires
-write-values-requires c κs = search rules
+write_values_requires : tie.Need-write-values-requires
+write_values_requires c κs = search rules
 
-enum-known-edit : tie.Need-enum-known-edit
-enum-known-edit c = search rules
+enum_known_edit : tie.Need-enum-known-edit
+enum_known_edit c = search rules
 
-refusal-number-requires : tie.Need-refusal-number-requires
-refusal-number-requires c κs = search rules
+refusal_number_requires : tie.Need-refusal-number-requires
+refusal_number_requires c κs = search rules
 
 same_length : tie.Need-same-length
 same_length c = search rules
 
-same-length-2 : tie.Need-same-length-2
-same-length-2 c = search rules
+same_length_2 : tie.Need-same-length-2
+same_length_2 c = search rules
 
 returns : tie.Need-returns
 returns c =
@@ -36,24 +36,24 @@ returns c =
     let a = start.args in
     let is = sym t.enum_told.given.1 in
     record {
-      number_is = ap editNumber is;
-      bytes-are = h.write-heap.ensures ∙ ap (λ (d : Edit). bytesWritten d a.edited.heap a.heap.now) is;
-      values-are = v.write-values.ensures ∙ ap (λ (d : Edit). numbersWritten d a.edited.heap a.values.now) is;
+      number_is = ap edit_number is;
+      bytes_are = h.write-heap.ensures ∙ ap (λ (d : Edit). bytes_written d a.edited.heap a.heap.now) is;
+      values_are = v.write-values.ensures ∙ ap (λ (d : Edit). numbers_written d a.edited.heap a.values.now) is;
     }
 
-returns-2 : tie.Need-returns-2
-returns-2 c = search rules
+returns_2 : tie.Need-returns-2
+returns_2 c = search rules
 
-pub put-back-spec : {M : Type 1} → statement M
-put-back-spec =
+pub put_back_spec : {M : Type 1} → statement M
+put_back_spec =
     tie.close
     (tie.spec
     enum_told
-    write-heap-requires
-    write-values-requires
-    enum-known-edit
-    refusal-number-requires
+    write_heap_requires
+    write_values_requires
+    enum_known_edit
+    refusal_number_requires
     same_length
-    same-length-2
+    same_length_2
     returns
-    returns-2)
+    returns_2)

@@ -5,7 +5,7 @@ use Prim.Native.Nat.{ℕ}
 use borrow.Author.Tests.{not-true, not-false}
 use Rattle.heapbytes.specs.HeapBytes.{readable}
 use Rattle.blocklist.specs.Answers.{Removes}
-use Rattle.list_calls.proofs.Lists.{edits-13, edits-done}
+use Rattle.list_calls.proofs.Lists.{edits_13, edits_done}
 use borrow.Author.Rules.{rules}
 use Rattle.list_calls.proofs.vorruda_list_remove.Statement.{statement}
 use Rattle.list_calls.proofs.vorruda_list_remove.Tie as tie
@@ -21,53 +21,53 @@ module _ (c : tie.After-heap-lent) where
   abbrev values : List ℕ
   values = start.args.values.now
 
-heap-lent-requires : tie.Need-heap-lent-requires
-heap-lent-requires c κs = search rules
+heap_lent_requires : tie.Need-heap-lent-requires
+heap_lent_requires c κs = search rules
 
 same_length : tie.Need-same-length
 same_length c = search rules
 
-same-length-2 : tie.Need-same-length-2
-same-length-2 c = search rules
+same_length_2 : tie.Need-same-length-2
+same_length_2 c = search rules
 
 returns : tie.Need-returns
 returns c =
     let p = c.before.before in
     let l = p.heap-lent in
-    edits-13 (bytes p) (values p) (λ t r. Removes t (start p).args.n r) (sym l.ensures.readable-is ∙ not-true l.result.readable c.if1.true)
+    edits_13 (bytes p) (values p) (λ t r. Removes t (start p).args.n r) (sym l.ensures.readable_is ∙ not-true l.result.readable c.if1.true)
 
-remove-requires : tie.Need-remove-requires
-remove-requires c κs = search rules
+remove_requires : tie.Need-remove-requires
+remove_requires c κs = search rules
 
-put-back-requires : tie.Need-put-back-requires
-put-back-requires c κs = search rules
+put_back_requires : tie.Need-put-back-requires
+put_back_requires c κs = search rules
 
-same-length-3 : tie.Need-same-length-3
-same-length-3 c = search rules
+same_length_3 : tie.Need-same-length-3
+same_length_3 c = search rules
 
-same-length-4 : tie.Need-same-length-4
-same-length-4 c = search rules
+same_length_4 : tie.Need-same-length-4
+same_length_4 c = search rules
 
-returns-2 : tie.Need-returns-2
-returns-2 c =
+returns_2 : tie.Need-returns-2
+returns_2 c =
     let b = c.before.before.before.before in
     let i = b.before.before.before in
     let e = i.before.before in
     let p = e.before.before in
     let l = p.heap-lent in
-    edits-done (bytes p) (values p) (λ t r. Removes t (start p).args.n r) (sym l.ensures.readable-is ∙ not-false l.result.readable e.if1.false) l.result l.ensures
+    edits_done (bytes p) (values p) (λ t r. Removes t (start p).args.n r) (sym l.ensures.readable_is ∙ not-false l.result.readable e.if1.false) l.result l.ensures
     i.remove.result i.remove.ensures b.put_back.result b.put_back.new.1.0 b.put_back.new.1.1.0 b.put_back.ensures
 
-pub vorruda-list-remove-spec : {M : Type 1} → statement M
-vorruda-list-remove-spec =
+pub vorruda_list_remove_spec : {M : Type 1} → statement M
+vorruda_list_remove_spec =
     tie.close
     (tie.spec
-    heap-lent-requires
+    heap_lent_requires
     same_length
-    same-length-2
+    same_length_2
     returns
-    remove-requires
-    put-back-requires
-    same-length-3
-    same-length-4
-    returns-2)
+    remove_requires
+    put_back_requires
+    same_length_3
+    same_length_4
+    returns_2)

@@ -12,14 +12,14 @@ use borrow.Author.Rules.{rules}
 use Rattle.number.proofs.put_number.Statement.{statement}
 use Rattle.number.proofs.put_number.Tie as tie
 
-cast-bytes : tie.Need-overflow-cast-bytes
-cast-bytes c = search rules
+cast_bytes : tie.Need-overflow-cast-bytes
+cast_bytes c = search rules
 
-slice-write-bytes : tie.Need-slice-write-bytes
-slice-write-bytes c = omega (arith, some_bytes c.before.args.n)
+slice_write_bytes : tie.Need-slice-write-bytes
+slice_write_bytes c = omega (arith, some_bytes c.before.args.n)
 
-add-result : tie.Need-overflow-add-result
-add-result c = search rules
+add_result : tie.Need-overflow-add-result
+add_result c = search rules
 
 same_length : tie.Need-same-length
 same_length c = search rules
@@ -30,67 +30,67 @@ returns c =
     let e = one a.n c.if1.true in
     (omega (arith, ap length e), stored a.bytes.now a.at a.n (a.n ∷ []) e (omega arith))
 
-add-bytes : tie.Need-overflow-add-bytes
-add-bytes c = search rules
+add_bytes : tie.Need-overflow-add-bytes
+add_bytes c = search rules
 
-cast-bytes-2 : tie.Need-overflow-cast-bytes-2
-cast-bytes-2 c = search rules
+cast_bytes_2 : tie.Need-overflow-cast-bytes-2
+cast_bytes_2 c = search rules
 
-slice-write-bytes-2 : tie.Need-slice-write-bytes-2
-slice-write-bytes-2 c = omega (arith, some_bytes c.before.args.n)
+slice_write_bytes_2 : tie.Need-slice-write-bytes-2
+slice_write_bytes_2 c = omega (arith, some_bytes c.before.args.n)
 
-cast-bytes-3 : tie.Need-overflow-cast-bytes-3
-cast-bytes-3 c = search rules
+cast_bytes_3 : tie.Need-overflow-cast-bytes-3
+cast_bytes_3 c = search rules
 
-add-bytes-2 : tie.Need-overflow-add-bytes-2
-add-bytes-2 c = search rules
+add_bytes_2 : tie.Need-overflow-add-bytes-2
+add_bytes_2 c = search rules
 
-slice-write-bytes-3 : tie.Need-slice-write-bytes-3
-slice-write-bytes-3 c = simp length-set (omega (arith, ap length (two c.before.before.args.n (omega arith) c.if2.true)))
+slice_write_bytes_3 : tie.Need-slice-write-bytes-3
+slice_write_bytes_3 c = simp length-set (omega (arith, ap length (two c.before.before.args.n (omega arith) c.if2.true)))
 
-add-result-2 : tie.Need-overflow-add-result-2
-add-result-2 c = search rules
+add_result_2 : tie.Need-overflow-add-result-2
+add_result_2 c = search rules
 
-same-length-2 : tie.Need-same-length-2
-same-length-2 c = search rules
+same_length_2 : tie.Need-same-length-2
+same_length_2 c = search rules
 
-returns-2 : tie.Need-returns-2
-returns-2 c =
+returns_2 : tie.Need-returns-2
+returns_2 c =
     let a = c.before.before.args in
     let e = two a.n (omega arith) c.if2.true in (
       omega (arith, ap length e),
       rw (add-one a.at) (stored a.bytes.now a.at a.n ((a.n % 128 + 128) ∷ (a.n / 128) ∷ []) e (omega arith)),
     )
 
-add-bytes-3 : tie.Need-overflow-add-bytes-3
-add-bytes-3 c = search rules
+add_bytes_3 : tie.Need-overflow-add-bytes-3
+add_bytes_3 c = search rules
 
-cast-bytes-4 : tie.Need-overflow-cast-bytes-4
-cast-bytes-4 c = search rules
+cast_bytes_4 : tie.Need-overflow-cast-bytes-4
+cast_bytes_4 c = search rules
 
-add-bytes-4 : tie.Need-overflow-add-bytes-4
-add-bytes-4 c = search rules
+add_bytes_4 : tie.Need-overflow-add-bytes-4
+add_bytes_4 c = search rules
 
-slice-write-bytes-4 : tie.Need-slice-write-bytes-4
-slice-write-bytes-4 c = simp length-set (omega (arith, ap length (three c.before.before.args.n c.if2.false)))
+slice_write_bytes_4 : tie.Need-slice-write-bytes-4
+slice_write_bytes_4 c = simp length-set (omega (arith, ap length (three c.before.before.args.n c.if2.false)))
 
-cast-bytes-5 : tie.Need-overflow-cast-bytes-5
-cast-bytes-5 c = search rules
+cast_bytes_5 : tie.Need-overflow-cast-bytes-5
+cast_bytes_5 c = search rules
 
-add-bytes-5 : tie.Need-overflow-add-bytes-5
-add-bytes-5 c = search rules
+add_bytes_5 : tie.Need-overflow-add-bytes-5
+add_bytes_5 c = search rules
 
-slice-write-bytes-5 : tie.Need-slice-write-bytes-5
-slice-write-bytes-5 c = simp length-set (omega (arith, ap length (three c.before.before.args.n c.if2.false)))
+slice_write_bytes_5 : tie.Need-slice-write-bytes-5
+slice_write_bytes_5 c = simp length-set (omega (arith, ap length (three c.before.before.args.n c.if2.false)))
 
-add-result-3 : tie.Need-overflow-add-result-3
-add-result-3 c = search rules
+add_result_3 : tie.Need-overflow-add-result-3
+add_result_3 c = search rules
 
-same-length-3 : tie.Need-same-length-3
-same-length-3 c = search rules
+same_length_3 : tie.Need-same-length-3
+same_length_3 c = search rules
 
-returns-3 : tie.Need-returns-3
-returns-3 c =
+returns_3 : tie.Need-returns-3
+returns_3 c =
     let a = c.before.before.args in
     let e = three a.n c.if2.false in (
       omega (arith, ap length e),
@@ -98,31 +98,31 @@ returns-3 c =
           (stored a.bytes.now a.at a.n ((a.n % 128 + 128) ∷ (a.n / 128 % 128 + 128) ∷ (a.n / 16384) ∷ []) e (omega arith)),
     )
 
-pub put-number-spec : {M : Type 1} → statement M
-put-number-spec =
+pub put_number_spec : {M : Type 1} → statement M
+put_number_spec =
     tie.close
     (tie.spec
-    cast-bytes
-    slice-write-bytes
-    add-result
+    cast_bytes
+    slice_write_bytes
+    add_result
     same_length
     returns
-    add-bytes
-    cast-bytes-2
-    slice-write-bytes-2
-    cast-bytes-3
-    add-bytes-2
-    slice-write-bytes-3
-    add-result-2
-    same-length-2
-    returns-2
-    add-bytes-3
-    cast-bytes-4
-    add-bytes-4
-    slice-write-bytes-4
-    cast-bytes-5
-    add-bytes-5
-    slice-write-bytes-5
-    add-result-3
-    same-length-3
-    returns-3)
+    add_bytes
+    cast_bytes_2
+    slice_write_bytes_2
+    cast_bytes_3
+    add_bytes_2
+    slice_write_bytes_3
+    add_result_2
+    same_length_2
+    returns_2
+    add_bytes_3
+    cast_bytes_4
+    add_bytes_4
+    slice_write_bytes_4
+    cast_bytes_5
+    add_bytes_5
+    slice_write_bytes_5
+    add_result_3
+    same_length_3
+    returns_3)

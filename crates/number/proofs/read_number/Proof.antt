@@ -12,34 +12,34 @@ begun c = c.before.before.before.before
 returns : tie.Need-returns
 returns c = let a = c.before.before.args in past_end a.bytes.now a.at (omega arith)
 
-shared-slice-read-wide : tie.Need-shared-slice-read-wide
-shared-slice-read-wide c = search rules
+shared_slice_read_wide : tie.Need-shared-slice-read-wide
+shared_slice_read_wide c = search rules
 
-wide-requires : tie.Need-wide-requires
-wide-requires c κs = search rules
+wide_requires : tie.Need-wide-requires
+wide_requires c κs = search rules
 
-add-t8 : tie.Need-overflow-add-t8
-add-t8 c = search rules
+add_t8 : tie.Need-overflow-add-t8
+add_t8 c = search rules
 
-returns-2 : tie.Need-returns-2
-returns-2 c =
+returns_2 : tie.Need-returns-2
+returns_2 c =
     let a = (begun c.before).args in
     one_byte a.bytes.now a.at c.before.wide.result (omega arith) (omega arith) (omega arith)
 
-read-long-requires : tie.Need-read-long-requires
-read-long-requires c κs = search rules
+read_long_requires : tie.Need-read-long-requires
+read_long_requires c κs = search rules
 
-returns-3 : tie.Need-returns-3
-returns-3 c = search rules
+returns_3 : tie.Need-returns-3
+returns_3 c = search rules
 
-pub read-number-spec : {M : Type 1} → statement M
-read-number-spec =
+pub read_number_spec : {M : Type 1} → statement M
+read_number_spec =
     tie.close
     (tie.spec
     returns
-    shared-slice-read-wide
-    wide-requires
-    add-t8
-    returns-2
-    read-long-requires
-    returns-3)
+    shared_slice_read_wide
+    wide_requires
+    add_t8
+    returns_2
+    read_long_requires
+    returns_3)

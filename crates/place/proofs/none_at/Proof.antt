@@ -9,43 +9,43 @@ use borrow.Author.Rules.{rules}
 use Rattle.place.proofs.none_at.Statement.{statement}
 use Rattle.place.proofs.none_at.Tie as tie
 
-abbrev invariant-loop : tie.invariant-loop
-invariant-loop places code i₀ i = (i ≤ length places) × (absent code (drop i places) ≡ absent code places)
+abbrev invariant_loop : tie.invariant-loop
+invariant_loop places code i₀ i = (i ≤ length places) × (absent code (drop i places) ≡ absent code places)
 
-abbrev decreases-loop : tie.decreases-loop
-decreases-loop places code i₀ i = length places - i
+abbrev decreases_loop : tie.decreases-loop
+decreases_loop places code i₀ i = length places - i
 
-loop-holds : tie.Need-loop-init invariant-loop decreases-loop
-loop-holds c = (omega arith, refl)
+loop_holds : tie.Need-loop-init invariant_loop decreases_loop
+loop_holds c = (omega arith, refl)
 
-shared-slice-read-if1 : tie.Need-shared-slice-read-if1 invariant-loop decreases-loop
-shared-slice-read-if1 c = search rules
+shared_slice_read_if1 : tie.Need-shared-slice-read-if1 invariant_loop decreases_loop
+shared_slice_read_if1 c = search rules
 
-returns : tie.Need-returns invariant-loop decreases-loop
+returns : tie.Need-returns invariant_loop decreases_loop
 returns c = let a = c.before.before.before.before.args in let l = c.before.before.before.loop in sym (found a.code a.places.now l.i (omega arith) c.if1.true) ∙ l.invariant.1
 
-add-i : tie.Need-overflow-add-i invariant-loop decreases-loop
-add-i c = search rules
+add_i : tie.Need-overflow-add-i invariant_loop decreases_loop
+add_i c = search rules
 
-loop-less : tie.Need-loop-smaller invariant-loop decreases-loop
-loop-less c = search rules
+loop_less : tie.Need-loop-smaller invariant_loop decreases_loop
+loop_less c = search rules
 
-loop-again : tie.Need-loop-preserved invariant-loop decreases-loop
-loop-again c = let a = c.before.before.before.before.args in let l = c.before.before.before.loop in (omega arith, sym (missed a.code a.places.now l.i (omega arith) c.if1.false) ∙ l.invariant.1)
+loop_again : tie.Need-loop-preserved invariant_loop decreases_loop
+loop_again c = let a = c.before.before.before.before.args in let l = c.before.before.before.loop in (omega arith, sym (missed a.code a.places.now l.i (omega arith) c.if1.false) ∙ l.invariant.1)
 
-returns-2 : tie.Need-returns-2 invariant-loop decreases-loop
-returns-2 c = let a = c.before.before.args in let l = c.before.loop in sym (none_left a.code a.places.now l.i (omega arith)) ∙ l.invariant.1
+returns_2 : tie.Need-returns-2 invariant_loop decreases_loop
+returns_2 c = let a = c.before.before.args in let l = c.before.loop in sym (none_left a.code a.places.now l.i (omega arith)) ∙ l.invariant.1
 
-pub none-at-spec : {M : Type 1} → statement M
-none-at-spec =
+pub none_at_spec : {M : Type 1} → statement M
+none_at_spec =
     tie.close
     (tie.spec
-    invariant-loop
-    decreases-loop
-    loop-holds
-    shared-slice-read-if1
+    invariant_loop
+    decreases_loop
+    loop_holds
+    shared_slice_read_if1
     returns
-    add-i
-    loop-less
-    loop-again
-    returns-2)
+    add_i
+    loop_less
+    loop_again
+    returns_2)

@@ -1,8 +1,8 @@
 -- The number of the choice at #, and at a cell; 0 for other codes.
 use mathlib.Core.Path.{sym}
 use native.Mathlib.Omega.{arith}
-use Rattle.placing.proofs.Chosen.{choice-of-null, choice-of-cell}
-use Rattle.placing.proofs.Tests.{choice-low}
+use Rattle.placing.proofs.Chosen.{choice_of_null, choice_of_cell}
+use Rattle.placing.proofs.Tests.{choice_low}
 use borrow.Author.Rules.{rules}
 use Rattle.placing.proofs.choice_of.Statement.{statement}
 use Rattle.placing.proofs.choice_of.Tie as tie
@@ -12,16 +12,16 @@ abbrev begun : tie.Else1 → tie.Start
 begun c = c.before.before
 
 returns : tie.Need-returns
-returns c = let a = c.before.before.args in sym (choice-of-null a.n a.p.code (omega arith))
+returns c = let a = c.before.before.args in sym (choice_of_null a.n a.p.code (omega arith))
 
-returns-2 : tie.Need-returns-2
-returns-2 c = let a = (begun c.before.before).args in choice-low a.n a.p.code c.before.before.if1.false (omega arith)
+returns_2 : tie.Need-returns-2
+returns_2 c = let a = (begun c.before.before).args in choice_low a.n a.p.code c.before.before.if1.false (omega arith)
 
-cast-result : tie.Need-overflow-cast-result
-cast-result c = search rules
+cast_result : tie.Need-overflow-cast-result
+cast_result c = search rules
 
-returns-3 : tie.Need-returns-3
-returns-3 c = let a = (begun c.before.before.before).args in sym (choice-of-cell a.n a.p.code c.before.before.before.if1.false)
+returns_3 : tie.Need-returns-3
+returns_3 c = let a = (begun c.before.before.before).args in sym (choice_of_cell a.n a.p.code c.before.before.before.if1.false)
 
-pub choice-of-spec : {M : Type 1} → statement M
-choice-of-spec = tie.close (tie.spec returns returns-2 cast-result returns-3)
+pub choice_of_spec : {M : Type 1} → statement M
+choice_of_spec = tie.close (tie.spec returns returns_2 cast_result returns_3)

@@ -1,6 +1,6 @@
 -- By the cell at q and its link: nothing, a free link, or a link that stands somewhere.
 use native.Mathlib.Omega.{arith}
-use Rattle.placing.proofs.Tests.{target_none, target_free, target-linked}
+use Rattle.placing.proofs.Tests.{target_none, target_free, target_linked}
 use borrow.Author.Rules.{rules}
 use Rattle.placing.proofs.target_of.Statement.{statement}
 use Rattle.placing.proofs.target_of.Tie as tie
@@ -12,20 +12,20 @@ begun c = c.before.before.before.before
 returns : tie.Need-returns
 returns c = let a = c.before.before.before.args in target_none a.links.now a.q.code (omega arith)
 
-link-at-requires : tie.Need-link-at-requires
-link-at-requires c κs = search rules
+link_at_requires : tie.Need-link-at-requires
+link_at_requires c κs = search rules
 
-returns-2 : tie.Need-returns-2
-returns-2 c = let a = (begun c.before.before).args in target_free a.links.now a.q.code (omega arith) c.before.before.link-at.result c.before.before.link-at.ensures (omega arith)
+returns_2 : tie.Need-returns-2
+returns_2 c = let a = (begun c.before.before).args in target_free a.links.now a.q.code (omega arith) c.before.before.link-at.result c.before.before.link-at.ensures (omega arith)
 
-sub-t5 : tie.Need-overflow-sub-t5
-sub-t5 c = search rules
+sub_t5 : tie.Need-overflow-sub-t5
+sub_t5 c = search rules
 
-returns-3 : tie.Need-returns-3
-returns-3 c =
+returns_3 : tie.Need-returns-3
+returns_3 c =
     let o = c.before.before.before in
     let a = (begun o).args in
-    target-linked a.links.now a.q.code (omega arith) o.link-at.result o.link-at.ensures c.before.if2.false
+    target_linked a.links.now a.q.code (omega arith) o.link-at.result o.link-at.ensures c.before.if2.false
 
-pub target-of-spec : {M : Type 1} → statement M
-target-of-spec = tie.close (tie.spec returns link-at-requires returns-2 sub-t5 returns-3)
+pub target_of_spec : {M : Type 1} → statement M
+target_of_spec = tie.close (tie.spec returns link_at_requires returns_2 sub_t5 returns_3)

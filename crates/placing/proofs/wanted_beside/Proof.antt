@@ -1,7 +1,7 @@
 -- By kind, what is wanted beside a placed variable.
 use mathlib.Core.Path.{◌∙◌}
 use native.Mathlib.Omega.{arith}
-use Rattle.placing.proofs.Tests.{beside-different, beside-equal, beside-source, beside-cells, beside-target}
+use Rattle.placing.proofs.Tests.{beside_different, beside_equal, beside_source, beside_cells, beside_target}
 use borrow.Author.Rules.{rules}
 use Rattle.placing.proofs.wanted_beside.Statement.{statement}
 use Rattle.placing.proofs.wanted_beside.Tie as tie
@@ -11,29 +11,29 @@ abbrev begun : tie.Else3 → tie.Start
 begun c = c.before.before.before.before
 
 returns : tie.Need-returns
-returns c = let a = c.before.before.args in beside-different a.starting a.kind a.links.now a.q (omega arith)
+returns c = let a = c.before.before.args in beside_different a.starting a.kind a.links.now a.q (omega arith)
 
-returns-2 : tie.Need-returns-2
-returns-2 c = let a = c.before.before.before.args in beside-equal a.starting a.kind a.links.now a.q c.before.if1.false (omega arith)
+returns_2 : tie.Need-returns-2
+returns_2 c = let a = c.before.before.before.args in beside_equal a.starting a.kind a.links.now a.q c.before.if1.false (omega arith)
 
-returns-3 : tie.Need-returns-3
-returns-3 c = let a = c.before.before.before.before.args in beside-source a.starting a.kind a.links.now a.q (omega arith) (omega arith)
+returns_3 : tie.Need-returns-3
+returns_3 c = let a = c.before.before.before.before.args in beside_source a.starting a.kind a.links.now a.q (omega arith) (omega arith)
 
-cell-beside-requires : tie.Need-cell-beside-requires
-cell-beside-requires c κs = search rules
+cell_beside_requires : tie.Need-cell-beside-requires
+cell_beside_requires c κs = search rules
 
-returns-4 : tie.Need-returns-4
-returns-4 c =
+returns_4 : tie.Need-returns-4
+returns_4 c =
     let a = (begun c.before.before).args in
-    c.cell-beside.ensures ∙ beside-cells a.starting a.kind a.links.now a.q (omega arith) c.before.before.if3.false (omega arith)
+    c.cell-beside.ensures ∙ beside_cells a.starting a.kind a.links.now a.q (omega arith) c.before.before.if3.false (omega arith)
 
-target-of-requires : tie.Need-target-of-requires
-target-of-requires c κs = search rules
+target_of_requires : tie.Need-target-of-requires
+target_of_requires c κs = search rules
 
-returns-5 : tie.Need-returns-5
-returns-5 c =
+returns_5 : tie.Need-returns-5
+returns_5 c =
     let a = (begun c.before.before).args in
-    c.target-of.ensures ∙ beside-target a.starting a.kind a.links.now a.q (omega arith) c.before.before.if3.false (omega arith)
+    c.target-of.ensures ∙ beside_target a.starting a.kind a.links.now a.q (omega arith) c.before.before.if3.false (omega arith)
 
-pub wanted-beside-spec : {M : Type 1} → statement M
-wanted-beside-spec = tie.close (tie.spec returns returns-2 returns-3 cell-beside-requires returns-4 target-of-requires returns-5)
+pub wanted_beside_spec : {M : Type 1} → statement M
+wanted_beside_spec = tie.close (tie.spec returns returns_2 returns_3 cell_beside_requires returns_4 target_of_requires returns_5)

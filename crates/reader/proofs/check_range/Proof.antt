@@ -17,14 +17,14 @@ begun c = c.before.before
 enum_told : tie.Need-enum-told
 enum_told c = search rules
 
-unreadable-requires : tie.Need-unreadable-requires
-unreadable-requires c κs = search rules
+unreadable_requires : tie.Need-unreadable-requires
+unreadable_requires c κs = search rules
 
-enum-known-read : tie.Need-enum-known-read
-enum-known-read c = search rules
+enum_known_read : tie.Need-enum-known-read
+enum_known_read c = search rules
 
-outside-requires : tie.Need-outside-requires
-outside-requires c κs = search rules
+outside_requires : tie.Need-outside-requires
+outside_requires c κs = search rules
 
 returns : tie.Need-returns
 returns c =
@@ -33,29 +33,29 @@ returns c =
     let r = n.read.given in
     λ bytes e. outside a.input bytes a.at a.low a.limit r.0.0 r.0.1.0 (sym e ∙ r.1) _ c.outside.ensures (λ h. omega arith)
 
-outside-requires-2 : tie.Need-outside-requires-2
-outside-requires-2 c κs = search rules
+outside_requires_2 : tie.Need-outside-requires-2
+outside_requires_2 c κs = search rules
 
-returns-2 : tie.Need-returns-2
-returns-2 c =
+returns_2 : tie.Need-returns-2
+returns_2 c =
     let n = c.before.before.before.before in
     let a = (begun n).args in
     let r = n.read.given in
     λ bytes e. outside a.input bytes a.at a.low a.limit r.0.0 r.0.1.0 (sym e ∙ r.1) _ c.outside2.ensures (λ h. omega arith)
 
-returns-3 : tie.Need-returns-3
-returns-3 c =
+returns_3 : tie.Need-returns-3
+returns_3 c =
     let a = c.before.before.before.args in
     let r = c.before.enum_told.given in
     λ bytes e. unread a.input bytes a.at a.low a.limit _ r.0.0 c.unreadable.ensures (sym e ∙ r.1)
 
-returns-4 : tie.Need-returns-4
-returns-4 c =
+returns_4 : tie.Need-returns-4
+returns_4 c =
     let n = c.before.before.before in
     let a = (begun n).args in
     let r = n.read.given in
     λ bytes e. value a.input bytes a.at a.low a.limit r.0.0 r.0.1.0 (sym e ∙ r.1) (omega arith) (omega arith)
 
-pub check-range-spec : {M : Type 1} → statement M
-check-range-spec =
-    tie.close (tie.spec enum_told unreadable-requires enum-known-read outside-requires returns outside-requires-2 returns-2 returns-3 returns-4)
+pub check_range_spec : {M : Type 1} → statement M
+check_range_spec =
+    tie.close (tie.spec enum_told unreadable_requires enum_known_read outside_requires returns outside_requires_2 returns_2 returns_3 returns_4)

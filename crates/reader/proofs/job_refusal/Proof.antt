@@ -7,8 +7,8 @@ use Rattle.reader.proofs.job_refusal.Tie as tie
 returns : tie.Need-returns
 returns c = rw (eq-eqb c.before.args.number 3 c.if1.true) refl
 
-returns-2 : tie.Need-returns-2
-returns-2 c = rw (ne_eqb c.before.args.number 3 c.if1.false) refl
+returns_2 : tie.Need-returns-2
+returns_2 c = rw (ne_eqb c.before.args.number 3 c.if1.false) refl
 
-pub job-refusal-spec : {M : Type 1} → statement M
-job-refusal-spec = tie.close (tie.spec returns returns-2)
+pub job_refusal_spec : {M : Type 1} → statement M
+job_refusal_spec = tie.close (tie.spec returns returns_2)

@@ -5,14 +5,14 @@ use borrow.Author.Rules.{rules}
 use Rattle.reader.proofs.last_kind.Statement.{statement}
 use Rattle.reader.proofs.last_kind.Tie as tie
 
-version-of-requires : tie.Need-version-of-requires
-version-of-requires c κs = search rules
+version_of_requires : tie.Need-version-of-requires
+version_of_requires c κs = search rules
 
 returns : tie.Need-returns
 returns c = let v = c.before.version_of in rw (← v.ensures, eq-eqb v.result 2 c.if1.true) refl
 
-returns-2 : tie.Need-returns-2
-returns-2 c = let v = c.before.version_of in rw (← v.ensures, ne_eqb v.result 2 (λ e. c.if1.false e)) refl
+returns_2 : tie.Need-returns-2
+returns_2 c = let v = c.before.version_of in rw (← v.ensures, ne_eqb v.result 2 (λ e. c.if1.false e)) refl
 
-pub last-kind-spec : {M : Type 1} → statement M
-last-kind-spec = tie.close (tie.spec version-of-requires returns returns-2)
+pub last_kind_spec : {M : Type 1} → statement M
+last_kind_spec = tie.close (tie.spec version_of_requires returns returns_2)

@@ -3,11 +3,11 @@ use mathlib.Core.Path.{◌≡◌, ap, ◌∙◌}
 use Prim.Native.Nat.{ℕ, ◌+◌, ◌≤◌}
 use native.Mathlib.Omega.{arith}
 use Rattle.format.specs.Parser.{parsed, many, Buffer, ranged}
-use Rattle.layout.specs.Entries.{versionOf}
-use Rattle.reader.specs.Number.{bufferOf, withoutValue}
-use Rattle.reader.proofs.Answers.{got, lost, passed, reached-got, reached-lost, in-range}
-use Rattle.reader.proofs.Entries.{lost-state, lost-size, lost-vars, lost-links, facts-last}
-use Rattle.verdict.specs.Verdict.{reachedOf}
+use Rattle.layout.specs.Entries.{version_of}
+use Rattle.reader.specs.Number.{buffer_of, without_value}
+use Rattle.reader.proofs.Answers.{got, lost, passed, reached_got, reached_lost, in_range}
+use Rattle.reader.proofs.Entries.{lost_state, lost_size, lost_vars, lost_links, facts_last}
+use Rattle.verdict.specs.Verdict.{reached_of}
 use borrow.Author.Rules.{rules}
 use Rattle.reader.proofs.read_entry.Statement.{statement}
 use Rattle.reader.proofs.read_entry.Tie as tie
@@ -32,10 +32,10 @@ placed c = c.before.before.before.before
 
 -- what is read
 abbrev buffer : tie.Start → Buffer
-buffer s = bufferOf s.args.input s.args.bytes.now
+buffer s = buffer_of s.args.input s.args.bytes.now
 
 abbrev version : tie.Start → ℕ
-version s = versionOf s.args.bytes.now
+version s = version_of s.args.bytes.now
 
 -- the state, the number of cells, the variables and the links, each in its range
 state : (c : tie.After-state) → let s = begun c in ranged (buffer s) 0 s.args.states s.args.first ≡ parsed c.state.given.0.0 c.state.given.0.1.0
@@ -47,138 +47,138 @@ size c = got c.before.before.read-ranged2.ensures c.size.given.1
 vars : (c : tie.After-vars)
     → let z = (sized c).size.given.0 in
     let s = begun (stated (sized c)) in
-    withoutValue (many s.args.variables (ranged (buffer s) 0 (3 + z.0)) z.1.0) ≡ parsed tt c.vars.given.0.0
-vars c = reached-got c.before.before.read-codes.ensures c.vars.given.1
+    without_value (many s.args.variables (ranged (buffer s) 0 (3 + z.0)) z.1.0) ≡ parsed tt c.vars.given.0.0
+vars c = reached_got c.before.before.read-codes.ensures c.vars.given.1
 
 links : (c : tie.After-links)
     → let z = (sized (placed c)).size.given.0 in
     let s = begun (stated (sized (placed c))) in
-    withoutValue (many z.0 (ranged (buffer s) 0 (3 + z.0)) (placed c).vars.given.0.0) ≡ parsed tt c.links.given.0.0
-links c = reached-got c.before.before.read-codes2.ensures c.links.given.1
+    without_value (many z.0 (ranged (buffer s) 0 (3 + z.0)) (placed c).vars.given.0.0) ≡ parsed tt c.links.given.0.0
+links c = reached_got c.before.before.read-codes2.ensures c.links.given.1
 
 -- there are few cells
 few : (c : tie.After-size) → c.size.given.0.0 ≤ 12
-few c = let (l, h) = in-range (buffer (begun (stated c))) 0 13 _ _ _ (size c) in omega arith
+few c = let (l, h) = in_range (buffer (begun (stated c))) 0 13 _ _ _ (size c) in omega arith
 
 -- ---- what is to be shown
 
-read-ranged-requires : tie.Need-read-ranged-requires
-read-ranged-requires c κs = search rules
+read_ranged_requires : tie.Need-read-ranged-requires
+read_ranged_requires c κs = search rules
 
-enum-known-state : tie.Need-enum-known-state
-enum-known-state c = search rules
+enum_known_state : tie.Need-enum-known-state
+enum_known_state c = search rules
 
 enum_told : tie.Need-enum-told
 enum_told c = search rules
 
-reached-requires : tie.Need-reached-requires
-reached-requires c κs = search rules
+reached_requires : tie.Need-reached-requires
+reached_requires c κs = search rules
 
 returns : tie.Need-returns
 returns c =
     let r = c.before.before.before in
     let s = r.before.before in
     let e = c.before.enum_told.given.1 in
-    passed r.read-ranged.ensures c.reached.ensures e ∙ lost-state (version s) (buffer s) s.args.variables s.args.states s.args.first (lost r.read-ranged.ensures e)
+    passed r.read-ranged.ensures c.reached.ensures e ∙ lost_state (version s) (buffer s) s.args.variables s.args.states s.args.first (lost r.read-ranged.ensures e)
 
-read-ranged-requires-2 : tie.Need-read-ranged-requires-2
-read-ranged-requires-2 c κs = search rules
+read_ranged_requires_2 : tie.Need-read-ranged-requires-2
+read_ranged_requires_2 c κs = search rules
 
-enum-known-size : tie.Need-enum-known-size
-enum-known-size c = search rules
+enum_known_size : tie.Need-enum-known-size
+enum_known_size c = search rules
 
-enum-told-2 : tie.Need-enum-told-2
-enum-told-2 c = search rules
+enum_told_2 : tie.Need-enum-told-2
+enum_told_2 c = search rules
 
-reached-requires-2 : tie.Need-reached-requires-2
-reached-requires-2 c κs = search rules
+reached_requires_2 : tie.Need-reached-requires-2
+reached_requires_2 c κs = search rules
 
-returns-2 : tie.Need-returns-2
-returns-2 c =
+returns_2 : tie.Need-returns-2
+returns_2 c =
     let r = c.before.before.before in
     let t = r.before.before in
     let s = begun t in
     let e = c.before.enum-told2.given.1 in
     passed r.read-ranged2.ensures c.reached2.ensures e
-    ∙ lost-size (version s) (buffer s) s.args.variables s.args.states s.args.first (state t) (lost r.read-ranged2.ensures e)
+    ∙ lost_size (version s) (buffer s) s.args.variables s.args.states s.args.first (state t) (lost r.read-ranged2.ensures e)
 
-add-read-codes : tie.Need-overflow-add-read-codes
-add-read-codes c = omega (arith, few c.before)
+add_read_codes : tie.Need-overflow-add-read-codes
+add_read_codes c = omega (arith, few c.before)
 
-read-codes-requires : tie.Need-read-codes-requires
-read-codes-requires c κs = search rules
+read_codes_requires : tie.Need-read-codes-requires
+read_codes_requires c κs = search rules
 
-enum-known-vars : tie.Need-enum-known-vars
-enum-known-vars c = search rules
+enum_known_vars : tie.Need-enum-known-vars
+enum_known_vars c = search rules
 
-enum-told-3 : tie.Need-enum-told-3
-enum-told-3 c = search rules
+enum_told_3 : tie.Need-enum-told-3
+enum_told_3 c = search rules
 
-returns-3 : tie.Need-returns-3
-returns-3 c =
+returns_3 : tie.Need-returns-3
+returns_3 c =
     let z = c.before.before.before.before in
     let s = begun (stated z) in
     let e = c.enum-told3.given.1 in
-    ap reachedOf e
-    ∙ lost-vars (version s) (buffer s) s.args.variables s.args.states s.args.first (state (stated z)) (size z)
-    (reached-lost c.before.before.read-codes.ensures e)
+    ap reached_of e
+    ∙ lost_vars (version s) (buffer s) s.args.variables s.args.states s.args.first (state (stated z)) (size z)
+    (reached_lost c.before.before.read-codes.ensures e)
 
-add-read-codes-2 : tie.Need-overflow-add-read-codes-2
-add-read-codes-2 c = omega (arith, few (sized c.before))
+add_read_codes_2 : tie.Need-overflow-add-read-codes-2
+add_read_codes_2 c = omega (arith, few (sized c.before))
 
-read-codes-requires-2 : tie.Need-read-codes-requires-2
-read-codes-requires-2 c κs = search rules
+read_codes_requires_2 : tie.Need-read-codes-requires-2
+read_codes_requires_2 c κs = search rules
 
-enum-known-links : tie.Need-enum-known-links
-enum-known-links c = search rules
+enum_known_links : tie.Need-enum-known-links
+enum_known_links c = search rules
 
-enum-told-4 : tie.Need-enum-told-4
-enum-told-4 c = search rules
+enum_told_4 : tie.Need-enum-told-4
+enum_told_4 c = search rules
 
-returns-4 : tie.Need-returns-4
-returns-4 c =
+returns_4 : tie.Need-returns-4
+returns_4 c =
     let v = c.before.before.before.before in
     let z = sized v in
     let s = begun (stated z) in
     let e = c.enum-told4.given.1 in
-    ap reachedOf e
-    ∙ lost-links (version s) (buffer s) s.args.variables s.args.states s.args.first (state (stated z)) (size z) (vars v)
-    (reached-lost c.before.before.read-codes2.ensures e)
+    ap reached_of e
+    ∙ lost_links (version s) (buffer s) s.args.variables s.args.states s.args.first (state (stated z)) (size z) (vars v)
+    (reached_lost c.before.before.read-codes2.ensures e)
 
-read-facts-requires : tie.Need-read-facts-requires
-read-facts-requires c κs = few (sized (placed c.before))
+read_facts_requires : tie.Need-read-facts-requires
+read_facts_requires c κs = few (sized (placed c.before))
 
-returns-5 : tie.Need-returns-5
-returns-5 c =
+returns_5 : tie.Need-returns-5
+returns_5 c =
     let l = c.before.before in
     let z = sized (placed l) in
     let s = begun (stated z) in
-    c.read-facts.ensures
-    ∙ facts-last (version s) (buffer s) s.args.variables s.args.states s.args.first (state (stated z)) (size z) (vars (placed l)) (links l)
+    c.read_facts_lem.ensures
+    ∙ facts_last (version s) (buffer s) s.args.variables s.args.states s.args.first (state (stated z)) (size z) (vars (placed l)) (links l)
 
-pub read-entry-spec : {M : Type 1} → statement M
-read-entry-spec =
+pub read_entry_spec : {M : Type 1} → statement M
+read_entry_spec =
     tie.close
     (tie.spec
-    read-ranged-requires
-    enum-known-state
+    read_ranged_requires
+    enum_known_state
     enum_told
-    reached-requires
+    reached_requires
     returns
-    read-ranged-requires-2
-    enum-known-size
-    enum-told-2
-    reached-requires-2
-    returns-2
-    add-read-codes
-    read-codes-requires
-    enum-known-vars
-    enum-told-3
-    returns-3
-    add-read-codes-2
-    read-codes-requires-2
-    enum-known-links
-    enum-told-4
-    returns-4
-    read-facts-requires
-    returns-5)
+    read_ranged_requires_2
+    enum_known_size
+    enum_told_2
+    reached_requires_2
+    returns_2
+    add_read_codes
+    read_codes_requires
+    enum_known_vars
+    enum_told_3
+    returns_3
+    add_read_codes_2
+    read_codes_requires_2
+    enum_known_links
+    enum_told_4
+    returns_4
+    read_facts_requires
+    returns_5)

@@ -2,21 +2,21 @@
 use mathlib.Core.Path.{◌≡◌, sym, ◌∙◌}
 use Prim.Native.Nat.{◌+◌, ◌≤◌, ◌<◌}
 use lib.ListN.{length, get_or}
-use Rattle.format.specs.Job.{readFacts, readLocated}
-use Rattle.format.specs.Parser.{certificateBuffer}
-use Rattle.layout.specs.Entries.{versionOf}
-use Rattle.reader.specs.Number.{withoutValue}
-use Rattle.reader.proofs.Facts.{facts-none}
+use Rattle.format.specs.Job.{read_facts, read_located}
+use Rattle.format.specs.Parser.{certificate_buffer}
+use Rattle.layout.specs.Entries.{version_of}
+use Rattle.reader.specs.Number.{without_value}
+use Rattle.reader.proofs.Facts.{facts_none}
 use native.Mathlib.Omega.{arith}
 use borrow.Author.Rules.{rules}
 use Rattle.reader.proofs.read_member.Statement.{statement}
 use Rattle.reader.proofs.read_member.Tie as tie
 
-quick-entry-requires : tie.Need-quick-entry-requires
-quick-entry-requires c κs = search rules
+quick_entry_requires : tie.Need-quick-entry-requires
+quick_entry_requires c κs = search rules
 
-read-entry-requires : tie.Need-read-entry-requires
-read-entry-requires c κs = search rules
+read_entry_requires : tie.Need-read-entry-requires
+read_entry_requires c κs = search rules
 
 returns : tie.Need-returns
 returns c = c.read-entry.ensures
@@ -26,44 +26,44 @@ quick : (c : tie.Else1)
     → let a = c.before.before.before.args in
     let e = c.before.quick-entry.result in
     let n = get_or a.cert.now (a.at + 1) 0 in
-    (a.at + 1 < length a.cert.now) × (n ≤ 12) × (withoutValue (readLocated (versionOf a.cert.now) (certificateBuffer a.cert.now) a.variables a.states a.at) ≡ withoutValue (readFacts (certificateBuffer a.cert.now) n (versionOf a.cert.now) e))
+    (a.at + 1 < length a.cert.now) × (n ≤ 12) × (without_value (read_located (version_of a.cert.now) (certificate_buffer a.cert.now) a.variables a.states a.at) ≡ without_value (read_facts (certificate_buffer a.cert.now) n (version_of a.cert.now) e))
 quick c = c.before.quick-entry.ensures c.if1.false
 
-version-of-requires : tie.Need-version-of-requires
-version-of-requires c κs = search rules
+version_of_requires : tie.Need-version-of-requires
+version_of_requires c κs = search rules
 
-returns-2 : tie.Need-returns-2
-returns-2 c =
+returns_2 : tie.Need-returns-2
+returns_2 c =
     let o = c.before.before in
     let a = o.before.before.before.args in
-    facts-none (certificateBuffer a.cert.now) (get_or a.cert.now (a.at + 1) 0) (versionOf a.cert.now) o.before.quick-entry.result (λ e. c.if2.true (c.before.version_of.ensures ∙ e)) ∙ sym (quick o).2
+    facts_none (certificate_buffer a.cert.now) (get_or a.cert.now (a.at + 1) 0) (version_of a.cert.now) o.before.quick-entry.result (λ e. c.if2.true (c.before.version_of.ensures ∙ e)) ∙ sym (quick o).2
 
-add-read-facts : tie.Need-overflow-add-read-facts
-add-read-facts c = omega (arith, (quick c.before.before).0)
+add_read_facts : tie.Need-overflow-add-read-facts
+add_read_facts c = omega (arith, (quick c.before.before).0)
 
-shared-slice-read-read-facts : tie.Need-shared-slice-read-read-facts
-shared-slice-read-read-facts c = omega (arith, (quick c.before.before.before).0)
+shared_slice_read_read_facts : tie.Need-shared-slice-read-read-facts
+shared_slice_read_read_facts c = omega (arith, (quick c.before.before.before).0)
 
-cast-read-facts : tie.Need-overflow-cast-read-facts
-cast-read-facts c = omega (arith, (quick c.before.before.before).1)
+cast_read_facts : tie.Need-overflow-cast-read-facts
+cast_read_facts c = omega (arith, (quick c.before.before.before).1)
 
-read-facts-requires : tie.Need-read-facts-requires
-read-facts-requires c κs = (quick c.before.before.before).1
+read_facts_requires : tie.Need-read-facts-requires
+read_facts_requires c κs = (quick c.before.before.before).1
 
-returns-3 : tie.Need-returns-3
-returns-3 c = c.read-facts.ensures ∙ sym (quick c.before.before.before.before).2
+returns_3 : tie.Need-returns-3
+returns_3 c = c.read_facts_lem.ensures ∙ sym (quick c.before.before.before.before).2
 
-pub read-member-spec : {M : Type 1} → statement M
-read-member-spec =
+pub read_member_spec : {M : Type 1} → statement M
+read_member_spec =
     tie.close
     (tie.spec
-    quick-entry-requires
-    read-entry-requires
+    quick_entry_requires
+    read_entry_requires
     returns
-    version-of-requires
-    returns-2
-    add-read-facts
-    shared-slice-read-read-facts
-    cast-read-facts
-    read-facts-requires
-    returns-3)
+    version_of_requires
+    returns_2
+    add_read_facts
+    shared_slice_read_read_facts
+    cast_read_facts
+    read_facts_requires
+    returns_3)

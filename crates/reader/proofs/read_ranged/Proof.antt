@@ -3,14 +3,14 @@ use borrow.Author.Rules.{rules}
 use Rattle.reader.proofs.read_ranged.Statement.{statement}
 use Rattle.reader.proofs.read_ranged.Tie as tie
 
-read-number-requires : tie.Need-read-number-requires
-read-number-requires c κs = search rules
+read_number_requires : tie.Need-read-number-requires
+read_number_requires c κs = search rules
 
-check-range-requires : tie.Need-check-range-requires
-check-range-requires c κs = search rules
+check_range_requires : tie.Need-check-range-requires
+check_range_requires c κs = search rules
 
 returns : tie.Need-returns
 returns c = c.check-range.ensures _ c.before.read_number.ensures
 
-pub read-ranged-spec : {M : Type 1} → statement M
-read-ranged-spec = tie.close (tie.spec read-number-requires check-range-requires returns)
+pub read_ranged_spec : {M : Type 1} → statement M
+read_ranged_spec = tie.close (tie.spec read_number_requires check_range_requires returns)

@@ -2,14 +2,14 @@
 use mathlib.Core.Path.{◌≡◌, ap, ◌∙◌}
 use Prim.Native.Nat.{ℕ, ◌+◌}
 use native.Mathlib.Omega.{arith}
-use Rattle.format.specs.JobBytes.{lastKind}
-use Rattle.format.specs.Parser.{parsed, Buffer, jobBuffer, ranged}
-use Rattle.kinds.specs.Kinds.{leastA, leastB, mostB}
-use Rattle.layout.specs.Entries.{versionOf}
+use Rattle.format.specs.JobBytes.{last_kind}
+use Rattle.format.specs.Parser.{parsed, Buffer, job_buffer, ranged}
+use Rattle.kinds.specs.Kinds.{least_a_of, least_b_of, most_b_of}
+use Rattle.layout.specs.Entries.{version_of}
 use Rattle.reader.proofs.Answers.{got, lost, passed}
-use Rattle.reader.specs.Number.{withoutValue}
-use Rattle.kinds.proofs.Rows.{most-bound}
-use Rattle.reader.proofs.Transitions.{last-most, lost-from, lost-kind, lost-a, lost-b, to_last}
+use Rattle.reader.specs.Number.{without_value}
+use Rattle.kinds.proofs.Rows.{most_bound}
+use Rattle.reader.proofs.Transitions.{last_most, lost_from, lost_kind, lost_a, lost_b, to_last}
 use borrow.Author.Rules.{rules}
 use Rattle.reader.proofs.read_transition.Statement.{statement}
 use Rattle.reader.proofs.read_transition.Tie as tie
@@ -34,10 +34,10 @@ half c = c.before.before.before.before.before.before
 
 -- what is read
 abbrev buffer : tie.Start → Buffer
-buffer s = jobBuffer s.args.job.now
+buffer s = job_buffer s.args.job.now
 
 abbrev version : tie.Start → ℕ
-version s = versionOf s.args.job.now
+version s = version_of s.args.job.now
 
 -- the state before, the kind, a and b, each in its range
 from : (c : tie.After-from) → let s = begun c in ranged (buffer s) 0 s.args.states s.args.first ≡ parsed c.from.given.0.0 c.from.given.0.1.0
@@ -45,178 +45,178 @@ from c = got c.before.before.read-ranged.ensures c.from.given.1
 
 kind : (c : tie.After-number)
     → let s = begun (sent c) in
-    ranged (buffer s) 1 (1 + lastKind (version s)) (sent c).from.given.0.1.0 ≡ parsed c.number.given.0.0 c.number.given.0.1.0
+    ranged (buffer s) 1 (1 + last_kind (version s)) (sent c).from.given.0.1.0 ≡ parsed c.number.given.0.0 c.number.given.0.1.0
 kind c = rw c.before.before.before.last-kind.ensures at (got c.before.before.read-ranged2.ensures c.number.given.1)
 
 first : (c : tie.After-a)
     → let s = begun (sent (named c)) in
     let k = (named c).number.given.0 in
-    ranged (buffer s) (leastA k.0) (s.args.variables + 1) k.1.0 ≡ parsed c.a.given.0.0 c.a.given.0.1.0
-first c = rw c.before.before.before.least-a.ensures at (got c.before.before.read-ranged3.ensures c.a.given.1)
+    ranged (buffer s) (least_a_of k.0) (s.args.variables + 1) k.1.0 ≡ parsed c.a.given.0.0 c.a.given.0.1.0
+first c = rw c.before.before.before.least_a.ensures at (got c.before.before.read-ranged3.ensures c.a.given.1)
 
 second : (c : tie.After-b)
     → let s = begun (sent (named (half c))) in
     let k = (named (half c)).number.given.0.0 in
-    ranged (buffer s) (leastB k) (mostB k s.args.variables + 1) (half c).a.given.0.1.0 ≡ parsed c.b.given.0.0 c.b.given.0.1.0
-second c = rw (c.before.before.before.least-b.ensures, c.before.before.before.before.most-b.ensures) at (got c.before.before.read-ranged4.ensures c.b.given.1)
+    ranged (buffer s) (least_b_of k) (most_b_of k s.args.variables + 1) (half c).a.given.0.1.0 ≡ parsed c.b.given.0.0 c.b.given.0.1.0
+second c = rw (c.before.before.before.least_b.ensures, c.before.before.before.before.most_b.ensures) at (got c.before.before.read-ranged4.ensures c.b.given.1)
 
 -- ---- what is to be shown
 
-read-ranged-requires : tie.Need-read-ranged-requires
-read-ranged-requires c κs = search rules
+read_ranged_requires : tie.Need-read-ranged-requires
+read_ranged_requires c κs = search rules
 
-enum-known-from : tie.Need-enum-known-from
-enum-known-from c = search rules
+enum_known_from : tie.Need-enum-known-from
+enum_known_from c = search rules
 
 enum_told : tie.Need-enum-told
 enum_told c = search rules
 
-reached-requires : tie.Need-reached-requires
-reached-requires c κs = search rules
+reached_requires : tie.Need-reached-requires
+reached_requires c κs = search rules
 
 returns : tie.Need-returns
 returns c =
     let r = c.before.before.before in
     let s = r.before.before in
     let e = c.before.enum_told.given.1 in
-    passed r.read-ranged.ensures c.reached.ensures e ∙ lost-from (version s) (buffer s) s.args.variables s.args.states s.args.first (lost r.read-ranged.ensures e)
+    passed r.read-ranged.ensures c.reached.ensures e ∙ lost_from (version s) (buffer s) s.args.variables s.args.states s.args.first (lost r.read-ranged.ensures e)
 
-last-kind-requires : tie.Need-last-kind-requires
-last-kind-requires c κs = search rules
+last_kind_requires : tie.Need-last-kind-requires
+last_kind_requires c κs = search rules
 
-add-read-ranged : tie.Need-overflow-add-read-ranged
-add-read-ranged c = omega (arith, c.last-kind.ensures, last-most (version (begun c.before.before)))
+add_read_ranged : tie.Need-overflow-add-read-ranged
+add_read_ranged c = omega (arith, c.last-kind.ensures, last_most (version (begun c.before.before)))
 
-read-ranged-requires-2 : tie.Need-read-ranged-requires-2
-read-ranged-requires-2 c κs = search rules
+read_ranged_requires_2 : tie.Need-read-ranged-requires-2
+read_ranged_requires_2 c κs = search rules
 
-enum-known-number : tie.Need-enum-known-number
-enum-known-number c = search rules
+enum_known_number : tie.Need-enum-known-number
+enum_known_number c = search rules
 
-enum-told-2 : tie.Need-enum-told-2
-enum-told-2 c = search rules
+enum_told_2 : tie.Need-enum-told-2
+enum_told_2 c = search rules
 
-reached-requires-2 : tie.Need-reached-requires-2
-reached-requires-2 c κs = search rules
+reached_requires_2 : tie.Need-reached-requires-2
+reached_requires_2 c κs = search rules
 
-returns-2 : tie.Need-returns-2
-returns-2 c =
+returns_2 : tie.Need-returns-2
+returns_2 c =
     let r = c.before.before.before in
     let o = r.before.before.before in
     let s = begun o in
     let e = c.before.enum-told2.given.1 in
     passed r.read-ranged2.ensures c.reached2.ensures e
-    ∙ lost-kind (version s) (buffer s) s.args.variables s.args.states s.args.first (from o)
+    ∙ lost_kind (version s) (buffer s) s.args.variables s.args.states s.args.first (from o)
     (rw (← r.before.last-kind.ensures) (lost r.read-ranged2.ensures e))
 
-least-a-requires : tie.Need-least-a-requires
-least-a-requires c κs = search rules
+least_a_requires : tie.Need-least-a-requires
+least_a_requires c κs = search rules
 
-add-read-ranged-2 : tie.Need-overflow-add-read-ranged-2
-add-read-ranged-2 c = search rules
+add_read_ranged_2 : tie.Need-overflow-add-read-ranged-2
+add_read_ranged_2 c = search rules
 
-read-ranged-requires-3 : tie.Need-read-ranged-requires-3
-read-ranged-requires-3 c κs = search rules
+read_ranged_requires_3 : tie.Need-read-ranged-requires-3
+read_ranged_requires_3 c κs = search rules
 
-enum-known-a : tie.Need-enum-known-a
-enum-known-a c = search rules
+enum_known_a : tie.Need-enum-known-a
+enum_known_a c = search rules
 
-enum-told-3 : tie.Need-enum-told-3
-enum-told-3 c = search rules
+enum_told_3 : tie.Need-enum-told-3
+enum_told_3 c = search rules
 
-reached-requires-3 : tie.Need-reached-requires-3
-reached-requires-3 c κs = search rules
+reached_requires_3 : tie.Need-reached-requires-3
+reached_requires_3 c κs = search rules
 
-returns-3 : tie.Need-returns-3
-returns-3 c =
+returns_3 : tie.Need-returns-3
+returns_3 c =
     let r = c.before.before.before in
     let k = r.before.before.before in
     let s = begun (sent k) in
     let e = c.before.enum-told3.given.1 in
     passed r.read-ranged3.ensures c.reached3.ensures e
-    ∙ lost-a (version s) (buffer s) s.args.variables s.args.states s.args.first (from (sent k)) (kind k)
-    (rw (← r.before.least-a.ensures) (lost r.read-ranged3.ensures e))
+    ∙ lost_a (version s) (buffer s) s.args.variables s.args.states s.args.first (from (sent k)) (kind k)
+    (rw (← r.before.least_a.ensures) (lost r.read-ranged3.ensures e))
 
-most-b-requires : tie.Need-most-b-requires
-most-b-requires c κs = search rules
+most_b_requires : tie.Need-most-b-requires
+most_b_requires c κs = search rules
 
-least-b-requires : tie.Need-least-b-requires
-least-b-requires c κs = search rules
+least_b_requires : tie.Need-least-b-requires
+least_b_requires c κs = search rules
 
-add-read-ranged-3 : tie.Need-overflow-add-read-ranged-3
-add-read-ranged-3 c =
+add_read_ranged_3 : tie.Need-overflow-add-read-ranged-3
+add_read_ranged_3 c =
     let k = named c.before.before.before in
-    omega (arith, c.before.most-b.ensures, most-bound k.number.given.0.0 (begun (sent k)).args.variables)
+    omega (arith, c.before.most_b.ensures, most_bound k.number.given.0.0 (begun (sent k)).args.variables)
 
-read-ranged-requires-4 : tie.Need-read-ranged-requires-4
-read-ranged-requires-4 c κs = search rules
+read_ranged_requires_4 : tie.Need-read-ranged-requires-4
+read_ranged_requires_4 c κs = search rules
 
-enum-known-b : tie.Need-enum-known-b
-enum-known-b c = search rules
+enum_known_b : tie.Need-enum-known-b
+enum_known_b c = search rules
 
-enum-told-4 : tie.Need-enum-told-4
-enum-told-4 c = search rules
+enum_told_4 : tie.Need-enum-told-4
+enum_told_4 c = search rules
 
-reached-requires-4 : tie.Need-reached-requires-4
-reached-requires-4 c κs = search rules
+reached_requires_4 : tie.Need-reached-requires-4
+reached_requires_4 c κs = search rules
 
-returns-4 : tie.Need-returns-4
-returns-4 c =
+returns_4 : tie.Need-returns-4
+returns_4 c =
     let r = c.before.before.before in
     let h = r.before.before.before.before in
     let k = named h in
     let s = begun (sent k) in
     let e = c.before.enum-told4.given.1 in
     passed r.read-ranged4.ensures c.reached4.ensures e
-    ∙ lost-b (version s) (buffer s) s.args.variables s.args.states s.args.first (from (sent k)) (kind k) (first h)
-    (rw (← r.before.least-b.ensures, ← r.before.before.most-b.ensures) (lost r.read-ranged4.ensures e))
+    ∙ lost_b (version s) (buffer s) s.args.variables s.args.states s.args.first (from (sent k)) (kind k) (first h)
+    (rw (← r.before.least_b.ensures, ← r.before.before.most_b.ensures) (lost r.read-ranged4.ensures e))
 
-read-ranged-requires-5 : tie.Need-read-ranged-requires-5
-read-ranged-requires-5 c κs = search rules
+read_ranged_requires_5 : tie.Need-read-ranged-requires-5
+read_ranged_requires_5 c κs = search rules
 
-reached-requires-5 : tie.Need-reached-requires-5
-reached-requires-5 c κs = search rules
+reached_requires_5 : tie.Need-reached-requires-5
+reached_requires_5 c κs = search rules
 
-returns-5 : tie.Need-returns-5
-returns-5 c =
+returns_5 : tie.Need-returns-5
+returns_5 c =
     let w = c.before.before.before in
     let k = named (half w) in
     let s = begun (sent k) in
     c.reached5.ensures
-    ∙ ap withoutValue c.before.read-ranged5.ensures
+    ∙ ap without_value c.before.read-ranged5.ensures
     ∙ to_last (version s) (buffer s) s.args.variables s.args.states s.args.first (from (sent k)) (kind k) (first (half w)) (second w)
 
-pub read-transition-spec : {M : Type 1} → statement M
-read-transition-spec =
+pub read_transition_spec : {M : Type 1} → statement M
+read_transition_spec =
     tie.close
     (tie.spec
-    read-ranged-requires
-    enum-known-from
+    read_ranged_requires
+    enum_known_from
     enum_told
-    reached-requires
+    reached_requires
     returns
-    last-kind-requires
-    add-read-ranged
-    read-ranged-requires-2
-    enum-known-number
-    enum-told-2
-    reached-requires-2
-    returns-2
-    least-a-requires
-    add-read-ranged-2
-    read-ranged-requires-3
-    enum-known-a
-    enum-told-3
-    reached-requires-3
-    returns-3
-    most-b-requires
-    least-b-requires
-    add-read-ranged-3
-    read-ranged-requires-4
-    enum-known-b
-    enum-told-4
-    reached-requires-4
-    returns-4
-    read-ranged-requires-5
-    reached-requires-5
-    returns-5)
+    last_kind_requires
+    add_read_ranged
+    read_ranged_requires_2
+    enum_known_number
+    enum_told_2
+    reached_requires_2
+    returns_2
+    least_a_requires
+    add_read_ranged_2
+    read_ranged_requires_3
+    enum_known_a
+    enum_told_3
+    reached_requires_3
+    returns_3
+    most_b_requires
+    least_b_requires
+    add_read_ranged_3
+    read_ranged_requires_4
+    enum_known_b
+    enum_told_4
+    reached_requires_4
+    returns_4
+    read_ranged_requires_5
+    reached_requires_5
+    returns_5)

@@ -1,7 +1,7 @@
 -- Test after test: room for the variables, room for the cells, a cell of the shape, free.
 use mathlib.Core.Path.{◌∙◌}
 use native.Mathlib.Omega.{arith}
-use Rattle.shapes.proofs.Free.{not-free-cell, by_parts}
+use Rattle.shapes.proofs.Free.{not_free_cell, by_parts}
 use borrow.Author.Rules.{rules}
 use Rattle.shapes.proofs.is_free_cell.Statement.{statement}
 use Rattle.shapes.proofs.is_free_cell.Tie as tie
@@ -11,73 +11,73 @@ abbrev begun : tie.After-cell → tie.Start
 begun c = c.before.before.before.before.before
 
 returns : tie.Need-returns
-returns c = let a = c.before.args in not-free-cell a.variables a.s.now a.k (λ f. omega (arith, f.variables-fit))
+returns c = let a = c.before.args in not_free_cell a.variables a.s.now a.k (λ f. omega (arith, f.variables_fit))
 
-element-copy-out-n : tie.Need-element-copy-out-n
-element-copy-out-n c = search rules
+element_copy_out_n : tie.Need-element-copy-out-n
+element_copy_out_n c = search rules
 
-returns-2 : tie.Need-returns-2
-returns-2 c = let a = c.before.before.before.args in not-free-cell a.variables a.s.now a.k (λ f. omega (arith, f.cells_fit))
+returns_2 : tie.Need-returns-2
+returns_2 c = let a = c.before.before.before.args in not_free_cell a.variables a.s.now a.k (λ f. omega (arith, f.cells_fit))
 
-returns-3 : tie.Need-returns-3
-returns-3 c = let a = c.before.before.before.before.args in not-free-cell a.variables a.s.now a.k (λ f. omega (arith, f.is-cell))
+returns_3 : tie.Need-returns-3
+returns_3 c = let a = c.before.before.before.before.args in not_free_cell a.variables a.s.now a.k (λ f. omega (arith, f.is_cell))
 
-cell-requires : tie.Need-cell-requires
-cell-requires c κs = search rules
+cell_requires : tie.Need-cell-requires
+cell_requires c κs = search rules
 
-add-is-free : tie.Need-overflow-add-is-free
-add-is-free c = search rules
+add_is_free : tie.Need-overflow-add-is-free
+add_is_free c = search rules
 
-sub-is-free : tie.Need-overflow-sub-is-free
-sub-is-free c = search rules
+sub_is_free : tie.Need-overflow-sub-is-free
+sub_is_free c = search rules
 
-part-is-free-start : tie.Need-slice-bounds-is-free-start
-part-is-free-start c = search rules
+part_is_free_start : tie.Need-slice-bounds-is-free-start
+part_is_free_start c = search rules
 
-part-is-free-end : tie.Need-slice-bounds-is-free-end
-part-is-free-end c = search rules
+part_is_free_end : tie.Need-slice-bounds-is-free-end
+part_is_free_end c = search rules
 
-cast-is-free : tie.Need-overflow-cast-is-free
-cast-is-free c = search rules
+cast_is_free : tie.Need-overflow-cast-is-free
+cast_is_free c = search rules
 
-add-is-free-2 : tie.Need-overflow-add-is-free-2
-add-is-free-2 c = search rules
+add_is_free_2 : tie.Need-overflow-add-is-free-2
+add_is_free_2 c = search rules
 
-sub-is-free-2 : tie.Need-overflow-sub-is-free-2
-sub-is-free-2 c = search rules
+sub_is_free_2 : tie.Need-overflow-sub-is-free-2
+sub_is_free_2 c = search rules
 
-part-is-free-start-2 : tie.Need-slice-bounds-is-free-start-2
-part-is-free-start-2 c = search rules
+part_is_free_start_2 : tie.Need-slice-bounds-is-free-start-2
+part_is_free_start_2 c = search rules
 
-part-is-free-end-2 : tie.Need-slice-bounds-is-free-end-2
-part-is-free-end-2 c = search rules
+part_is_free_end_2 : tie.Need-slice-bounds-is-free-end-2
+part_is_free_end_2 c = search rules
 
-is-free-requires : tie.Need-is-free-requires
-is-free-requires c κs = search rules
+is_free_requires : tie.Need-is-free-requires
+is_free_requires c κs = search rules
 
-returns-4 : tie.Need-returns-4
-returns-4 c =
+returns_4 : tie.Need-returns-4
+returns_4 c =
     let o = c.before.before.before.before in
     let a = (begun o).args in
     c.is_free.ensures ∙ by_parts a.variables a.s.now a.k (omega arith) (omega arith) (omega arith) _ o.cell.ensures
 
-pub is-free-cell-spec : {M : Type 1} → statement M
-is-free-cell-spec =
+pub is_free_cell_spec : {M : Type 1} → statement M
+is_free_cell_spec =
     tie.close
     (tie.spec
     returns
-    element-copy-out-n
-    returns-2
-    returns-3
-    cell-requires
-    add-is-free
-    sub-is-free
-    part-is-free-start
-    part-is-free-end
-    cast-is-free
-    add-is-free-2
-    sub-is-free-2
-    part-is-free-start-2
-    part-is-free-end-2
-    is-free-requires
-    returns-4)
+    element_copy_out_n
+    returns_2
+    returns_3
+    cell_requires
+    add_is_free
+    sub_is_free
+    part_is_free_start
+    part_is_free_end
+    cast_is_free
+    add_is_free_2
+    sub_is_free_2
+    part_is_free_start_2
+    part_is_free_end_2
+    is_free_requires
+    returns_4)

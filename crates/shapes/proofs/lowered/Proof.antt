@@ -7,8 +7,8 @@ use borrow.Author.Rules.{rules}
 use Rattle.shapes.proofs.lowered.Statement.{statement}
 use Rattle.shapes.proofs.lowered.Tie as tie
 
-sub-result : tie.Need-overflow-sub-result
-sub-result c = search rules
+sub_result : tie.Need-overflow-sub-result
+sub_result c = search rules
 
 returns : tie.Need-returns
 returns c =
@@ -16,8 +16,8 @@ returns c =
     let less : a.code - 1 ≡ pred a.code = omega arith in
     rw (lt-ltb a.gone a.code (omega arith)) less
 
-returns-2 : tie.Need-returns-2
-returns-2 c = let a = c.before.args in rw (le-ltb a.gone a.code (omega arith)) refl
+returns_2 : tie.Need-returns-2
+returns_2 c = let a = c.before.args in rw (le-ltb a.gone a.code (omega arith)) refl
 
-pub lowered-spec : {M : Type 1} → statement M
-lowered-spec = tie.close (tie.spec sub-result returns returns-2)
+pub lowered_spec : {M : Type 1} → statement M
+lowered_spec = tie.close (tie.spec sub_result returns returns_2)

@@ -2,9 +2,9 @@
 use Prim.Native.Nat.{◌<◌}
 use native.Mathlib.Nat.{div-le_self}
 use native.Mathlib.Omega.{arith}
-use Rattle.putting.proofs.Putting.{put-more}
-use Rattle.sheet.proofs.Divisors.{gcd-some}
-use Rattle.sheet.proofs.Text.{part-digits, text-none, text-some}
+use Rattle.putting.proofs.Putting.{put_more}
+use Rattle.sheet.proofs.Divisors.{gcd_some}
+use Rattle.sheet.proofs.Text.{part_digits, text_none, text_some}
 use borrow.Author.Rules.{rules}
 use Rattle.sheet.proofs.put_fraction.Statement.{statement}
 use Rattle.sheet.proofs.put_fraction.Tie as tie
@@ -29,15 +29,15 @@ between c = c.before.before.before.before
 
 -- the divisor is not 0
 some : (c : tie.After-greatest) → 0 < c.greatest.result
-some c = omega (arith, c.greatest.ensures, gcd-some (begun c).args.n (begun c).args.d (omega arith))
+some c = omega (arith, c.greatest.ensures, gcd_some (begun c).args.n (begun c).args.d (omega arith))
 
 -- ---- what is to be shown
 
-slice-aggregate-put-all : tie.Need-slice-aggregate-put-all
-slice-aggregate-put-all c = search rules
+slice_aggregate_put_all : tie.Need-slice-aggregate-put-all
+slice_aggregate_put_all c = search rules
 
-put-all-requires : tie.Need-put-all-requires
-put-all-requires c κs = search rules
+put_all_requires : tie.Need-put-all-requires
+put_all_requires c κs = search rules
 
 same_length : tie.Need-same-length
 same_length c = search rules
@@ -46,72 +46,72 @@ returns : tie.Need-returns
 returns c =
     let s = c.before.before.before.before.before.before.before in
     let none = c.before.before.put_all_lem.ensures.room (omega (arith, s.requires)) in
-    (omega (arith, none.next-is), rw (text-none s.args.n s.args.d (omega arith)) none)
+    (omega (arith, none.next_is), rw (text_none s.args.n s.args.d (omega arith)) none)
 
-greatest-requires : tie.Need-greatest-requires
-greatest-requires c κs = search rules
+greatest_requires : tie.Need-greatest-requires
+greatest_requires c κs = search rules
 
-div-put-number : tie.Need-nonzero-div-put-number
-div-put-number c = some c.before
+div_put_number : tie.Need-nonzero-div-put-number
+div_put_number c = some c.before
 
-cast-put-number : tie.Need-overflow-cast-put-number
-cast-put-number c = let g = c.before in omega (arith, div-le_self (begun g).args.n g.greatest.result)
+cast_put_number : tie.Need-overflow-cast-put-number
+cast_put_number c = let g = c.before in omega (arith, div-le_self (begun g).args.n g.greatest.result)
 
-put-number-requires : tie.Need-put-number-requires
-put-number-requires c κs = search rules
+put_number_requires : tie.Need-put-number-requires
+put_number_requires c κs = search rules
 
-slice-aggregate-put-all-2 : tie.Need-slice-aggregate-put-all-2
-slice-aggregate-put-all-2 c = search rules
+slice_aggregate_put_all_2 : tie.Need-slice-aggregate-put-all-2
+slice_aggregate_put_all_2 c = search rules
 
-put-all-requires-2 : tie.Need-put-all-requires-2
-put-all-requires-2 c κs = search rules
+put_all_requires_2 : tie.Need-put-all-requires-2
+put_all_requires_2 c κs = search rules
 
-div-put-number-2 : tie.Need-nonzero-div-put-number-2
-div-put-number-2 c = some (divided (above c.before.before.before))
+div_put_number_2 : tie.Need-nonzero-div-put-number-2
+div_put_number_2 c = some (divided (above c.before.before.before))
 
-cast-put-number-2 : tie.Need-overflow-cast-put-number-2
-cast-put-number-2 c =
+cast_put_number_2 : tie.Need-overflow-cast-put-number-2
+cast_put_number_2 c =
     let g = divided (above c.before.before.before) in
     omega (arith, div-le_self (begun g).args.d g.greatest.result)
 
-put-number-requires-2 : tie.Need-put-number-requires-2
-put-number-requires-2 c κs = search rules
+put_number_requires_2 : tie.Need-put-number-requires-2
+put_number_requires_2 c κs = search rules
 
-same-length-2 : tie.Need-same-length-2
-same-length-2 c = search rules
+same_length_2 : tie.Need-same-length-2
+same_length_2 c = search rules
 
-returns-2 : tie.Need-returns-2
-returns-2 c =
+returns_2 : tie.Need-returns-2
+returns_2 c =
     let e = between c.before.before in
     let f = above e in
     let g = divided f in
     let s = begun g in
     let a = s.args in
-    let over-few = part-digits a.n g.greatest.result (omega arith) in
-    let under-few = part-digits a.d g.greatest.result (omega arith) in
+    let over-few = part_digits a.n g.greatest.result (omega arith) in
+    let under-few = part_digits a.d g.greatest.result (omega arith) in
     let over = f.put-number.ensures.room (omega (arith, s.pre, over-few)) in
-    let slash = e.put-all2.ensures.room (omega (arith, s.pre, over-few, over.next-is, over.same)) in
-    let under = c.before.before.put-number2.ensures.room (omega (arith, s.pre, over-few, under-few, over.next-is, over.same, slash.next-is, slash.same)) in (
-      omega (arith, over-few, under-few, over.next-is, slash.next-is, under.next-is),
-      rw (text-some a.n a.d (omega arith), ← g.greatest.ensures) (put-more (put-more over slash) under),
+    let slash = e.put-all2.ensures.room (omega (arith, s.pre, over-few, over.next_is, over.same)) in
+    let under = c.before.before.put-number2.ensures.room (omega (arith, s.pre, over-few, under-few, over.next_is, over.same, slash.next_is, slash.same)) in (
+      omega (arith, over-few, under-few, over.next_is, slash.next_is, under.next_is),
+      rw (text_some a.n a.d (omega arith), ← g.greatest.ensures) (put_more (put_more over slash) under),
     )
 
-pub put-fraction-spec : {M : Type 1} → statement M
-put-fraction-spec =
+pub put_fraction_spec : {M : Type 1} → statement M
+put_fraction_spec =
     tie.close
     (tie.spec
-    slice-aggregate-put-all
-    put-all-requires
+    slice_aggregate_put_all
+    put_all_requires
     same_length
     returns
-    greatest-requires
-    div-put-number
-    cast-put-number
-    put-number-requires
-    slice-aggregate-put-all-2
-    put-all-requires-2
-    div-put-number-2
-    cast-put-number-2
-    put-number-requires-2
-    same-length-2
-    returns-2)
+    greatest_requires
+    div_put_number
+    cast_put_number
+    put_number_requires
+    slice_aggregate_put_all_2
+    put_all_requires_2
+    div_put_number_2
+    cast_put_number_2
+    put_number_requires_2
+    same_length_2
+    returns_2)

@@ -4,92 +4,92 @@ use mathlib.Core.Path.{◌≡◌, ◌∙◌}
 use native.Mathlib.Omega.{arith}
 use lib.ListN.{length, length-set}
 use lib.Seq.{length-sets}
-use Rattle.putting.proofs.Putting.{Copying, copy-none, copy_more, copy-all}
-use Rattle.tally.proofs.Numbers.{four, put-numbers}
+use Rattle.putting.proofs.Putting.{Copying, copy_none, copy_more, copy_all}
+use Rattle.tally.proofs.Numbers.{four, put_numbers}
 use borrow.Author.Rules.{rules}
 use Rattle.tally.proofs.put_tally.Statement.{statement}
 use Rattle.tally.proofs.put_tally.Tie as tie
 
-abbrev invariant-loop : tie.invariant-loop
-invariant-loop numbers₀ refusals i₀ numbers i = Copying numbers₀ refusals 4 numbers i
+abbrev invariant_loop : tie.invariant-loop
+invariant_loop numbers₀ refusals i₀ numbers i = Copying numbers₀ refusals 4 numbers i
 
-abbrev decreases-loop : tie.decreases-loop
-decreases-loop numbers₀ refusals i₀ numbers i = 31 - i
+abbrev decreases_loop : tie.decreases-loop
+decreases_loop numbers₀ refusals i₀ numbers i = 31 - i
 
-slice-write-numbers : tie.Need-slice-write-numbers invariant-loop decreases-loop
-slice-write-numbers c = search rules
+slice_write_numbers : tie.Need-slice-write-numbers invariant_loop decreases_loop
+slice_write_numbers c = search rules
 
-slice-write-numbers-2 : tie.Need-slice-write-numbers-2 invariant-loop decreases-loop
-slice-write-numbers-2 c = simp length-set (omega arith)
+slice_write_numbers_2 : tie.Need-slice-write-numbers-2 invariant_loop decreases_loop
+slice_write_numbers_2 c = simp length-set (omega arith)
 
-slice-write-numbers-3 : tie.Need-slice-write-numbers-3 invariant-loop decreases-loop
-slice-write-numbers-3 c = simp length-set (omega arith)
+slice_write_numbers_3 : tie.Need-slice-write-numbers-3 invariant_loop decreases_loop
+slice_write_numbers_3 c = simp length-set (omega arith)
 
-slice-write-numbers-4 : tie.Need-slice-write-numbers-4 invariant-loop decreases-loop
-slice-write-numbers-4 c = simp length-set (omega arith)
+slice_write_numbers_4 : tie.Need-slice-write-numbers-4 invariant_loop decreases_loop
+slice_write_numbers_4 c = simp length-set (omega arith)
 
-loop-holds : tie.Need-loop-init invariant-loop decreases-loop
-loop-holds c = copy-none _ _ _
+loop_holds : tie.Need-loop-init invariant_loop decreases_loop
+loop_holds c = copy_none _ _ _
 
-mul-numbers : tie.Need-overflow-mul-numbers invariant-loop decreases-loop
-mul-numbers c = search rules
+mul_numbers : tie.Need-overflow-mul-numbers invariant_loop decreases_loop
+mul_numbers c = search rules
 
-array-read-numbers : tie.Need-array-read-numbers invariant-loop decreases-loop
-array-read-numbers c = search rules
+array_read_numbers : tie.Need-array-read-numbers invariant_loop decreases_loop
+array_read_numbers c = search rules
 
-add-numbers : tie.Need-overflow-add-numbers invariant-loop decreases-loop
-add-numbers c = search rules
+add_numbers : tie.Need-overflow-add-numbers invariant_loop decreases_loop
+add_numbers c = search rules
 
-mul-numbers-2 : tie.Need-overflow-mul-numbers-2 invariant-loop decreases-loop
-mul-numbers-2 c = search rules
+mul_numbers_2 : tie.Need-overflow-mul-numbers-2 invariant_loop decreases_loop
+mul_numbers_2 c = search rules
 
-slice-write-numbers-5 : tie.Need-slice-write-numbers-5 invariant-loop decreases-loop
-slice-write-numbers-5 c =
+slice_write_numbers_5 : tie.Need-slice-write-numbers-5 invariant_loop decreases_loop
+slice_write_numbers_5 c =
     let a = c.before.before.before.args in
     omega (arith, c.before.loop.invariant.same, length-sets a.numbers.now 0 (four a.t), c.before.before.before.requires)
 
-add-i : tie.Need-overflow-add-i invariant-loop decreases-loop
-add-i c = search rules
+add_i : tie.Need-overflow-add-i invariant_loop decreases_loop
+add_i c = search rules
 
-loop-less : tie.Need-loop-smaller invariant-loop decreases-loop
-loop-less c = search rules
+loop_less : tie.Need-loop-smaller invariant_loop decreases_loop
+loop_less c = search rules
 
-loop-again : tie.Need-loop-preserved invariant-loop decreases-loop
-loop-again c =
+loop_again : tie.Need-loop-preserved invariant_loop decreases_loop
+loop_again c =
     let a = c.before.before.before.args in
     let size : length a.t.refusals ≡ 31 = search rules in
     copy_more _ _ _ (omega (arith, size, length-sets a.numbers.now 0 (four a.t), c.before.before.before.requires)) _ _ c.before.loop.invariant (omega (arith, size))
 
-same_length : tie.Need-same-length invariant-loop decreases-loop
+same_length : tie.Need-same-length invariant_loop decreases_loop
 same_length c =
     let a = c.before.before.before.args in
     c.before.loop.invariant.same ∙ length-sets a.numbers.now 0 (four a.t)
 
-returns : tie.Need-returns invariant-loop decreases-loop
+returns : tie.Need-returns invariant_loop decreases_loop
 returns c =
     let a = c.before.before.before.args in
     let size : length a.t.refusals ≡ 31 = search rules in
-    put-numbers a.t a.numbers.now c.before.before.before.requires size
-    (copy-all _ _ _ (omega (arith, size, length-sets a.numbers.now 0 (four a.t), c.before.before.before.requires)) _ _ c.before.loop.invariant (omega (arith, size)))
+    put_numbers a.t a.numbers.now c.before.before.before.requires size
+    (copy_all _ _ _ (omega (arith, size, length-sets a.numbers.now 0 (four a.t), c.before.before.before.requires)) _ _ c.before.loop.invariant (omega (arith, size)))
 
-pub put-tally-spec : {M : Type 1} → statement M
-put-tally-spec =
+pub put_tally_spec : {M : Type 1} → statement M
+put_tally_spec =
     tie.close
     (tie.spec
-    invariant-loop
-    decreases-loop
-    slice-write-numbers
-    slice-write-numbers-2
-    slice-write-numbers-3
-    slice-write-numbers-4
-    loop-holds
-    mul-numbers
-    array-read-numbers
-    add-numbers
-    mul-numbers-2
-    slice-write-numbers-5
-    add-i
-    loop-less
-    loop-again
+    invariant_loop
+    decreases_loop
+    slice_write_numbers
+    slice_write_numbers_2
+    slice_write_numbers_3
+    slice_write_numbers_4
+    loop_holds
+    mul_numbers
+    array_read_numbers
+    add_numbers
+    mul_numbers_2
+    slice_write_numbers_5
+    add_i
+    loop_less
+    loop_again
     same_length
     returns)

@@ -38,12 +38,12 @@ use denote.Triple.Table.{entered, cited}
 use denote.Triple.Walked.{says, Stays, stay_ref, stay_none, walk_of, AllGo, Goes-none, Goes-ref, Walks, ends_at, walked, walk_Meets}
 use denote.Triple.Clauses.{ensured, lasts}
 use denote.Exit.{yes}
-use Rattle.verdict.specs.Verdict.{verdictOf}
+use Rattle.verdict.specs.Verdict.{verdict_of}
 use Rattle.verdict.specs.declared.Verdict.{Verdict}
 use Rattle.verdict.specs.contracts.Verdict as E
 use Rattle.verdict.proofs.Verdict.TheLaws as E'
 use denote.Enum.Laws as Le
-use Rattle.tally.specs.Tally.{takeIn}
+use Rattle.tally.specs.Tally.{take_in}
 use Rattle.tally.specs.declared.Tally.{Tally}
 use Rattle.tally.specs.declared.Taken.{Taken}
 use Rattle.tally.specs.contracts.Taken as R
@@ -85,8 +85,8 @@ head_or u [] = u
 head_or u (v ∷ vs) = v
 
 -- what a `Taken` owns at a value: the value, and what its fields own
-taken-val : (r : Taken) (u : Val) → Is R.the_row r (u ∷ []) → u ≡ rval r
-taken-val r u is = ap (λ (vs : List Val). head_or u vs) (LL.tells R.the_type R'.the_laws r (u ∷ []) is)
+taken_val : (r : Taken) (u : Val) → Is R.the_row r (u ∷ []) → u ≡ rval r
+taken_val r u is = ap (λ (vs : List Val). head_or u vs) (LL.tells R.the_type R'.the_laws r (u ∷ []) is)
 
 taken_is : (r : Taken) (u : Val) → Is R.the_row r (u ∷ []) → Is R.the_row r (rvals r)
 taken_is r u is = LL.owes R.the_type R'.the_laws r (LL.owed R.the_type R'.the_laws r (u ∷ []) is)
@@ -94,16 +94,16 @@ taken_is r u is = LL.owes R.the_type R'.the_laws r (LL.owed R.the_type R'.the_la
 number_is : (r : Taken) (u : Val) → Is R.the_row r (u ∷ []) → Is u32 r.number (vint w32 r.number ∷ [])
 number_is r u is = (LL.owed R.the_type R'.the_laws r (u ∷ []) is).0
 
-tally-is : (r : Taken) (u : Val) → Is R.the_row r (u ∷ []) → Is T.the_row r.tally (vals r.tally)
-tally-is r u is = (LL.owed R.the_type R'.the_laws r (u ∷ []) is).1.0
+tally_is : (r : Taken) (u : Val) → Is R.the_row r (u ∷ []) → Is T.the_row r.tally (vals r.tally)
+tally_is r u is = (LL.owed R.the_type R'.the_laws r (u ∷ []) is).1.0
 
 module _ {M : Type 1} {𝓤 : Ura M} (𝓛 : Logic 𝓤) (at_mem : Memory → SProp 𝓤) (run : Routine → Fun 𝓤) where
   -- the contract that the proof cites
   abbrev Added : Contract 𝓤
   Added = triple_of 𝓛 added.signature (added.spec 𝓛 at_mem run)
 
-  added_of : (h : Tally) (n : Verdict) (r : Taken) → ent 𝓤 (ensured 𝓛 added.ended (added.clauses 𝓛 at_mem run) tt (h, (n, tt)) tt r) (fact 𝓤 (r ≡ takeIn (verdictOf n) h))
-  added_of h n r = ex_e 𝓤 _ (λ ws. snd∗ 𝓤 (sem 𝓛 (lasts added.ended tt (h, (n, tt)) ws)) (fact 𝓤 (r ≡ takeIn (verdictOf n) h)))
+  added_of : (h : Tally) (n : Verdict) (r : Taken) → ent 𝓤 (ensured 𝓛 added.ended (added.clauses 𝓛 at_mem run) tt (h, (n, tt)) tt r) (fact 𝓤 (r ≡ take_in (verdict_of n) h))
+  added_of h n r = ex_e 𝓤 _ (λ ws. snd∗ 𝓤 (sem 𝓛 (lasts added.ended tt (h, (n, tt)) ws)) (fact 𝓤 (r ≡ take_in (verdict_of n) h)))
 
 module _ {M : Type 1} {𝓤 : Ura M} (𝓛 : Logic 𝓤) (at_mem : Memory → SProp 𝓤) (run : Routine → Fun 𝓤) (κ : Lft) (q : Share) (b o : ℕ) (γ : GName) (h : Tally) (n : Verdict) where
   open 𝓛 use {H, A}
@@ -117,7 +117,7 @@ module _ {M : Type 1} {𝓤 : Ura M} (𝓛 : Logic 𝓤) (at_mem : Memory → SP
   abbrev Post : Val → SProp 𝓤
   Post = (walk_of 𝓛 taking.ended stayed (taking.clauses 𝓛 at_mem run)).post (((κ, tt), (q, tt), tt, x, at), tt)
 
-  exits : Is E.the_row n (evals n) → (r : Taken) → Is u32 r.number (vint w32 r.number ∷ []) → r ≡ takeIn (verdictOf n) h
+  exits : Is E.the_row n (evals n) → (r : Taken) → Is u32 r.number (vint w32 r.number ∷ []) → r ≡ take_in (verdict_of n) h
       → ent 𝓤 (sep 𝓤 (A.obs γ ((T.the_row).coded.code r.tally)) (sep 𝓤 (A.bor κ (Body (mem (T.the_row)) b o γ)) (A.lft κ q))) (Post (vint w32 r.number))
   exits fits r isk e =
       qed 𝓛 (‵ (fobs γ ((T.the_row).coded.code r.tally)) ∷ ‵ (fbor κ (Body (mem (T.the_row)) b o γ)) ∷ ‵ (flft κ q) ∷ []) ∵
@@ -126,11 +126,11 @@ module _ {M : Type 1} {𝓤 : Ura M} (𝓛 : Logic 𝓤) (at_mem : Memory → SP
       frame ! $ feq_i ! (List Val) (vptr b o ∷ []) (vptr b o ∷ []) refl $ fjoin3 ! $ nothing ! $ owned ! E.the_row (Is E.the_row) (Le.makes E.the_type E'.the_plain 𝓛) n _ fits $ fjoin ! $ move ! (1 ∷ 0 ∷ []) $ fjoin ! $
       owned ! u32 (Is u32) (uint_Makes 𝓛 w32) r.number _ isk $ move ! (1 ∷ 0 ∷ []) $ done !
 
-  abbrev to-added : (Added 𝓛 at_mem run).Ghost
-  to-added = ((tt, tt, tt, (h, (n, tt)), (vals h, (eval n ∷ [], tt))), tt)
+  abbrev to_added : (Added 𝓛 at_mem run).Ghost
+  to_added = ((tt, tt, tt, (h, (n, tt)), (vals h, (eval n ∷ [], tt))), tt)
 
-  goes-added : Is E.the_row n (evals n) → ent 𝓤 (sem 𝓛 ((T.the_row).own_val h (vals h))) ((Added 𝓛 at_mem run).pre to-added)
-  goes-added fits =
+  goes_added : Is E.the_row n (evals n) → ent 𝓤 (sem 𝓛 ((T.the_row).own_val h (vals h))) ((Added 𝓛 at_mem run).pre to_added)
+  goes_added fits =
       qed 𝓛 (‵ ((T.the_row).own_val h (vals h)) ∷ []) ∵ nothing ! $ owned ! E.the_row (Is E.the_row) (Le.makes E.the_type E'.the_plain 𝓛) n _ fits $ fjoin ! $ move ! (1 ∷ 0 ∷ []) $ fjoin ! $ nothing ! $ join ! $ frame ! $ done !
 
   module _ (C : Calls 𝓤 H) (Λ : Loops 𝓤 H) (fm : FmC 𝓤 H 𝓛.laws C) (known : Triple 𝓤 (C #tl·added) (Added 𝓛 at_mem run)) where
@@ -146,15 +146,15 @@ module _ {M : Type 1} {𝓤 : Ura M} (𝓛 : Logic 𝓤) (at_mem : Memory → SP
         move ! (1 ∷ []) $ peeks ! T.the_row (Is T.the_row) (shows 𝓛 T.the_row) h (vals h) (λ is.
         -- [what h owns; the cell; the open borrow; obs; auth; _4; …; _3; …; _2; …; _1; …; room for _0; …]
         assigns ! (of_opd ! (load ! (from ! (hop ! (look ! 11 refl) (stop !))) (look_raw ! 1 refl))) (from ! (stop !)) (init ! 5 refl ((LL.lawful T.the_type T'.the_laws 𝓛).typed h _ is).0) $
-        use1 𝓛 (raw ((Added 𝓛 at_mem run).pre to-added)) (goes-added gn) $
-        calls_at ! fm (Added 𝓛 at_mem run) known to-added (and_then ! (load ! (from ! (stop !)) (look ! 5 refl)) (and_then ! (load ! (from ! (stop !)) (look ! 9 refl)) (no_more !))) (λ u.
+        use1 𝓛 (raw ((Added 𝓛 at_mem run).pre to_added)) (goes_added gn) $
+        calls_at ! fm (Added 𝓛 at_mem run) known to_added (and_then ! (load ! (from ! (stop !)) (look ! 5 refl)) (and_then ! (load ! (from ! (stop !)) (look ! 9 refl)) (no_more !))) (λ u.
         use1 𝓛 (later (some (λ (r : Taken). (‵ ftrue ⊛ ‵ ((R.the_row).own_val r (u ∷ []))) ⊛ raw (ensured 𝓛 added.ended (added.clauses 𝓛 at_mem run) tt (h, (n, tt)) tt r)))) (id⊢ 𝓤 _) $ await ! tt $ pick ! (λ r.
-        split ! $ move ! (1 ∷ []) $ use1 𝓛 (raw (fact 𝓤 (r ≡ takeIn (verdictOf n) h))) (added_of 𝓛 at_mem run h n r) $ heard ! (r ≡ takeIn (verdictOf n) h) (λ e. split ! $ drop ! $
-        peeks ! R.the_row (Is R.the_row) (shows 𝓛 R.the_row) r (u ∷ []) (λ is'. rw (taken-val r u is') (
+        split ! $ move ! (1 ∷ []) $ use1 𝓛 (raw (fact 𝓤 (r ≡ take_in (verdict_of n) h))) (added_of 𝓛 at_mem run h n r) $ heard ! (r ≡ take_in (verdict_of n) h) (λ e. split ! $ drop ! $
+        peeks ! R.the_row (Is R.the_row) (shows 𝓛 R.the_row) r (u ∷ []) (λ is'. rw (taken_val r u is') (
         -- the value is a struct, whose fields are read
         land ! (from ! (stop !)) (init ! 7 refl ((LL.lawful R.the_type R'.the_laws 𝓛).typed r _ (taken_is r u is')).0) $
-        drop ! $ owned ! T.the_row (Is T.the_row) (LL.makes T.the_type T'.the_plain 𝓛) r.tally _ (tally-is r u is') $
-        assigns ! (of_opd ! (load ! (from ! (fld ! refl (stop !))) (look_in ! 7 (sub ! 1 refl (whole !))))) (from ! (hop ! (look ! 11 refl) (stop !))) (store_raw ! 1 refl ((LL.lawful T.the_type T'.the_laws 𝓛).typed r.tally _ (tally-is r u is')).0) $
+        drop ! $ owned ! T.the_row (Is T.the_row) (LL.makes T.the_type T'.the_plain 𝓛) r.tally _ (tally_is r u is') $
+        assigns ! (of_opd ! (load ! (from ! (fld ! refl (stop !))) (look_in ! 7 (sub ! 1 refl (whole !))))) (from ! (hop ! (look ! 11 refl) (stop !))) (store_raw ! 1 refl ((LL.lawful T.the_type T'.the_laws 𝓛).typed r.tally _ (tally_is r u is')).0) $
         assigns ! (of_opd ! (load ! (from ! (fld ! refl (stop !))) (look_in ! 7 (sub ! 0 refl (whole !))))) (from ! (stop !)) (init ! 13 refl ((uint_Lawful 𝓛 w32).typed r.number _ (number_is r u is')).0) $
         move ! (1 ∷ 0 ∷ []) $ closes ! tt (T.the_row) r.tally (vals r.tally) b o $
         returns ! (look ! 11 refl) $ forget ! 3 refl $ forget ! 5 refl $ forget ! 7 refl $ forget ! 9 refl $ forget ! 11 refl $
@@ -175,9 +175,9 @@ take_meets : {M : Type 1} {𝓤 : Ura M} (𝓛 : Logic 𝓤) → (at_mem : Memor
     → Meets 𝓛 taking.signature (WpFn 𝓤 𝓛.H 𝓣.C 𝓣.Λ code.function) (taking.spec 𝓛 at_mem run)
 take_meets {𝓤 = 𝓤} 𝓛 at_mem run 𝓣 known = walk_Meets 𝓛 taking.ended stayed (goes 𝓛 at_mem run) (taking.clauses 𝓛 at_mem run) (WpFn 𝓤 𝓛.H 𝓣.C 𝓣.Λ code.function) (WpFn-mono 𝓤 𝓛.H 𝓛.laws 𝓣 code.function) (take_walks 𝓛 at_mem run 𝓣.C 𝓣.Λ (fm_of 𝓤 𝓛.H 𝓛.laws 𝓣) known)
 
-pub take-in-spec : {M : Type 1} → stated.statement M
+pub take_in_spec : {M : Type 1} → stated.statement M
 unfolding code.routine tables_of
-take-in-spec 𝓤 𝓛 𝓜 𝓡 =
+take_in_spec 𝓤 𝓛 𝓜 𝓡 =
     entered 𝓤 𝓛.H (triple_of 𝓛 taking.signature (taking.spec 𝓛 𝓜.mem 𝓡.run))
     (tables 𝓤 𝓛.H 𝓜 𝓡 code.env).C (tables 𝓤 𝓛.H 𝓜 𝓡 code.env).Λ #tl·take code.function (code.unfolded 𝓤 𝓛.H 𝓜 𝓡)
     (take_meets 𝓛 𝓜.mem 𝓡.run (tables_of 𝓤 𝓛.H 𝓜 (tables 𝓤 𝓛.H 𝓜 𝓡 code.env))

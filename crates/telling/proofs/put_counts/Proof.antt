@@ -1,6 +1,6 @@
 -- Four words, each with a count.
 use native.Mathlib.Omega.{arith}
-use Rattle.telling.proofs.Lines.{put-accepted}
+use Rattle.telling.proofs.Lines.{put_accepted}
 use borrow.Author.Rules.{rules}
 use Rattle.telling.proofs.put_counts.Statement.{statement}
 use Rattle.telling.proofs.put_counts.Tie as tie
@@ -21,41 +21,41 @@ covers c = c.before.before.before.before.before.before
 
 -- ---- what is to be shown
 
-slice-aggregate-put-worded : tie.Need-slice-aggregate-put-worded
-slice-aggregate-put-worded c = search rules
+slice_aggregate_put_worded : tie.Need-slice-aggregate-put-worded
+slice_aggregate_put_worded c = search rules
 
-cast-put-worded : tie.Need-overflow-cast-put-worded
-cast-put-worded c = search rules
+cast_put_worded : tie.Need-overflow-cast-put-worded
+cast_put_worded c = search rules
 
-put-worded-requires : tie.Need-put-worded-requires
-put-worded-requires c κs = search rules
+put_worded_requires : tie.Need-put-worded-requires
+put_worded_requires c κs = search rules
 
-slice-aggregate-put-worded-2 : tie.Need-slice-aggregate-put-worded-2
-slice-aggregate-put-worded-2 c = search rules
+slice_aggregate_put_worded_2 : tie.Need-slice-aggregate-put-worded-2
+slice_aggregate_put_worded_2 c = search rules
 
-cast-put-worded-2 : tie.Need-overflow-cast-put-worded-2
-cast-put-worded-2 c = search rules
+cast_put_worded_2 : tie.Need-overflow-cast-put-worded-2
+cast_put_worded_2 c = search rules
 
-put-worded-requires-2 : tie.Need-put-worded-requires-2
-put-worded-requires-2 c κs = search rules
+put_worded_requires_2 : tie.Need-put-worded-requires-2
+put_worded_requires_2 c κs = search rules
 
-slice-aggregate-put-worded-3 : tie.Need-slice-aggregate-put-worded-3
-slice-aggregate-put-worded-3 c = search rules
+slice_aggregate_put_worded_3 : tie.Need-slice-aggregate-put-worded-3
+slice_aggregate_put_worded_3 c = search rules
 
-cast-put-worded-3 : tie.Need-overflow-cast-put-worded-3
-cast-put-worded-3 c = search rules
+cast_put_worded_3 : tie.Need-overflow-cast-put-worded-3
+cast_put_worded_3 c = search rules
 
-put-worded-requires-3 : tie.Need-put-worded-requires-3
-put-worded-requires-3 c κs = search rules
+put_worded_requires_3 : tie.Need-put-worded-requires-3
+put_worded_requires_3 c κs = search rules
 
-slice-aggregate-put-worded-4 : tie.Need-slice-aggregate-put-worded-4
-slice-aggregate-put-worded-4 c = search rules
+slice_aggregate_put_worded_4 : tie.Need-slice-aggregate-put-worded-4
+slice_aggregate_put_worded_4 c = search rules
 
-cast-put-worded-4 : tie.Need-overflow-cast-put-worded-4
-cast-put-worded-4 c = search rules
+cast_put_worded_4 : tie.Need-overflow-cast-put-worded-4
+cast_put_worded_4 c = search rules
 
-put-worded-requires-4 : tie.Need-put-worded-requires-4
-put-worded-requires-4 c κs = search rules
+put_worded_requires_4 : tie.Need-put-worded-requires-4
+put_worded_requires_4 c κs = search rules
 
 same_length : tie.Need-same-length
 same_length c = search rules
@@ -67,24 +67,24 @@ returns c =
     let f = members e in
     let g = bads f in (
       omega (arith, g.put-worded.ensures.0, f.put-worded2.ensures.0, e.put-worded3.ensures.0, d.put-worded4.ensures.0),
-      put-accepted _ g.put-worded.ensures.1 f.put-worded2.ensures.1 e.put-worded3.ensures.1 d.put-worded4.ensures.1,
+      put_accepted _ g.put-worded.ensures.1 f.put-worded2.ensures.1 e.put-worded3.ensures.1 d.put-worded4.ensures.1,
     )
 
-pub put-counts-spec : {M : Type 1} → statement M
-put-counts-spec =
+pub put_counts_spec : {M : Type 1} → statement M
+put_counts_spec =
     tie.close
     (tie.spec
-    slice-aggregate-put-worded
-    cast-put-worded
-    put-worded-requires
-    slice-aggregate-put-worded-2
-    cast-put-worded-2
-    put-worded-requires-2
-    slice-aggregate-put-worded-3
-    cast-put-worded-3
-    put-worded-requires-3
-    slice-aggregate-put-worded-4
-    cast-put-worded-4
-    put-worded-requires-4
+    slice_aggregate_put_worded
+    cast_put_worded
+    put_worded_requires
+    slice_aggregate_put_worded_2
+    cast_put_worded_2
+    put_worded_requires_2
+    slice_aggregate_put_worded_3
+    cast_put_worded_3
+    put_worded_requires_3
+    slice_aggregate_put_worded_4
+    cast_put_worded_4
+    put_worded_requires_4
     same_length
     returns)

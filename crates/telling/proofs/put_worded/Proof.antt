@@ -1,16 +1,16 @@
 -- The words and then the digits.
 use native.Mathlib.Omega.{arith}
-use Rattle.putting.proofs.Decimal.{twenty-digits}
-use Rattle.putting.proofs.Putting.{put-more}
+use Rattle.putting.proofs.Decimal.{twenty_digits}
+use Rattle.putting.proofs.Putting.{put_more}
 use borrow.Author.Rules.{rules}
 use Rattle.telling.proofs.put_worded.Statement.{statement}
 use Rattle.telling.proofs.put_worded.Tie as tie
 
-put-all-requires : tie.Need-put-all-requires
-put-all-requires c κs = search rules
+put_all_requires : tie.Need-put-all-requires
+put_all_requires c κs = search rules
 
-put-number-requires : tie.Need-put-number-requires
-put-number-requires c κs = search rules
+put_number_requires : tie.Need-put-number-requires
+put_number_requires c κs = search rules
 
 same_length : tie.Need-same-length
 same_length c = search rules
@@ -20,10 +20,10 @@ returns c =
     let d = c.before.before in
     let e = d.before.before.before.before in
     let s = e.before.before.before.before in
-    let few = twenty-digits s.args.n (omega arith) in
+    let few = twenty_digits s.args.n (omega arith) in
     let words = e.put_all_lem.ensures.room (omega (arith, s.requires)) in
-    let number = d.put-number.ensures.room (omega (arith, s.requires, few, words.next-is, words.same)) in
-    (omega (arith, few, words.next-is, number.next-is), put-more words number)
+    let number = d.put-number.ensures.room (omega (arith, s.requires, few, words.next_is, words.same)) in
+    (omega (arith, few, words.next_is, number.next_is), put_more words number)
 
-pub put-worded-spec : {M : Type 1} → statement M
-put-worded-spec = tie.close (tie.spec put-all-requires put-number-requires same_length returns)
+pub put_worded_spec : {M : Type 1} → statement M
+put_worded_spec = tie.close (tie.spec put_all_requires put_number_requires same_length returns)

@@ -6,8 +6,8 @@ use Rattle.translating.proofs.variables_for.Tie as tie
 returns : tie.Need-returns
 returns c = simp (eq-eqb c.before.args.met 0 c.if1.true)
 
-returns-2 : tie.Need-returns-2
-returns-2 c = simp (ne_eqb c.before.args.met 0 c.if1.false)
+returns_2 : tie.Need-returns-2
+returns_2 c = simp (ne_eqb c.before.args.met 0 c.if1.false)
 
-pub variables-for-spec : {M : Type 1} → statement M
-variables-for-spec = tie.close (tie.spec returns returns-2)
+pub variables_for_spec : {M : Type 1} → statement M
+variables_for_spec = tie.close (tie.spec returns returns_2)

@@ -1,17 +1,17 @@
 -- By the kind.
 use mathlib.Core.Path.{refl}
 use borrow.Author.Tests.{ne_eqb}
-use Rattle.undoing.specs.Undone.{leftCell}
+use Rattle.undoing.specs.Undone.{left_cell}
 use Rattle.undoing.proofs.left_cell.Statement.{statement}
 use Rattle.undoing.proofs.left_cell.Tie as tie
 
 returns : tie.Need-returns
-unfolding leftCell
+unfolding left_cell
 returns c = rw c.if1.true refl
 
-returns-2 : tie.Need-returns-2
-unfolding leftCell
-returns-2 c = rw (ne_eqb c.before.args.kind 11 c.if1.false) refl
+returns_2 : tie.Need-returns-2
+unfolding left_cell
+returns_2 c = rw (ne_eqb c.before.args.kind 11 c.if1.false) refl
 
-pub left-cell-spec : {M : Type 1} → statement M
-left-cell-spec = tie.close (tie.spec returns returns-2)
+pub left_cell_spec : {M : Type 1} → statement M
+left_cell_spec = tie.close (tie.spec returns returns_2)

@@ -5,8 +5,8 @@ use borrow.Author.Rules.{rules}
 use Rattle.checker.proofs.choices.with_helper.Statement.{statement}
 use Rattle.checker.proofs.choices.with_helper.Tie as tie
 
-second-operand-requires : tie.Need-second-operand-requires
-second-operand-requires c κs = search rules
+second_operand_requires : tie.Need-second-operand-requires
+second_operand_requires c κs = search rules
 
 returns : tie.Need-returns
 returns c =
@@ -14,5 +14,5 @@ returns c =
     ap (λ (q : ℕ). record { variables = a.spot.variables; by = record { from = a.spot.by.from; kind = a.spot.by.kind; a = a.spot.by.a; b = q; to = a.spot.by.to } })
     c.second-operand.ensures
 
-pub with-helper-spec : {M : Type 1} → statement M
-with-helper-spec = tie.close (tie.spec second-operand-requires returns)
+pub with_helper_spec : {M : Type 1} → statement M
+with_helper_spec = tie.close (tie.spec second_operand_requires returns)

@@ -2,16 +2,16 @@
 use mathlib.Core.List.{List, ◌++◌}
 use mathlib.Core.Path.{refl, ◌∙◌}
 use native.Mathlib.Omega.{arith}
-use Rattle.lists.specs.List.{concatMap}
-use Rattle.layout.specs.Entries.{entries_at, membersAt}
-use Rattle.layout.specs.Members.{membersFrom}
+use Rattle.lists.specs.List.{concat_map}
+use Rattle.layout.specs.Entries.{entries_at, members_at}
+use Rattle.layout.specs.Members.{members_from}
 use Rattle.run.specs.Run.{Located}
-use Rattle.checker.specs.Checking.{coversOf, taking, Taking, coverOf}
-use Rattle.checker.specs.Jobs.{owedBy}
+use Rattle.checker.specs.Checking.{covers_of, taking, Taking, cover_of}
+use Rattle.checker.specs.Jobs.{owed_by}
 use Rattle.checker.specs.declared.checked.Position.{Position}
-use Rattle.checker.proofs.Indexed.{linked-job}
-use Rattle.checker.proofs.Members.{from-table}
-use Rattle.checker.proofs.Checking.{Progress, at-start, begin-two, advance, halt}
+use Rattle.checker.proofs.Indexed.{linked_job}
+use Rattle.checker.proofs.Members.{from_table}
+use Rattle.checker.proofs.Checking.{Progress, at_start, begin_two, advance, halt}
 use borrow.Author.Rules.{rules}
 use Rattle.checker.proofs.owed.check_owed.Statement.{statement}
 use Rattle.checker.proofs.owed.check_owed.Tie as tie
@@ -28,13 +28,13 @@ indexed c = begun c.before.before.before.before.before
 
 -- all members, the forbidden shapes, what the members owe, and where the covers begin
 abbrev members : tie.Start → Taking
-members s = taking s.args.judged (membersFrom s.args.cert.now s.args.h.variables s.args.starts.now)
+members s = taking s.args.judged (members_from s.args.cert.now s.args.h.variables s.args.starts.now)
 
 abbrev forbidden : tie.Start → List Located
 forbidden s = entries_at s.args.job.now s.args.h.variables s.args.h.bads_at s.args.h.bads
 
 abbrev owing : tie.Start → List Located
-owing s = concatMap (owedBy s.args.job.now s.args.h) (membersAt s.args.cert.now s.args.h.variables s.args.starts.now)
+owing s = concat_map (owed_by s.args.job.now s.args.h) (members_at s.args.cert.now s.args.h.variables s.args.starts.now)
 
 abbrev from : tie.Start → Position
 from s = record { at = s.args.at; counted = 0 }
@@ -43,66 +43,66 @@ from s = record { at = s.args.at; counted = 0 }
 two : (s : tie.Start)
     → let cert = s.args.cert.now in
     let ms = members s in
-    Progress cert (coversOf cert ms (forbidden s ++ owing s)) (from s) (coversOf cert ms (forbidden s) ++ coversOf cert ms (owing s)) (from s)
-two s = begin-two (coverOf s.args.cert.now (members s)) (forbidden s) (owing s) (at-start s.args.at s.requires.2 s.requires.3)
+    Progress cert (covers_of cert ms (forbidden s ++ owing s)) (from s) (covers_of cert ms (forbidden s) ++ covers_of cert ms (owing s)) (from s)
+two s = begin_two (cover_of s.args.cert.now (members s)) (forbidden s) (owing s) (at_start s.args.at s.requires.2 s.requires.3)
 
 -- ---- what is to be shown
 
 -- there are at most 8 variables
 returns : tie.Need-returns
-returns c = absurd (omega (arith, c.if1.true, (begun c.before).requires.1.variables-most))
+returns c = absurd (omega (arith, c.if1.true, (begun c.before).requires.1.variables_most))
 
 -- and at least one
-returns-2 : tie.Need-returns-2
-returns-2 c = absurd (omega (arith, c.if2.true, (begun c.before.before.before).requires.1.variables-some))
+returns_2 : tie.Need-returns-2
+returns_2 c = absurd (omega (arith, c.if2.true, (begun c.before.before.before).requires.1.variables_some))
 
-index-transitions-requires : tie.Need-index-transitions-requires
-index-transitions-requires c κs = search rules
+index_transitions_requires : tie.Need-index-transitions-requires
+index_transitions_requires c κs = search rules
 
-check-forbidden-requires : tie.Need-check-forbidden-requires
-check-forbidden-requires c κs =
+check_forbidden_requires : tie.Need-check-forbidden-requires
+check_forbidden_requires c κs =
     let p = (indexed c).requires in
-    (p.0.bads, p.1.variables-most, at-start _ p.2 p.3)
+    (p.0.bads, p.1.variables_most, at_start _ p.2 p.3)
 
-enum-known-g : tie.Need-enum-known-g
-enum-known-g c = search rules
+enum_known_g : tie.Need-enum-known-g
+enum_known_g c = search rules
 
 enum_told : tie.Need-enum-told
 enum_told c = search rules
 
-returns-3 : tie.Need-returns-3
-returns-3 c =
+returns_3 : tie.Need-returns-3
+returns_3 c =
     let o = c.before.before in
     let s = indexed o.before in
     let a = s.args in
-    rw (from-table a.cert.now a.h.variables a.starts.now s.pre.1) at
-    (halt (coversOf a.cert.now (members s) (forbidden s)) _ (two s) o.check-forbidden.ensures c.enum_told.given.1).0
+    rw (from_table a.cert.now a.h.variables a.starts.now s.pre.1) at
+    (halt (covers_of a.cert.now (members s) (forbidden s)) _ (two s) o.check-forbidden.ensures c.enum_told.given.1).0
 
-check-members-requires : tie.Need-check-members-requires
-check-members-requires c κs =
+check_members_requires : tie.Need-check-members-requires
+check_members_requires c κs =
     let o = c.before.before.before.before in
     let p = (indexed o.before).requires in
-    (p.0, rw o.before.index-transitions.ensures (linked-job p.0 _ refl), p.1, rw c.before.before.g.given.1 at o.check-forbidden.ensures.1)
+    (p.0, rw o.before.index-transitions.ensures (linked_job p.0 _ refl), p.1, rw c.before.before.g.given.1 at o.check-forbidden.ensures.1)
 
-returns-4 : tie.Need-returns-4
-returns-4 c =
+returns_4 : tie.Need-returns-4
+returns_4 c =
     let told = c.before.before in
     let o = told.before.before.before in
     let s = indexed o.before in
     let a = s.args in
-    rw (from-table a.cert.now a.h.variables a.starts.now s.pre.1) at
-    (c.check-members.ensures.0 ∙ (advance (coversOf a.cert.now (members s) (forbidden s)) _ (two s) o.check-forbidden.ensures told.before.g.given.1).left)
+    rw (from_table a.cert.now a.h.variables a.starts.now s.pre.1) at
+    (c.check-members.ensures.0 ∙ (advance (covers_of a.cert.now (members s) (forbidden s)) _ (two s) o.check-forbidden.ensures told.before.g.given.1).left)
 
-pub check-owed-spec : {M : Type 1} → statement M
-check-owed-spec =
+pub check_owed_spec : {M : Type 1} → statement M
+check_owed_spec =
     tie.close
     (tie.spec
     returns
-    returns-2
-    index-transitions-requires
-    check-forbidden-requires
-    enum-known-g
+    returns_2
+    index_transitions_requires
+    check_forbidden_requires
+    enum_known_g
     enum_told
-    returns-3
-    check-members-requires
-    returns-4)
+    returns_3
+    check_members_requires
+    returns_4)

@@ -7,21 +7,21 @@ use Prim.Native.Nat.{ℕ, ◌≤◌, ◌<◌}
 use native.Mathlib.Decide.{ℕ_discrete}
 use native.Mathlib.Omega.{arith}
 use lib.Dec.{eqb}
-use Rattle.lists.proofs.Reflect.{r-eq, r-or, r_and, passes, fails}
+use Rattle.lists.proofs.Reflect.{r_eq, r_or, r_and, passes, fails}
 use Rattle.heap.specs.Operation.{kind_of}
 use Rattle.shape.specs.Shape.{Shape}
 use Rattle.backward.specs.Predecessors.{before}
-use Rattle.layout.specs.Members.{membersFrom}
-use Rattle.layout.specs.ShapeArray.{shapeIn}
+use Rattle.layout.specs.Members.{members_from}
+use Rattle.layout.specs.ShapeArray.{shape_in}
 use Rattle.layout.specs.Transitions.{op_of}
-use Rattle.undoing.specs.Before.{casesRowed, choicesRowed}
+use Rattle.undoing.specs.Before.{cases_rowed, choices_rowed}
 use Rattle.undoing.specs.Rowed.{Rowed, rowed, Settled, AllStandFor}
 use Rattle.undoing.proofs.Before.{below_none}
-use Rattle.undoing.proofs.Removed.{new-stand, delete-stand}
+use Rattle.undoing.proofs.Removed.{new_stand, delete_stand}
 use Rattle.checker.specs.Checking.{taking, Taking}
-use Rattle.checker.specs.Placing.{secondOperand}
+use Rattle.checker.specs.Placing.{second_operand}
 use Rattle.checker.proofs.Operands.{operands_of, Plays, plays}
-use Rattle.checker.proofs.Rowed.{checks-none, checks-stand}
+use Rattle.checker.proofs.Rowed.{checks_none, checks_stand}
 use borrow.Author.Rules.{rules}
 use Rattle.checker.proofs.owed.check_transition.Statement.{statement}
 use Rattle.checker.proofs.owed.check_transition.Tie as tie
@@ -42,20 +42,20 @@ valued c = begun c.before.before
 
 -- all members, the second operand as it is placed, what the choices give, and the predecessors
 abbrev members : tie.Start → Taking
-members s = taking s.args.judged (membersFrom s.args.cert.now s.args.spot.variables s.args.starts.now)
+members s = taking s.args.judged (members_from s.args.cert.now s.args.spot.variables s.args.starts.now)
 
 abbrev second : tie.Start → ℕ
-second s = secondOperand s.args.spot.variables s.args.spot.by.kind s.args.spot.by.a s.args.spot.by.b
+second s = second_operand s.args.spot.variables s.args.spot.by.kind s.args.spot.by.a s.args.spot.by.b
 
 abbrev given : tie.Start → List Rowed
-given s = choicesRowed s.args.spot.variables s.args.spot.by.kind s.args.spot.by.a (second s) s.args.s.now s.args.facts.now
+given s = choices_rowed s.args.spot.variables s.args.spot.by.kind s.args.spot.by.a (second s) s.args.s.now s.args.facts.now
 
 abbrev predecessors : tie.Start → Shape → List Shape
 predecessors s whole = before (op_of (kind_of s.args.spot.by.kind) s.args.spot.by.a s.args.spot.by.b) whole
 
 -- a shape that the array and the rows stand for
 abbrev Whole : tie.Start → Shape → Type 0
-Whole s whole = Settled (rowed s.args.facts.now (shapeIn s.args.spot.variables s.args.s.now)) whole
+Whole s whole = Settled (rowed s.args.facts.now (shape_in s.args.spot.variables s.args.s.now)) whole
 
 -- a kind that is 6 or 7, and one that is neither
 abbrev Removes : ℕ → Type 0
@@ -67,7 +67,7 @@ Places k = (k ≡ 6 → ⊥) × (k ≡ 7 → ⊥)
 removes : (c : tie.Then2) → Removes (begun c.before).args.spot.by.kind
 removes c =
     let k = (begun c.before).args.spot.by.kind in
-    go k (ℕ_discrete k 6) ((r-or (r-eq k 6) (r-eq k 7)).holds (passes (eqb k 6 || eqb k 7) (sym c.before.is-removal.ensures ∙ c.if2.true)))
+    go k (ℕ_discrete k 6) ((r_or (r_eq k 6) (r_eq k 7)).holds (passes (eqb k 6 || eqb k 7) (sym c.before.is-removal.ensures ∙ c.if2.true)))
   where
     go : (k : ℕ) → Dec (k ≡ 6) → ((k ≡ 6 → ⊥) → k ≡ 7) → Removes k
     go k (yes e) f = inl e
@@ -77,7 +77,7 @@ places : (c : tie.Else2) → Places (begun c.before).args.spot.by.kind
 places c =
     let k = (begun c.before).args.spot.by.kind in
     let no = fails (eqb k 6 || eqb k 7) (sym c.before.is-removal.ensures ∙ c.if2.false) in
-    ((λ e. no ((r-or (r-eq k 6) (r-eq k 7)).tests (λ n. absurd (n e)))), (λ e. no ((r-or (r-eq k 6) (r-eq k 7)).tests (λ _. e))))
+    ((λ e. no ((r_or (r_eq k 6) (r_eq k 7)).tests (λ n. absurd (n e)))), (λ e. no ((r_or (r_eq k 6) (r_eq k 7)).tests (λ _. e))))
 
 few : (c : tie.After-with-helper) → Places (quick c).args.spot.by.kind
 few c = ((λ e. omega (arith, c.before.if1.true)), (λ e. omega (arith, c.before.if1.true)))
@@ -93,21 +93,21 @@ placed s other whole settled =
 -- what the cases give does so for kinds 6 and 7
 cases : (s : tie.Start) (whole : Shape) → Whole s whole → (k : ℕ) → Removes k → 1 ≤ s.args.spot.by.a
     → let a = s.args in
-    AllStandFor (casesRowed a.spot.variables k a.spot.by.a a.s.now a.facts.now) (before (op_of (kind_of k) a.spot.by.a a.spot.by.b) whole)
+    AllStandFor (cases_rowed a.spot.variables k a.spot.by.a a.s.now a.facts.now) (before (op_of (kind_of k) a.spot.by.a a.spot.by.b) whole)
 cases s whole settled k (inl e) some =
     let a = s.args in
-    rw e (new-stand a.spot.variables a.s.now a.facts.now s.requires.2 s.requires.3 whole settled a.spot.by.a some (operands_of a.spot.variables a.spot.by.kind a.spot.by.a a.spot.by.b s.requires.0).1)
+    rw e (new_stand a.spot.variables a.s.now a.facts.now s.requires.2 s.requires.3 whole settled a.spot.by.a some (operands_of a.spot.variables a.spot.by.kind a.spot.by.a a.spot.by.b s.requires.0).1)
 cases s whole settled k (inr e) some =
     let a = s.args in
-    rw e (delete-stand a.spot.variables a.s.now a.facts.now s.requires.2 s.requires.3 whole settled a.spot.by.a some (operands_of a.spot.variables a.spot.by.kind a.spot.by.a a.spot.by.b s.requires.0).1)
+    rw e (delete_stand a.spot.variables a.s.now a.facts.now s.requires.2 s.requires.3 whole settled a.spot.by.a some (operands_of a.spot.variables a.spot.by.kind a.spot.by.a a.spot.by.b s.requires.0).1)
 
 -- ---- what is to be shown
 
-with-helper-requires : tie.Need-with-helper-requires
-with-helper-requires c κs = c.before.before.before.before.requires.1
+with_helper_requires : tie.Need-with-helper-requires
+with_helper_requires c κs = c.before.before.before.before.requires.1
 
-check-first-quickly-requires : tie.Need-check-first-quickly-requires
-check-first-quickly-requires c κs =
+check_first_quickly_requires : tie.Need-check-first-quickly-requires
+check_first_quickly_requires c κs =
     let s = quick c in
     let (whole, settled) = s.pre.6 in
     rw c.with-helper.ensures ((placed s (few c) whole settled).work, c.before.if1.true, s.pre.5)
@@ -118,14 +118,14 @@ returns c whole settled =
     let h = c.before in
     let s = quick h in
     let a = s.args in
-    checks-stand a.cert.now (members s) a.spot.by.from (given s) (predecessors s whole) (placed s (few h) whole settled).stand a.t c.check-first-quickly.result
+    checks_stand a.cert.now (members s) a.spot.by.from (given s) (predecessors s whole) (placed s (few h) whole settled).stand a.t c.check-first-quickly.result
     (rw h.with-helper.ensures at c.check-first-quickly.ensures)
 
-is-removal-requires : tie.Need-is-removal-requires
-is-removal-requires c κs = search rules
+is_removal_requires : tie.Need-is-removal-requires
+is_removal_requires c κs = search rules
 
-check-cases-requires : tie.Need-check-cases-requires
-check-cases-requires c κs =
+check_cases_requires : tie.Need-check-cases-requires
+check_cases_requires c κs =
     let s = begun c.before in
     let by = s.args.spot.by in
     let p = s.pre in
@@ -138,58 +138,58 @@ check-cases-requires c κs =
     bounds k (inr e) = (omega arith, omega arith)
 
 -- kinds 6 and 7 by their cases
-returns-2 : tie.Need-returns-2
-returns-2 c whole settled =
+returns_2 : tie.Need-returns-2
+returns_2 c whole settled =
     let s = begun c.before.before in
     let a = s.args in
     let (some, _, _) = operands_of a.spot.variables a.spot.by.kind a.spot.by.a a.spot.by.b s.pre.0 in
-    checks-stand a.cert.now (members s) a.spot.by.from (casesRowed a.spot.variables a.spot.by.kind a.spot.by.a a.s.now a.facts.now) (predecessors s whole)
+    checks_stand a.cert.now (members s) a.spot.by.from (cases_rowed a.spot.variables a.spot.by.kind a.spot.by.a a.s.now a.facts.now) (predecessors s whole)
     (cases s whole settled a.spot.by.kind (removes c.before) (some (omega arith))) a.t c.check-cases.result c.check-cases.ensures
 
-is-below-itself-requires : tie.Need-is-below-itself-requires
-is-below-itself-requires c κs = search rules
+is_below_itself_requires : tie.Need-is-below-itself-requires
+is_below_itself_requires c κs = search rules
 
 -- a variable below itself
-returns-3 : tie.Need-returns-3
-returns-3 c whole settled =
+returns_3 : tie.Need-returns-3
+returns_3 c whole settled =
     let s = valued c.before in
     let a = s.args in
-    let (k, e) = (r_and (r-eq a.spot.by.kind 9) (r-eq a.spot.by.a a.spot.by.b)).holds (passes (eqb a.spot.by.kind 9 && eqb a.spot.by.a a.spot.by.b) (sym c.before.is-below-itself.ensures ∙ c.if3.true)) in
+    let (k, e) = (r_and (r_eq a.spot.by.kind 9) (r_eq a.spot.by.a a.spot.by.b)).holds (passes (eqb a.spot.by.kind 9 && eqb a.spot.by.a a.spot.by.b) (sym c.before.is-below-itself.ensures ∙ c.if3.true)) in
     rw (k, ← e, below_none a.spot.variables a.s.now a.facts.now s.pre.2 s.pre.3 whole settled a.spot.by.a)
-    (checks-none a.cert.now (members s) a.spot.by.from a.t s.pre.5)
+    (checks_none a.cert.now (members s) a.spot.by.from a.t s.pre.5)
 
-with-helper-requires-2 : tie.Need-with-helper-requires-2
-with-helper-requires-2 c κs = (valued c.before).requires.1
+with_helper_requires_2 : tie.Need-with-helper-requires-2
+with_helper_requires_2 c κs = (valued c.before).requires.1
 
-check-first-choices-requires : tie.Need-check-first-choices-requires
-check-first-choices-requires c κs =
+check_first_choices_requires : tie.Need-check-first-choices-requires
+check_first_choices_requires c κs =
     let o = c.before.before.before in
     let s = begun o.before in
     let (whole, settled) = s.pre.6 in
     rw c.with-helper2.ensures ((placed s (places o) whole settled).work, omega (arith, o.before.before.if1.false), s.pre.5)
 
 -- the kinds from 8 on by their choices
-returns-4 : tie.Need-returns-4
-returns-4 c whole settled =
+returns_4 : tie.Need-returns-4
+returns_4 c whole settled =
     let h = c.before in
     let o = h.before.before.before in
     let s = begun o.before in
     let a = s.args in
-    checks-stand a.cert.now (members s) a.spot.by.from (given s) (predecessors s whole) (placed s (places o) whole settled).stand a.t c.check-first-choices.result
+    checks_stand a.cert.now (members s) a.spot.by.from (given s) (predecessors s whole) (placed s (places o) whole settled).stand a.t c.check-first-choices.result
     (rw h.with-helper2.ensures at c.check-first-choices.ensures)
 
-pub check-transition-spec : {M : Type 1} → statement M
-check-transition-spec =
+pub check_transition_spec : {M : Type 1} → statement M
+check_transition_spec =
     tie.close
     (tie.spec
-    with-helper-requires
-    check-first-quickly-requires
+    with_helper_requires
+    check_first_quickly_requires
     returns
-    is-removal-requires
-    check-cases-requires
-    returns-2
-    is-below-itself-requires
-    returns-3
-    with-helper-requires-2
-    check-first-choices-requires
-    returns-4)
+    is_removal_requires
+    check_cases_requires
+    returns_2
+    is_below_itself_requires
+    returns_3
+    with_helper_requires_2
+    check_first_choices_requires
+    returns_4)

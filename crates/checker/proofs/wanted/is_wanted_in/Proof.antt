@@ -7,26 +7,26 @@ use borrow.Author.Rules.{rules}
 use Rattle.checker.proofs.wanted.is_wanted_in.Statement.{statement}
 use Rattle.checker.proofs.wanted.is_wanted_in.Tie as tie
 
-element-copy-out-n : tie.Need-element-copy-out-n
-element-copy-out-n c = search rules
+element_copy_out_n : tie.Need-element-copy-out-n
+element_copy_out_n c = search rules
 
-cast-n : tie.Need-overflow-cast-n
-cast-n c = search rules
+cast_n : tie.Need-overflow-cast-n
+cast_n c = search rules
 
-add-is-wanted : tie.Need-overflow-add-is-wanted
-add-is-wanted c = search rules
+add_is_wanted : tie.Need-overflow-add-is-wanted
+add_is_wanted c = search rules
 
-sub-is-wanted : tie.Need-overflow-sub-is-wanted
-sub-is-wanted c = search rules
+sub_is_wanted : tie.Need-overflow-sub-is-wanted
+sub_is_wanted c = search rules
 
-part-is-wanted-start : tie.Need-slice-bounds-is-wanted-start
-part-is-wanted-start c = search rules
+part_is_wanted_start : tie.Need-slice-bounds-is-wanted-start
+part_is_wanted_start c = search rules
 
-part-is-wanted-end : tie.Need-slice-bounds-is-wanted-end
-part-is-wanted-end c = search rules
+part_is_wanted_end : tie.Need-slice-bounds-is-wanted-end
+part_is_wanted_end c = search rules
 
-is-wanted-requires : tie.Need-is-wanted-requires
-is-wanted-requires c κs = search rules
+is_wanted_requires : tie.Need-is-wanted-requires
+is_wanted_requires c κs = search rules
 
 returns : tie.Need-returns
 returns c =
@@ -34,15 +34,15 @@ returns c =
     let links : 3 + get_or a.s.now 0 0 - 3 ≡ get_or a.s.now 0 0 = omega arith in
     rw links at c.is-wanted.ensures
 
-pub is-wanted-in-spec : {M : Type 1} → statement M
-is-wanted-in-spec =
+pub is_wanted_in_spec : {M : Type 1} → statement M
+is_wanted_in_spec =
     tie.close
     (tie.spec
-    element-copy-out-n
-    cast-n
-    add-is-wanted
-    sub-is-wanted
-    part-is-wanted-start
-    part-is-wanted-end
-    is-wanted-requires
+    element_copy_out_n
+    cast_n
+    add_is_wanted
+    sub_is_wanted
+    part_is_wanted_start
+    part_is_wanted_end
+    is_wanted_requires
     returns)

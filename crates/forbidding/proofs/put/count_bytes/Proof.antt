@@ -8,12 +8,12 @@ use Rattle.forbidding.proofs.put.count_bytes.Tie as tie
 returns : tie.Need-returns
 returns c = rw (eq-eqb c.before.args.version 2 c.if1.true) (refl, omega arith)
 
-returns-2 : tie.Need-returns-2
-returns-2 c = rw (ne_eqb c.before.args.version 2 (λ e. c.if1.false e)) (refl, omega arith)
+returns_2 : tie.Need-returns-2
+returns_2 c = rw (ne_eqb c.before.args.version 2 (λ e. c.if1.false e)) (refl, omega arith)
 
-pub count-bytes-spec : {M : Type 1} → statement M
-count-bytes-spec =
+pub count_bytes_spec : {M : Type 1} → statement M
+count_bytes_spec =
     tie.close
     (tie.spec
     returns
-    returns-2)
+    returns_2)

@@ -6,7 +6,7 @@ use native.Mathlib.Omega.{arith}
 use lib.ListN.{length, take, replicate}
 use lib.Seq.{length-take-le}
 use Rattle.heap.specs.Place.{nowhere}
-use Rattle.forbidding.proofs.Shapes.{started, start-length, none-count, put-parts}
+use Rattle.forbidding.proofs.Shapes.{started, start_length, none_count, put_parts}
 use borrow.Author.Rules.{rules}
 use Rattle.forbidding.proofs.put.put_shape.Statement.{statement}
 use Rattle.forbidding.proofs.put.put_shape.Tie as tie
@@ -35,67 +35,67 @@ module _ (s : tie.Start) where
   start = let a = s.args in started a.p.state (length a.links.now + a.loose) a.p.variable a.place
 
   fits : 2 + s.args.p.variables ≤ length start
-  fits = let a = s.args in omega (arith, s.pre.0.most, start-length a.p.state (length a.links.now + a.loose) a.p.variable a.place)
+  fits = let a = s.args in omega (arith, s.pre.0.most, start_length a.p.state (length a.links.now + a.loose) a.p.variable a.place)
 
   starts : length (take (2 + s.args.p.variables) start) ≡ 2 + s.args.p.variables
   starts = length-take-le (2 + s.args.p.variables) start fits
 
 -- those after the links
 ends : (c : tie.After-count-bytes) → let k = (begun c).args.loose + c.count-bytes.result in k ≡ length (take k (replicate 2 nowhere))
-ends c = none-count ((begun c).args.loose + c.count-bytes.result) (omega (arith, c.count-bytes.ensures.1, (begun c).requires))
+ends c = none_count ((begun c).args.loose + c.count-bytes.result) (omega (arith, c.count-bytes.ensures.1, (begun c).requires))
 
 -- ---- what is to be shown
 
-cast-start : tie.Need-overflow-cast-start
-cast-start c = search rules
+cast_start : tie.Need-overflow-cast-start
+cast_start c = search rules
 
-array-write-start : tie.Need-array-write-start
-array-write-start c = search rules
+array_write_start : tie.Need-array-write-start
+array_write_start c = search rules
 
 add_start : tie.Need-overflow-add-start
 add_start c = search rules
 
-cast-start-2 : tie.Need-overflow-cast-start-2
-cast-start-2 c = search rules
+cast_start_2 : tie.Need-overflow-cast-start-2
+cast_start_2 c = search rules
 
-array-write-start-2 : tie.Need-array-write-start-2
-array-write-start-2 c = search rules
+array_write_start_2 : tie.Need-array-write-start-2
+array_write_start_2 c = search rules
 
-add-start-2 : tie.Need-overflow-add-start-2
-add-start-2 c = search rules
+add_start_2 : tie.Need-overflow-add-start-2
+add_start_2 c = search rules
 
-array-write-start-3 : tie.Need-array-write-start-3
-array-write-start-3 c = search rules
+array_write_start_3 : tie.Need-array-write-start-3
+array_write_start_3 c = search rules
 
-add-places : tie.Need-overflow-add-places
-add-places c = search rules
+add_places : tie.Need-overflow-add-places
+add_places c = search rules
 
-count-bytes-requires : tie.Need-count-bytes-requires
-count-bytes-requires c κs = search rules
+count_bytes_requires : tie.Need-count-bytes-requires
+count_bytes_requires c κs = search rules
 
-add-last : tie.Need-overflow-add-last
-add-last c = search rules
+add_last : tie.Need-overflow-add-last
+add_last c = search rules
 
-array-share-prefix-start : tie.Need-array-share-prefix-start
-array-share-prefix-start c = fits (begun c.before)
+array_share_prefix_start : tie.Need-array-share-prefix-start
+array_share_prefix_start c = fits (begun c.before)
 
-slice-aggregate-put-all : tie.Need-slice-aggregate-put-all
-slice-aggregate-put-all c = sym (starts (begun c.before.before))
+slice_aggregate_put_all : tie.Need-slice-aggregate-put-all
+slice_aggregate_put_all c = sym (starts (begun c.before.before))
 
-put-all-requires : tie.Need-put-all-requires
-put-all-requires c κs = search rules
+put_all_requires : tie.Need-put-all-requires
+put_all_requires c κs = search rules
 
-put-all-requires-2 : tie.Need-put-all-requires-2
-put-all-requires-2 c κs = search rules
+put_all_requires_2 : tie.Need-put-all-requires-2
+put_all_requires_2 c κs = search rules
 
-array-share-prefix-none : tie.Need-array-share-prefix-none
-array-share-prefix-none c = search rules
+array_share_prefix_none : tie.Need-array-share-prefix-none
+array_share_prefix_none c = search rules
 
-slice-aggregate-put-all-2 : tie.Need-slice-aggregate-put-all-2
-slice-aggregate-put-all-2 c = ends (counted (placed c.before.before.before.before))
+slice_aggregate_put_all_2 : tie.Need-slice-aggregate-put-all-2
+slice_aggregate_put_all_2 c = ends (counted (placed c.before.before.before.before))
 
-put-all-requires-3 : tie.Need-put-all-requires-3
-put-all-requires-3 c κs = search rules
+put_all_requires_3 : tie.Need-put-all-requires-3
+put_all_requires_3 c κs = search rules
 
 same_length : tie.Need-same-length
 same_length c = search rules
@@ -110,33 +110,33 @@ returns c =
     let p = s.args.p in
     let count = o.count-bytes in
     let places = f.put_all_lem.ensures.room (omega (arith, s.pre.1, starts s)) in
-    let links = e.put-all2.ensures.room (omega (arith, s.pre.1, starts s, places.next-is, places.same)) in
-    let last = d.put-all3.ensures.room (omega (arith, s.pre.1, starts s, places.next-is, places.same, links.next-is, links.same, ends o, count.ensures.0)) in (
-      omega (arith, starts s, places.next-is, links.next-is, last.next-is, ends o, count.ensures.0),
-      put-parts p.version p.state p.variables p.variable s.args.place s.args.links.now s.args.loose count.result s.pre.3 count.ensures
+    let links = e.put-all2.ensures.room (omega (arith, s.pre.1, starts s, places.next_is, places.same)) in
+    let last = d.put-all3.ensures.room (omega (arith, s.pre.1, starts s, places.next_is, places.same, links.next_is, links.same, ends o, count.ensures.0)) in (
+      omega (arith, starts s, places.next_is, links.next_is, last.next_is, ends o, count.ensures.0),
+      put_parts p.version p.state p.variables p.variable s.args.place s.args.links.now s.args.loose count.result s.pre.3 count.ensures
           s.pre.0.some s.pre.0.variable s.pre.0.most places links last,
     )
 
-pub put-shape-spec : {M : Type 1} → statement M
-put-shape-spec =
+pub put_shape_spec : {M : Type 1} → statement M
+put_shape_spec =
     tie.close
     (tie.spec
-    cast-start
-    array-write-start
+    cast_start
+    array_write_start
     add_start
-    cast-start-2
-    array-write-start-2
-    add-start-2
-    array-write-start-3
-    add-places
-    count-bytes-requires
-    add-last
-    array-share-prefix-start
-    slice-aggregate-put-all
-    put-all-requires
-    put-all-requires-2
-    array-share-prefix-none
-    slice-aggregate-put-all-2
-    put-all-requires-3
+    cast_start_2
+    array_write_start_2
+    add_start_2
+    array_write_start_3
+    add_places
+    count_bytes_requires
+    add_last
+    array_share_prefix_start
+    slice_aggregate_put_all
+    put_all_requires
+    put_all_requires_2
+    array_share_prefix_none
+    slice_aggregate_put_all_2
+    put_all_requires_3
     same_length
     returns)

@@ -2,7 +2,7 @@
 use mathlib.Core.Path.{ap, sym}
 use native.Mathlib.Omega.{arith}
 use lib.ListN.{length}
-use Rattle.forbidding.proofs.Stepping.{shapes-through, shapes-none}
+use Rattle.forbidding.proofs.Stepping.{shapes_through, shapes_none}
 use borrow.Author.Rules.{rules}
 use Rattle.forbidding.proofs.steps.shapes_at.Statement.{statement}
 use Rattle.forbidding.proofs.steps.shapes_at.Tie as tie
@@ -11,43 +11,43 @@ use Rattle.forbidding.proofs.steps.shapes_at.Tie as tie
 abbrev begun : tie.After-transition-at → tie.Start
 begun c = c.before.before
 
-transition-at-requires : tie.Need-transition-at-requires
-transition-at-requires c κs = search rules
+transition_at_requires : tie.Need-transition-at-requires
+transition_at_requires c κs = search rules
 
-steps-through-requires : tie.Need-steps-through-requires
-steps-through-requires c κs = search rules
+steps_through_requires : tie.Need-steps-through-requires
+steps_through_requires c κs = search rules
 
 enum_told : tie.Need-enum-told
 enum_told c = search rules
 
-enum-told-2 : tie.Need-enum-told-2
-enum-told-2 c = search rules
+enum_told_2 : tie.Need-enum-told-2
+enum_told_2 c = search rules
 
 returns : tie.Need-returns
 returns c =
     let s = begun c.before.before.before in
     let t = c.before.before.before.transition-at in
     let step = c.before.before.steps-through in (
-      λ n. sym (ap length (shapes-through s.args.job.now s.args.at t.result t.ensures s.pre step.result step.ensures n _ c.enum_told.given.1)),
+      λ n. sym (ap length (shapes_through s.args.job.now s.args.at t.result t.ensures s.pre step.result step.ensures n _ c.enum_told.given.1)),
       omega arith,
     )
 
-returns-2 : tie.Need-returns-2
-returns-2 c =
+returns_2 : tie.Need-returns-2
+returns_2 c =
     let s = begun c.before.before.before in
     let t = c.before.before.before.transition-at in
     let step = c.before.before.steps-through in (
-      λ n. sym (ap length (shapes-none s.args.job.now s.args.at t.result t.ensures s.pre step.result step.ensures n c.enum-told2.given.1)),
+      λ n. sym (ap length (shapes_none s.args.job.now s.args.at t.result t.ensures s.pre step.result step.ensures n c.enum-told2.given.1)),
       omega arith,
     )
 
-pub shapes-at-spec : {M : Type 1} → statement M
-shapes-at-spec =
+pub shapes_at_spec : {M : Type 1} → statement M
+shapes_at_spec =
     tie.close
     (tie.spec
-    transition-at-requires
-    steps-through-requires
+    transition_at_requires
+    steps_through_requires
     enum_told
-    enum-told-2
+    enum_told_2
     returns
-    returns-2)
+    returns_2)

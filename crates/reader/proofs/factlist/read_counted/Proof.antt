@@ -1,10 +1,10 @@
 -- The number of facts, then the list.
 use mathlib.Core.Path.{◌∙◌}
 use Rattle.format.specs.Parser.{Buffer}
-use Rattle.layout.specs.Entries.{versionOf}
-use Rattle.reader.specs.Number.{bufferOf}
+use Rattle.layout.specs.Entries.{version_of}
+use Rattle.reader.specs.Number.{buffer_of}
 use Rattle.reader.proofs.Answers.{got, lost, passed}
-use Rattle.reader.proofs.Facts.{lost-count, facts-listed}
+use Rattle.reader.proofs.Facts.{lost_count, facts_listed}
 use borrow.Author.Rules.{rules}
 use Rattle.reader.proofs.factlist.read_counted.Statement.{statement}
 use Rattle.reader.proofs.factlist.read_counted.Tie as tie
@@ -17,46 +17,46 @@ begun c = c.before.before
 
 -- what is read
 abbrev buffer : tie.Start → Buffer
-buffer s = bufferOf s.args.input s.args.bytes.now
+buffer s = buffer_of s.args.input s.args.bytes.now
 
 -- ---- what is to be shown
 
-read-ranged-requires : tie.Need-read-ranged-requires
-read-ranged-requires c κs = search rules
+read_ranged_requires : tie.Need-read-ranged-requires
+read_ranged_requires c κs = search rules
 
-enum-known-number : tie.Need-enum-known-number
-enum-known-number c = search rules
+enum_known_number : tie.Need-enum-known-number
+enum_known_number c = search rules
 
 enum_told : tie.Need-enum-told
 enum_told c = search rules
 
-reached-requires : tie.Need-reached-requires
-reached-requires c κs = search rules
+reached_requires : tie.Need-reached-requires
+reached_requires c κs = search rules
 
 returns : tie.Need-returns
 returns c =
     let r = c.before.before.before in
     let s = begun r in
     let e = c.before.enum_told.given.1 in
-    passed r.read-ranged.ensures c.reached.ensures e ∙ lost-count (buffer s) s.args.n (versionOf s.args.bytes.now) s.args.at s.pre.1 (lost r.read-ranged.ensures e)
+    passed r.read-ranged.ensures c.reached.ensures e ∙ lost_count (buffer s) s.args.n (version_of s.args.bytes.now) s.args.at s.pre.1 (lost r.read-ranged.ensures e)
 
-read-fact-list-requires : tie.Need-read-fact-list-requires
-read-fact-list-requires c κs = (begun c.before.before.before).requires.0
+read_fact_list_requires : tie.Need-read-fact-list-requires
+read_fact_list_requires c κs = (begun c.before.before.before).requires.0
 
-returns-2 : tie.Need-returns-2
-returns-2 c =
+returns_2 : tie.Need-returns-2
+returns_2 c =
     let r = c.before.before.before.before in
     let s = begun r in
-    c.read-fact-list.ensures ∙ facts-listed (buffer s) s.args.n (versionOf s.args.bytes.now) s.args.at s.pre.1 (got r.read-ranged.ensures c.before.before.number.given.1)
+    c.read-fact-list.ensures ∙ facts_listed (buffer s) s.args.n (version_of s.args.bytes.now) s.args.at s.pre.1 (got r.read-ranged.ensures c.before.before.number.given.1)
 
-pub read-counted-spec : {M : Type 1} → statement M
-read-counted-spec =
+pub read_counted_spec : {M : Type 1} → statement M
+read_counted_spec =
     tie.close
     (tie.spec
-    read-ranged-requires
-    enum-known-number
+    read_ranged_requires
+    enum_known_number
     enum_told
-    reached-requires
+    reached_requires
     returns
-    read-fact-list-requires
-    returns-2)
+    read_fact_list_requires
+    returns_2)

@@ -7,47 +7,47 @@ use borrow.Author.Rules.{rules}
 use Rattle.reader.proofs.start.empty_at.Statement.{statement}
 use Rattle.reader.proofs.start.empty_at.Tie as tie
 
-shared-slice-read-if1 : tie.Need-shared-slice-read-if1
-shared-slice-read-if1 c = search rules
+shared_slice_read_if1 : tie.Need-shared-slice-read-if1
+shared_slice_read_if1 c = search rules
 
 returns : tie.Need-returns
 returns c = rw (ne_eqb _ 0 c.if1.true) refl
 
-add-first : tie.Need-overflow-add-first
-add-first c = search rules
+add_first : tie.Need-overflow-add-first
+add_first c = search rules
 
-add-end : tie.Need-overflow-add-end
-add-end c = search rules
+add_end : tie.Need-overflow-add-end
+add_end c = search rules
 
-sub-none-at : tie.Need-overflow-sub-none-at
-sub-none-at c = search rules
+sub_none_at : tie.Need-overflow-sub-none-at
+sub_none_at c = search rules
 
-part-none-at-start : tie.Need-slice-bounds-none-at-start
-part-none-at-start c = search rules
+part_none_at_start : tie.Need-slice-bounds-none-at-start
+part_none_at_start c = search rules
 
-part-none-at-end : tie.Need-slice-bounds-none-at-end
-part-none-at-end c = search rules
+part_none_at_end : tie.Need-slice-bounds-none-at-end
+part_none_at_end c = search rules
 
-none-at-requires : tie.Need-none-at-requires
-none-at-requires c κs = search rules
+none_at_requires : tie.Need-none-at-requires
+none_at_requires c κs = search rules
 
-returns-2 : tie.Need-returns-2
-returns-2 c =
+returns_2 : tie.Need-returns-2
+returns_2 c =
     let o = c.before.before in
     let a = o.before.before.before.args in
     let size : a.at + 1 + a.variables - (a.at + 1) ≡ a.variables = omega arith in
     c.none-at.ensures ∙ rw (size, eq-eqb _ 0 o.if1.false) refl
 
-pub empty-at-spec : {M : Type 1} → statement M
-empty-at-spec =
+pub empty_at_spec : {M : Type 1} → statement M
+empty_at_spec =
     tie.close
     (tie.spec
-    shared-slice-read-if1
+    shared_slice_read_if1
     returns
-    add-first
-    add-end
-    sub-none-at
-    part-none-at-start
-    part-none-at-end
-    none-at-requires
-    returns-2)
+    add_first
+    add_end
+    sub_none_at
+    part_none_at_start
+    part_none_at_end
+    none_at_requires
+    returns_2)

@@ -5,12 +5,12 @@ use mathlib.Core.Path.{◌≡◌, sym, ◌∙◌}
 use native.Mathlib.Omega.{arith}
 use lib.ListN.{length, get_or}
 use Rattle.run.specs.Run.{Located}
-use Rattle.format.specs.Job.{readLocated}
-use Rattle.format.specs.Parser.{parsed, certificateBuffer}
-use Rattle.layout.specs.Entries.{versionOf}
+use Rattle.format.specs.Job.{read_located}
+use Rattle.format.specs.Parser.{parsed, certificate_buffer}
+use Rattle.layout.specs.Entries.{version_of}
 use Rattle.reader.proofs.Answers.{got, lost}
 use Rattle.reader.proofs.Standing.{EntryAfter}
-use Rattle.reader.proofs.Testing.{state-read, stand, other-state, not-empty, satisfied}
+use Rattle.reader.proofs.Testing.{state_read, stand, other_state, not_empty, satisfied}
 use borrow.Author.Rules.{rules}
 use Rattle.reader.proofs.start.test_member.Statement.{statement}
 use Rattle.reader.proofs.start.test_member.Tie as tie
@@ -29,8 +29,8 @@ stated c = c.before.before.before
 told : (c : tie.After-number)
     → let a = (begun c).args in
     let v = c.number.given in
-    (l : Located) (next : ℕ) → readLocated (versionOf a.cert.now) (certificateBuffer a.cert.now) a.variables a.states a.at ≡ parsed l next
-    → (l.state ≡ v.0.0) × EntryAfter (certificateBuffer a.cert.now) a.variables a.states a.at v.0.1.0 l next
+    (l : Located) (next : ℕ) → read_located (version_of a.cert.now) (certificate_buffer a.cert.now) a.variables a.states a.at ≡ parsed l next
+    → (l.state ≡ v.0.0) × EntryAfter (certificate_buffer a.cert.now) a.variables a.states a.at v.0.1.0 l next
 told c l next h =
     let a = (begun c).args in
     let v = c.number.given in
@@ -39,7 +39,7 @@ told c l next h =
 here : (c : tie.After-number)
     → let s = begun c in
     let a = s.args in
-    EntryAfter (certificateBuffer a.cert.now) a.variables a.states a.at c.number.given.0.1.0 s.pre.0 s.pre.1
+    EntryAfter (certificate_buffer a.cert.now) a.variables a.states a.at c.number.given.0.1.0 s.pre.0 s.pre.1
 here c = let p = (begun c).requires in (told c p.0 p.1 p.2).1
 
 -- it has few cells
@@ -51,78 +51,78 @@ few c =
 
 -- ---- what is to be shown
 
-read-ranged-requires : tie.Need-read-ranged-requires
-read-ranged-requires c κs = search rules
+read_ranged_requires : tie.Need-read-ranged-requires
+read_ranged_requires c κs = search rules
 
-enum-known-number : tie.Need-enum-known-number
-enum-known-number c = search rules
+enum_known_number : tie.Need-enum-known-number
+enum_known_number c = search rules
 
 enum_told : tie.Need-enum-told
 enum_told c = search rules
 
-reached-requires : tie.Need-reached-requires
-reached-requires c κs = search rules
+reached_requires : tie.Need-reached-requires
+reached_requires c κs = search rules
 
 returns : tie.Need-returns
 returns c = λ l next h.
     let r = c.before.before.before in
     let a = r.before.before.args in
-    absurd (state-read a.cert.now a.variables a.states a.start a.at l next h (lost r.read-ranged.ensures c.before.enum_told.given.1))
+    absurd (state_read a.cert.now a.variables a.states a.start a.at l next h (lost r.read-ranged.ensures c.before.enum_told.given.1))
 
-empty-at-requires : tie.Need-empty-at-requires
-empty-at-requires c κs = omega (arith, (here c.before.before).links-inside)
+empty_at_requires : tie.Need-empty-at-requires
+empty_at_requires c κs = omega (arith, (here c.before.before).links_inside_lem)
 
-returns-2 : tie.Need-returns-2
-returns-2 c =
+returns_2 : tie.Need-returns-2
+returns_2 c =
     λ l next h.
     let n = c.before.before.before.before in
     let a = (begun n).args in
-    let (state-is, w) = told n l next h in
-    satisfied a.cert.now a.variables a.states a.start a.at l next h _ w (state-is ∙ c.before.before.if1.true) (sym c.before.empty-at.ensures ∙ c.if2.true)
+    let (state_is, w) = told n l next h in
+    satisfied a.cert.now a.variables a.states a.start a.at l next h _ w (state_is ∙ c.before.before.if1.true) (sym c.before.empty-at.ensures ∙ c.if2.true)
 
-shared-slice-read-cells : tie.Need-shared-slice-read-cells
-shared-slice-read-cells c = let w = here (stated c) in omega (arith, w.some, w.links-inside)
+shared_slice_read_cells : tie.Need-shared-slice-read-cells
+shared_slice_read_cells c = let w = here (stated c) in omega (arith, w.some, w.links_inside_lem)
 
-cast-cells : tie.Need-overflow-cast-cells
-cast-cells c = omega (arith, few (stated c))
+cast_cells : tie.Need-overflow-cast-cells
+cast_cells c = omega (arith, few (stated c))
 
-add-read-facts : tie.Need-overflow-add-read-facts
-add-read-facts c = let w = here (stated c) in omega (arith, w.some, w.links-inside)
+add_read_facts : tie.Need-overflow-add-read-facts
+add_read_facts c = let w = here (stated c) in omega (arith, w.some, w.links_inside_lem)
 
-add-read-facts-2 : tie.Need-overflow-add-read-facts-2
-add-read-facts-2 c = let w = here (stated c) in omega (arith, w.some, w.links-inside)
+add_read_facts_2 : tie.Need-overflow-add-read-facts-2
+add_read_facts_2 c = let w = here (stated c) in omega (arith, w.some, w.links_inside_lem)
 
-add-read-facts-3 : tie.Need-overflow-add-read-facts-3
-add-read-facts-3 c = let w = here (stated c) in omega (arith, w.some, w.links-inside)
+add_read_facts_3 : tie.Need-overflow-add-read-facts-3
+add_read_facts_3 c = let w = here (stated c) in omega (arith, w.some, w.links_inside_lem)
 
-read-facts-requires : tie.Need-read-facts-requires
-read-facts-requires c κs = omega (arith, few (stated c))
+read_facts_requires : tie.Need-read-facts-requires
+read_facts_requires c κs = omega (arith, few (stated c))
 
-returns-3 : tie.Need-returns-3
-returns-3 c =
+returns_3 : tie.Need-returns-3
+returns_3 c =
     λ l next h.
     let n = stated c.before in
     let a = (begun n).args in
-    let (state-is, w) = told n l next h in
-    c.read-facts.ensures ∙ w.read-facts
-    ∙ ⊎_elim (λ (t, e, o). not-empty a.cert.now a.variables a.states a.start a.at l next h _ w (state-is ∙ t.taken) (sym e.ensures ∙ o.left))
-    (λ o. other-state a.cert.now a.variables a.states a.start a.at l next h _ w (λ e. o.left (sym state-is ∙ e))) c.before.before.if1.branch
+    let (state_is, w) = told n l next h in
+    c.read_facts_lem.ensures ∙ w.read_facts_lem
+    ∙ ⊎_elim (λ (t, e, o). not_empty a.cert.now a.variables a.states a.start a.at l next h _ w (state_is ∙ t.taken) (sym e.ensures ∙ o.left))
+    (λ o. other_state a.cert.now a.variables a.states a.start a.at l next h _ w (λ e. o.left (sym state_is ∙ e))) c.before.before.if1.branch
 
-pub test-member-spec : {M : Type 1} → statement M
-test-member-spec =
+pub test_member_spec : {M : Type 1} → statement M
+test_member_spec =
     tie.close
     (tie.spec
-    read-ranged-requires
-    enum-known-number
+    read_ranged_requires
+    enum_known_number
     enum_told
-    reached-requires
+    reached_requires
     returns
-    empty-at-requires
-    returns-2
-    shared-slice-read-cells
-    cast-cells
-    add-read-facts
-    add-read-facts-2
-    add-read-facts-3
-    read-facts-requires
-    returns-3)
+    empty_at_requires
+    returns_2
+    shared_slice_read_cells
+    cast_cells
+    add_read_facts
+    add_read_facts_2
+    add_read_facts_3
+    read_facts_requires
+    returns_3)

@@ -5,7 +5,7 @@ use Prim.Native.Nat.{◌+◌, ◌-◌, ◌≤◌}
 use native.Mathlib.Omega.{arith}
 use lib.ListN.{length, drop, length-drop}
 use lib.Seq.{length-take-le}
-use Rattle.shapes.proofs.Restored.{cases_none, room, whole, cases-some}
+use Rattle.shapes.proofs.Restored.{cases_none, room, whole, cases_some}
 use borrow.Author.Rules.{rules}
 use Rattle.shapes.proofs.restore.prepare_delete.Statement.{statement}
 use Rattle.shapes.proofs.restore.prepare_delete.Tie as tie
@@ -17,23 +17,23 @@ room_for c e =
     let (is, shape) = c.restore-deleted.ensures in
     (room a.variables a.a a.s.now _ _ is shape e, whole a.variables a.a a.s.now _ _ is shape e)
 
-restore-deleted-requires : tie.Need-restore-deleted-requires
-restore-deleted-requires c κs = search rules
+restore_deleted_requires : tie.Need-restore-deleted-requires
+restore_deleted_requires c κs = search rules
 
-add-count-cases : tie.Need-overflow-add-count-cases
-add-count-cases c = omega (arith, (room_for c.before.before.before c.before.before.if1.true).0)
+add_count_cases : tie.Need-overflow-add-count-cases
+add_count_cases c = omega (arith, (room_for c.before.before.before c.before.before.if1.true).0)
 
-sub-count-cases : tie.Need-overflow-sub-count-cases
-sub-count-cases c = search rules
+sub_count_cases : tie.Need-overflow-sub-count-cases
+sub_count_cases c = search rules
 
-part-count-cases-start : tie.Need-slice-bounds-count-cases-start
-part-count-cases-start c = search rules
+part_count_cases_start : tie.Need-slice-bounds-count-cases-start
+part_count_cases_start c = search rules
 
-part-count-cases-end : tie.Need-slice-bounds-count-cases-end
-part-count-cases-end c = let (few, long) = room_for c.before.before.before c.before.before.if1.true in omega (arith, few, long)
+part_count_cases_end : tie.Need-slice-bounds-count-cases-end
+part_count_cases_end c = let (few, long) = room_for c.before.before.before c.before.before.if1.true in omega (arith, few, long)
 
-count-cases-requires : tie.Need-count-cases-requires
-count-cases-requires c κs =
+count_cases_requires : tie.Need-count-cases-requires
+count_cases_requires c κs =
     let o = c.before.before.before.before in
     let v = o.before.before.before.before.args.variables in
     let t = o.restore-deleted.new.1.1.1.0 in
@@ -47,24 +47,24 @@ returns c =
     let a = o.before.before.before.before.args in
     let (is, shape) = o.restore-deleted.ensures in
     let part : 18 + a.variables - 18 ≡ a.variables = omega arith in
-    (cases-some a.variables a.a a.s.now _ _ is shape t.if1.true _ (rw part at c.count-cases.ensures), rw is at shape)
+    (cases_some a.variables a.a a.s.now _ _ is shape t.if1.true _ (rw part at c.count-cases.ensures), rw is at shape)
 
-returns-2 : tie.Need-returns-2
-returns-2 c =
+returns_2 : tie.Need-returns-2
+returns_2 c =
     let o = c.before in
     let a = o.before.before.before.before.args in
     let (is, shape) = o.restore-deleted.ensures in
     (cases_none a.variables a.a a.s.now _ _ is shape c.if1.false, rw is at shape)
 
-pub prepare-delete-spec : {M : Type 1} → statement M
-prepare-delete-spec =
+pub prepare_delete_spec : {M : Type 1} → statement M
+prepare_delete_spec =
     tie.close
     (tie.spec
-    restore-deleted-requires
-    add-count-cases
-    sub-count-cases
-    part-count-cases-start
-    part-count-cases-end
-    count-cases-requires
+    restore_deleted_requires
+    add_count_cases
+    sub_count_cases
+    part_count_cases_start
+    part_count_cases_end
+    count_cases_requires
     returns
-    returns-2)
+    returns_2)

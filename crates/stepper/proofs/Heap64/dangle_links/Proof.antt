@@ -7,7 +7,7 @@ use mathlib.Core.Logic.{⊎_elim}
 use mathlib.Core.List.{List}
 use Rattle.lists.proofs.Sweep.{swept, swept_all}
 use Rattle.place.specs.declared.Place.{Place}
-use Rattle.stepper.specs.Table.{danglePlace}
+use Rattle.stepper.specs.Table.{dangle_place}
 use Rattle.stepper.specs.declared.Heap64.{Heap64}
 use Rattle.stepper.proofs.Dangle.{hit, miss}
 use lib.ListN.{length-map}
@@ -18,29 +18,29 @@ use Rattle.stepper.proofs.Heap64.dangle_links.Tie as tie
 abbrev with : Heap64 → List Place → Heap64
 with t l = record { variables = t.variables; vars = t.vars; used = t.used; links = l; values = t.values }
 
-abbrev invariant-loop : tie.invariant-loop
-invariant-loop code self₀ i₀ self i = (i ≤ 64) × (self ≡ with self₀ (swept (danglePlace code) self₀.links i))
+abbrev invariant_loop : tie.invariant-loop
+invariant_loop code self₀ i₀ self i = (i ≤ 64) × (self ≡ with self₀ (swept (dangle_place code) self₀.links i))
 
-abbrev decreases-loop : tie.decreases-loop
-decreases-loop code self₀ i₀ self i = 64 - i
+abbrev decreases_loop : tie.decreases-loop
+decreases_loop code self₀ i₀ self i = 64 - i
 
-loop-holds : tie.Need-loop-init invariant-loop decreases-loop
-loop-holds c = (omega arith, refl)
+loop_holds : tie.Need-loop-init invariant_loop decreases_loop
+loop_holds c = (omega arith, refl)
 
-element-copy-out-if1 : tie.Need-element-copy-out-if1 invariant-loop decreases-loop
-element-copy-out-if1 c = search rules
+element_copy_out_if1 : tie.Need-element-copy-out-if1 invariant_loop decreases_loop
+element_copy_out_if1 c = search rules
 
-element-set-from-self : tie.Need-element-set-from-self invariant-loop decreases-loop
-element-set-from-self c = search rules
+element_set_from_self : tie.Need-element-set-from-self invariant_loop decreases_loop
+element_set_from_self c = search rules
 
-add-i : tie.Need-overflow-add-i invariant-loop decreases-loop
-add-i c = search rules
+add_i : tie.Need-overflow-add-i invariant_loop decreases_loop
+add_i c = search rules
 
-loop-less : tie.Need-loop-smaller invariant-loop decreases-loop
-loop-less c = search rules
+loop_less : tie.Need-loop-smaller invariant_loop decreases_loop
+loop_less c = search rules
 
-loop-again : tie.Need-loop-preserved invariant-loop decreases-loop
-loop-again c =
+loop_again : tie.Need-loop-preserved invariant_loop decreases_loop
+loop_again c =
     let start = c.before.before.before in
     let inv = c.before.before.loop.invariant.1 in
     let y = start.args.code in
@@ -51,23 +51,23 @@ loop-again c =
     ⊎_elim (λ w. (omega arith, w.1 ∙ (λ k. with (inv k) (hit y xs l i e w.0.taken k))))
     (λ w. (omega arith, w.1 ∙ (λ k. with (inv k) (miss y xs l i e w.0.left k)))) c.if1.branch
 
-returns : tie.Need-returns invariant-loop decreases-loop
+returns : tie.Need-returns invariant_loop decreases_loop
 returns c =
     let t = c.before.before.args.t1 in
     let i = c.before.loop.i in
     let size : length t.links ≡ 64 = simp length-map at c.before.before.well-formed.0.1.1.1.1.1.0.1.0.1 in
-    c.before.loop.invariant.1 ∙ ap (with t) (swept_all (danglePlace c.before.before.args.code) t.links i (omega arith))
+    c.before.loop.invariant.1 ∙ ap (with t) (swept_all (dangle_place c.before.before.args.code) t.links i (omega arith))
 
-pub dangle-links-spec : {M : Type 1} → statement M
-dangle-links-spec =
+pub dangle_links_spec : {M : Type 1} → statement M
+dangle_links_spec =
     tie.close
     (tie.spec
-    invariant-loop
-    decreases-loop
-    loop-holds
-    element-copy-out-if1
-    element-set-from-self
-    add-i
-    loop-less
-    loop-again
+    invariant_loop
+    decreases_loop
+    loop_holds
+    element_copy_out_if1
+    element_set_from_self
+    add_i
+    loop_less
+    loop_again
     returns)

@@ -5,7 +5,7 @@ use lib.Dec.{leb}
 use Rattle.lists.specs.Test.{all_from}
 use borrow.Author.Tests.{le-leb, lt-leb, not-true, not-false}
 use lib.ListN.{length-map}
-use Rattle.stepper.specs.Table.{wellFormed, Sized, slotFits, cellFits}
+use Rattle.stepper.specs.Table.{well_formed, Sized, slot_fits, cell_fits}
 use Rattle.stepper.specs.declared.Heap64.{Heap64}
 use borrow.Author.Rules.{rules}
 use Rattle.stepper.proofs.Heap64.is_well_formed.Statement.{statement}
@@ -46,57 +46,57 @@ abbrev counted4 : tie.Else4 → tie.Else2
 counted4 c = counted3 c.before.before
 
 -- what these tests have told
-slots : (c : tie.Else3) → all_from 8 0 (slotFits (table (counted3 c))) ≡ true
+slots : (c : tie.Else3) → all_from 8 0 (slot_fits (table (counted3 c))) ≡ true
 slots c = sym c.before.slots-fit.ensures ∙ not-false c.before.slots-fit.result c.if3.false
 
-cells : (c : tie.Else4) → all_from 64 0 (cellFits (table (counted4 c))) ≡ true
+cells : (c : tie.Else4) → all_from 64 0 (cell_fits (table (counted4 c))) ≡ true
 cells c = sym c.before.cells_fit.ensures ∙ not-false c.before.cells_fit.result c.if4.false
 
 -- ---- what is to be shown
 
 returns : tie.Need-returns
-unfolding wellFormed
+unfolding well_formed
 returns c = (let n = c.before.args.self.variables in simp (lt-leb 1 n c.if1.true), sizes c.before)
 
-returns-2 : tie.Need-returns-2
-unfolding wellFormed
-returns-2 c = (
+returns_2 : tie.Need-returns-2
+unfolding well_formed
+returns_2 c = (
   let n = c.before.before.args.self.variables in simp (le-leb 1 n c.before.if1.false, lt-leb n 8 c.if2.true),
   sizes c.before.before,
 )
 
-slots-fit-requires : tie.Need-slots-fit-requires
-slots-fit-requires c κs = search rules
+slots_fit_requires : tie.Need-slots-fit-requires
+slots_fit_requires c κs = search rules
 
-returns-3 : tie.Need-returns-3
-unfolding wellFormed
-returns-3 c =
+returns_3 : tie.Need-returns-3
+unfolding well_formed
+returns_3 c =
     let e = c.before.before in
     let w = c.before.slots-fit in
     (simp (least e, most e, ← w.ensures, not-true w.result c.if3.true), sizes (start e))
 
-cells-fit-requires : tie.Need-cells-fit-requires
-cells-fit-requires c κs = search rules
+cells_fit_requires : tie.Need-cells-fit-requires
+cells_fit_requires c κs = search rules
 
-returns-4 : tie.Need-returns-4
-unfolding wellFormed
-returns-4 c =
+returns_4 : tie.Need-returns-4
+unfolding well_formed
+returns_4 c =
     let k = c.before.before in
     let e = counted3 k in
     let w = c.before.cells_fit in
     (simp (least e, most e, slots k, ← w.ensures, not-true w.result c.if4.true), sizes (start e))
 
-values-fit-requires : tie.Need-values-fit-requires
-values-fit-requires c κs = search rules
+values_fit_requires : tie.Need-values-fit-requires
+values_fit_requires c κs = search rules
 
-returns-5 : tie.Need-returns-5
-unfolding wellFormed
-returns-5 c =
+returns_5 : tie.Need-returns-5
+unfolding well_formed
+returns_5 c =
     let k = c.before in
     let e = counted4 k in
     (simp (least e, most e, slots k.before.before, cells k, c.values-fit.ensures), sizes (start e))
 
-pub is-well-formed-spec : {M : Type 1} → statement M
-is-well-formed-spec =
+pub is_well_formed_spec : {M : Type 1} → statement M
+is_well_formed_spec =
     tie.close
-    (tie.spec returns returns-2 slots-fit-requires returns-3 cells-fit-requires returns-4 values-fit-requires returns-5)
+    (tie.spec returns returns_2 slots_fit_requires returns_3 cells_fit_requires returns_4 values_fit_requires returns_5)

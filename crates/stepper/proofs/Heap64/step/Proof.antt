@@ -2,28 +2,28 @@
 use mathlib.Core.Path.{◌∙◌, sym}
 use native.Mathlib.Omega.{arith}
 use borrow.Author.Tests.{not-true, not-false}
-use Rattle.stepper.proofs.Steps.{steps, ill-formed}
+use Rattle.stepper.proofs.Steps.{steps, ill_formed}
 use borrow.Author.Rules.{rules}
 use Rattle.stepper.proofs.Heap64.step.Statement.{statement}
 use Rattle.stepper.proofs.Heap64.step.Tie as tie
 
-is-well-formed-requires : tie.Need-is-well-formed-requires
-is-well-formed-requires c κs = search rules
+is_well_formed_requires : tie.Need-is-well-formed-requires
+is_well_formed_requires c κs = search rules
 
 returns : tie.Need-returns
 returns c =
     let a = c.before.before.args in
     let w = c.before.is-well-formed in
     steps a.self w.ensures.1 a.kind a.a a.b a.value (omega arith) _
-    (ill-formed a.self a.kind a.a a.b a.value (sym w.ensures.0 ∙ not-true w.result c.if1.true))
+    (ill_formed a.self a.kind a.a a.b a.value (sym w.ensures.0 ∙ not-true w.result c.if1.true))
 
-step-formed-requires : tie.Need-step-formed-requires
-step-formed-requires c κs =
+step_formed_requires : tie.Need-step-formed-requires
+step_formed_requires c κs =
     let w = c.before.is-well-formed in
     record { sized = w.ensures.1; formed = sym w.ensures.0 ∙ not-false w.result c.if1.false }
 
-returns-2 : tie.Need-returns-2
-returns-2 c = c.step-formed.ensures
+returns_2 : tie.Need-returns-2
+returns_2 c = c.step-formed.ensures
 
 pub step_spec : {M : Type 1} → statement M
-step_spec = tie.close (tie.spec is-well-formed-requires returns step-formed-requires returns-2)
+step_spec = tie.close (tie.spec is_well_formed_requires returns step_formed_requires returns_2)

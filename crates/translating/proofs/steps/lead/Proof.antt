@@ -12,20 +12,20 @@ begun c = c.before.before.before.before.before.before
 returns : tie.Need-returns
 returns c = search rules
 
-returns-2 : tie.Need-returns-2
-returns-2 c = search rules
+returns_2 : tie.Need-returns-2
+returns_2 c = search rules
 
-add-new : tie.Need-overflow-add-new
-add-new c = search rules
+add_new : tie.Need-overflow-add-new
+add_new c = search rules
 
-put-transition-requires : tie.Need-put-transition-requires
-put-transition-requires c κs = search rules
+put_transition_requires : tie.Need-put-transition-requires
+put_transition_requires c κs = search rules
 
-add-t9 : tie.Need-overflow-add-t9
-add-t9 c = search rules
+add_t9 : tie.Need-overflow-add-t9
+add_t9 c = search rules
 
-returns-3 : tie.Need-returns-3
-returns-3 c =
+returns_3 : tie.Need-returns-3
+returns_3 c =
     let put = c.before in
     let a = (begun put).args in
     let one = add-one a.p.passed in
@@ -36,5 +36,5 @@ returns-3 c =
       rw (← one) put.put-transition.ensures,
     )
 
-pub lead-spec : {M : Type 1} → statement M
-lead-spec = tie.close (tie.spec returns returns-2 add-new put-transition-requires add-t9 returns-3)
+pub lead_spec : {M : Type 1} → statement M
+lead_spec = tie.close (tie.spec returns returns_2 add_new put_transition_requires add_t9 returns_3)

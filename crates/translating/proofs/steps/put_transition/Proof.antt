@@ -13,38 +13,38 @@ mul_at c = search rules
 add_at : tie.Need-overflow-add-at
 add_at c = search rules
 
-cast-job : tie.Need-overflow-cast-job
-cast-job c = search rules
+cast_job : tie.Need-overflow-cast-job
+cast_job c = search rules
 
-element-write-job : tie.Need-element-write-job
-element-write-job c = search rules
+element_write_job : tie.Need-element-write-job
+element_write_job c = search rules
 
-add-job : tie.Need-overflow-add-job
-add-job c = search rules
+add_job : tie.Need-overflow-add-job
+add_job c = search rules
 
-element-write-job-2 : tie.Need-element-write-job-2
-element-write-job-2 c = search rules
+element_write_job_2 : tie.Need-element-write-job-2
+element_write_job_2 c = search rules
 
-add-job-2 : tie.Need-overflow-add-job-2
-add-job-2 c = search rules
+add_job_2 : tie.Need-overflow-add-job-2
+add_job_2 c = search rules
 
-element-write-job-3 : tie.Need-element-write-job-3
-element-write-job-3 c = search rules
+element_write_job_3 : tie.Need-element-write-job-3
+element_write_job_3 c = search rules
 
-add-job-3 : tie.Need-overflow-add-job-3
-add-job-3 c = search rules
+add_job_3 : tie.Need-overflow-add-job-3
+add_job_3 c = search rules
 
-element-write-job-4 : tie.Need-element-write-job-4
-element-write-job-4 c = search rules
+element_write_job_4 : tie.Need-element-write-job-4
+element_write_job_4 c = search rules
 
-cast-job-2 : tie.Need-overflow-cast-job-2
-cast-job-2 c = search rules
+cast_job_2 : tie.Need-overflow-cast-job-2
+cast_job_2 c = search rules
 
-add-job-4 : tie.Need-overflow-add-job-4
-add-job-4 c = search rules
+add_job_4 : tie.Need-overflow-add-job-4
+add_job_4 c = search rules
 
-element-write-job-5 : tie.Need-element-write-job-5
-element-write-job-5 c = search rules
+element_write_job_5 : tie.Need-element-write-job-5
+element_write_job_5 c = search rules
 
 returns : tie.Need-returns
 returns c =
@@ -56,21 +56,21 @@ returns c =
     let four : at + 4 ≡ suc (suc (suc (suc at))) = omega arith in
     rw (one, two, three, four) (adds a.job.now a.count c.requires.0 c.requires.1 a.from a.operation a.to)
 
-pub put-transition-spec : {M : Type 1} → statement M
-put-transition-spec =
+pub put_transition_spec : {M : Type 1} → statement M
+put_transition_spec =
     tie.close
     (tie.spec
     mul_at
     add_at
-    cast-job
-    element-write-job
-    add-job
-    element-write-job-2
-    add-job-2
-    element-write-job-3
-    add-job-3
-    element-write-job-4
-    cast-job-2
-    add-job-4
-    element-write-job-5
+    cast_job
+    element_write_job
+    add_job
+    element_write_job_2
+    add_job_2
+    element_write_job_3
+    add_job_3
+    element_write_job_4
+    cast_job_2
+    add_job_4
+    element_write_job_5
     returns)
