@@ -40,6 +40,7 @@ def own_files():
 
 
 def snake(name):
+    name = name.replace("getD", "get_or")
     if name[:1].islower():
         name = re.sub(r"(?<=[a-z0-9₀-₉?])([A-Z])", lambda m: "_" + m[1].lower(), name)
     else:

@@ -1,5 +1,7 @@
 // A list of blocks in a stepper's heap: cells from variable 1, the head. The heap is read here, and changed by the stepper's steps alone, which walk
 // with variables 2 and 3.
+#![tactic(auto)]
+
 ghost use Rattle.std.specs.Prelude.{◌≡◌, ◌≤◌};
 ghost use Rattle.blocklist.specs.Answers.{refusal_number, blocks, length_told, Counts, Inserts, Removes};
 ghost use Rattle.blocklist.specs.Parts.{refused_as, edit_of, EditedBy, insert_turns, first_turns, after_turns};
@@ -8,7 +10,7 @@ use place::{FIRST_CELL, NULL};
 use stepper::{Heap64, Outcome, StepRefusal};
 
 // Why a list is not worked on: 13, 29, 28 and 15.
-#[derive(Drop)]
+#[derive(Clone, Copy)]
 pub enum ListRefusal {
     IllFormed,
     NoList,
@@ -17,28 +19,28 @@ pub enum ListRefusal {
 }
 
 // How many cells are met from the head.
-#[derive(Drop)]
+#[derive(Clone, Copy)]
 pub enum Length {
     Cells(u32),
     Refused(ListRefusal),
 }
 
 // What became of an insert or a remove.
-#[derive(Drop)]
+#[derive(Clone, Copy)]
 pub enum Edit {
     Done,
     Refused(ListRefusal),
 }
 
 // The heap after a count: the heap before it, where it is refused.
-#[derive(Drop)]
+#[derive(Clone, Copy)]
 pub struct Counted {
     pub heap: Heap64,
     pub length: Length,
 }
 
 // The heap after an insert or a remove: the heap before it, where it is refused.
-#[derive(Drop)]
+#[derive(Clone, Copy)]
 pub struct Edited {
     pub heap: Heap64,
     pub edit: Edit,

@@ -1,4 +1,6 @@
 // The calls for C that carry files between version 1 and 2: include/vorruda.h declares them.
+#![tactic(auto)]
+
 ghost use Rattle.std.specs.Prelude.{◌≡◌, length};
 ghost use Rattle.number.specs.CallResult.{lent};
 ghost use Rattle.carrying.specs.Answers.{number_told, value_told, file_told, told_of_job, told_of_certificate};

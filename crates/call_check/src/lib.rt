@@ -1,4 +1,6 @@
 // The calls for C of the checker: include/vorruda.h declares them.
+#![tactic(auto)]
+
 ghost use Rattle.std.specs.Prelude.{◌↔◌, ◌≡◌};
 ghost use Rattle.format.specs.Conditions.{Conditions, Acceptable};
 ghost use Rattle.format.specs.JobBytes.{SafeBytes};

@@ -1,4 +1,6 @@
 // The calls for C that write a job again with the usual forbidden shapes: include/vorruda.h declares them.
+#![tactic(auto)]
+
 ghost use Rattle.std.specs.Prelude.{◌≡◌, length};
 ghost use Rattle.number.specs.CallResult.{lent};
 ghost use Rattle.forbidden.specs.Written.{not_list, lost_block, bad_steps, rewrite, rewrite_result, output_after, ReadyIn};

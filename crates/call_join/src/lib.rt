@@ -1,4 +1,6 @@
 // The call for C of joining two jobs: include/vorruda.h declares it.
+#![tactic(auto)]
+
 ghost use Rattle.std.specs.Prelude.{◌↔◌, ◌≡◌};
 ghost use Rattle.joining.specs.Conditions.{JoinMeans, SafeJoined};
 ghost use Rattle.joining.specs.Join.{Joining, join as joinDue};

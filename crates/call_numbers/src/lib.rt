@@ -1,4 +1,6 @@
 // The calls for C that read and write numbers: include/vorruda.h declares them.
+#![tactic(auto)]
+
 ghost use Rattle.std.specs.Prelude.{◌≡◌, length};
 ghost use Rattle.number.specs.Number.{number_at, read_result};
 ghost use Rattle.number.specs.NumberList.{answer, output, write_result};

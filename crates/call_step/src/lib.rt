@@ -1,4 +1,6 @@
 // One step on a heap's bytes, without values.
+#![tactic(auto)]
+
 ghost use Rattle.std.specs.Prelude.{◌≡◌};
 ghost use Rattle.heapbytes.specs.HeapBytes.{StepsBytes, no_values, link_kind};
 

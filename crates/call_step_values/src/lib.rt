@@ -1,4 +1,6 @@
 // One step on a heap's bytes and the values of its cells.
+#![tactic(auto)]
+
 ghost use Rattle.heapbytes.specs.HeapBytes.{StepsBytes};
 
 use heapcodec::{read_values, write_values};

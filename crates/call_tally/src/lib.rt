@@ -1,4 +1,6 @@
 // The calls for C of the tally: include/vorruda.h declares them.
+#![tactic(auto)]
+
 ghost use Rattle.std.specs.Prelude.{◌≡◌, length};
 ghost use Rattle.call_tally.specs.Answers.{tally_result, report_result, report_output};
 ghost use Rattle.format.specs.Conditions.{Acceptable};

@@ -1,4 +1,6 @@
 // The call for C that translates a listing: include/vorruda.h declares it.
+#![tactic(auto)]
+
 ghost use Rattle.std.specs.Prelude.{◌≡◌, length};
 ghost use Rattle.number.specs.CallResult.{lent};
 ghost use Rattle.listing.specs.Promise.{PromisedIn};

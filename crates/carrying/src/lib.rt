@@ -1,4 +1,6 @@
 // Carries jobs and certificates between version 1 and 2.
+#![tactic(auto)]
+
 ghost use Rattle.std.specs.Prelude.{true, ◌++◌, ◌≡◌, ◌+◌, ◌*◌, ◌≤◌, ◌<◌, length, replicate};
 ghost use Rattle.checker.specs.Jobs.{file_in};
 ghost use Rattle.format.specs.Parser.{parsed, certificate_buffer, within};
@@ -18,7 +20,7 @@ use reader::{Header, JobAnswer, read_job};
 use verdict::Refusal;
 
 // Which way a file is carried: up from version 1 to 2, or down from 2 to 1.
-#[derive(Drop)]
+#[derive(Clone, Copy)]
 pub enum Way {
     Up,
     Down,
@@ -26,7 +28,7 @@ pub enum Way {
 
 // How many bytes were filled, or why none was: the refusal of a file with its place; the place of what version 1 does not have, in one of the files; an
 // output that is too short, or a file that would be too long, with the length needed.
-#[derive(Drop)]
+#[derive(Clone, Copy)]
 pub enum CarryAnswer {
     Filled(usize),
     Job(Refusal, usize),
@@ -37,7 +39,7 @@ pub enum CarryAnswer {
 }
 
 // The place of something, if there is one.
-#[derive(Drop)]
+#[derive(Clone, Copy)]
 pub enum Found {
     At(usize),
     Nothing,

@@ -6,7 +6,7 @@ use Prim.Native.Nat.{ℕ, suc, ◌<◌}
 use native.Mathlib.Omega.{arith}
 use lib.ListN.{length, get_or}
 use Rattle.lists.specs.Test.{all_from, lowest}
-use Rattle.lists.proofs.List.{every_none, every_cons, get_d_mem}
+use Rattle.lists.proofs.List.{every_none, every_cons, get_or_mem}
 use Rattle.heap.specs.Place.{cell}
 use Rattle.graph.proofs.Proper.{Closed}
 use Rattle.facts.specs.Facts.{FactOf}
@@ -41,7 +41,7 @@ closed n links long codes =
     })
 
 images_below : (k : ℕ) (images : List ℕ) → AtMost k images → (i : ℕ) → i < length images → get_or images i 0 < suc k
-images_below k images t i b = below k images t (get_or images i 0) (get_d_mem images i b)
+images_below k images t i b = below k images t (get_or images i 0) (get_or_mem images i b)
 
 -- a shape at a state
 abbrev at_0 : Shape → Located

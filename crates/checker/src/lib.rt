@@ -1,4 +1,6 @@
 // The checker: one verdict for the bytes of a job and of a certificate.
+#![tactic(auto)]
+
 ghost use Rattle.std.specs.Prelude.{true, false, List, ◌++◌, ◌↔◌, ◌≡◌, ℕ, ◌≤◌, length, take, drop};
 ghost use Rattle.checker.specs.Jobs.{file_in, read_covers, read_for, verdict_for};
 ghost use Rattle.checker.specs.Pairs.{tested_if, pair_of, MembersKept, placed, places_read, kept_of, kept_if};
@@ -30,7 +32,7 @@ mod single;
 mod wanted;
 
 // The verdict on a pair, with what its job is where it is accepted.
-#[derive(Drop)]
+#[derive(Clone, Copy)]
 pub enum PairVerdict {
     Accepted(Counts, Header),
     Refused(Refusal, usize),

@@ -141,7 +141,7 @@ fn settle_facts(cert: &[u8], at: usize, variables: usize, facts: &mut [u16; 28])
 }
 
 // A job's header and the number of a member.
-#[derive(Drop)]
+#[derive(Clone, Copy)]
 pub struct Visit {
     pub h: Header,
     pub member: usize,

@@ -67,7 +67,7 @@ pub(crate) fn variable_elsewhere(
 
 // What following the paths of a member's links came to: the lowest cell whose path fails, as many as there are cells where none does, and how many
 // links were followed before it.
-#[derive(Drop)]
+#[derive(Clone, Copy)]
 pub(crate) struct PathsTest {
     pub fails: usize,
     pub links: u16,

@@ -1,4 +1,6 @@
 // One cover, read and tested.
+#![tactic(auto)]
+
 ghost use Rattle.std.specs.Prelude.{Bool, true, ◌≢◌, ◌≡◌, ℕ, ◌+◌, ◌≤◌, length, get_or};
 ghost use Rattle.factrows.specs.Rows.{rows_test};
 ghost use Rattle.format.specs.Certificate.{read_cover_by};
@@ -21,7 +23,7 @@ mod quick;
 mod rules;
 
 // The answer on one cover: it holds, with the place after it and the number of links followed, or it is refused.
-#[derive(Drop)]
+#[derive(Clone, Copy)]
 pub enum CoverAnswer {
     Holds(usize, u16),
     Refused(Refusal, usize),
@@ -82,7 +84,7 @@ pub fn read_alone(
 }
 
 // What the quick test of a cover gives: the place after it, 0 where it is left to `exact_cover`, and the number of links followed.
-#[derive(Drop)]
+#[derive(Clone, Copy)]
 pub struct QuickCover {
     pub next: usize,
     pub links: u16,

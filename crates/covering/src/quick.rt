@@ -64,7 +64,7 @@ fn quick_vars(cert: &[u8], first: usize, count: usize, images: &[u8; 15], s: &[u
 }
 
 // What the quick test came to: whether it accepts, and how many links were followed.
-#[derive(Drop)]
+#[derive(Clone, Copy)]
 pub(crate) struct QuickTest {
     pub accepts: bool,
     pub links: u16,

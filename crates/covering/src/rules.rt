@@ -20,7 +20,7 @@ use verdict::{
 };
 
 // What the test of a cover says: it holds, with the number of links followed, or which rule is broken first.
-#[derive(Drop)]
+#[derive(Clone, Copy)]
 pub(crate) enum Answer {
     Holds(u16),
     Breaks(Broken),

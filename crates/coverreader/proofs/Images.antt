@@ -8,10 +8,10 @@ use lib.Seq.{get_or-take, get_or-drop}
 use Rattle.heap.specs.Place.{cell}
 use Rattle.coverreader.specs.Images.{images_in, ImageCodes, no_images}
 
-get_d_sub : (l : List ℕ) (i : ℕ) → get_or (map (λ p. p - 3) l) i 0 ≡ get_or l i 0 - 3
-get_d_sub [] i = refl
-get_d_sub (x ∷ xs) zero = refl
-get_d_sub (x ∷ xs) (suc i) = get_d_sub xs i
+get_or_sub : (l : List ℕ) (i : ℕ) → get_or (map (λ p. p - 3) l) i 0 ≡ get_or l i 0 - 3
+get_or_sub [] i = refl
+get_or_sub (x ∷ xs) zero = refl
+get_or_sub (x ∷ xs) (suc i) = get_or_sub xs i
 
 module _ (count n : ℕ) (codes : List ℕ) (m : ImageCodes count n codes) where
   pub images_length : length (images_in count codes) ≡ count
@@ -20,7 +20,7 @@ module _ (count n : ℕ) (codes : List ℕ) (m : ImageCodes count n codes) where
   pub image_at : (i : ℕ) → i < count → cell (get_or (images_in count codes) i 0) ≡ get_or codes (i + 3) 0
   image_at i b =
       let e : get_or (images_in count codes) i 0 ≡ get_or codes (3 + i) 0 - 3 =
-      get_d_sub (take count (drop 3 codes)) i ∙ ap (λ (p : ℕ). p - 3) (get_or-take count (drop 3 codes) i 0 b ∙ get_or-drop 3 codes i 0) in
+      get_or_sub (take count (drop 3 codes)) i ∙ ap (λ (p : ℕ). p - 3) (get_or-take count (drop 3 codes) i 0 b ∙ get_or-drop 3 codes i 0) in
       let z : 3 + i ≡ i + 3 = omega arith in
       omega (arith, rw z at e, m.low i b)
 

@@ -1,4 +1,6 @@
 // One cover as it is read, whatever the bytes are.
+#![tactic(auto)]
+
 ghost use Rattle.std.specs.Prelude.{◌≡◌, ◌≤◌, length};
 ghost use Rattle.layout.specs.ShapeArray.{links_in};
 ghost use Rattle.coverreader.specs.Images.{ImageCodes, no_images};
@@ -10,14 +12,14 @@ use number::{Read, read_number};
 use verdict::{Broken, Reached, Refusal, WRONG_STATE};
 
 // A cover as read: its member's number and the next place; or a refusal and its place.
-#[derive(Drop)]
+#[derive(Clone, Copy)]
 pub enum CoverRead {
     Taken(usize, usize),
     Refused(Refusal, usize),
 }
 
 // The same with the images in an array beside, from the code of a place to the code of its image. There are none where it is refused.
-#[derive(Drop)]
+#[derive(Clone, Copy)]
 pub struct CoverReading {
     pub answer: CoverRead,
     pub images: [u8; 15],

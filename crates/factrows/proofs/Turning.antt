@@ -9,13 +9,13 @@ use borrow.Author.Tests.{eq-eqb, ne_eqb, lt-ltb, le-ltb}
 use lib.Bits.{bit_or}
 use lib.ListN.{length, get_or, set, length-set}
 use lib.Seq.{get_or-set_same, get_or-set_other}
-use Rattle.lists.proofs.Range.{get_d_from, tabled}
+use Rattle.lists.proofs.Range.{get_or_from, tabled}
 use Rattle.factrows.specs.Rows.{rows_by, self_at, self_rows, up_of, below_row, below_at, class_of, over_of, some_of, equal_row, equal_at, class_row, class_at, moved_at, off_row, drop_row}
 
 -- row j is the function's value
 pub row_read : (f : ℕ → ℕ) (j : ℕ) → j < 28 → get_or (rows_by f) j 0 ≡ f j
 unfolding rows_by
-row_read f j h = get_d_from f 0 0 28 j h ∙ ap f (zero-add j)
+row_read f j h = get_or_from f 0 0 28 j h ∙ ap f (zero-add j)
 
 -- rows that are its values one by one
 pub rows_are : (f : ℕ → ℕ) (l : List ℕ) → length l ≡ 28 → ((j : ℕ) → j < 28 → get_or l j 0 ≡ f j) → l ≡ rows_by f

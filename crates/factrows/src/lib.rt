@@ -1,5 +1,7 @@
 // Facts about the values of at most 14 cells as 28 rows of bits: bit q of row p is set where cell p is below cell q, bit q of row 14 + p where they are
 // equal. Cells go by their numbers, and a cell from 14 on is in no fact. Facts stay closed under the laws of order and equality.
+#![tactic(auto)]
+
 ghost use Rattle.std.specs.Prelude.{◌≡◌, ◌^◌, ◌≤◌, ◌<◌, length};
 ghost use Rattle.factrows.specs.Rows.{on, either_on, has_fact, no_facts, is_consistent, self_rows, up_of, below_row, below_rows, class_of, over_of, some_of, equal_row, equal_rows, class_row, class_rows, with_kind, with_fact, at_most, clashing, off_row, without_cell, shrink, shrunk_rows, moved_rows, lowered};
 ghost use Rattle.factrows.specs.Listed.{count, closed, image_cell, holds_at, holds_all, holds_for, cell_holds, first_missing};

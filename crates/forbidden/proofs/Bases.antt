@@ -6,7 +6,7 @@ use Prim.Native.Nat.{ℕ, ◌≤◌, ◌<◌}
 use native.Mathlib.Omega.{arith}
 use lib.ListN.{length}
 use Rattle.lists.specs.List.{Every}
-use Rattle.lists.proofs.List.{every_none, every_cons, every_one, every_append, every_head, every_tail, get_d_mem}
+use Rattle.lists.proofs.List.{every_none, every_cons, every_one, every_append, every_head, every_tail, get_or_mem}
 use Rattle.heap.specs.Codes.{var_in, link_in}
 use Rattle.heap.specs.Heap.{Heap}
 use Rattle.heap.specs.Place.{nowhere, null, dangling, cell}
@@ -80,7 +80,7 @@ module _ (h : Heap) (n : ℕ) (w : WellFormed n h) (x : ℕ) (x≢0 : x ≢ 0) (
 
   linked_inside : (c : ℕ) → CellOf (size s) c → R (link_at s c)
   unfolding R
-  linked_inside = by_number (size s) (λ c. R (link_at s c)) (λ i k. every_tail b.inside (link_at s (cell i)) (get_d_mem s.links i k))
+  linked_inside = by_number (size s) (λ c. R (link_at s c)) (λ i k. every_tail b.inside (link_at s (cell i)) (get_or_mem s.links i k))
 
   places : (r : ℕ) → R r → IsPlace g r
   unfolding R g

@@ -5,7 +5,7 @@ use Prim.Native.Nat.{ℕ, zero, suc, ◌≤◌, ◌<◌}
 use native.Mathlib.Decide.{ℕ_discrete}
 use native.Mathlib.Omega.{arith}
 use lib.ListN.{length, get_or, replicate, length-replicate}
-use Rattle.lists.proofs.List.{mem_get_d}
+use Rattle.lists.proofs.List.{mem_get_or}
 use Rattle.heap.specs.Codes.{var_in}
 use Rattle.heap.specs.Place.{nowhere, null}
 use Rattle.graph.specs.Graph.{Graph, Vars}
@@ -60,7 +60,7 @@ module _ (n x p : ℕ) (x≢0 : x ≢ 0) (x≤n : x ≤ n) where
       go (another j) = absurd (o j)
 
   pub only_below : (k : ℕ) → p < k → AllBelow k (only n x p)
-  only_below k b y m = let (i, _, e) = mem_get_d (only n x p) y m in go i e (which (suc i))
+  only_below k b y m = let (i, _, e) = mem_get_or (only n x p) y m in go i e (which (suc i))
     where
       go : (i : ℕ) → var_in (only n x p) (suc i) ≡ y → Which (suc i) → y < k
       go i e (the_one _ j) = omega arith

@@ -1,4 +1,6 @@
 // Writes a job again with a ready set of forbidden shapes after its own.
+#![tactic(auto)]
+
 ghost use Rattle.std.specs.Prelude.{◌&&◌, ◌++◌, ◌≡◌, suc, ◌+◌, ◌*◌, ◌≤◌, ltb, length};
 ghost use Rattle.forbidden.specs.Written.{shapes_of, is_inside, Inside, Rewrites};
 ghost use Rattle.format.specs.Parser.{within};
@@ -18,7 +20,7 @@ mod put;
 mod steps;
 
 // Which set is asked for, the first two with a variable and a state.
-#[derive(Drop)]
+#[derive(Clone, Copy)]
 pub enum Asked {
     NotList(usize, usize),
     LostBlock(usize, usize),
@@ -27,7 +29,7 @@ pub enum Asked {
 
 // How many bytes were filled, or why none was: the job's own refusal with its place; a variable or state outside it; more than 64 forbidden
 // shapes in all; an output that is too short, with the length needed.
-#[derive(Drop)]
+#[derive(Clone, Copy)]
 pub enum Rewritten {
     Filled(usize),
     Job(Refusal, usize),

@@ -13,7 +13,7 @@ use putting::put_all;
 const SECOND_CELL: u8 = FIRST_CELL + 1;
 
 // A variable, of so many, at a state, in a job of a version.
-#[derive(Drop)]
+#[derive(Clone, Copy)]
 pub struct Point {
     pub version: u8,
     pub variables: usize,

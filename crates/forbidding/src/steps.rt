@@ -14,7 +14,7 @@ use layout::version_of;
 use transitions::transition_at;
 
 // The variable that an operation steps through, if it does.
-#[derive(Drop)]
+#[derive(Clone, Copy)]
 pub enum Through {
     Variable(usize),
     Nothing,

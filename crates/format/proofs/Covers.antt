@@ -9,7 +9,7 @@ use native.Mathlib.Omega.{arith}
 use lib.Dec.{eqb}
 use lib.ListN.{length, get_or, get_elem?}
 use Rattle.lists.specs.List.{◌∈◌, Every, concat_map, sum}
-use Rattle.lists.proofs.List.{every_cons, get_d_mem, mem_get_d}
+use Rattle.lists.proofs.List.{every_cons, get_or_mem, mem_get_or}
 use Rattle.lists.proofs.Reflect.{Reflect, r_eq, r_and, r_not, r_iff}
 use Rattle.heap.specs.Heap.{empty}
 use Rattle.heap.specs.Place.{cell}
@@ -154,7 +154,7 @@ judge_sound (broken rule name) links first at {n} {next} e = absurd (not_fault n
 pub images_below : (ms : List Located) (o : Located) (c : Cover) → Holds ms c o → ImageForEach ms c → AllBelow (size o.shape) c.images
 images_below ms o c h each-cell x k =
     let long = each-cell h.member h.numbered in
-    let (j, b, e) = mem_get_d c.images x k in
+    let (j, b, e) = mem_get_or c.images x k in
     let (_, q) = h.embeds.images.cells (cell j) (omega arith, omega arith) in
     omega arith
 
@@ -177,7 +177,7 @@ module _ (s : Buffer) (variables : ℕ) (ms : List Located) (oks : (m : Located)
     closed = in_range_closed variables 12 m.shape (oks m i)
 
     in_range : (k : ℕ) → k < size m.shape → get_or images k 0 < size o.shape
-    in_range k b = below (get_or images k 0) (get_d_mem images k (omega arith))
+    in_range k b = below (get_or images k 0) (get_or_mem images k (omega arith))
 
     pub judged_holds : (cover_answer m images o ≡ holds) ↔ ((m.state ≡ o.state) × Embeds (shape_graph m.shape) (shape_graph o.shape) (image_map images))
     judged_holds = answer_holds m images o closed long in_range (oks m i).facts of-covered

@@ -16,7 +16,7 @@ use Rattle.heap.specs.Place.{cell}
 use Rattle.heap.proofs.Codes.{by_code}
 use Rattle.heap.proofs.Rows.{by_row, in_table}
 use Rattle.lists.proofs.List.{end, ◌&◌}
-use Rattle.lists.proofs.Range.{get_d_from, tabled}
+use Rattle.lists.proofs.Range.{get_or_from, tabled}
 use Rattle.stepper.specs.Step.{choice, Steps}
 use Rattle.stepper.specs.Table.{heap_of, value_of}
 use Rattle.stepper.specs.declared.Outcome.{Outcome}
@@ -62,7 +62,7 @@ valueless bytes = by_code (λ p. (heap_of (heap_from bytes no_values)).value p �
     zeros i = go (dec_lt i 64)
       where
         go : Dec (i < 64) → get_or (codes_from no_values) i 0 ≡ 0
-        go (yes h) = get_d_from (λ i. get_or no_values i 0) 0 0 64 i h ∙ ap (λ k. get_or no_values k 0) (zero-add i) ∙ get_d_from (λ i. 0) 0 0 64 i h
+        go (yes h) = get_or_from (λ i. get_or no_values i 0) 0 0 64 i h ∙ ap (λ k. get_or no_values k 0) (zero-add i) ∙ get_or_from (λ i. 0) 0 0 64 i h
         go (no h) = get_or-eq_default (codes_from no_values) 0 {n = i} (omega arith)
 
 no_code : (c : ℕ) → value_of c ≡ none → c ≡ 0

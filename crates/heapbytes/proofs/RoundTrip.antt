@@ -9,7 +9,7 @@ use borrow.Author.Tests.{lt-ltb, eq-eqb}
 use lib.Dec.{eqb, ltb}
 use lib.ListN.{length, get_or}
 use Rattle.lists.specs.Range.{range}
-use Rattle.lists.proofs.Range.{length_from, get_d_from, tabled}
+use Rattle.lists.proofs.Range.{length_from, get_or_from, tabled}
 use Rattle.lists.proofs.Test.{and_both, all_made}
 use Rattle.place.specs.Place.{place_of}
 use Rattle.place.specs.declared.Place.{Place}
@@ -25,7 +25,7 @@ codes_same values c = sym (tabled (λ i. get_or values i 0) 0 64 values c (λ i 
 module _ (t : Heap64) where
   byte : (i : ℕ) → i < 137 → get_or (heap_bytes t) i 0 ≡ byte_of t i
   unfolding heap_bytes
-  byte i h = get_d_from (byte_of t) 0 0 137 i h ∙ ap (byte_of t) (zero-add i)
+  byte i h = get_or_from (byte_of t) 0 0 137 i h ∙ ap (byte_of t) (zero-add i)
 
   abbrev mark : Bool → ℕ
   mark u = cond u 1 0

@@ -12,7 +12,7 @@ use lib.Dec.{eqb, ltb}
 use lib.ListN.{length, get_or, set, get_or-eq_default}
 use lib.Seq.{get_or-set_other}
 use Rattle.lists.specs.Test.{all_from}
-use Rattle.lists.proofs.Range.{Filled, get_d_from, tabled, fill_none, fill_more, fill_all}
+use Rattle.lists.proofs.Range.{Filled, get_or_from, tabled, fill_none, fill_more, fill_all}
 use Rattle.lists.proofs.Test.{and_left, all_done}
 use Rattle.stepper.specs.declared.Heap64.{Heap64}
 use Rattle.heapbytes.specs.HeapBytes.{bytes_readable, codes_from, heap_from, heap_bytes, no_values}
@@ -70,7 +70,7 @@ module _ (values : List ℕ) where
   codes_none = record { front = fill_none _ _ _ _ refl; rest = λ j h. zeros j (dec_lt j 64) }
     where
       zeros : (j : ℕ) → Dec (j < 64) → get_or no_values j 0 ≡ 0
-      zeros j (yes h) = get_d_from (λ j. 0) 0 0 64 j h
+      zeros j (yes h) = get_or_from (λ j. 0) 0 0 64 j h
       zeros j (no h) = get_or-eq_default no_values 0 {n = j} (omega arith)
 
   module _ (codes : List ℕ) (i : ℕ) (r : CodesRead values codes i) where

@@ -1,4 +1,6 @@
 // A heap of 64 cells read from a host's bytes and numbers, and written back.
+#![tactic(auto)]
+
 ghost use Rattle.std.specs.Prelude.{◌≡◌, length};
 ghost use Rattle.heapbytes.specs.HeapBytes.{bytes_readable, slots_from, marks_from, links_from, codes_from};
 ghost use Rattle.heapcodec.specs.Codec.{read_heap, heap_written, values_written};
@@ -7,7 +9,7 @@ use place::Place;
 use stepper::Heap64;
 
 // What bytes are read as: whether they are a heap's, and the heap; no heap where they aren't.
-#[derive(Drop)]
+#[derive(Clone, Copy)]
 pub struct HeapRead {
     pub readable: bool,
     pub heap: Heap64,

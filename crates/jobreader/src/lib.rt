@@ -1,5 +1,7 @@
 // A reader that keeps a job together with the place it has reached, and the numbers of a job that are read by it. The functions over a
 // `Reader` are thin: the work is `read_on`'s.
+#![tactic(auto)]
+
 ghost use Rattle.std.specs.Prelude.{◌≡◌};
 ghost use Rattle.format.specs.Parser.{job_buffer, ranged};
 ghost use Rattle.jobreader.specs.Reader.{last_read_of, read_on, last_read_after, last_read_in, preamble_read};
@@ -8,7 +10,7 @@ use number::Read;
 
 // The number read last and the place after it. Once a number is refused, `refusal` is the number of that refusal and not 0, and the
 // reader stays at the place of the number.
-#[derive(Drop)]
+#[derive(Clone, Copy)]
 pub struct Reader<'a> {
     pub src: &'a [u8],
     pub at: usize,
@@ -17,7 +19,7 @@ pub struct Reader<'a> {
 }
 
 // The same without the job.
-#[derive(Drop)]
+#[derive(Clone, Copy)]
 pub struct LastRead {
     pub at: usize,
     pub number: usize,
@@ -25,7 +27,7 @@ pub struct LastRead {
 }
 
 // The numbers of a job before its transitions, and the place after them; or a refusal, not 0, and its place.
-#[derive(Drop)]
+#[derive(Clone, Copy)]
 pub struct Preamble {
     pub variables: usize,
     pub states: usize,

@@ -1,4 +1,6 @@
 // Two jobs joined at a hand-over state: one answer for the bytes of both pairs and the state.
+#![tactic(auto)]
+
 ghost use Rattle.std.specs.Prelude.{true, not, ◌&&◌, List, ◌↔◌, ◌≡◌, ℕ, ◌+◌, ◌*◌, ◌≤◌, ◌<◌, eqb, length, get_or, take, drop};
 ghost use Rattle.lists.specs.List.{all_of};
 ghost use Rattle.lists.specs.Test.{all_from};
@@ -21,7 +23,7 @@ use reader::Header;
 use verdict::{Counts, Refusal};
 
 // Both sets of counts; or the pair that is refused, 1 or 2, why, and the place; or one of 24 to 27.
-#[derive(Drop)]
+#[derive(Clone, Copy)]
 pub enum JoinAnswer {
     Both(Counts, Counts),
     PairRefused(u8, Refusal, usize),
@@ -117,7 +119,7 @@ fn is_listed(
 }
 
 // Whether a shape is listed; and which of the first's forbidden shapes are looked at next, so many from a place on.
-#[derive(Drop)]
+#[derive(Clone, Copy)]
 struct Rest {
     listed: bool,
     at: usize,

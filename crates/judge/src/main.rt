@@ -1,4 +1,6 @@
 // The bench program: reads job.bin and cert.bin in the folder that it runs in and prints the verdict in one line.
+#![tactic(auto)]
+
 use libc::STDOUT_FILENO;
 use loading::load;
 use telling::put_line;

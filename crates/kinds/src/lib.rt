@@ -1,4 +1,6 @@
 // The table of kinds: which operands an operation of a kind may have.
+#![tactic(auto)]
+
 ghost use Rattle.std.specs.Prelude.{◌≡◌};
 ghost use Rattle.kinds.specs.Kinds.{least_a_of, least_b_of, most_b_of, allowed};
 

@@ -6,7 +6,7 @@ use native.Mathlib.Decide.{dec_lt}
 use native.Mathlib.Omega.{arith}
 use lib.ListN.{length, get_or, take, drop, set, length-set, length-drop, replicate, get_or-replicate, get_or-eq_default}
 use lib.Seq.{length-take-le, get_or-set_same, get_or-set_other, get_or-take, get_or-drop, ext_get_or, paste, length-paste}
-use Rattle.lists.proofs.List.{get_d_mem}
+use Rattle.lists.proofs.List.{get_or_mem}
 use Rattle.lists.proofs.Reflect.{cond_cases}
 use Rattle.heap.specs.Place.{null, cell}
 use Rattle.shape.specs.Shape.{Shape, AllBelow}
@@ -54,7 +54,7 @@ module _ (bytes : List ℕ) (variables at : ℕ) (entry : EntryInRange bytes var
       let xs = drop from bytes in
       let full : length (take k xs) ≡ k = length-take-le k xs (omega (arith, length-drop from bytes)) in
       let cells : length (take n (drop first bytes)) ≡ n = length-take-le n (drop first bytes) (omega (arith, length-drop first bytes, entry.inside)) in
-      rw (get_or-take k xs i 0 b, get_or-drop from bytes i 0, cells) at (h (get_or (take k xs) i 0) (get_d_mem (take k xs) i (omega (arith, full))))
+      rw (get_or-take k xs i 0 b, get_or-drop from bytes i 0, cells) at (h (get_or (take k xs) i 0) (get_or_mem (take k xs) i (omega (arith, full))))
 
   -- once v codes ahead of the first link are copied and l from it on, at least those that the entry has
   module _ (v l : ℕ) (few : v ≤ 8) (vars-enough : variables ≤ v) (vars-inside : v ≤ first) (most : l ≤ 12) (links-enough : n ≤ l)

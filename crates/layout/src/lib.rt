@@ -1,5 +1,7 @@
 // Shapes of entries, loaded into the array of a shape under work, and their facts, loaded into rows. Every number of an entry is one byte, but for the
 // number of its facts, which may be two.
+#![tactic(auto)]
+
 ghost use Rattle.std.specs.Prelude.{cond, ◌≡◌, ◌+◌, ◌-◌, ◌≤◌, length, get_or, take, drop};
 ghost use Rattle.std.proofs.Math.Seq.{paste};
 ghost use Rattle.layout.specs.Entries.{version_of, fact_count, facts_first, facts_end, links_inside, entry_end, is_whole};
@@ -173,7 +175,7 @@ pub fn load_shape(bytes: &[u8], at: usize, variables: usize, s: &mut [u8; 28])
 }
 
 // Where the bytes of an entry's facts are, from one place up to another.
-#[derive(Drop)]
+#[derive(Clone, Copy)]
 pub struct Span {
     pub first: usize,
     pub end: usize,

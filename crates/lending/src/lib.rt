@@ -1,4 +1,6 @@
 // What a call for C tells beside its number: values in an array that the host lends.
+#![tactic(auto)]
+
 ghost use Rattle.std.specs.Prelude.{◌≡◌};
 ghost use Rattle.number.specs.CallResult.{lent};
 

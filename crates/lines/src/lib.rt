@@ -1,4 +1,6 @@
 // One line of a listing, read from its bytes.
+#![tactic(auto)]
+
 ghost use Rattle.std.specs.Prelude.{true, ◌≡◌, ◌≤◌, length};
 ghost use Rattle.lines.specs.Words.{starts, is_word};
 ghost use Rattle.lines.specs.Line.{letter_of, operand_of, checked, enclosed_of, second_of, between_of, operation_of, opens, test_line, digit_of, mark_for, mark_of, line_of};
@@ -9,7 +11,7 @@ use kinds::{ASSIGN, DELETE, DIFFERENT, EQUAL, LOAD, NEW, STORE, allows};
 pub const ANY: u8 = 0;
 
 // An operation as it stands on a line: its kind and its operands, 0 for null and 1 to 26 for the letters; kind 0 is the word `any`.
-#[derive(Drop)]
+#[derive(Clone, Copy)]
 pub struct Operation {
     pub kind: u8,
     pub a: u8,
@@ -17,14 +19,14 @@ pub struct Operation {
 }
 
 // The operand that bytes begin with and how many bytes it has.
-#[derive(Drop)]
+#[derive(Clone, Copy)]
 pub(crate) struct Operand {
     pub value: u8,
     pub length: usize,
 }
 
 // What a line is: an operation; `while T` and `if T`; `end`; `mark k`; or outside the grammar.
-#[derive(Drop)]
+#[derive(Clone, Copy)]
 pub enum Line {
     Perform(Operation),
     While(Operation),

@@ -1,4 +1,6 @@
 // The calls of the block list for a host in C: a library of their own, without the checker.
+#![tactic(auto)]
+
 ghost use Rattle.list_calls.specs.ListBytes.{HeapLent, PutBack, CountsBytes, CountTells, InsertsBytes, RemovesBytes};
 
 use blocklist::{Edit, Edited, Length, refusal_number};
@@ -64,7 +66,7 @@ pub extern "C" fn vorruda_list_remove(heap: &mut [u8], values: &mut [u32], n: u3
 }
 
 // What a count tells: its number, and how many blocks there are.
-#[derive(Drop)]
+#[derive(Clone, Copy)]
 struct CountTold {
     number: u32,
     cells: u64,

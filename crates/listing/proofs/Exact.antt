@@ -10,7 +10,7 @@ use native.Mathlib.Nat.{zero-add}
 use native.Mathlib.Omega.{arith}
 use lib.ListN.{length, get_or, get_or-eq_default}
 use Rattle.lists.specs.List.{◌∈◌, Distinct}
-use Rattle.lists.proofs.Range.{length_from, get_d_from}
+use Rattle.lists.proofs.Range.{length_from, get_or_from}
 use Rattle.heap.specs.Heap.{Heap, empty}
 use Rattle.run.proofs.Runs.{all_kept}
 use Rattle.listing.specs.Limits.{WithinLimits}
@@ -42,7 +42,7 @@ module _ (l : Listing) (ok : WithinLimits l) where
     where
       go : Dec (k < 64) → get_or (mark_states l) k 64 ≡ or_none (state_of (marks_of l.statements) k)
       go (yes b) =
-          get_d_from (λ j. or_none (state_of (marks_of l.statements) j)) 64 0 64 k b
+          get_or_from (λ j. or_none (state_of (marks_of l.statements) j)) 64 0 64 k b
           ∙ ap (λ j. or_none (state_of (marks_of l.statements) j)) (zero-add k)
       go (no n) =
           let sized : length (mark_states l) ≡ 64 = length_from (λ j. or_none (state_of (marks_of l.statements) j)) 0 64 in

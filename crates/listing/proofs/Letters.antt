@@ -9,7 +9,7 @@ use native.Mathlib.Omega.{arith}
 use lib.Dec.{eqb, T}
 use lib.ListN.{length, get_or}
 use Rattle.lists.specs.List.{◌∈◌, Every, Distinct, absent}
-use Rattle.lists.proofs.List.{every_none, every_cons, every_one, every_append, every_snoc, every_head, every_tail, every_left, every_right, distinct_snoc, get_d_mem}
+use Rattle.lists.proofs.List.{every_none, every_cons, every_one, every_append, every_snoc, every_head, every_tail, every_left, every_right, distinct_snoc, get_or_mem}
 use Rattle.lists.proofs.Reflect.{r_eq, r_absent, is_true, is_false}
 use Rattle.heap.specs.Operation.{Op, equal, different, assign, load, store, new, delete, equal_value, below_value, copy, larger, smaller, read, Allowed}
 use Rattle.format.specs.JobBytes.{Between}
@@ -132,14 +132,14 @@ index_at [] j d h = absurd (omega arith)
 index_at (y ∷ names) zero d h = ap (λ b. cond b 0 (suc (index_of y names))) (is_true (eqb y y) ((r_eq y y).tests refl))
 index_at (y ∷ names) (suc j) d h =
     let x = get_or names j 0 in
-    let there : x ∈ names = get_d_mem names j (omega arith) in
+    let there : x ∈ names = get_or_mem names j (omega arith) in
     let n : eqb y x ≡ false = is_false (eqb y x) (λ t. d.0 (subst (λ z. z ∈ names) (sym ((r_eq y x).holds t)) there)) in
     ap (λ b. cond b 0 (suc (index_of x names))) n ∙ ap suc (index_at names j d.1 (omega arith))
 
 module _ (names : List ℕ) (d : Distinct names) (a : Letters names) where
   number_letter : (i : ℕ) → i ≤ length names → number_in names (letter_in names i) ≡ i
   number_letter zero h = refl
-  number_letter (suc j) h = go (get_or names j 0) (a (get_or names j 0) (get_d_mem names j (omega arith))).0 (index_at names j d (omega arith))
+  number_letter (suc j) h = go (get_or names j 0) (a (get_or names j 0) (get_or_mem names j (omega arith))).0 (index_at names j d (omega arith))
     where
       go : (x : ℕ) → 1 ≤ x → index_of x names ≡ j → number_in names x ≡ suc j
       go zero l e = absurd (omega arith)
@@ -179,11 +179,11 @@ module _ (names : List ℕ) (d : Distinct names) (a : Letters names) where
   -- the lines of such a block, spelled with its letters, are lines of the grammar
   small : (i : ℕ) → i ≤ length names → letter_in names i ≤ 26
   small zero h = omega arith
-  small (suc j) h = (a (get_or names j 0) (get_d_mem names j (omega arith))).1
+  small (suc j) h = (a (get_or names j 0) (get_or_mem names j (omega arith))).1
 
   not_zero : (i : ℕ) → i ≢ 0 → i ≤ length names → letter_in names i ≢ 0
   not_zero zero n h = n
-  not_zero (suc j) n h = λ e. let w = (a (get_or names j 0) (get_d_mem names j (omega arith))).0 in omega arith
+  not_zero (suc j) n h = λ e. let w = (a (get_or names j 0) (get_or_mem names j (omega arith))).0 in omega arith
 
   spelled_op : (o : Op) → Allowed (length names) o → Allowed 26 (op_by (letter_in names) o)
   spelled_op (equal x y) l = (small x l.0, small y l.1)

@@ -1,4 +1,6 @@
 // Files, for the programs.
+#![tactic(auto)]
+
 ghost use Rattle.io.specs.Counts.{IsPrefixLen};
 
 // Reads a file and gives how many bytes it read. A file that can't be opened counts as empty; of a longer one than the room, more is

@@ -1,4 +1,6 @@
 // Marks of places by their codes, made ahead of the walk, and the walk along links by marks alone, which counts them.
+#![tactic(auto)]
+
 ghost use Rattle.std.specs.Prelude.{List, ◌≡◌, ◌≤◌, length};
 ghost use Rattle.layout.specs.ShapeArray.{links_in};
 ghost use Rattle.marks.specs.Marks.{no_image, is_free, marking, mark_in, is_stop, walked, stop_from};
@@ -55,7 +57,7 @@ pub fn is_stop(s: &[u8; 28], marks: &[u8; 28], p: usize) -> bool
 }
 
 // Where a walk came to, and how many links lead there: one to its first place, and one from each place that it passed.
-#[derive(Drop)]
+#[derive(Clone, Copy)]
 pub struct WalkEnd {
     pub place: usize,
     pub links: u16,

@@ -1,17 +1,19 @@
 // Numbers as bytes: a reader of one number at any place, and a writer of a list of numbers.
+#![tactic(auto)]
+
 ghost use Rattle.std.specs.Prelude.{◌≡◌, ◌++◌, ◌+◌, ◌<◌, ◌≤◌, length, get_or, take, drop};
 ghost use Rattle.number.specs.Number.{largest, bytes_of, number_at};
 ghost use Rattle.number.specs.NumberList.{encode, first_above, answer, output};
 
 // What stands at a place: a number and the place after it, or nothing that can be read, with the place asked for.
-#[derive(Drop)]
+#[derive(Clone, Copy)]
 pub enum Read {
     Number(usize, usize),
     Unreadable(usize),
 }
 
 // What a writer did: how many bytes it filled; or, refusing, the index of the first number above 65,535 or the length needed.
-#[derive(Drop)]
+#[derive(Clone, Copy)]
 pub enum Written {
     Filled(usize),
     TooLarge(usize),

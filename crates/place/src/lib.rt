@@ -1,4 +1,6 @@
 // The place type: where a variable or a link stands, and tests of places.
+#![tactic(auto)]
+
 ghost use Rattle.std.specs.Prelude.{◌≡◌};
 ghost use Rattle.heap.specs.Codes.{link_in};
 ghost use Rattle.lists.specs.List.{absent};
@@ -15,7 +17,7 @@ pub const DANGLING: u8 = 2;
 pub const FIRST_CELL: u8 = 3;
 
 // A place by its code: nowhere, # (null), * (dangling), or a cell.
-#[derive(Drop)]
+#[derive(Clone, Copy)]
 pub struct Place {
     pub code: u8,
 }

@@ -1,5 +1,7 @@
 // Which choices of a placing an operation of kinds 1 to 5 or 8 to 13 retains. In a shape of n cells, whose links are lent, the choices are
 // 0 .. n - 1 a cell, n #, n + 1 a fresh cell, n + 2 + i a fresh cell in the middle of the link of cell i.
+#![tactic(auto)]
+
 ghost use Rattle.std.specs.Prelude.{◌≡◌, ◌<◌};
 ghost use Rattle.placing.specs.Choice.{choice_of, exists};
 ghost use Rattle.placing.specs.Retained.{link_open, retained};
@@ -10,7 +12,7 @@ use number::wide;
 use place::{DANGLING, FIRST_CELL, NOWHERE, NULL, Place, both_nowhere, link_at};
 
 // The choices of a variable that are retained.
-#[derive(Drop)]
+#[derive(Clone, Copy)]
 pub enum Wanted {
     Nothing,
     // choice 0, which changes nothing: the variable has a place
@@ -29,7 +31,7 @@ pub enum Wanted {
 }
 
 // Choices from one on, in steps, before another.
-#[derive(Drop)]
+#[derive(Clone, Copy)]
 pub struct Choices {
     pub from: usize,
     pub step: usize,

@@ -1,4 +1,6 @@
 // Bytes put at a place of an output: bytes as they are, and numbers in decimal digits.
+#![tactic(auto)]
+
 ghost use Rattle.putting.specs.Digits.{digits};
 ghost use Rattle.putting.specs.Put.{PutIfRoom};
 

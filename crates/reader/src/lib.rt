@@ -1,4 +1,6 @@
 // Reads the numbers of a job and of the members of a certificate, each held to its range.
+#![tactic(auto)]
+
 ghost use Rattle.std.specs.Prelude.{cond, List, [], ◌≡◌, ℕ, ◌+◌, ◌-◌, ◌≤◌, ◌<◌, eqb, ltb, length, get_or};
 ghost use Rattle.lists.specs.Test.{all_from};
 ghost use Rattle.format.specs.Certificate.{read_member};
@@ -24,21 +26,21 @@ mod factlist;
 mod start;
 
 // Which buffer is read: it decides the refusals.
-#[derive(Drop)]
+#[derive(Clone, Copy)]
 pub(crate) enum Input {
     Job,
     Certificate,
 }
 
 // A number in its range and the place after it, or a refusal with its place.
-#[derive(Drop)]
+#[derive(Clone, Copy)]
 pub(crate) enum Ranged {
     Value(usize, usize),
     Refused(Refusal, usize),
 }
 
 // The numbers of a job, and where its transitions and its forbidden shapes start.
-#[derive(Drop)]
+#[derive(Clone, Copy)]
 pub struct Header {
     pub variables: usize,
     pub states: usize,
@@ -50,14 +52,14 @@ pub struct Header {
 }
 
 // A job that was read, by its header, or a refusal with its place.
-#[derive(Drop)]
+#[derive(Clone, Copy)]
 pub enum JobAnswer {
     Job(Header),
     Refused(Refusal, usize),
 }
 
 // How many members there are and the place after them, or a refusal with its place.
-#[derive(Drop)]
+#[derive(Clone, Copy)]
 pub enum MembersAnswer {
     Members(usize, usize),
     Refused(Refusal, usize),

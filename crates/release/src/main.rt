@@ -1,5 +1,7 @@
 // The release program: judges the pairs of files that its arguments name, prints each verdict's line with the job's name, and the release
 // sheet as its last line.
+#![tactic(auto)]
+
 use libc::{STDERR_FILENO, STDOUT_FILENO};
 use loading::load;
 use sheet::report;

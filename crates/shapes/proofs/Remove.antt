@@ -12,7 +12,7 @@ use lib.ListN.{length, get_or, drop, length-map}
 use lib.Seq.{get_or-take, get_or-drop, ext_get_or}
 use Rattle.lists.specs.List.{concat_map}
 use Rattle.lists.specs.Range.{range}
-use Rattle.lists.proofs.List.{at_mem, get_d_mem, mem_get_d, every_none}
+use Rattle.lists.proofs.List.{at_mem, get_or_mem, mem_get_or, every_none}
 use Rattle.facts.specs.Facts.{FactOf}
 use Rattle.lists.proofs.Reflect.{r_and, r_le, r_lt, cond_cases}
 use Rattle.heap.specs.Operation.{new}
@@ -38,13 +38,13 @@ module _ (variables : ℕ) (s : List ℕ) (h : ShapeArray variables s) where
 
   pub vars_below : AllBelow (cell (cell_count s)) shape.vars
   vars_below x m =
-      let (i, b, e) = mem_get_d shape.vars x m in
+      let (i, b, e) = mem_get_or shape.vars x m in
       let slot : 18 + i ≡ 17 + suc i = omega arith in
       let e' = sym e ∙ get_or-take variables (drop 18 s) i nowhere (omega (arith, vars_in variables s h)) ∙ get_or-drop 18 s i nowhere ∙ ap (λ (j : ℕ). get_or s j nowhere) slot in
       rw e' (h.operands_range (suc i))
 
   pub links_below : AllBelow (cell (size shape)) shape.links
-  links_below x m = let (i, b, e) = mem_get_d shape.links x m in rw (sym e) (links_in_range variables s h i b)
+  links_below x m = let (i, b, e) = mem_get_or shape.links x m in rw (sym e) (links_in_range variables s h i b)
 
   module _ (a : ℕ) (some : 1 ≤ a) (most : a ≤ variables) where
     pub new_nowhere : operand_at s a ≡ nowhere → before (new a) shape ≡ concat_map (without shape) (range 0 (cell_count s)) ++ (shape ∷ [])
@@ -177,7 +177,7 @@ module _ (variables : ℕ) (s : List ℕ) (h : ShapeArray variables s) (k : ℕ)
   no_link : (j : ℕ) → j < cell_count s → get_or s (cell j) nowhere ≢ c
   no_link j b e =
       let inside : j < length old.links = omega (arith, size_in variables s h) in
-      ((r_is_free c old).holds free).1.1.0 (Memᴰ.cast (sym (link_in_lem s j b ∙ e)) (get_d_mem old.links j inside))
+      ((r_is_free c old).holds free).1.1.0 (Memᴰ.cast (sym (link_in_lem s j b ∙ e)) (get_or_mem old.links j inside))
 
   array : ShapeArray variables t
   array =

@@ -7,7 +7,7 @@ use native.Mathlib.Omega.{arith}
 use lib.ListN.{length, get_or, take, drop, length-map, length-drop, get_or-eq_default}
 use lib.Seq.{length-take-le, get_or-take, get_or-drop, ext_get_or}
 use Rattle.lists.specs.Range.{range}
-use Rattle.lists.proofs.Range.{length_from, get_d_from}
+use Rattle.lists.proofs.Range.{length_from, get_or_from}
 use Rattle.heap.specs.Place.{nowhere, cell}
 use Rattle.shape.proofs.Laws.{link_map}
 use Rattle.layout.specs.ShapeArray.{operand_at}
@@ -16,7 +16,7 @@ pub table_length : (f : ℕ → ℕ) → length (map f (range 0 28)) ≡ 28
 table_length f = length_from f 0 28
 
 pub table_at : (f : ℕ → ℕ) (i : ℕ) → i < 28 → get_or (map f (range 0 28)) i 0 ≡ f i
-table_at f i h = get_d_from f 0 0 28 i h ∙ ap f (omega arith)
+table_at f i h = get_or_from f 0 0 28 i h ∙ ap f (omega arith)
 
 -- what is so of the slots of operands is so of all operands
 pub operands_all : (g : ℕ → ℕ) (s t : List ℕ) → length s ≡ 28 → length t ≡ 28 → g nowhere ≡ nowhere

@@ -1,4 +1,6 @@
 // Shapes in arrays (layout/specs/ShapeArray.antt), undone by kinds 6 (new) and 7 (delete). Numbers that do not fit an array change nothing.
+#![tactic(auto)]
+
 ghost use Rattle.std.specs.Prelude.{cond, [], ◌≡◌, ◌≤◌, ◌<◌, length};
 ghost use Rattle.backward.specs.Predecessors.{lower};
 ghost use Rattle.layout.specs.ShapeArray.{cell_count, operand_at};
@@ -136,7 +138,7 @@ fn forget_operand(s: &mut [u8; 28], a: u8)
 }
 
 // Numbers of cases, from one on, before another.
-#[derive(Drop)]
+#[derive(Clone, Copy)]
 pub struct Cases {
     pub first: usize,
     pub end: usize,

@@ -1,4 +1,6 @@
 // The release sheet: fractions in lowest terms, and the text that reports a tally.
+#![tactic(auto)]
+
 ghost use Rattle.std.specs.Prelude.{◌≡◌, ◌+◌, ◌≤◌, length};
 ghost use Rattle.number.specs.CallResult.{lent};
 ghost use Rattle.putting.specs.Put.{Put};
@@ -8,7 +10,7 @@ ghost use Rattle.sheet.specs.Sheet.{fraction_text, sheet_text, reported};
 use putting::{put_all, put_number};
 
 // What a report did: 0 with the bytes filled, or 12 with the length needed, at most 56.
-#[derive(Drop)]
+#[derive(Clone, Copy)]
 pub struct Reported {
     pub number: u32,
     pub length: usize,

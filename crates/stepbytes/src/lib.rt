@@ -1,11 +1,13 @@
 // One step on a heap as 137 bytes, with the codes of its cells' values.
+#![tactic(auto)]
+
 ghost use Rattle.heapbytes.specs.HeapBytes.{StepsBytes};
 
 use heapcodec::{read_heap, write_heap};
 use stepper::Outcome;
 
 // What a step on bytes tells: 0 for moved, 100 for blocked, or 13, 14, 15; and the codes of the values after it.
-#[derive(Drop)]
+#[derive(Clone, Copy)]
 pub struct SteppedBytes {
     pub number: u32,
     pub values: [u32; 64],

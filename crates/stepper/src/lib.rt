@@ -1,4 +1,6 @@
 // The stepper: one operation on a heap of up to 64 cells, which may have values.
+#![tactic(auto)]
+
 ghost use Rattle.std.specs.Prelude.{true, ◌≡◌, ◌≤◌, length};
 ghost use Rattle.heap.specs.Codes.{var_in, link_in};
 ghost use Rattle.heap.specs.Operation.{assign, load, store, new, delete, copy, read, operation};
@@ -14,7 +16,7 @@ use place::{DANGLING, FIRST_CELL, NOWHERE, Place};
 
 // A heap of up to 64 cells: how many variables there are, where each stands, which cells are used, where their links stand, and the codes of
 // their values: 0 for none, v + 1 for the value v.
-#[derive(Drop)]
+#[derive(Clone, Copy)]
 pub struct Heap64 {
     pub variables: u8,
     pub vars: [Place; 8],
@@ -24,7 +26,7 @@ pub struct Heap64 {
 }
 
 // Why a step is refused: document 01's 13, 14 and 15.
-#[derive(Drop)]
+#[derive(Clone, Copy)]
 pub enum StepRefusal {
     IllFormed,
     BadOperation,
@@ -32,7 +34,7 @@ pub enum StepRefusal {
 }
 
 // What became of a step.
-#[derive(Drop)]
+#[derive(Clone, Copy)]
 pub enum Outcome {
     Moved,
     Blocked,
@@ -40,14 +42,14 @@ pub enum Outcome {
 }
 
 // The heap after a step: the heap before it, unless the outcome is moved.
-#[derive(Drop)]
+#[derive(Clone, Copy)]
 pub struct Stepped {
     pub heap: Heap64,
     pub outcome: Outcome,
 }
 
 // An operation that is to be done so many times; `named` says whether its kind and operands keep to the table of kinds.
-#[derive(Drop)]
+#[derive(Clone, Copy)]
 struct Turn {
     kind: usize,
     a: usize,
@@ -58,7 +60,7 @@ struct Turn {
 
 // What a step does in place: a variable goes to a place or to where the link of a cell stands, or the link of a cell goes to a place. Variables and cells
 // are given by their numbers from 0. `Other`: something else, or it does not move.
-#[derive(Drop)]
+#[derive(Clone, Copy)]
 enum Put {
     Variable(usize, Place),
     Follow(usize, usize),

@@ -1,4 +1,6 @@
 // The running tally of verdicts.
+#![tactic(auto)]
+
 ghost use Rattle.std.specs.Prelude.{true, ◌++◌, ◌≡◌, ◌≤◌, length, drop};
 ghost use Rattle.verdict.specs.Verdict.{verdict_of};
 ghost use Rattle.tally.specs.Numbers.{numbers_of, tally_from, number_told, numbers_after};
@@ -13,7 +15,7 @@ const LIMIT: u32 = 4294967295;
 pub const NUMBERS: usize = 35;
 
 // Verdicts, accepted ones, sums of members and covers over the accepted, and a count for each refusal: that of k stands at k - 1.
-#[derive(Drop)]
+#[derive(Clone, Copy)]
 pub struct Tally {
     pub verdicts: u32,
     pub accepted: u32,
@@ -23,7 +25,7 @@ pub struct Tally {
 }
 
 // A tally after a verdict, with 0; or the same tally with 23.
-#[derive(Drop)]
+#[derive(Clone, Copy)]
 pub struct Taken {
     pub number: u32,
     pub tally: Tally,

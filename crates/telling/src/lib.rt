@@ -1,4 +1,6 @@
 // What is told of a verdict: to a host, its number and four values; to a person, its line.
+#![tactic(auto)]
+
 ghost use Rattle.std.specs.Prelude.{◌++◌, ◌≡◌, ◌+◌, ◌≤◌, length};
 ghost use Rattle.number.specs.CallResult.{lent};
 ghost use Rattle.putting.specs.Digits.{digits};

@@ -1,9 +1,11 @@
 // Transitions in the bytes of a job: each is five bytes, from, kind, a, b, to.
+#![tactic(auto)]
+
 ghost use Rattle.std.specs.Prelude.{◌≡◌, ◌+◌, ◌*◌, ◌≤◌, leb, length};
 ghost use Rattle.transitions.specs.Transitions.{zeros, transition_from, transition_bytes, transition_named, to_byte, index_with, indexed};
 
 // A transition by its bytes.
-#[derive(Drop)]
+#[derive(Clone, Copy)]
 pub struct Transition {
     pub from: u8,
     pub kind: u8,

@@ -49,10 +49,10 @@ pub open_deep : (loops : Bool) (t : Operation) (p : Progress) (depth : ℕ) (w :
 open_deep loops t p depth w h os e = opens_line_lem loops t (position_of p w os) ∙ rw (le-leb 16 (length os) (omega arith), add-one p.passed) refl
 
 -- inside a list any default will do
-get_d_any : (l : List ℕ) (i a b : ℕ) → i < length l → get_or l i a ≡ get_or l i b
-get_d_any [] i a b h = absurd (not-suc-le-zero h)
-get_d_any (x ∷ l) zero a b h = refl
-get_d_any (x ∷ l) (suc i) a b h = get_d_any l i a b (le_of_suc-le-suc h)
+get_or_any : (l : List ℕ) (i a b : ℕ) → i < length l → get_or l i a ≡ get_or l i b
+get_or_any [] i a b h = absurd (not-suc-le-zero h)
+get_or_any (x ∷ l) zero a b h = refl
+get_or_any (x ∷ l) (suc i) a b h = get_or_any l i a b (le_of_suc-le-suc h)
 
 -- ---- a step by an operation
 
@@ -173,11 +173,11 @@ module _ (p : Progress) (job letters : List ℕ) (passed : p.passed ≤ 63) (cou
 
     pub mark_again : (depth : ℕ) → (get_or states k 0 ≡ 64 → ⊥) → LineSteps depth (Mark k) p w₂ (λ os. refused 17 (p.passed + 1))
     mark_again depth taken os e =
-        rw (ne_eqb (get_or states k 64) 64 (λ z. taken (get_d_any states k 0 64 (omega arith) ∙ z)), add-one p.passed) refl
+        rw (ne_eqb (get_or states k 64) 64 (λ z. taken (get_or_any states k 0 64 (omega arith) ∙ z)), add-one p.passed) refl
 
     module _ (free : get_or states k 0 ≡ 64) where
       is_free_lem : eqb (get_or states k 64) 64 ≡ true
-      is_free_lem = eq-eqb (get_or states k 64) 64 (sym (get_d_any states k 0 64 (omega arith)) ∙ free)
+      is_free_lem = eq-eqb (get_or states k 64) 64 (sym (get_or_any states k 0 64 (omega arith)) ∙ free)
 
       few : length (take p.met letters) ≤ 8
       few = omega (arith, length-take-le p.met letters (omega arith))

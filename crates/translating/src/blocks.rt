@@ -9,7 +9,7 @@ use crate::steps::{Begun, Led, Progress, begin, close};
 use lines::{Line, read_line};
 
 // How a block ends: with the text; with a line `end`, which is passed in the text only; refused.
-#[derive(Drop)]
+#[derive(Clone, Copy)]
 pub enum Block {
     Over(Progress),
     Ended(Progress),
@@ -17,7 +17,7 @@ pub enum Block {
 }
 
 // What was read for a statement: one with all its lines; a line `end`, which is passed in the text only; a refusal.
-#[derive(Drop)]
+#[derive(Clone, Copy)]
 pub enum Statement {
     On(Progress),
     Ended(Progress),

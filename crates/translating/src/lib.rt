@@ -1,4 +1,6 @@
 // Translates a listing into the bytes of a job ahead of its forbidden shapes.
+#![tactic(auto)]
+
 ghost use Rattle.std.specs.Prelude.{[], ◌∷◌, ◌++◌, ◌≡◌, suc, ◌+◌, ◌*◌, ◌≤◌, length, take, drop};
 ghost use Rattle.number.specs.CallResult.{lent};
 ghost use Rattle.listing.specs.Promise.{Translates};
@@ -15,7 +17,7 @@ mod steps;
 
 // Why a listing is refused: a line outside the grammar, or an `end` too many or missing; more than 16 open at once; more than 8 names or 64
 // states.
-#[derive(Drop)]
+#[derive(Clone, Copy)]
 pub enum Fault {
     Grammar,
     Nesting,
@@ -23,7 +25,7 @@ pub enum Fault {
 }
 
 // How many bytes were filled, or why none was: the listing is refused at a line; the output is too short, with the length needed.
-#[derive(Drop)]
+#[derive(Clone, Copy)]
 pub enum Translation {
     Filled(usize),
     Refused(Fault, usize),

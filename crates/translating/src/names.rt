@@ -6,14 +6,14 @@ ghost use Rattle.translating.specs.Reading.{LettersMet, Numbers};
 use lines::Operation;
 
 // An operand's number, and how many names there are once it is met.
-#[derive(Drop)]
+#[derive(Clone, Copy)]
 pub struct Met {
     pub met: usize,
     pub number: u8,
 }
 
 // An operation with its operands numbered, and how many names there are once it is met.
-#[derive(Drop)]
+#[derive(Clone, Copy)]
 pub struct Numbered {
     pub met: usize,
     pub operation: Operation,

@@ -13,7 +13,7 @@ use lines::{ANY, Line, Operation};
 
 // How far the reading has come: the place in the text; the lines passed, which is the number of the present state too; how many transitions
 // and names there are.
-#[derive(Drop)]
+#[derive(Clone, Copy)]
 pub struct Progress {
     pub at: usize,
     pub passed: usize,
@@ -22,7 +22,7 @@ pub struct Progress {
 }
 
 // A `while` (it loops) or an `if` that is open: T, and the state from which T leads.
-#[derive(Drop)]
+#[derive(Clone, Copy)]
 pub struct Open {
     pub loops: bool,
     pub test: Operation,
@@ -30,14 +30,14 @@ pub struct Open {
 }
 
 // Where a step leads, or that there would be more than 8 names or 64 states.
-#[derive(Drop)]
+#[derive(Clone, Copy)]
 pub enum Led {
     On(Progress),
     Full,
 }
 
 // What a line does: it leads on; it opens a block; it ends one; it is refused.
-#[derive(Drop)]
+#[derive(Clone, Copy)]
 pub enum Begun {
     On(Progress),
     Opened(Progress, Open),

@@ -1,4 +1,6 @@
 // The facts before an operation, as rows: of kinds 8 to 13, which name cells c and d, and of kind 6, by the cell that was new.
+#![tactic(auto)]
+
 ghost use Rattle.std.specs.Prelude.{cond, not, ◌≡◌};
 ghost use Rattle.factrows.specs.Rows.{has_fact, lowered};
 ghost use Rattle.undoing.specs.Undone.{fact_kind, left_cell, right_cell, is_undone, rows_undone};

@@ -1,4 +1,6 @@
 // The verdict on a job and a certificate: four counts, or a refusal with its place.
+#![tactic(auto)]
+
 ghost use Rattle.std.specs.Prelude.{◌≡◌};
 ghost use Rattle.format.specs.Parser.{reason_number};
 ghost use Rattle.verdict.specs.Verdict.{reason_of, rule_told, name_told};
@@ -17,14 +19,14 @@ pub const SHARED_PATH: u8 = 5;
 pub const FACT_MISSING: u8 = 6;
 
 // The rule of a cover that broke, and the cell (from 0) or the variable (from 1) that is named; 0 for the state.
-#[derive(Drop)]
+#[derive(Clone, Copy)]
 pub struct Broken {
     pub rule: u8,
     pub name: u8,
 }
 
 // The refusals 1 to 10 of document 01, in their order, and 20 of document 02.
-#[derive(Drop)]
+#[derive(Clone, Copy)]
 pub enum Refusal {
     JobLength,
     CertificateLength,
@@ -40,7 +42,7 @@ pub enum Refusal {
 }
 
 // The counts of an accepted pair: forbidden shapes, members, covers, and the links followed for all covers.
-#[derive(Drop)]
+#[derive(Clone, Copy)]
 pub struct Counts {
     pub bads: u32,
     pub members: u32,
@@ -49,14 +51,14 @@ pub struct Counts {
 }
 
 // Accepted with the counts, or a refusal with its place.
-#[derive(Drop)]
+#[derive(Clone, Copy)]
 pub enum Verdict {
     Accepted(Counts),
     Refused(Refusal, usize),
 }
 
 // A place reached, or a refusal with its place.
-#[derive(Drop)]
+#[derive(Clone, Copy)]
 pub enum Reached {
     At(usize),
     Refused(Refusal, usize),

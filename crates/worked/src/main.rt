@@ -1,4 +1,6 @@
 // Document 01, "Threads to pull on": each case, with what the code answers. P5 to P11 are put as jobs whose covers show them.
+#![tactic(auto)]
+
 use libc::STDOUT_FILENO;
 use number::{Read, Written};
 use place::Place;
