@@ -83,10 +83,19 @@ class Function:
             self.steps.setdefault(plain(loop[0][0]), loop[0][1])
         # A place by its name of old: its name today, and that of its record.
         self.places = {plain(p[0]): (n, p[0]) for p, n in zip(names["places"], names["places_by_name"])}
-        # Whether what a goal is given wraps the record of its place.
-        self.wraps = [bool(t) or a is not None for t, a in zip(names["typed"], names["arms"])]
-        at = {n: i for i, n in enumerate(names["places_by_name"])}
-        self.wrapped = [self.wraps[at[n[1]]] for n in names["asked_at"]]
+        # Whether what a goal is given wraps the record of its place: where something is known of a type on the way there.
+        above = {p[0]: (p[1], p[2][0]) for p in names["places"]}
+
+        def knows(place):
+            while place:
+                place, step = above.get(place, (None, ""))
+                if "_known" in step:
+                    return True
+            return False
+
+        # How many steps an arm has in one: the record before it stands so much further.
+        arms = {p[0]: (a[1] if a else 1) for p, a in zip(names["places"], names["arms"])}
+        self.wrapped = [(knows(n[0]), arms.get(n[0], 1)) for n in names["asked_at"]]
         self.loops = {plain(l[0][0]): l for l in names["loops"]}
         self.changed = dict(zip([plain(l[0][0]) for l in names["loops"]], names["changed"]))
 
@@ -214,19 +223,25 @@ class Function:
                     continue
                 body = re.sub(rf"(?m)^{re.escape(name)}((?: {W})*?)(?: κs)? =", rf"{name}\1 =", body)
                 body = self.turn(named(body), args)
-                if wrapped[name]:
-                    body = within(body)
+                body = within(body, *wrapped[name])
                 answers.append(note + f"pub {goal[name]} : goal.{goal[name]}\n" + body)
             else:
                 answers.append(note + self.turn(named("\n".join(lines)), args))
         return invariants, "\n\n".join(answers)
 
 
-def within(body):
-    """The record of a goal's place stands one step further than what the goal is given, where the whole place is cited."""
+def within(body, wraps, steps):
+    """Where a whole place is cited: the record of a goal's place stands one step further than what the goal is given, if that wraps it."""
     head, eq, rest = body.partition(" =")
     c = head.split()[-1] if len(head.split()) > 1 else "c"
-    rest = re.sub(rf"(?<![\w.'-]){re.escape(c)}((?:\.before)*)(?![\w.'-])", lambda m: f"{c}.before{m[1]}", rest)
+
+    def chain(m):
+        n = m[1].count(".before")
+        if steps > 1 and n >= steps:
+            n -= steps - 1
+        return c + ".before" * (n + wraps)
+
+    rest = re.sub(rf"(?<![\w.'-]){re.escape(c)}((?:\.before)*)(?![\w.'-])", chain, rest)
     rest = re.sub(rf"\blet {re.escape(c)}\.before\b", f"let {c}", rest)
     return head + eq + rest
 
