@@ -4,7 +4,7 @@ use mathlib.Core.Bool.{Bool, true, false, cond}
 use mathlib.Core.List.{List, [], ◌∷◌, ◌++◌}
 use mathlib.Core.Option.{Option, none, some}
 use mathlib.Core.Path.{◌≡◌, refl, sym, ap, subst, ◌∙◌}
-use Prim.Native.Nat.{ℕ, suc, ◌+◌, ◌≤◌}
+use Prim.Native.Nat.{ℕ, suc, ◌≤◌}
 use native.Mathlib.Omega.{arith}
 use lib.Dec.{eqb, ltb}
 use lib.ListN.{length, get_or}
@@ -13,8 +13,6 @@ use Rattle.lists.proofs.Reflect.{passes}
 use Rattle.number.specs.CallResult.{CallResult}
 use Rattle.number.specs.NumberList.{encode, refused}
 use Rattle.number.proofs.Encoding.{encode_append}
-use Rattle.number.proofs.RoundTrip.{reads}
-use Rattle.number.proofs.Writing.{one}
 use Rattle.run.specs.Run.{Transition, Located, Safe}
 use Rattle.heap.specs.Operation.{Allowed}
 use Rattle.format.specs.Conditions.{Acceptable}
