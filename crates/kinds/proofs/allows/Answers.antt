@@ -3,64 +3,50 @@ use native.Mathlib.Omega.{arith}
 use borrow.Author.Tests.{le-leb, lt-leb}
 use Rattle.kinds.specs.Kinds.{least_a_of, least_b_of}
 use Rattle.kinds.proofs.Rows.{allowed_row, allowed_none}
-use borrow.Author.Rules.{rules}
-use Rattle.kinds.proofs.allows.Statement.{statement}
+use Rattle.kinds.proofs.allows.Goals as goal
+use Rattle.kinds.proofs.allows.Lts as lts
+use Rattle.kinds.proofs.allows.Reads as reads
 use Rattle.kinds.proofs.allows.Tie as tie
 
+-- ---- places in the code
+
+abbrev After-least_a : Type 0
+After-least_a = lts.After-least_a tie.the-claims reads.Pre reads.Post
+
+abbrev Start : Type 0
+Start = lts.Start tie.the-claims reads.Pre reads.Post
+
 -- the beginning, once the least first operand is known
-abbrev begun : tie.After-least-a → tie.Start
+abbrev begun : After-least_a → Start
 begun c = c.before.before.before
 
-returns : tie.Need-returns
-returns c = let a = c.before.args in allowed_none a.kind a.variables a.a a.b (λ l h. omega arith)
+pub returns-then-kind-lt1 : goal.returns-then-kind-lt1
+returns-then-kind-lt1 c = let a = c.args in allowed_none a.kind a.variables a.a a.b (λ l h. omega arith)
 
-returns_2 : tie.Need-returns-2
-returns_2 c = let a = c.before.before.args in allowed_none a.kind a.variables a.a a.b (λ l h. omega arith)
+pub returns-then-kind-gt-LAST_KIND : goal.returns-then-kind-gt-LAST_KIND
+returns-then-kind-gt-LAST_KIND c = let a = c.args in allowed_none a.kind a.variables a.a a.b (λ l h. omega arith)
 
-least_a_requires : tie.Need-least-a-requires
-least_a_requires c κs = search rules
-
-returns_3 : tie.Need-returns-3
-returns_3 c =
+pub returns-then-a-least_a : goal.returns-then-a-least_a
+returns-then-a-least_a c =
     let a = (begun c.before).args in
     rw (← allowed_row a.kind a.variables a.a a.b (omega arith) (omega arith))
     (simp (lt-leb (least_a_of a.kind) a.a (omega arith)))
 
-returns_4 : tie.Need-returns-4
-returns_4 c =
+pub returns-then-variables-a : goal.returns-then-variables-a
+returns-then-variables-a c =
     let a = (begun c.before.before).args in
     rw (← allowed_row a.kind a.variables a.a a.b (omega arith) (omega arith))
     (simp (le-leb (least_a_of a.kind) a.a (omega arith), lt-leb a.a a.variables (omega arith)))
 
-least_b_requires : tie.Need-least-b-requires
-least_b_requires c κs = search rules
-
-returns_5 : tie.Need-returns-5
-returns_5 c =
+pub returns-then-b-least_b : goal.returns-then-b-least_b
+returns-then-b-least_b c =
     let a = (begun c.before.before.before.before).args in
     rw (← allowed_row a.kind a.variables a.a a.b (omega arith) (omega arith))
     (simp (le-leb (least_a_of a.kind) a.a (omega arith), le-leb a.a a.variables (omega arith), lt-leb (least_b_of a.kind) a.b (omega arith)))
 
-most_b_requires : tie.Need-most-b-requires
-most_b_requires c κs = search rules
-
-returns_6 : tie.Need-returns-6
-returns_6 c =
+pub returns : goal.returns
+returns c =
     let e = c.before.before.before in
     let a = (begun e.before.before).args in
     rw (← allowed_row a.kind a.variables a.a a.b (omega arith) (omega arith), c.most_b.ensures)
     (simp (le-leb (least_a_of a.kind) a.a (omega arith), le-leb a.a a.variables (omega arith), le-leb (least_b_of a.kind) a.b (omega arith)))
-
-pub allows_spec : {M : Type 1} → statement M
-allows_spec =
-    tie.close
-    (tie.spec
-    returns
-    returns_2
-    least_a_requires
-    returns_3
-    returns_4
-    least_b_requires
-    returns_5
-    most_b_requires
-    returns_6)
