@@ -7,6 +7,7 @@ Goals are matched by their order; places and steps by their old names, which `rt
 answered by a search alone is left to the check. What stays to be done by hand the check says.
 """
 
+import difflib
 import json
 import os
 import re
@@ -144,6 +145,7 @@ class Function:
             if m:
                 self.renamed[m[1]] = new.split(".")[-1]
         self.cited = {}
+        self.dropped = set()
         self.returning = {}  # helpers that lead from a place to a place
         self.taking = {}  # helpers: the places of their arguments, by position
 
@@ -187,7 +189,7 @@ class Function:
             if parts[0] in ("args", "ranges") and len(parts) > 1 and parts[1] in self.renamed:
                 parts = [parts[0], self.renamed[parts[1]]] + parts[2:]
             return base + "." + ".".join([DIRECT[parts[0]]] + parts[1:]), None
-        owner = P.owner(P.up(place, d), parts[0])
+        owner = P.owner(P.up(place, d), parts[0]) or P.owner(place, parts[0])
         if owner is None:
             return base + ".before" * d + "." + ".".join(parts), None
         low = place
@@ -304,6 +306,16 @@ class Function:
 
     def helper(self, lines):
         name = name_of(lines[0])
+        found, to = self.binders(lines[0])
+        m = re.fullmatch(rf"{re.escape(name)} ({VAR}) = \1((?:\.before)+)", " ".join(l.strip() for l in lines[1:]))
+        if m and to and len(found) == 1 and found[0][1]:
+            d = 0
+            while d < 99 and self.places.up(found[0][1], d) not in (to, None):
+                d += 1
+            if self.places.up(found[0][1], d) == to:
+                n, _, left = self.places.climb(found[0][1], d)
+                if not left:
+                    return self.turn(lines[0], {}) + f"\n{name} {m[1]} = {m[1]}" + ".before" * n
         k = 1
         while k < len(lines) and not re.match(rf"{re.escape(name)}(?=\s|$)", lines[k]) and not lines[k].startswith("unfolding "):
             k += 1
@@ -362,10 +374,15 @@ class Function:
         inner = [n for n, k in kinds.items() if k[0] != "Need-"]
         given = [w for w in re.sub(r"[()]", " ", order[1]).split() if kinds.get(w, ("", ""))[0] == "Need-"]
         needs = self.names["needs"]
+        pairs = list(zip(given, range(len(needs))))
         if len(given) != len(needs):
-            return f"{len(given)} goals answered, {len(needs)} asked"
-        goal = {g: n[1] for g, n in zip(given, needs)}
-        place = {g: a[0] for g, a in zip(given, self.names["asked_at"])}
+            # Goals that are asked no more, or anew, stand between others that keep their old names.
+            label = lambda s: re.sub(r"-\d+$", "", re.sub(r"^overflow-", "", step(s)))
+            a, b = [label(kinds[g][1]) for g in given], [label(n[0]) for n in needs]
+            pairs = [(given[x + k], y + k) for x, y, n in difflib.SequenceMatcher(None, a, b, False).get_matching_blocks() for k in range(n)]
+            self.dropped = {g for g in given if g not in dict(pairs)}
+        goal = {g: needs[k][1] for g, k in pairs}
+        place = {g: self.names["asked_at"][k][0] for g, k in pairs}
         old = re.compile(rf"(?<![\w.'-])({'|'.join(sorted(map(re.escape, goal), key=len, reverse=True))})(?![\w'-])") if goal else None
         named = lambda s: old.sub(lambda m: goal[m[1]], s) if old else s
         for d in self.decls:
@@ -399,6 +416,8 @@ class Function:
             note = "\n".join(notes).strip("\n")
             note = note + "\n" if note else ""
             text = "\n".join(lines)
+            if name in self.dropped:
+                continue
             if name in below:
                 invariants.append(note + re.sub(r"^(abbrev )?(?!pub )", lambda m: (m[1] or "") + "pub ", text, count=1))
             elif kind[0] in ("invariant-", "decreases-"):

@@ -1,9 +1,6 @@
 -- The loop: the values before the i-th are lent; an array too short stays as it is.
-use Prim.Native.Nat.{◌-◌}
 use native.Mathlib.Omega.{arith}
-use lib.ListN.{length}
-use Rattle.lending.proofs.Lending.{Lending, too_short, lend_none, lend_more, lend_all}
-use borrow.Author.Rules.{rules}
+use Rattle.lending.proofs.Lending.{too_short, lend_none, lend_more, lend_all}
 use Rattle.lending.proofs.lend.Goals as goal
 
 pub returns-then-out-values : goal.returns-then-out-values
