@@ -25,7 +25,7 @@ plain = lambda s: s.replace("_", "-")
 def step(s):
     """A step's old name, whatever the scripts that respell names by their text made of it."""
     s = re.sub(r"-lem$", "", plain(s))
-    return (s[2:] if re.match(r"Is[A-Z]", s) else s).lower()
+    return re.sub(r"Is(?=[A-Z])", "", s).lower()
 
 
 DIRECT = {"args": "args", "pre": "requires", "requires": "requires", "lifetimes": "lifetimes", "ranges": "ranges", "well_formed": "well_formed", "well-formed": "well_formed", "type_inv": "type_inv"}
@@ -145,7 +145,7 @@ class Function:
             if m:
                 self.renamed[m[1]] = new.split(".")[-1]
         self.cited = {}
-        self.dropped = set()
+        self.dropped, self.partly = set(), False
         self.returning = {}  # helpers that lead from a place to a place
         self.taking = {}  # helpers: the places of their arguments, by position
 
@@ -200,7 +200,9 @@ class Function:
             low = P.parent.get(low)
         arm = P.arms.get(low) if low else None
         if arm:
-            best = None
+            best, self.partly = None, False
+            for own, old, sub in arm[2]:
+                self.partly |= step(old) == step(parts[0]) and len(parts) > 1 and len(sub) > len(parts) - 1 and sub[: len(parts) - 1] == parts[1:]
             for own, old, sub in arm[2]:
                 if step(old) == step(parts[0]) and parts[1 : 1 + len(sub)] == sub and (best is None or len(sub) > len(best[1])):
                     best = (own, sub)
@@ -212,7 +214,7 @@ class Function:
         """The place that a whole expression leads to, if it leads to one."""
         text = text.strip()
         m = re.fullmatch(rf"({VAR})((?:\.before)*)", text)
-        if m and m[1] in env:
+        if m and m[1] in env and len(env[m[1]]) == 3:
             return self.path(m[1], env[m[1]], ["before"] * m[2].count(".before"))[1]
         m = re.match(rf"({VAR})\s", text)
         if m and m[1] in self.returning:
@@ -244,6 +246,13 @@ class Function:
                 env.pop(name, None)
                 if got:
                     env[name] = got
+                rhs = re.fullmatch(rf"({VAR})({FIELDS})", text[m.end() : end.start()].strip()) if end else None
+                if not got and rhs and rhs[1] in env and len(env[rhs[1]]) == 3:
+                    self.partly = False
+                    self.path(rhs[1], env[rhs[1]], rhs[2][1:].split("."))
+                    if self.partly:
+                        # The parts of what an arm is given have names of their own today.
+                        env[name] = (rhs[1], env[rhs[1]], rhs[2][1:].split("."), None)
                 return f"let {name}{self.turn(m['type'], env) if m['type'] else ''} = "
             if m["tie"]:
                 raw = self.places.by_plain.get(plain(m[5]))
@@ -265,6 +274,9 @@ class Function:
             head, fields = m["head"], m["fields"]
             if head not in env:
                 return m[0]
+            if len(env[head]) == 4:
+                base, at, parts, _ = env[head]
+                return self.path(base, at, parts + (fields[1:].split(".") if fields else []))[0]
             return self.path(head, env[head], fields[1:].split(".") if fields else [])[0]
 
         return token.sub(one, text)
