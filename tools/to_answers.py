@@ -87,6 +87,7 @@ class Places:
         lts = open(os.path.join(folder, "Lts.antt"), encoding="utf-8").read()
         for m in re.finditer(r"pub record (\S+) : Type 0 where\n\s+pub before : (\S+)\n\s+pub open before use \*\n(?:\s+pub (\S+) :)?", lts):
             self.field[m[1]] = m[3] or ""
+        self.records = set(re.findall(r"pub record (\S+)", lts))
         self.given, self.wrapped, self.args = {}, {}, []
         goals = open(os.path.join(folder, "Goals.antt"), encoding="utf-8").read()
         for m in re.finditer(r"abbrev pub (\S+) : Type 0\n\1 =\s+((?:Lts|View)\.\S+)((?:\s+(?:Tie|Reads|the-)\S*)*)\n", goals):
@@ -234,6 +235,7 @@ class Function:
             raw = self.places.by_plain.get(plain(m[2]))
             if raw:
                 env.setdefault(m[1], (raw, 0, False))
+        alone = set()
         token = re.compile(
             rf"(?P<let>\blet ({VAR})(?P<type> : [^=\n]*)? = )|(?P<tie>\btie\.({W}))|(?<![\w.'₀-₉-])(?P<head>{VAR})(?P<fields>{FIELDS})?|(?P<close>\))(?P<after>{FIELDS})"
         )
@@ -253,12 +255,13 @@ class Function:
                     if self.partly:
                         # The parts of what an arm is given have names of their own today.
                         env[name] = (rhs[1], env[rhs[1]], rhs[2][1:].split("."), None)
+                        alone.add(m.end())
                 return f"let {name}{self.turn(m['type'], env) if m['type'] else ''} = "
             if m["tie"]:
                 raw = self.places.by_plain.get(plain(m[5]))
                 if raw is None:
                     return "goal." + m[5]
-                self.cited[self.places.new[raw]] = ("Past-" if raw in self.places.arms else "") + raw
+                self.cited[self.places.new[raw]] = ("Past-" if f"Past-{raw}" in self.places.records else "") + raw
                 return self.places.new[raw]
             if m["close"]:
                 deep, k = 0, m.start()
@@ -272,6 +275,8 @@ class Function:
                     return m[0]
                 return self.path(")", got, m["after"][1:].split("."))[0]
             head, fields = m["head"], m["fields"]
+            if m.start() in alone:
+                return head
             if head not in env:
                 return m[0]
             if len(env[head]) == 4:

@@ -35,21 +35,21 @@ returns-then-n-low c =
     let r = c.before.before in
     let o = r.before in
     let a = (begun o).args in
-    let v = r.r-1.given in
-    outside a.job.now a.at a.refusal a.low a.limit (omega arith) v.0.0 v.0.1.0 (sym o.read_number-r.ensures ∙ v.1) (λ h. omega arith)
+    let v = r in
+    outside a.job.now a.at a.refusal a.low a.limit (omega arith) r.in-Number.n r.in-Number.next (sym o.read_number-r.ensures ∙ r.in-Number.is) (λ h. omega arith)
 
 pub returns-then-limit-n : goal.returns-then-limit-n
 returns-then-limit-n c =
     let r = c.before.before.before in
     let o = r.before in
     let a = (begun o).args in
-    let v = r.r-1.given in
-    outside a.job.now a.at a.refusal a.low a.limit (omega arith) v.0.0 v.0.1.0 (sym o.read_number-r.ensures ∙ v.1) (λ h. omega arith)
+    let v = r in
+    outside a.job.now a.at a.refusal a.low a.limit (omega arith) r.in-Number.n r.in-Number.next (sym o.read_number-r.ensures ∙ r.in-Number.is) (λ h. omega arith)
 
 pub returns : goal.returns
 returns c =
     let r = c.before.before.before in
     let o = r.before in
     let a = (begun o).args in
-    let v = r.r-1.given in
-    value a.job.now a.at a.refusal a.low a.limit (omega arith) v.0.0 v.0.1.0 (sym o.read_number-r.ensures ∙ v.1) (omega arith) (omega arith)
+    let v = r in
+    value a.job.now a.at a.refusal a.low a.limit (omega arith) r.in-Number.n r.in-Number.next (sym o.read_number-r.ensures ∙ r.in-Number.is) (omega arith) (omega arith)

@@ -27,10 +27,10 @@ operand c = c.before.before.before.before
 -- what is behind it is compared with the bracket
 behind : (c : After-is_word)
     → let o = operand c in
-    is_word (drop o.read_operand-a.result.length o.args.bytes.now) close ≡ c.is_IsWord.result
+    is_word (drop o.read_operand-a.result.length o.args.bytes.now) close ≡ c.is_word.result
 behind c =
     let o = operand c in
-    sym (ap (λ l. is_word l close) (rest o.args.bytes.now o.read_operand-a.result.length)) ∙ sym c.is_IsWord.ensures
+    sym (ap (λ l. is_word l close) (rest o.args.bytes.now o.read_operand-a.result.length)) ∙ sym c.is_word.ensures
 
 pub returns-then-is_word : goal.returns-then-is_word
 unfolding enclosed_of

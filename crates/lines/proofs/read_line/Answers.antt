@@ -52,7 +52,7 @@ abbrev past_while : After-has_front-3 → Else-has_front-2
 past_while c = c.before.before.before
 
 no_end : (c : Else-is_word) → is_word (bytes c) end ≡ false
-no_end c = sym c.before.is_IsWord.ensures ∙ c.if-is_word.false
+no_end c = sym c.is_word.ensures ∙ c.if-is_word.false
 
 no_mark : (c : Else-has_front) → starts (bytes (past_end c.before)) mark ≡ false
 no_mark c = sym c.has_front.ensures.0 ∙ c.if-has_front.false
@@ -62,7 +62,7 @@ no_while c = sym c.has_front-2.ensures.0 ∙ c.if-has_front-2.false
 
 pub returns-then-is_word : goal.returns-then-is_word
 unfolding line_of
-returns-then-is_word c = simp (sym c.before.is_IsWord.ensures ∙ c.if-is_word.true)
+returns-then-is_word c = simp (sym c.is_word.ensures ∙ c.if-is_word.true)
 
 pub slice_bounds-read_mark-count : goal.slice_bounds-read_mark-count
 slice_bounds-read_mark-count c = omega (arith, c.has_front.ensures.1 c.if-has_front.true)

@@ -42,10 +42,10 @@ abbrev left_over : After-read_operand-b → List ℕ
 left_over c = drop c.read_operand-b.result.length c.args.bytes.now
 
 -- it is compared with nothing and with `.next`
-behind : (c : After-is_word) → is_word (left_over (operand c)) [] ≡ c.is_IsWord.result
+behind : (c : After-is_word) → is_word (left_over (operand c)) [] ≡ c.is_word.result
 behind c =
     let o = operand c in
-    sym (ap (λ l. is_word l []) (rest o.args.bytes.now o.read_operand-b.result.length)) ∙ sym c.is_IsWord.ensures
+    sym (ap (λ l. is_word l []) (rest o.args.bytes.now o.read_operand-b.result.length)) ∙ sym c.is_word.ensures
 
 behind_next : (c : After-is_word-2) → is_word (left_over (operand (kind_three c).before.before)) next ≡ c.is_word-2.result
 behind_next c =

@@ -17,7 +17,7 @@ abbrev After-read_operation-line : Type 0
 After-read_operation-line = lts.After-read_operation tie.the-claims reads.Pre reads.Post
 
 abbrev In-Perform-2 : Type 0
-In-Perform-2 = lts.Past-After-line tie.the-claims reads.Pre reads.Post
+In-Perform-2 = lts.After-line tie.the-claims reads.Pre reads.Post
 
 abbrev Start : Type 0
 Start = lts.Start tie.the-claims reads.Pre reads.Post
@@ -30,7 +30,7 @@ begun c = c.before.before.before.before.before.before
 
 -- the bytes are not `any`
 not_any : (c : After-read_operation-line) → is_word (begun c).args.bytes.now any ≡ false
-not_any c = sym c.before.before.is_IsWord.ensures ∙ c.if-is_word.false
+not_any c = sym c.is_word.ensures ∙ c.if-is_word.false
 
 -- they are an operation
 read : (c : In-Perform-2) → Perform c.in-Perform.test ≡ operation_of (begun c.before).args.bytes.now
@@ -38,7 +38,7 @@ read c = sym c.in-Perform.is ∙ c.read_operation-line.ensures
 
 pub returns-then-is_word : goal.returns-then-is_word
 unfolding test_line
-returns-then-is_word c = c.«open».ensures ∙ simp (sym c.before.before.is_IsWord.ensures ∙ c.if-is_word.true)
+returns-then-is_word c = c.«open».ensures ∙ simp (sym c.is_word.ensures ∙ c.if-is_word.true)
 
 pub returns-in_default : goal.returns-in_default
 unfolding test_line
