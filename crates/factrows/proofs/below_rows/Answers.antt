@@ -20,15 +20,15 @@ Start = lts.Start tie.the-claims reads.Pre reads.Post goal.the-invariant-loop-p 
 
 -- the beginning, from the loop
 abbrev begun : At-loop-p → Start
-begun c = c.before.before.before.before.before
+begun c = c.before.before.before.before
 
 pub loop-p-init : goal.loop-p-init
-loop-p-init c = let a = c.args in (omega arith, turn_none (below_at a.c a.d a.rows.now) a.rows.now 0 c.before.before.sized.ensures (λ j h. absurd (omega arith)))
+loop-p-init c = let a = c.args in (omega arith, turn_none (below_at a.c a.d a.rows.now) a.rows.now 0 c.sized.ensures (λ j h. absurd (omega arith)))
 
 pub loop-p-preserved : goal.loop-p-preserved
 loop-p-preserved c =
     let o = c.before.before.before.before in
-    let a = (begun o).args in
+    let a = (begun o.before).args in
     let at = o.loop-p in
     let l = a.rows.now in (
       omega arith,

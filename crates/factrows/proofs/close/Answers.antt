@@ -41,7 +41,7 @@ loop-i-preserved c =
     let at = o.loop-i in (
       omega arith,
       c.add_fact.ensures
-          ∙ rw (v.wide.ensures.0, w.wide-in-loop-i.ensures.0, c.wide-in-loop-i-2.ensures.0, at.inv.1) (closed_more s (count s) at.i (omega arith) at.inv.0),
+          ∙ rw (v.wide.ensures.0, w.wide-in-loop-i.ensures.0, c.wide-in-loop-i-2.ensures.0, at.invariant.1) (closed_more s (count s) at.i (omega arith) at.invariant.0),
     )
 
 pub returns : goal.returns

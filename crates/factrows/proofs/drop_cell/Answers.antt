@@ -36,7 +36,7 @@ loop-j-init c =
 pub loop-j-preserved : goal.loop-j-preserved
 loop-j-preserved c =
     let o = c.before.before.before in
-    let a = (begun o).args in
+    let a = (begun o.before).args in
     let at = o.loop-j in
     let l = a.rows.now in
     let t = at.invariant.1.1 in
@@ -44,7 +44,7 @@ loop-j-preserved c =
 
 pub returns : goal.returns
 returns c =
-    let a = (begun c.before).args in
+    let a = (begun c.before.before).args in
     let at = c.loop-j in
     let end : at.j ≡ 28 = omega (arith, at.invariant.1.0) in
     rw (lt-ltb a.c 14 at.invariant.0) (drop_set a.c a.rows.now at.rows at.invariant.0 (rw end at at.invariant.1.1))

@@ -30,12 +30,12 @@ loop-p-init c = (omega arith, refl)
 pub returns-then-is_on : goal.returns-then-is_on
 returns-then-is_on c =
     let at = c.loop-p in
-    sym (at.invariant.1 ∙ all_failed (loose_at (begun c.before.before.before.before).args.rows.now) 14 at.p (omega arith) (ap not (sym c.is_on.ensures ∙ c.if-is_on.true)))
+    sym (at.invariant.1 ∙ all_failed (loose_at (begun c.before.before.before.before.before).args.rows.now) 14 at.p (omega arith) (ap not (sym c.is_on.ensures ∙ c.if-is_on.true)))
 
 pub loop-p-preserved : goal.loop-p-preserved
 loop-p-preserved c =
     let at = c.loop-p in
-    (omega arith, at.invariant.1 ∙ all_passed (loose_at (begun c.before.before.before.before).args.rows.now) 14 at.p (omega arith) (ap not (sym c.is_on.ensures ∙ c.if-is_on.false)))
+    (omega arith, at.invariant.1 ∙ all_passed (loose_at (begun c.before.before.before.before.before).args.rows.now) 14 at.p (omega arith) (ap not (sym c.is_on.ensures ∙ c.if-is_on.false)))
 
 pub returns : goal.returns
 returns c = let at = c.loop-p in sym (at.invariant.1 ∙ all_done (loose_at c.args.rows.now) 14 at.p (omega arith))

@@ -32,7 +32,7 @@ loop-j-init c =
 pub loop-j-preserved : goal.loop-j-preserved
 loop-j-preserved c =
     let o = c.before.before in
-    let a = (begun o.before).args in
+    let a = (begun o.before.before).args in
     let at = o.loop-j in
     let l = a.rows.now in
     let t = at.invariant.1.1 in (
@@ -45,7 +45,7 @@ loop-j-preserved c =
 
 pub returns : goal.returns
 returns c =
-    let a = (begun c.before.before).args in
+    let a = (begun c.before.before.before).args in
     let at = c.loop-j in
     let l = a.rows.now in
     let f = moved_at a.first a.last l in
