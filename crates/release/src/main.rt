@@ -9,7 +9,7 @@ use sheet::report;
 use std::env::FillError;
 use std::io;
 use std::rt::{Env, Files};
-use tally::{Taken, Tally, added};
+use tally::{Tally, added};
 use telling::put_line;
 use verdict::Verdict;
 
@@ -84,11 +84,9 @@ fn main(rt: HostRuntime) -> io::Result<()> {
     }
     let mut tally = tally::begin();
     let pairs = arguments / 2;
-    let mut i = 0;
-    while i < pairs {
+    for i in 0..pairs {
         let judged = judge_pair(&rt, 2 * i + 1, 2 * i + 2)?;
         tally = taken_in(&rt, tally, judged)?;
-        i += 1;
     }
     print_sheet(&rt, tally)
 }
