@@ -185,10 +185,12 @@ fn word(name: &str) -> String {
     }
 }
 
-/// All words of some lines. `do` stands for the operators that it means.
+/// All words of some lines, of `r.f` the one before the dot. `do` stands for the operators that it
+/// means.
 fn words(lines: &[&str]) -> BTreeSet<String> {
     let separate = |c: char| c.is_whitespace() || "(){};,[]|".contains(c);
     let words = lines.iter().flat_map(|line| line.split(separate));
+    let words = words.filter_map(|word| word.split('.').next());
     let mut words: BTreeSet<String> = words.filter(|word| !word.is_empty()).map(word).collect();
     if words.contains("do") {
         words.extend([">>=", ">>"].map(str::to_string));
