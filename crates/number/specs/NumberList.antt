@@ -1,5 +1,5 @@
 -- Lists of numbers as bytes.
-use Rattle.std.specs.Prelude.{cond, List, [], ◌∷◌, ◌++◌, ℕ, zero, suc, ◌+◌, ltb, length, drop}
+use Rattle.std.specs.Prelude.{cond, List, [], ◌∷◌, ◌++◌, ℕ, zero, suc, ltb, length, drop}
 use Rattle.number.specs.Number.{largest, bytes_of, number_at}
 use Rattle.number.specs.CallResult.{CallResult}
 use Rattle.number.specs.declared.Read.{Read}

@@ -1,0 +1,22 @@
+-- The loop: the values before the i-th are lent; an array too short stays as it is.
+use Prim.Native.Nat.{◌-◌}
+use native.Mathlib.Omega.{arith}
+use lib.ListN.{length}
+use Rattle.lending.proofs.Lending.{Lending, too_short, lend_none, lend_more, lend_all}
+use borrow.Author.Rules.{rules}
+use Rattle.lending.proofs.lend.Goals as goal
+
+pub returns-then-out-values : goal.returns-then-out-values
+returns-then-out-values c = too_short c.args.values.now c.args.out.now c.if-out-values.true
+
+pub loop-i-init : goal.loop-i-init
+loop-i-init c = lend_none _ _
+
+pub loop-i-preserved : goal.loop-i-preserved
+loop-i-preserved c = lend_more _ _ _ _ c.loop-i.invariant (omega arith) (omega arith)
+
+pub shape_of-out : goal.shape_of-out
+shape_of-out c = c.loop-i.invariant.same
+
+pub returns : goal.returns
+returns c = lend_all _ _ _ _ c.loop-i.invariant (omega arith) (omega arith)
