@@ -7,6 +7,7 @@ Goals are matched by their order; places and steps by their old names, which `rt
 answered by a search alone is left to the check. What stays to be done by hand the check says.
 """
 
+import difflib
 import json
 import os
 import re
@@ -24,7 +25,7 @@ plain = lambda s: s.replace("_", "-")
 def step(s):
     """A step's old name, whatever the scripts that respell names by their text made of it."""
     s = re.sub(r"-lem$", "", plain(s))
-    return (s[2:] if re.match(r"Is[A-Z]", s) else s).lower()
+    return re.sub(r"Is(?=[A-Z])", "", s).lower()
 
 
 DIRECT = {"args": "args", "pre": "requires", "requires": "requires", "lifetimes": "lifetimes", "ranges": "ranges", "well_formed": "well_formed", "well-formed": "well_formed", "type_inv": "type_inv"}
@@ -86,6 +87,7 @@ class Places:
         lts = open(os.path.join(folder, "Lts.antt"), encoding="utf-8").read()
         for m in re.finditer(r"pub record (\S+) : Type 0 where\n\s+pub before : (\S+)\n\s+pub open before use \*\n(?:\s+pub (\S+) :)?", lts):
             self.field[m[1]] = m[3] or ""
+        self.records = set(re.findall(r"pub record (\S+)", lts))
         self.given, self.wrapped, self.args = {}, {}, []
         goals = open(os.path.join(folder, "Goals.antt"), encoding="utf-8").read()
         for m in re.finditer(r"abbrev pub (\S+) : Type 0\n\1 =\s+((?:Lts|View)\.\S+)((?:\s+(?:Tie|Reads|the-)\S*)*)\n", goals):
@@ -144,6 +146,7 @@ class Function:
             if m:
                 self.renamed[m[1]] = new.split(".")[-1]
         self.cited = {}
+        self.dropped, self.partly = set(), False
         self.returning = {}  # helpers that lead from a place to a place
         self.taking = {}  # helpers: the places of their arguments, by position
 
@@ -187,7 +190,7 @@ class Function:
             if parts[0] in ("args", "ranges") and len(parts) > 1 and parts[1] in self.renamed:
                 parts = [parts[0], self.renamed[parts[1]]] + parts[2:]
             return base + "." + ".".join([DIRECT[parts[0]]] + parts[1:]), None
-        owner = P.owner(P.up(place, d), parts[0])
+        owner = P.owner(P.up(place, d), parts[0]) or P.owner(place, parts[0])
         if owner is None:
             return base + ".before" * d + "." + ".".join(parts), None
         low = place
@@ -198,7 +201,9 @@ class Function:
             low = P.parent.get(low)
         arm = P.arms.get(low) if low else None
         if arm:
-            best = None
+            best, self.partly = None, False
+            for own, old, sub in arm[2]:
+                self.partly |= step(old) == step(parts[0]) and len(parts) > 1 and len(sub) > len(parts) - 1 and sub[: len(parts) - 1] == parts[1:]
             for own, old, sub in arm[2]:
                 if step(old) == step(parts[0]) and parts[1 : 1 + len(sub)] == sub and (best is None or len(sub) > len(best[1])):
                     best = (own, sub)
@@ -210,7 +215,7 @@ class Function:
         """The place that a whole expression leads to, if it leads to one."""
         text = text.strip()
         m = re.fullmatch(rf"({VAR})((?:\.before)*)", text)
-        if m and m[1] in env:
+        if m and m[1] in env and len(env[m[1]]) == 3:
             return self.path(m[1], env[m[1]], ["before"] * m[2].count(".before"))[1]
         m = re.match(rf"({VAR})\s", text)
         if m and m[1] in self.returning:
@@ -230,6 +235,7 @@ class Function:
             raw = self.places.by_plain.get(plain(m[2]))
             if raw:
                 env.setdefault(m[1], (raw, 0, False))
+        alone = set()
         token = re.compile(
             rf"(?P<let>\blet ({VAR})(?P<type> : [^=\n]*)? = )|(?P<tie>\btie\.({W}))|(?<![\w.'₀-₉-])(?P<head>{VAR})(?P<fields>{FIELDS})?|(?P<close>\))(?P<after>{FIELDS})"
         )
@@ -242,12 +248,20 @@ class Function:
                 env.pop(name, None)
                 if got:
                     env[name] = got
+                rhs = re.fullmatch(rf"({VAR})({FIELDS})", text[m.end() : end.start()].strip()) if end else None
+                if not got and rhs and rhs[1] in env and len(env[rhs[1]]) == 3:
+                    self.partly = False
+                    self.path(rhs[1], env[rhs[1]], rhs[2][1:].split("."))
+                    if self.partly:
+                        # The parts of what an arm is given have names of their own today.
+                        env[name] = (rhs[1], env[rhs[1]], rhs[2][1:].split("."), None)
+                        alone.add(m.end())
                 return f"let {name}{self.turn(m['type'], env) if m['type'] else ''} = "
             if m["tie"]:
                 raw = self.places.by_plain.get(plain(m[5]))
                 if raw is None:
                     return "goal." + m[5]
-                self.cited[self.places.new[raw]] = ("Past-" if raw in self.places.arms else "") + raw
+                self.cited[self.places.new[raw]] = ("Past-" if f"Past-{raw}" in self.places.records else "") + raw
                 return self.places.new[raw]
             if m["close"]:
                 deep, k = 0, m.start()
@@ -261,8 +275,13 @@ class Function:
                     return m[0]
                 return self.path(")", got, m["after"][1:].split("."))[0]
             head, fields = m["head"], m["fields"]
+            if m.start() in alone:
+                return head
             if head not in env:
                 return m[0]
+            if len(env[head]) == 4:
+                base, at, parts, _ = env[head]
+                return self.path(base, at, parts + (fields[1:].split(".") if fields else []))[0]
             return self.path(head, env[head], fields[1:].split(".") if fields else [])[0]
 
         return token.sub(one, text)
@@ -304,6 +323,16 @@ class Function:
 
     def helper(self, lines):
         name = name_of(lines[0])
+        found, to = self.binders(lines[0])
+        m = re.fullmatch(rf"{re.escape(name)} ({VAR}) = \1((?:\.before)+)", " ".join(l.strip() for l in lines[1:]))
+        if m and to and len(found) == 1 and found[0][1]:
+            d = 0
+            while d < 99 and self.places.up(found[0][1], d) not in (to, None):
+                d += 1
+            if self.places.up(found[0][1], d) == to:
+                n, _, left = self.places.climb(found[0][1], d)
+                if not left:
+                    return self.turn(lines[0], {}) + f"\n{name} {m[1]} = {m[1]}" + ".before" * n
         k = 1
         while k < len(lines) and not re.match(rf"{re.escape(name)}(?=\s|$)", lines[k]) and not lines[k].startswith("unfolding "):
             k += 1
@@ -362,10 +391,15 @@ class Function:
         inner = [n for n, k in kinds.items() if k[0] != "Need-"]
         given = [w for w in re.sub(r"[()]", " ", order[1]).split() if kinds.get(w, ("", ""))[0] == "Need-"]
         needs = self.names["needs"]
+        pairs = list(zip(given, range(len(needs))))
         if len(given) != len(needs):
-            return f"{len(given)} goals answered, {len(needs)} asked"
-        goal = {g: n[1] for g, n in zip(given, needs)}
-        place = {g: a[0] for g, a in zip(given, self.names["asked_at"])}
+            # Goals that are asked no more, or anew, stand between others that keep their old names.
+            label = lambda s: re.sub(r"-\d+$", "", re.sub(r"^overflow-", "", step(s)))
+            a, b = [label(kinds[g][1]) for g in given], [label(n[0]) for n in needs]
+            pairs = [(given[x + k], y + k) for x, y, n in difflib.SequenceMatcher(None, a, b, False).get_matching_blocks() for k in range(n)]
+            self.dropped = {g for g in given if g not in dict(pairs)}
+        goal = {g: needs[k][1] for g, k in pairs}
+        place = {g: self.names["asked_at"][k][0] for g, k in pairs}
         old = re.compile(rf"(?<![\w.'-])({'|'.join(sorted(map(re.escape, goal), key=len, reverse=True))})(?![\w'-])") if goal else None
         named = lambda s: old.sub(lambda m: goal[m[1]], s) if old else s
         for d in self.decls:
@@ -399,6 +433,8 @@ class Function:
             note = "\n".join(notes).strip("\n")
             note = note + "\n" if note else ""
             text = "\n".join(lines)
+            if name in self.dropped:
+                continue
             if name in below:
                 invariants.append(note + re.sub(r"^(abbrev )?(?!pub )", lambda m: (m[1] or "") + "pub ", text, count=1))
             elif kind[0] in ("invariant-", "decreases-"):
