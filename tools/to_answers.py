@@ -1,52 +1,35 @@
 #!/usr/bin/env python3
 """Turns proofs that walk a function's code by hand (proofs/F/Proof.antt) into today's Invariants.antt and Answers.antt.
 
-usage: python3 tools/to_answers.py NAMES CRATE [FUNCTION..]
+usage: python3 tools/to_answers.py CRATE [FUNCTION..]      at the top of the repository; the crates below must be proved
 
-NAMES is the names.json that `rt check --generated DIR --old-names` writes for the crate, CRATE the folder above proofs/. Goals are matched by
-their order, places and steps by their old names. A goal that was answered by a search alone is left to the check. What stays to be done by
-hand the check says.
+Goals are matched by their order; places and steps by their old names, which `rt check --generated DIR --old-names` lists. A goal that was
+answered by a search alone is left to the check. What stays to be done by hand the check says.
 """
 
+import difflib
 import json
 import os
 import re
+import shutil
+import subprocess
 import sys
+import tempfile
 
 W = r"[^\s(){}.;,@\"«»\[\]]+"
+VAR = r"[A-Za-z_][\w'₀-₉-]*"
+FIELDS = r"(?:\.(?:«[^»]*»|[^\s(){}.;,@\"«»\[\]]+))+"
 plain = lambda s: s.replace("_", "-")
 
 
-def parse(text):
-    """Head lines (comments above the first declaration, imports) and declarations as (comment lines, signature lines, body lines)."""
-    uses, decls, head, pending = [], [], [], []
-    lines = text.split("\n")
-    i = 0
-    while i < len(lines):
-        l = lines[i]
-        if l.startswith("use "):
-            j = i
-            while j + 1 < len(lines) and lines[j + 1][:1].isspace() and lines[j + 1].strip():
-                j += 1
-            uses.append("\n".join(lines[i : j + 1]))
-            i = j + 1
-            continue
-        if l.startswith("--") or not l.strip():
-            if not uses and not decls and l.strip():
-                head.append(l)
-            else:
-                pending.append(l)
-            i += 1
-            continue
-        j = i
-        while j + 1 < len(lines) and (not lines[j + 1].strip() or lines[j + 1][:1].isspace() or continues(lines, i, j + 1)):
-            j += 1
-        while not lines[j].strip():
-            j -= 1
-        decls.append([pending, lines[i : j + 1]])
-        pending = []
-        i = j + 1
-    return head, uses, decls
+def step(s):
+    """A step's old name, whatever the scripts that respell names by their text made of it."""
+    s = re.sub(r"-lem$", "", plain(s))
+    return re.sub(r"Is(?=[A-Z])", "", s).lower()
+
+
+DIRECT = {"args": "args", "pre": "requires", "requires": "requires", "lifetimes": "lifetimes", "ranges": "ranges", "well_formed": "well_formed", "well-formed": "well_formed", "type_inv": "type_inv"}
+TEST = {"taken": "true", "left": "false"}
 
 
 def name_of(first):
@@ -57,126 +40,336 @@ def name_of(first):
 def continues(lines, start, at):
     """Whether the line begins another clause of the declaration that begins at start, or its 'unfolding' line."""
     name = name_of(lines[start])
+    l = lines[at]
     if name is None:
         return False
-    l = lines[at]
-    if l.startswith("unfolding "):
-        return True
-    return re.match(rf"{re.escape(name)}(?=\s|$)(?! :)", l) is not None
+    return l.startswith("unfolding ") or re.match(rf"{re.escape(name)}(?=\s|$)(?! :)", l) is not None
+
+
+def parse(text):
+    """Comment lines above the imports, imports, and declarations with the comment lines above each."""
+    uses, decls, head, pending = [], [], [], []
+    lines, i = text.split("\n"), 0
+    while i < len(lines):
+        l = lines[i]
+        if l.startswith("use "):
+            j = i
+            while j + 1 < len(lines) and lines[j + 1][:1].isspace() and lines[j + 1].strip():
+                j += 1
+            uses.append("\n".join(lines[i : j + 1]))
+            i = j + 1
+        elif l.startswith("--") or not l.strip():
+            if not uses and not decls and l.strip():
+                head.append(l)
+            else:
+                pending.append(l)
+            i += 1
+        else:
+            j = i
+            while j + 1 < len(lines) and (not lines[j + 1].strip() or lines[j + 1][:1].isspace() or continues(lines, i, j + 1)):
+                j += 1
+            while not lines[j].strip():
+                j -= 1
+            decls.append([pending, lines[i : j + 1]])
+            pending = []
+            i = j + 1
+    return head, uses, decls
+
+
+class Places:
+    """What the check makes of a function's places: the record of each, what it stands above, and what an answer is given there."""
+
+    def __init__(self, names, folder):
+        self.names = names
+        self.parent, self.step, self.callee, self.field = {}, {}, {}, {}
+        for p in names["places"]:
+            self.parent[p[0]], self.step[p[0]], self.callee[p[0]] = p[1], p[2][0], p[3]
+        lts = open(os.path.join(folder, "Lts.antt"), encoding="utf-8").read()
+        for m in re.finditer(r"pub record (\S+) : Type 0 where\n\s+pub before : (\S+)\n\s+pub open before use \*\n(?:\s+pub (\S+) :)?", lts):
+            self.field[m[1]] = m[3] or ""
+        self.records = set(re.findall(r"pub record (\S+)", lts))
+        self.given, self.wrapped, self.args = {}, {}, []
+        goals = open(os.path.join(folder, "Goals.antt"), encoding="utf-8").read()
+        for m in re.finditer(r"abbrev pub (\S+) : Type 0\n\1 =\s+((?:Lts|View)\.\S+)((?:\s+(?:Tie|Reads|the-)\S*)*)\n", goals):
+            self.given[m[1]] = m[2]
+            if len(m[3].split()) > len(self.args):
+                self.args = m[3].split()
+        self.new = dict(zip([p[0] for p in names["places"]], names["places_by_name"]))
+        self.arms = {p[0]: a for p, a in zip(names["places"], names["arms"]) if a}
+        self.by_plain = {}
+        for p in names["places"]:
+            self.by_plain.setdefault(plain(p[0]), p[0])
+
+    def wraps(self, raw):
+        return self.given.get(self.new[raw], "Lts.").startswith("View.")
+
+    def up(self, raw, n):
+        while n and raw:
+            raw, n = self.parent.get(raw), n - 1
+        return raw
+
+    def chain(self, raw, n):
+        found = []
+        while n and raw:
+            found.append(raw)
+            raw, n = self.parent.get(raw), n - 1
+        return found
+
+    def climb(self, raw, d):
+        """How many records further up the place d steps above stands, since an arm has its steps in one; and what is left where it stands inside one."""
+        n = 0
+        while d:
+            size = self.arms[raw][1] if raw in self.arms else 1
+            if size > d:
+                break
+            raw, d, n = self.up(raw, size), d - size, n + 1
+        return n, raw, d
+
+    def owner(self, raw, name):
+        """The place at or above raw whose own step has this old name."""
+        while raw:
+            if step(self.step.get(raw) or "") == step(name):
+                return raw
+            raw = self.parent.get(raw)
+        return None
 
 
 class Function:
-    def __init__(self, names, text):
-        self.text = text
-        self.names = names
+    def __init__(self, names, folder, text, own):
+        self.names, self.own = names, own
+        self.places = Places(names, folder)
         self.head, self.uses, self.decls = parse(text)
-        self.cited = {}
-        self.steps = {}
-        self.callee = {}
-        for p in names["places"]:
-            old, new = p[2]
-            if old and (p[3] or re.match(r"if-|in[-_]|match|else-|then-", new) or new.endswith("-test")):
-                self.steps.setdefault(plain(old), new)
-                if p[3]:
-                    self.callee.setdefault(plain(old), p[3])
-        for loop in names["loops"]:
-            self.steps.setdefault(plain(loop[0][0]), loop[0][1])
-        # A place by its name of old: its name today, and that of its record.
-        self.places = {plain(p[0]): (n, p[0]) for p, n in zip(names["places"], names["places_by_name"])}
-        # Whether what a goal is given wraps the record of its place: where something is known of a type on the way there.
-        above = {p[0]: (p[1], p[2][0]) for p in names["places"]}
-
-        def knows(place):
-            while place:
-                place, step = above.get(place, (None, ""))
-                if "_known" in step:
-                    return True
-            return False
-
-        # How many steps an arm has in one: the record before it stands so much further.
-        arms = {p[0]: (a[1] if a else 1) for p, a in zip(names["places"], names["arms"])}
-        self.wrapped = [(knows(n[0]), arms.get(n[0], 1)) for n in names["asked_at"]]
-        self.loops = {plain(l[0][0]): l for l in names["loops"]}
-        self.changed = dict(zip([plain(l[0][0]) for l in names["loops"]], names["changed"]))
-
-    def turn(self, text, place_args):
-        """Types of places, fields of steps."""
-        for a in place_args:
-            text = re.sub(rf"(tie\.{W}(?: {W})*?) {re.escape(a)}(?=[\s,)]|$)", r"\1", text)
-        def place(m):
-            new = self.places.get(plain(m[1]))
-            if new is None:
-                return "goal." + m[1]
-            self.cited[new[0]] = new[1]
-            return new[0]
-
-        return self.fields(re.sub(rf"tie\.({W})", place, text))
-
-    def fields(self, text):
-        def path(m):
-            head, parts = m[1], m[2][1:].split(".")
-            out, i, step = [], 0, None
-            here = True  # whether the part so far is a place
-            while i < len(parts):
-                p = parts[i]
-                key = plain(p)
-                if here and p == "before":
-                    out.append(p)
-                elif here and p in ("pre", "requires"):
-                    out.append("requires")
-                    here = False
-                elif here and (key in self.steps):
-                    while out and out[-1] == "before":
-                        out.pop()
-                    step = key
-                    out.append(self.steps[key])
-                    here = False
-                elif here and p in ("args", "lifetimes", "ranges", "type_inv"):
-                    while out and out[-1] == "before":
-                        out.pop()
-                    out.append(p)
-                    here = False
-                else:
-                    here = False
-                    if step is not None and i and plain(parts[i - 1]) == step:
-                        p = {"taken": "true", "left": "false", "inv": "invariant", "last": "new"}.get(p, p)
-                        if p == "new" and step in self.callee:
-                            params = self.names["params"].get(self.callee[step])
-                            k, n = i + 1, 0
-                            while k < len(parts) and parts[k] == "1":
-                                k, n = k + 1, n + 1
-                            if params and k < len(parts) and parts[k] == "0" and n < len(params):
-                                out += ["new", params[n]]
-                                i = k + 1
-                                continue
-                    out.append(p)
-                i += 1
-            return head + "".join("." + o for o in out)
-
-        return re.sub(r"((?<![\w.'₀-₉])[A-Za-z_][\w'₀-₉]*|\))((?:\.[\w«»₀-₉'-]+)+)", path, text)
-
-    def args(self):
-        """The names of the invariants and measures, which the places' types took as arguments."""
-        found = []
-        for _, lines in self.decls:
-            m = re.match(rf"abbrev ({W}) : tie\.(?:invariant|decreases)-", lines[0])
+        self.loops = {plain(l[0][0]): (l, c) for l, c in zip(names["loops"], names["changed"])}
+        self.renamed = {}
+        for old, new in names["args"]:
+            m = re.match(r"\.args \.(\S+)", old)
             if m:
-                found.append(m[1])
-        return found
+                self.renamed[m[1]] = new.split(".")[-1]
+        self.cited = {}
+        self.dropped, self.partly = set(), False
+        self.returning = {}  # helpers that lead from a place to a place
+        self.taking = {}  # helpers: the places of their arguments, by position
+
+    # ---- fields
+
+    def fields_after(self, place, parts):
+        """What stands behind a step."""
+        out, i = [], 0
+        while i < len(parts):
+            p = parts[i]
+            if i == 0:
+                if re.search(r"(^if-|-test$)", self.places.field.get(place) or ""):
+                    p = TEST.get(p, p)
+                p = {"inv": "invariant", "last": "new"}.get(p, p)
+                if p == "new" and self.places.callee.get(place):
+                    params = self.names["params"].get(self.places.callee[place])
+                    k, n = i + 1, 0
+                    while k < len(parts) and parts[k] == "1":
+                        k, n = k + 1, n + 1
+                    if params and k < len(parts) and parts[k] == "0" and n < len(params):
+                        out += ["new", params[n]]
+                        i = k + 1
+                        continue
+            out.append(p)
+            i += 1
+        return "".join("." + o for o in out)
+
+    def path(self, base, at, parts):
+        """The path from a place, behind the text base. at: the place of the record that base is, how many steps further up its old counterpart
+        stood, and whether base is what an answer is given, which may wrap the record."""
+        P = self.places
+        place, above, view = at
+        d = above
+        while parts and parts[0] == "before":
+            d, parts = d + 1, parts[1:]
+        wrap = 1 if view and P.wraps(place) else 0
+        if not parts:
+            n, to, left = P.climb(place, d)
+            return base + ".before" * (n + (wrap if n or view else 0)), (to, left, False)
+        if parts[0] in DIRECT:
+            if parts[0] in ("args", "ranges") and len(parts) > 1 and parts[1] in self.renamed:
+                parts = [parts[0], self.renamed[parts[1]]] + parts[2:]
+            return base + "." + ".".join([DIRECT[parts[0]]] + parts[1:]), None
+        owner = P.owner(P.up(place, d), parts[0]) or P.owner(place, parts[0])
+        if owner is None:
+            return base + ".before" * d + "." + ".".join(parts), None
+        low = place
+        while low and low != owner:
+            arm = P.arms.get(low)
+            if arm and owner in P.chain(low, arm[1]):
+                break
+            low = P.parent.get(low)
+        arm = P.arms.get(low) if low else None
+        if arm:
+            best, self.partly = None, False
+            for own, old, sub in arm[2]:
+                self.partly |= step(old) == step(parts[0]) and len(parts) > 1 and len(sub) > len(parts) - 1 and sub[: len(parts) - 1] == parts[1:]
+            for own, old, sub in arm[2]:
+                if step(old) == step(parts[0]) and parts[1 : 1 + len(sub)] == sub and (best is None or len(sub) > len(best[1])):
+                    best = (own, sub)
+            if best:
+                return f"{base}.{arm[0]}.{best[0]}" + self.fields_after(owner, parts[1 + len(best[1]) :]), None
+        return f"{base}.{P.field.get(owner) or parts[0]}" + self.fields_after(owner, parts[1:]), None
+
+    def place_of(self, text, env):
+        """The place that a whole expression leads to, if it leads to one."""
+        text = text.strip()
+        m = re.fullmatch(rf"({VAR})((?:\.before)*)", text)
+        if m and m[1] in env and len(env[m[1]]) == 3:
+            return self.path(m[1], env[m[1]], ["before"] * m[2].count(".before"))[1]
+        m = re.match(rf"({VAR})\s", text)
+        if m and m[1] in self.returning:
+            return (self.returning[m[1]], 0, False)
+        m = re.fullmatch(r"\((.*)\)((?:\.before)*)", text, re.S)
+        if m:
+            inner = self.place_of(m[1], env)
+            return self.path("", inner, ["before"] * m[2].count(".before"))[1] if inner else None
+        return None
+
+    def turn(self, text, env):
+        env = dict(env)
+        for m in re.finditer(rf"\(((?:{VAR} )+): tie\.({W})\)", text):
+            raw = self.places.by_plain.get(plain(m[2]))
+            env.update({n: (raw, 0, False) for n in m[1].split() if raw and n not in env})
+        for m in re.finditer(rf"(?m)^ +(?:abbrev )?({VAR}) : tie\.({W})$", text):
+            raw = self.places.by_plain.get(plain(m[2]))
+            if raw:
+                env.setdefault(m[1], (raw, 0, False))
+        alone = set()
+        token = re.compile(
+            rf"(?P<let>\blet ({VAR})(?P<type> : [^=\n]*)? = )|(?P<tie>\btie\.({W}))|(?<![\w.'₀-₉-])(?P<head>{VAR})(?P<fields>{FIELDS})?|(?P<close>\))(?P<after>{FIELDS})"
+        )
+
+        def one(m):
+            if m["let"]:
+                end = re.compile(r"\s+in\b").search(text, m.end())
+                got = self.place_of(text[m.end() : end.start()], env) if end else None
+                name = m[2]
+                env.pop(name, None)
+                if got:
+                    env[name] = got
+                rhs = re.fullmatch(rf"({VAR})({FIELDS})", text[m.end() : end.start()].strip()) if end else None
+                if not got and rhs and rhs[1] in env and len(env[rhs[1]]) == 3:
+                    self.partly = False
+                    self.path(rhs[1], env[rhs[1]], rhs[2][1:].split("."))
+                    if self.partly:
+                        # The parts of what an arm is given have names of their own today.
+                        env[name] = (rhs[1], env[rhs[1]], rhs[2][1:].split("."), None)
+                        alone.add(m.end())
+                return f"let {name}{self.turn(m['type'], env) if m['type'] else ''} = "
+            if m["tie"]:
+                raw = self.places.by_plain.get(plain(m[5]))
+                if raw is None:
+                    return "goal." + m[5]
+                self.cited[self.places.new[raw]] = ("Past-" if f"Past-{raw}" in self.places.records else "") + raw
+                return self.places.new[raw]
+            if m["close"]:
+                deep, k = 0, m.start()
+                while k >= 0:
+                    deep += (text[k] == ")") - (text[k] == "(")
+                    if not deep:
+                        break
+                    k -= 1
+                got = self.place_of(text[k + 1 : m.start()], env)
+                if not got:
+                    return m[0]
+                return self.path(")", got, m["after"][1:].split("."))[0]
+            head, fields = m["head"], m["fields"]
+            if m.start() in alone:
+                return head
+            if head not in env:
+                return m[0]
+            if len(env[head]) == 4:
+                base, at, parts, _ = env[head]
+                return self.path(base, at, parts + (fields[1:].split(".") if fields else []))[0]
+            return self.path(head, env[head], fields[1:].split(".") if fields else [])[0]
+
+        return token.sub(one, text)
+
+    # ---- declarations
+
+    def strip(self, text, args):
+        """Places had the invariants and measures for arguments."""
+        if not args:
+            return text
+        some = "|".join(sorted(map(re.escape, args), key=len, reverse=True))
+        return re.sub(rf"(tie\.{W})((?:(?: +|\n +)(?:{some})(?![\w'-]))+)", r"\1", text)
+
+    def binders(self, signature):
+        """The places of the arguments of a helper, by position, with their names if they have some."""
+        found = []
+        t = signature.partition(" : ")[2]
+        depth, part, parts = 0, "", []
+        for k, ch in enumerate(t):
+            depth += (ch in "({") - (ch in ")}")
+            if ch == "→" and depth == 0:
+                parts.append(part)
+                part = ""
+            else:
+                part += ch
+        for p in parts:
+            p = p.strip()
+            groups = re.findall(r"\(([^():]+) : (tie\.\S+|[^()]*(?:\([^()]*\)[^()]*)*)\)", p) if p.startswith("(") else []
+            if groups:
+                for names, kind in groups:
+                    m = re.fullmatch(r"tie\.(\S+)", kind.strip())
+                    for n in names.split():
+                        found.append((n, self.places.by_plain.get(plain(m[1])) if m else None))
+            else:
+                m = re.fullmatch(r"tie\.(\S+)", p)
+                found.append((None, self.places.by_plain.get(plain(m[1])) if m else None))
+        m = re.fullmatch(r"\s*tie\.(\S+)\s*", part)
+        return found, (self.places.by_plain.get(plain(m[1])) if m else None)
+
+    def helper(self, lines):
+        name = name_of(lines[0])
+        found, to = self.binders(lines[0])
+        m = re.fullmatch(rf"{re.escape(name)} ({VAR}) = \1((?:\.before)+)", " ".join(l.strip() for l in lines[1:]))
+        if m and to and len(found) == 1 and found[0][1]:
+            d = 0
+            while d < 99 and self.places.up(found[0][1], d) not in (to, None):
+                d += 1
+            if self.places.up(found[0][1], d) == to:
+                n, _, left = self.places.climb(found[0][1], d)
+                if not left:
+                    return self.turn(lines[0], {}) + f"\n{name} {m[1]} = {m[1]}" + ".before" * n
+        k = 1
+        while k < len(lines) and not re.match(rf"{re.escape(name)}(?=\s|$)", lines[k]) and not lines[k].startswith("unfolding "):
+            k += 1
+        signature = "\n".join(lines[:k])
+        found, _ = self.binders(signature)
+        out = self.turn(signature, {n: (p, 0, False) for n, p in found if n and p})
+        body = []
+        block = []
+        for l in lines[k:]:
+            if l.startswith("unfolding "):
+                body.append(l)
+                continue
+            if re.match(rf"{re.escape(name)}(?=\s|$)", l) and block:
+                body.append(self.clause(name, block, found))
+                block = []
+            block.append(l)
+        if block:
+            body.append(self.clause(name, block, found))
+        return "\n".join([out] + body)
+
+    def clause(self, name, lines, found):
+        text = "\n".join(lines)
+        head, eq, rest = text.partition(" =")
+        env = {}
+        for w, (_, p) in zip(head.split()[1:], found):
+            if p and re.fullmatch(VAR, w):
+                env[w] = (p, 0, False)
+        return head + eq + self.turn(rest, env)
 
     def invariant(self, lines, kind, label):
-        loop = self.loops.get(plain(label))
+        loop, changed = self.loops[plain(label)]
         name = name_of(lines[0])
         body = "\n".join(lines[1:])
         m = re.match(rf"{re.escape(name)}((?: [^=\s]+)*) =", body)
         params = m[1].split() if m else []
-        live, changed = loop[1], self.changed[plain(label)]
-        targets = []
-        for v, c in zip(live, changed):
-            targets.append(f"l.initial.{v}" if c else f"l.{v}")
-        targets += [f"l.{v}" for v, c in zip(live, changed) if c]
-        rest = body[m.end() :] if m else body
-        note = ""
+        targets = [f"l.initial.{v}" if c else f"l.{v}" for v, c in zip(loop[1], changed)] + [f"l.{v}" for v, c in zip(loop[1], changed) if c]
+        rest, note = body[m.end() :] if m else body, ""
         if len(params) == len(targets):
             table = dict(zip(params, targets))
             rest = re.sub(rf"(?<![\w.'«-])({'|'.join(sorted(map(re.escape, params), key=len, reverse=True))})(?![\w'₀-₉»-])", lambda k: table[k[1]], rest)
@@ -186,104 +379,156 @@ class Function:
         return f"{note}abbrev pub {new} : goal.{new}\n{new} l ={rest}"
 
     def turned(self):
-        args = self.args()
-        needs = self.names["needs"]
         spec = next((d for _, d in self.decls if d[0].startswith("pub ") and "statement" in d[0]), None)
-        if spec is None:
-            return None
-        order = re.search(r"tie\.spec\s+(.*)\)\s*$", "\n".join(spec), re.S)
+        order = re.search(r"tie\.spec\s+(.*)\)\s*$", "\n".join(spec), re.S) if spec else None
         if not order:
-            return None
+            return "no tie.spec"
         kinds = {}
         for _, lines in self.decls:
             m = re.match(rf"(?:abbrev )?({W}) : tie\.(Need-|invariant-|decreases-)(\S+)", lines[0])
             if m:
                 kinds[m[1]] = (m[2], m[3])
+        inner = [n for n, k in kinds.items() if k[0] != "Need-"]
         given = [w for w in re.sub(r"[()]", " ", order[1]).split() if kinds.get(w, ("", ""))[0] == "Need-"]
+        needs = self.names["needs"]
+        pairs = list(zip(given, range(len(needs))))
         if len(given) != len(needs):
-            return f"{len(given)} goals answered, {len(needs)} asked"
-        goal = {g: n[1] for g, n in zip(given, needs)}
-        wrapped = dict(zip(given, self.wrapped))
-        # Goals are cited by their old names too.
+            # Goals that are asked no more, or anew, stand between others that keep their old names.
+            label = lambda s: re.sub(r"-\d+$", "", re.sub(r"^overflow-", "", step(s)))
+            a, b = [label(kinds[g][1]) for g in given], [label(n[0]) for n in needs]
+            pairs = [(given[x + k], y + k) for x, y, n in difflib.SequenceMatcher(None, a, b, False).get_matching_blocks() for k in range(n)]
+            self.dropped = {g for g in given if g not in dict(pairs)}
+        goal = {g: needs[k][1] for g, k in pairs}
+        place = {g: self.names["asked_at"][k][0] for g, k in pairs}
         old = re.compile(rf"(?<![\w.'-])({'|'.join(sorted(map(re.escape, goal), key=len, reverse=True))})(?![\w'-])") if goal else None
         named = lambda s: old.sub(lambda m: goal[m[1]], s) if old else s
+        for d in self.decls:
+            d[1] = self.strip("\n".join(d[1]), inner).split("\n")
+            name = name_of(d[1][0])
+            if name and name not in kinds:
+                k = 1
+                while k < len(d[1]) and not re.match(rf"{re.escape(name)}(?=\s|$)", d[1][k]):
+                    k += 1
+                found, to = self.binders("\n".join(d[1][:k]))
+                if to:
+                    self.returning[name] = to
+            for m in re.finditer(rf"(?m)^ +(?:abbrev )?({VAR}) : (?:tie\.{W} → )*tie\.({W})$", "\n".join(d[1])):
+                raw = self.places.by_plain.get(plain(m[2]))
+                if raw:
+                    self.returning[m[1]] = raw
+        # What invariants cite goes with them.
+        bodies = {name_of(l[0]): "\n".join(l) for _, l in self.decls if name_of(l[0])}
+        below, todo = set(), [n for n in inner]
+        while todo:
+            for w in set(re.findall(W, bodies[todo.pop()])):
+                if w in bodies and w not in kinds and w not in below and "tie." not in bodies[w]:
+                    below.add(w)
+                    todo.append(w)
         invariants, answers = [], []
         for notes, lines in self.decls:
-            if lines is spec:
+            if lines[0].startswith("pub ") and "statement" in lines[0]:
                 continue
             name = name_of(lines[0])
             kind = kinds.get(name, ("", ""))
             note = "\n".join(notes).strip("\n")
             note = note + "\n" if note else ""
-            if kind[0] in ("invariant-", "decreases-"):
+            text = "\n".join(lines)
+            if name in self.dropped:
+                continue
+            if name in below:
+                invariants.append(note + re.sub(r"^(abbrev )?(?!pub )", lambda m: (m[1] or "") + "pub ", text, count=1))
+            elif kind[0] in ("invariant-", "decreases-"):
                 invariants.append(note + self.invariant(lines, kind[0][:-1], kind[1]))
             elif kind[0] == "Need-":
                 body = "\n".join(lines[1:])
                 if re.fullmatch(rf"{re.escape(name)}(?: {W})* =\s*search (?:rules|needs)\s*", body):
                     continue
                 body = re.sub(rf"(?m)^{re.escape(name)}((?: {W})*?)(?: κs)? =", rf"{name}\1 =", body)
-                body = self.turn(named(body), args)
-                body = within(body, *wrapped[name])
-                answers.append(note + f"pub {goal[name]} : goal.{goal[name]}\n" + body)
+                clauses = []
+                for part in re.split(rf"(?m)^(?={re.escape(name)}(?:\s|$))", body):
+                    head, eq, rest = part.partition(" =")
+                    words = head.split()
+                    env = {words[1]: (place[name], 0, True)} if len(words) > 1 and re.fullmatch(VAR, words[1]) else {}
+                    clauses.append(named(head) + eq + self.turn(named(rest), env))
+                answers.append(note + f"pub {goal[name]} : goal.{goal[name]}\n" + "".join(clauses))
+            elif name:
+                answers.append(note + self.helper(named(text).split("\n")))
             else:
-                answers.append(note + self.turn(named("\n".join(lines)), args))
-        return invariants, "\n\n".join(answers)
+                m = re.findall(r"\((\S+) : tie\.([^\s)]+)", lines[0])
+                env = {n: (self.places.by_plain[plain(p)], 0, False) for n, p in m if plain(p) in self.places.by_plain}
+                answers.append(note + self.turn(named(text), env))
+        path = rf"{VAR}{FIELDS}"
+        text = "\n\n".join(answers)
+        # A test of !x says today what is known of x.
+        of = rf"(?:_|{VAR}(?:{FIELDS})?|\([^()]*\))"
+        text = re.sub(rf"not-(?:true|false) {of} \(({path}-not-[^\s()]*\.(?:true|false))\)", r"\1", text)
+        text = re.sub(rf"not-(?:true|false) {of} ((?:\([^()]*\)|{VAR})(?:\.[^\s()]*)?-not-[^\s().]*\.(?:true|false))", r"\1", text)
+        return invariants, text, sorted(below)
 
 
-def within(body, wraps, steps):
-    """Where a whole place is cited: the record of a goal's place stands one step further than what the goal is given, if that wraps it."""
-    head, eq, rest = body.partition(" =")
-    c = head.split()[-1] if len(head.split()) > 1 else "c"
-
-    def chain(m):
-        n = m[1].count(".before")
-        if steps > 1 and n >= steps:
-            n -= steps - 1
-        return c + ".before" * (n + wraps)
-
-    rest = re.sub(rf"(?<![\w.'-]){re.escape(c)}((?:\.before)*)(?![\w.'-])", chain, rest)
-    rest = re.sub(rf"\blet {re.escape(c)}\.before\b", f"let {c}", rest)
-    return head + eq + rest
+def run(*words, where):
+    return subprocess.run(words, cwd=where, stdout=subprocess.PIPE, stderr=subprocess.STDOUT, text=True).stdout
 
 
 def main(argv):
-    names = json.load(open(argv[0], encoding="utf-8"))
-    crate = argv[1].rstrip("/")
-    only = argv[2:]
-    for key, value in names.items():
-        m = re.match(r"Rattle-(\w+)-proofs\.(.*)\.Lts$", key)
-        if not m or "needs" not in value:
+    crate, only = argv[0].rstrip("/").split("/")[-1], argv[1:]
+    where = os.path.join("crates", crate)
+    proofs = os.path.join(where, "proofs")
+    top = tempfile.mkdtemp()
+    old = os.path.join(top, "old")
+    said = run("rt", "check", "--generated", old, "--old-names", where=where)
+    if not os.path.exists(os.path.join(old, "names.json")):
+        print(said[-1500:])
+        return 1
+    found = []
+    for folder, _, files in os.walk(proofs):
+        if "Proof.antt" in files:
+            found.append(os.path.relpath(folder, proofs))
+    if only:
+        found = [f for f in found if f.split("/")[-1] in only]
+    for f in found:
+        os.rename(os.path.join(proofs, f, "Proof.antt"), os.path.join(proofs, f, "Proof.old"))
+    new = os.path.join(top, "new")
+    starts = [w for f in found if "+" not in f for w in ("--start", f"{crate}::" + f.replace("/", "::"))]
+    said = run("rt", "check", "--generated", new, *starts, where=where)
+    names = json.load(open(os.path.join(old, "names.json"), encoding="utf-8"))
+    for f in found:
+        kept, path = os.path.join(proofs, f, "Proof.old"), os.path.join(proofs, f, "Proof.antt")
+        key = f"Rattle-{crate}-proofs.{f.replace('/', '.')}.Lts"
+        folder = os.path.join(new, f"Rattle-{crate}-proofs", f)
+        if key not in names or not os.path.exists(os.path.join(folder, "Goals.antt")):
+            print(f"by hand: {path}: no names or goals; {said.strip()[-200:]}")
+            os.rename(kept, path)
             continue
-        folder = os.path.join(crate, "proofs", *m[2].split("."))
-        path = os.path.join(folder, "Proof.antt")
-        if not os.path.exists(path) or (only and m[2].split(".")[-1] not in only):
+        own = f"Rattle.{crate}.proofs.{f.replace('/', '.')}"
+        function = Function(names[key], folder, open(kept, encoding="utf-8").read(), own)
+        got = function.turned()
+        if isinstance(got, str):
+            print(f"by hand: {path}: {got}")
+            os.rename(kept, path)
             continue
-        f = Function(value, open(path, encoding="utf-8").read())
-        got = f.turned()
-        if got is None or isinstance(got, str):
-            print(f"by hand: {path}: {got or 'no tie.spec'}")
-            continue
-        invariants, answers = got
-        own = f"Rattle.{m[1]}.proofs.{m[2]}"
-        uses = [u for u in f.uses if ".Statement." not in u and ".Tie as " not in u]
-        head = "\n".join(f.head)
+        invariants, answers, below = got
+        uses = "\n".join(u for u in function.uses if ".Statement." not in u and ".Tie as " not in u)
+        head = "\n".join(function.head) + "\n" if function.head else ""
         if invariants:
-            with open(os.path.join(folder, "Invariants.antt"), "w", encoding="utf-8") as out:
-                out.write(f"{head}\n" if head else "")
-                out.write("\n".join(uses) + f"\nuse {own}.Given as goal\n\n" + "\n\n".join(invariants) + "\n")
+            with open(os.path.join(proofs, f, "Invariants.antt"), "w", encoding="utf-8") as out:
+                out.write(f"{head}{uses}\nuse {own}.Given as goal\n\n" + "\n\n".join(invariants) + "\n")
         if answers.strip():
-            with open(os.path.join(folder, "Answers.antt"), "w", encoding="utf-8") as out:
-                out.write(f"{head}\n" if head else "")
-                out.write("\n".join(uses) + f"\nuse {own}.Goals as goal\n")
-                if f.cited:
-                    given = (["tie.the-claims"] if any(p[3] for p in value["places"]) else []) + ["reads.Pre", "reads.Post"]
-                    for loop in value["loops"]:
-                        given += [f"goal.the-invariant-{loop[0][1]}", f"goal.the-decreases-{loop[0][1]}"]
-                    out.write(f"use {own}.Lts as lts\nuse {own}.Reads as reads\nuse {own}.Tie as tie\n\n-- ---- places in the code\n")
-                    for new, old in sorted(f.cited.items()):
-                        out.write(f"\nabbrev {new} : Type 0\n{new} = lts.{old} {' '.join(given)}\n")
+            with open(os.path.join(proofs, f, "Answers.antt"), "w", encoding="utf-8") as out:
+                out.write(f"{head}{uses}\n")
+                if below:
+                    out.write(f"use {own}.Invariants.{{{', '.join(below)}}}\n")
+                out.write(f"use {own}.Goals as goal\n")
+                if function.cited:
+                    spelled = {"Tie": "tie", "Reads": "reads"}
+                    args = " ".join("goal." + a if a.startswith("the-") else re.sub(r"^\w+", lambda m: spelled[m[0]], a) for a in function.places.args)
+                    out.write(f"use {own}.Lts as lts\nuse {own}.Reads as reads\n" + (f"use {own}.Tie as tie\n" if "tie." in args else "") + "\n-- ---- places in the code\n")
+                    for n, raw in sorted(function.cited.items()):
+                        out.write(f"\nabbrev {n} : Type 0\n{n} = lts.{raw} {args}\n")
                 out.write("\n" + answers + "\n")
-        os.remove(path)
+        os.remove(kept)
+    shutil.rmtree(top, ignore_errors=True)
+    run("rt", "fmt", where=where)
     return 0
 
 

@@ -1,6 +1,6 @@
 -- The facts of every predecessor are closed, so a cover of it need not close them again.
 use mathlib.Core.List.Memᴰ
-use mathlib.Core.List.{List, ◌∷◌, map}
+use mathlib.Core.List.{[], List, ◌∷◌, map}
 use mathlib.Core.Logic.{◌≢◌, ◌⊎◌, inl, inr}
 use mathlib.Core.Path.{◌≡◌, refl, ap, ◌∙◌, subst, subst₂}
 use Prim.Native.Nat.{ℕ}
@@ -28,6 +28,7 @@ close_closed n l h k p q i =
 -- ---- facts of a cell go
 
 pub mem_without : (c : ℕ) (l : List Fact) (t : Fact) → t ∈ l → t.left ≢ c → t.right ≢ c → t ∈ without c l
+mem_without c [] t m a b = elim m [ ]
 mem_without c (u ∷ us) t m a b = go (mem_without c us t) m
   where
     go : (t ∈ us → t.left ≢ c → t.right ≢ c → t ∈ without c us) → t ∈ (u ∷ us) → t ∈ without c (u ∷ us)

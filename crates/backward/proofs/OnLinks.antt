@@ -1,8 +1,8 @@
 -- Operations that look at no value, kinds 1 to 7: before them a shape without facts had none.
 use mathlib.Core.Bool.{Bool, true, false}
 use mathlib.Core.List.Memᴰ
-use mathlib.Core.List.{List, [], ◌∷◌}
-use mathlib.Core.Path.{◌≡◌, refl, sym, ap, subst, ◌∙◌}
+use mathlib.Core.List.{[]}
+use mathlib.Core.Path.{◌≡◌, refl, ap, subst, ◌∙◌}
 use lib.Dec.{T}
 use Rattle.lists.specs.List.{◌∈◌, Every}
 use Rattle.lists.proofs.List.{concat_map_mem, keep_mem}

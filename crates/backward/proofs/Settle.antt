@@ -1,9 +1,8 @@
 -- Closing the facts of a shape, and learning one: a heap that satisfies the shape satisfies the result.
 use mathlib.Core.List.{List, [], ◌∷◌}
-use mathlib.Core.Path.{◌≡◌, refl, ap}
+use mathlib.Core.Path.{◌≡◌, refl}
 use Prim.Native.Nat.{ℕ}
-use lib.ListN.{length}
-use Rattle.lists.specs.List.{◌∈◌, keep}
+use Rattle.lists.specs.List.{◌∈◌}
 use Rattle.lists.proofs.List.{every_cons, mem_keep}
 use Rattle.heap.specs.Heap.{Heap}
 use Rattle.heap.specs.Value.{below, Meets}

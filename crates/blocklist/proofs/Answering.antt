@@ -312,7 +312,7 @@ module _ (t : Heap64) (m : MetFromHead t) where
         → Done t.variables s (removed (suc i) ys h)
     after_out [] k i b a s p = absurd (omega arith)
     after_out (y ∷ ys) (e, o, k) i b a s p =
-        removing.takes-after h.link refl refl y ys (refl, o, k) i (omega arith) (is_ready t a).enough h.var h.value (h.var 2) (h.var 3) refl
+        removing.takes_after h.link refl refl y ys (refl, o, k) i (omega arith) (is_ready t a).enough h.var h.value (h.var 2) (h.var 3) refl
         (subst (λ (z : ℕ). At t.variables (after_turns i) s (record { others = h.var; values = h.value; link = h.link; first = z; second = h.var 2; third = h.var 3 })) e
         (begun t (after_turns i) s (is_ready t a) p))
 
@@ -368,7 +368,7 @@ module _ (t : Heap64) (m : MetFromHead t) where
 
         put_in : leb 64 x ≡ false → Done t.variables s (inserted n (cell x) xs h)
         put_in z =
-            inserting.puts-in h.link refl refl (h.var 1) (cell x) xs l.lists (free z) (λ i. omega arith) (λ i. omega arith) (λ i. omega arith) n (let k = l.count in omega arith)
+            inserting.puts_in h.link refl refl (h.var 1) (cell x) xs l.lists (free z) (λ i. omega arith) (λ i. omega arith) (λ i. omega arith) n (let k = l.count in omega arith)
             (is_ready t a).enough h.var (update h.value (cell x) none) (h.var 2) refl (taken (is_ready t a).enough start z (free z)).at
 
       pub insert_by : Inserts t n r

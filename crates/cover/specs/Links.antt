@@ -3,13 +3,12 @@
 use Rattle.std.specs.Prelude.{List, [], ◌∷◌, ℕ, ◌+◌}
 use Rattle.heap.specs.Place.{cell}
 use Rattle.graph.specs.Graph.{Graph, Embeds}
-use Rattle.shape.specs.Shape.{Shape, shape_graph}
 use Rattle.run.specs.Run.{Located}
 use Rattle.cover.specs.Cover.{Cover, Holds, AllHold}
 use Rattle.cover.specs.Lengths.{path_lengths}
 
 -- what is strictly between for the link of each cell, by its number, in an embedding
-abbrev pub mids : {member : Shape} {h : Graph} {f : ℕ → ℕ} → Embeds (shape_graph member) h f → ℕ → List ℕ
+abbrev pub mids : {g h : Graph} {f : ℕ → ℕ} → Embeds g h f → ℕ → List ℕ
 mids e i = e.paths.between (cell i)
 
 -- "by the definition of embedding": of a cover that holds

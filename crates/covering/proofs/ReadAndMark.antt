@@ -101,9 +101,9 @@ module _ (cert : List ℕ) (variables start n : ℕ) (s : List ℕ) (whole : Who
         codes = codes;
         read = rw held t.read;
         counted = paths.counted;
-        holds = λ among covered Shape-is state_is.
+        holds = λ among covered shape_is state_is.
             rw read
-            (ap (answer_by among (located_at cert variables start) (images_in cells codes)) (λ i. record { state = state_is i; shape = Shape-is i })
+            (ap (answer_by among (located_at cert variables start) (images_in cells codes)) (λ i. record { state = state_is i; shape = shape_is i })
             ∙ sym (answer_whole cert variables start codes s tested among (get_or cert start 0) refl (rw read at t.apart) vars (rw read at paths.fit)
             (bare_holds member (shape_in variables s) (images_in cells codes) among bare cells)));
       }

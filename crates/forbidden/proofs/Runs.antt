@@ -44,6 +44,12 @@ means h n w x x≢0 x≤n =
 
 -- the variables that an operation steps through are variables of the job
 pub through_range : (n : ℕ) (o : Op) → Allowed n o → (v : ℕ) → v ∈ steps_through o → (v ≢ 0) × (v ≤ n)
+through_range n (equal_value _ _) k v m = elim m [ ]
+through_range n (below_value _ _) k v m = elim m [ ]
+through_range n (copy _ _) k v m = elim m [ ]
+through_range n (larger _ _) k v m = elim m [ ]
+through_range n (smaller _ _) k v m = elim m [ ]
+through_range n (read _) k v m = elim m [ ]
 through_range n (equal a b) k v m = absurd (Memᴰ.not-nil m)
 through_range n (different a b) k v m = absurd (Memᴰ.not-nil m)
 through_range n (assign a b) k v m = absurd (Memᴰ.not-nil m)

@@ -13,7 +13,7 @@ use Rattle.lists.proofs.List.{concat_map_mem}
 use Rattle.lists.proofs.Reflect.{Reflect, r_le, r_lt, r_and}
 use Rattle.number.specs.NumberList.{encode}
 use Rattle.heap.specs.Place.{null, dangling}
-use Rattle.shape.specs.Shape.{Shape, InRange}
+use Rattle.shape.specs.Shape.{Shape}
 use Rattle.run.specs.Run.{Transition, Located, Safe}
 use Rattle.heap.specs.Operation.{Allowed}
 use Rattle.heap.proofs.Operands.{named_allowed}

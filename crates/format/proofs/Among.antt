@@ -13,7 +13,7 @@ use Rattle.facts.specs.Facts.{Fact}
 use Rattle.shape.specs.Shape.{Shape, size}
 use Rattle.run.specs.Run.{Located}
 use Rattle.backward.specs.Predecessors.{with_facts}
-use Rattle.cover.specs.Test.{fact_in, facts_in, Answer, holds, or_else, first_broken, of_states, of_cells, of_variables, image_once, var_fits, link_meets, path_unshared, answer_by, links_followed}
+use Rattle.cover.specs.Test.{fact_in, facts_in, holds, or_else, of_states, of_variables, image_once, var_fits, link_meets, path_unshared, answer_by, links_followed}
 use Rattle.format.specs.Certificate.{judge, read_cover_by}
 use Rattle.format.specs.Parser.{Parsed, parsed, fault, onward, many, Buffer, read_as, ranged}
 

@@ -1,6 +1,6 @@
 -- What the parsers of jobs and members have read without refusal begins a job, or members, in range, or facts have begun: they refuse the first
 -- faulty number.
-use mathlib.Core.Bool.{Bool, cond}
+use mathlib.Core.Bool.{Bool}
 use mathlib.Core.List.Memᴰ
 use mathlib.Core.List.{List, [], ◌∷◌, ◌++◌, map, append-nil, append_assoc}
 use mathlib.Core.Logic.{◌↔◌}

@@ -35,10 +35,10 @@ module _ {s : List ℕ} where
   reads_append (more g k) r = more g (reads_append k r)
 
   pub reads_split : {at next : ℕ} (ns : List ℕ) {ms : List ℕ} → Reads s at (ns ++ ms) next → (mid : ℕ) × Reads s at ns mid × Reads s mid ms next
-  reads_split {at} [] r = (at, done, r)
-  reads_split (n ∷ ns) r =
+  reads_split {at = at} [] r = (at, done, r)
+  reads_split {at = at} (n ∷ ns) r =
       let (k, g, q) = reads_first r in
-      let (mid, a, b) = reads_split ns q in
+      let (mid, a, b) = reads_split {at = k} ns q in
       (mid, more g a, b)
 
 -- a number has a byte of the buffer, the next place is further on, and not past the end

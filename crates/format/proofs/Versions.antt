@@ -6,12 +6,12 @@ use mathlib.Core.List.{List, [], map}
 use mathlib.Core.Option.{some}
 use mathlib.Core.Logic.{◌≢◌}
 use mathlib.Core.Path.{◌≡◌, refl, sym, ap, subst, ◌∙◌}
-use Prim.Native.Nat.{ℕ, ◌≤◌, ◌<◌}
+use Prim.Native.Nat.{ℕ, ◌≤◌}
 use native.Mathlib.Omega.{arith}
 use borrow.Author.Tests.{ne_eqb}
 use lib.Dec.{T, eqb, leb}
 use lib.ListN.{length}
-use Rattle.lists.specs.List.{◌∈◌, Every, concat_map}
+use Rattle.lists.specs.List.{Every, concat_map}
 use Rattle.lists.proofs.List.{every_append, concat_map_mem}
 use Rattle.lists.proofs.Reflect.{r_le}
 use Rattle.number.specs.NumberList.{numbers, decode}
@@ -25,7 +25,7 @@ use Rattle.backward.specs.Predecessors.{predecessors}
 use Rattle.backward.proofs.OnLinks.{on_links, OnLinks, NoFacts, predecessors_none}
 use Rattle.cover.specs.Cover.{predecessors_by, owed}
 use Rattle.format.specs.Conditions.{MembersInRange, Conditions}
-use Rattle.format.specs.JobBytes.{Between, LocatedInRange, last_kind, TransitionInRange, JobInRange}
+use Rattle.format.specs.JobBytes.{Between, LocatedInRange, TransitionInRange, JobInRange}
 use Rattle.format.specs.JobNumbers.{JobFile, in_version, job_numbers}
 use Rattle.format.specs.Numbers.{certificate_numbers}
 use Rattle.format.specs.Verdict.{Counts}

@@ -19,7 +19,7 @@ use Rattle.run.specs.Run.{Transition}
 use Rattle.format.specs.JobNumbers.{transition_numbers}
 use Rattle.forbidden.specs.Written.{refused}
 use Rattle.listing.specs.LineByLine.{arrow_numbers}
-use Rattle.listing.specs.Reading.{refused, read, op_of}
+use Rattle.listing.specs.Reading.{refused, op_of}
 use Rattle.listing.specs.Text.{operation_for}
 use Rattle.listing.proofs.Operations.{op_of_for}
 

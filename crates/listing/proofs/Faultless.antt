@@ -13,7 +13,7 @@ use Rattle.lists.proofs.List.{every_none, every_cons, every_head, every_tail}
 use Rattle.lists.proofs.Reflect.{r_eq, r_lt, r_absent, r_not, is_false, fails}
 use Rattle.lines.specs.declared.Line.{Line}
 use Rattle.lines.specs.declared.Line.TheVariants.{Perform, While, If, End, Mark, Other}
-use Rattle.listing.specs.Listing.{Statement, perform, mark, while, if, Block, done, ◌⨾◌, ◌followed-by◌}
+use Rattle.listing.specs.Listing.{Statement, perform, mark, while, if, Block, done, ◌⨾◌, ◌followed_by◌}
 use Rattle.listing.specs.Reading.{Seen, depth_after, see, is_misplaced, is_too_deep, Fault, fault, first_fault, op_of, test_of, ahead, enclosed, blocks, first_block, meet_lines}
 use Rattle.listing.specs.Text.{operation_for_test, lines_for, lines_in}
 use Rattle.listing.proofs.Lines.{Proper, Inside}
@@ -212,11 +212,11 @@ mutual
       ∙ ap (λ x. (if t x ⨾ b) ∷ bs) (followed_by_done c)
 
   blocks_block : (c : Block) (rest : List Line) (b : Block) (bs : List Block) → blocks rest ≡ b ∷ bs
-      → blocks (lines_in c ++ rest) ≡ (c followed-by b) ∷ bs
+      → blocks (lines_in c ++ rest) ≡ (c followed_by b) ∷ bs
   blocks_block done rest b bs e = e
   blocks_block (s ⨾ c) rest b bs e =
       ap blocks (append_assoc (lines_for s) (lines_in c) rest)
-      ∙ blocks_statement s (lines_in c ++ rest) (c followed-by b) bs (blocks_block c rest b bs e)
+      ∙ blocks_statement s (lines_in c ++ rest) (c followed_by b) bs (blocks_block c rest b bs e)
 
 pub blocks_lines : (b : Block) → blocks (lines_in b) ≡ b ∷ []
 unfolding blocks

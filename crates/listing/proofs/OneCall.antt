@@ -11,7 +11,6 @@ use lib.Dec.{eqb}
 use lib.ListN.{length, length-set, length-replicate, get_or, get_or-replicate, set, replicate}
 use lib.Seq.{get_or-set_same, get_or-set_other}
 use Rattle.lists.specs.List.{◌∈◌, Every, Distinct, concat_map}
-use Rattle.lists.specs.Range.{range}
 use Rattle.lists.proofs.Range.{tabled}
 use Rattle.number.specs.NumberList.{encode}
 use Rattle.number.specs.Range.{AtMost}
@@ -27,7 +26,7 @@ use Rattle.listing.specs.Listing.{marks_in}
 use Rattle.listing.specs.Names.{variables_for}
 use Rattle.listing.specs.Reading.{nothing_seen, Fault, first_fault, meet_lines, Listing, listing_of, listed, unless}
 use Rattle.listing.specs.Text.{lines_of, lines_in}
-use Rattle.listing.specs.Translation.{end, lines, MarkState, marks, transitions_of, states_of, marks_of, state_of}
+use Rattle.listing.specs.Translation.{end, MarkState, transitions_of, states_of, marks_of, state_of}
 use Rattle.listing.specs.Written.{file_of, numbers_ahead, or_none, mark_states, in_room, translate_read, translate}
 use Rattle.listing.proofs.Emitted.{Emitted, emit_all, set_all, adding, end_next, emit_block}
 use Rattle.listing.proofs.Faultless.{Faultless, faultless}

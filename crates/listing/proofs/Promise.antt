@@ -4,7 +4,7 @@ use mathlib.Core.Bool.{Bool, true, false, cond}
 use mathlib.Core.List.{List, [], ◌∷◌, ◌++◌}
 use mathlib.Core.Option.{Option, none, some}
 use mathlib.Core.Path.{◌≡◌, refl, sym, ap, subst, ◌∙◌}
-use Prim.Native.Nat.{ℕ, suc, ◌+◌, ◌≤◌}
+use Prim.Native.Nat.{ℕ, suc, ◌≤◌}
 use native.Mathlib.Omega.{arith}
 use lib.Dec.{eqb, ltb}
 use lib.ListN.{length, get_or}
@@ -13,8 +13,6 @@ use Rattle.lists.proofs.Reflect.{passes}
 use Rattle.number.specs.CallResult.{CallResult}
 use Rattle.number.specs.NumberList.{encode, refused}
 use Rattle.number.proofs.Encoding.{encode_append}
-use Rattle.number.proofs.RoundTrip.{reads}
-use Rattle.number.proofs.Writing.{one}
 use Rattle.run.specs.Run.{Transition, Located, Safe}
 use Rattle.heap.specs.Operation.{Allowed}
 use Rattle.format.specs.Conditions.{Acceptable}
@@ -210,24 +208,24 @@ refusal_number text room number value e = go (first_fault (lines_of text) nothin
     go (some f) w v = let q : number ≡ f.number = cc in let h = fault_number (lines_of text) nothing_seen f w in omega arith
 
 -- so a program that does what the one pass does keeps the promise of the call
-module _ (text before marks-before after Marks-then : List ℕ) (told : CallResult) where
+module _ (text before marks_before after marks_then : List ℕ) (told : CallResult) where
   abbrev passed : Translated
   passed = translate_by (length before) (go_on (lines_of text) begin)
 
   promised_in : (t : Translated) → translate text (length before) ≡ t → told ≡ translate_result t → after ≡ bytes_after t before
-      → Marks-then ≡ marks_after t marks-before
-      → told.code ≡ 0 → PromisedIn text before marks-before after Marks-then
+      → marks_then ≡ marks_after t marks_before
+      → told.code ≡ 0 → PromisedIn text before marks_before after marks_then
   promised_in (translated bytes marks) e r b m z =
       record { bytes = bytes; marks = marks; bytes_are = b; marks_are = m; promises = promise text (length before) bytes marks e }
   promised_in (untranslated number value) e r b m z =
       let v : number ≡ 0 = ap (λ (c : CallResult). c.code) (sym r) ∙ z in
       absurd (let w = refusal_number text (length before) number value e in omega arith)
 
-  pub translates : told ≡ translate_result passed → after ≡ bytes_after passed before → Marks-then ≡ marks_after passed marks-before
-      → Translates text before marks-before told after Marks-then
+  pub translates : told ≡ translate_result passed → after ≡ bytes_after passed before → marks_then ≡ marks_after passed marks_before
+      → Translates text before marks_before told after marks_then
   translates r b m =
       let e = sym (one_pass text (length before)) in
       let r' = r ∙ ap translate_result e in
       let b' = b ∙ ap (λ t. bytes_after t before) e in
-      let m' = m ∙ ap (λ t. marks_after t marks-before) e in
+      let m' = m ∙ ap (λ t. marks_after t marks_before) e in
       record { result = r'; bytes = b'; marks = m'; promise = promised_in (translate text (length before)) refl r' b' m' }

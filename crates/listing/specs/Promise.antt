@@ -75,16 +75,16 @@ pub record Promises (text bytes marks : List ℕ) : Type 0 where
       → (set : ReadySet) → ForbidsSet listing bads set → OnStatements set listing marks
 
 -- the output begins with such bytes, the rest of it is as before, and the marks come back beside it
-pub record PromisedIn (text bytes-before marks-before bytes-then Marks-then : List ℕ) : Type 0 where
+pub record PromisedIn (text bytes_before marks_before bytes_then marks_then : List ℕ) : Type 0 where
   pub bytes : List ℕ
   pub marks : List ℕ
-  pub bytes_are : bytes-then ≡ bytes ++ drop (length bytes) bytes-before
-  pub marks_are : Marks-then ≡ lent marks marks-before
+  pub bytes_are : bytes_then ≡ bytes ++ drop (length bytes) bytes_before
+  pub marks_are : marks_then ≡ lent marks marks_before
   pub promises : Promises text bytes marks
 
 -- what is promised of the result and of every lent byte
-pub record Translates (text bytes-before marks-before : List ℕ) (told : CallResult) (bytes-then Marks-then : List ℕ) : Type 0 where
-  pub result : told ≡ translate_result (translate text (length bytes-before))
-  pub bytes : bytes-then ≡ bytes_after (translate text (length bytes-before)) bytes-before
-  pub marks : Marks-then ≡ marks_after (translate text (length bytes-before)) marks-before
-  pub promise : told.code ≡ 0 → PromisedIn text bytes-before marks-before bytes-then Marks-then
+pub record Translates (text bytes_before marks_before : List ℕ) (told : CallResult) (bytes_then marks_then : List ℕ) : Type 0 where
+  pub result : told ≡ translate_result (translate text (length bytes_before))
+  pub bytes : bytes_then ≡ bytes_after (translate text (length bytes_before)) bytes_before
+  pub marks : marks_then ≡ marks_after (translate text (length bytes_before)) marks_before
+  pub promise : told.code ≡ 0 → PromisedIn text bytes_before marks_before bytes_then marks_then

@@ -153,10 +153,10 @@ module _ (t : Heap64) (s : Sized t) (f : Formed t) (value : ℕ) where
   -- a comparison, by what stands where; `e` says which of the two it is
   module _ (e : Bool) (a b : ℕ) where
     pub dangling_a : var_in (codes t.vars) a ≡ dangling → stays t Blocked ≡ perform t value (comparison e a b)
-    dangling_a z = elim e [ true ↦ blocked t value (equal a b) refl (λ d. d.0 z) | false ↦ blocked t value (different a b) refl (λ d. d.0 z) ]
+    dangling_a z = elim e as (λ k. stays t Blocked ≡ perform t value (comparison k a b)) [ true ↦ blocked t value (equal a b) refl (λ d. d.0 z) | false ↦ blocked t value (different a b) refl (λ d. d.0 z) ]
 
     pub dangling_b : var_in (codes t.vars) b ≡ dangling → stays t Blocked ≡ perform t value (comparison e a b)
-    dangling_b z = elim e [ true ↦ blocked t value (equal a b) refl (λ d. d.1 z) | false ↦ blocked t value (different a b) refl (λ d. d.1 z) ]
+    dangling_b z = elim e as (λ k. stays t Blocked ≡ perform t value (comparison k a b)) [ true ↦ blocked t value (equal a b) refl (λ d. d.1 z) | false ↦ blocked t value (different a b) refl (λ d. d.1 z) ]
 
     module _ (na : var_in (codes t.vars) a ≢ dangling) (nb : var_in (codes t.vars) b ≢ dangling) where
       pub same_equal : var_in (codes t.vars) a ≡ var_in (codes t.vars) b → e ≡ true → stays t Moved ≡ perform t value (comparison e a b)

@@ -30,7 +30,7 @@ pub job_as_before : (v w : ℕ) (job : List ℕ) (room : ℕ) → Between 1 6553
     → (carry_job v w job room ≡ refused (reason_number why) place 0) × (verdict job certificate ≡ refusedFor why place)
 job_as_before v w job room a own certificate b why place k = (
   (job_means v w job room _).1 (job_unread a why place (in_job own why place k)),
-  (meaning job certificate why place).1 (MeaningAt.in-job why place a b k),
+  (meaning job certificate why place).1 (MeaningAt.in_job why place a b k),
 )
 
 -- ---- certificates
@@ -72,16 +72,16 @@ module _ (tested : ℕ) (f : JobFile) (certificate : List ℕ) (ok : JobInRange 
   Judged why = (reason_number why ≡ 8) ⊎ ((reason_number why ≡ 9) ⊎ (reason_number why ≡ 20))
 
   as_before : (why : Reason) (place : ℕ) → InCertificate tested f certificate why place → CertificateUnread f certificate why place ⊎ Judged why
-  as_before why place (InCertificate.member-unread q w) = inl (member_unread q w)
-  as_before why place (InCertificate.cover-unread q limit d g) = inl (cover_unread q limit (due q limit d) g)
-  as_before why place (InCertificate.version-range n next g out) =
+  as_before why place (InCertificate.member_unread q w) = inl (member_unread q w)
+  as_before why place (InCertificate.cover_unread q limit d g) = inl (cover_unread q limit (due q limit d) g)
+  as_before why place (InCertificate.version_range n next g out) =
       inl (other_certificate f certificate ok (record { number = n; next = next; reads = g; other = λ e. out (subst (Between 1 2) (sym e) ok.version) }))
-  as_before why place (InCertificate.member-range q later w) = inl (member_range q w)
-  as_before why place (InCertificate.cover-range q limit d n next g above) = inl (cover_range q limit (due q limit d) n next g above)
-  as_before why place (InCertificate.versions-differ n next g ok n_is) = inr (inr (inr refl))
-  as_before why place (InCertificate.member-satisfied q k) = inr (inl refl)
-  as_before why place (InCertificate.cover-fails rule name q k) = inr (inr (inl refl))
-  as_before why place (InCertificate.certificate-left q k more) = inl (bytes_left q (read_to k) more)
+  as_before why place (InCertificate.member_range q later w) = inl (member_range q w)
+  as_before why place (InCertificate.cover_range q limit d n next g above) = inl (cover_range q limit (due q limit d) n next g above)
+  as_before why place (InCertificate.versions_differ n next g ok n_is) = inr (inr (inr refl))
+  as_before why place (InCertificate.member_satisfied q k) = inr (inl refl)
+  as_before why place (InCertificate.cover_fails rule name q k) = inr (inr (inl refl))
+  as_before why place (InCertificate.certificate_left q k more) = inl (bytes_left q (read_to k) more)
 
 module _ (v w : ℕ) (job certificate : List ℕ) (room : ℕ) (f : JobFile) (k : JobOf v job f) (b : Between 1 65536 (length certificate)) where
   -- BEFORE: beside a job of version v, what the checker refuses with 6, 7 or 10 is refused with that at that place
@@ -100,9 +100,9 @@ module _ (v w : ℕ) (job certificate : List ℕ) (room : ℕ) (f : JobFile) (k 
           → carry_certificate v w job certificate room ≡ refused (reason_number why) place 1
       by_meaning why place (MeaningAt.job_length n) = absurd (n k.job_length)
       by_meaning why place (MeaningAt.certificate_length a n) = absurd (n b)
-      by_meaning why place (MeaningAt.in-job y q a b' i) =
+      by_meaning why place (MeaningAt.in_job y q a b' i) =
           let (next, h) = job_read job f k.job_is in
           absurd (not_fault f next y q (sym (job_refused job y q i) ∙ h))
-      by_meaning why place (MeaningAt.in-certificate y q a b' g i m) =
+      by_meaning why place (MeaningAt.in_certificate y q a b' g i m) =
           let m' = subst (λ (x : JobFile). InCertificate x.job.start x certificate y q) (one_job job g f i k.job_is) m in
           by_kind y q (as_before f.job.start f certificate k.job_is.in_range y q m')

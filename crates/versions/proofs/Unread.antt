@@ -31,7 +31,7 @@ use Rattle.format.proofs.MemberFaults.{read_own, same_version, members_faults}
 use Rattle.format.proofs.Parsing.{not_fault, then_fault, Faulty, faulty_map}
 use Rattle.format.proofs.Parsing.{read_sound, read_complete, read_fault, read_refuses, ranged_exact, codes_fault, codes_refuses}
 use Rattle.format.proofs.Refusals.{no_member}
-use Rattle.format.proofs.Sequence.{Reads, done, more, reads_one, reads_first, reads_append, reads_split, reads_place}
+use Rattle.format.proofs.Sequence.{Reads, more, reads_one, reads_first, reads_append, reads_split, reads_place}
 use Rattle.versions.specs.Carry.{of_version, Named, naming, read_cover_alone, CertificateFile, read_certificate_of}
 use Rattle.versions.specs.Carries.{OtherVersion, ReadTo, CoverBegun, CoverDue, member_due, image_due}
 use Rattle.versions.specs.Carries.{CertificateUnread, member_unread, member_range, cover_unread, cover_range, bytes_left}

@@ -1,0 +1,6 @@
+-- Both cells equal themselves, then the rows of below change.
+use borrow.Author.Rules.{rules}
+use Rattle.factrows.proofs.add_below.Goals as goal
+
+pub returns : goal.returns
+returns c = rw (← c.put_self.ensures, ← c.put_self-2.ensures) c.below_rows.ensures

@@ -1,0 +1,14 @@
+-- The rows of below before p are new.
+use mathlib.Core.Path.{◌∙◌}
+use Prim.Native.Nat.{◌-◌, ◌≤◌}
+use native.Mathlib.Omega.{arith}
+use Rattle.factrows.specs.Rows.{below_at}
+use Rattle.factrows.proofs.Turning.{Turned, turn_none, turn_more, turn_all, below_new, below_rest}
+use borrow.Author.Rules.{rules}
+use Rattle.factrows.proofs.below_rows.Given as goal
+
+abbrev pub invariant-loop-p : goal.invariant-loop-p
+invariant-loop-p l = (l.p ≤ 14) × Turned (below_at l.c l.d l.initial.rows) l.initial.rows l.rows l.p
+
+abbrev pub decreases-loop-p : goal.decreases-loop-p
+decreases-loop-p l = 14 - l.p

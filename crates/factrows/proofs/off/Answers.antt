@@ -1,0 +1,9 @@
+-- The bit is put on, then turned.
+use mathlib.Core.Path.{refl}
+use Rattle.factrows.specs.Rows.{off_row}
+use borrow.Author.Rules.{rules}
+use Rattle.factrows.proofs.off.Goals as goal
+
+pub returns : goal.returns
+unfolding off_row
+returns c = rw c.bit-b.ensures refl

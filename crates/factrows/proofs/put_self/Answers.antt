@@ -1,0 +1,7 @@
+-- One row is changed.
+use Rattle.factrows.proofs.Turning.{self_set}
+use borrow.Author.Rules.{rules}
+use Rattle.factrows.proofs.put_self.Goals as goal
+
+pub returns : goal.returns
+returns c = let a = c.args in self_set a.rows.now a.c c.bit.result c.sized.ensures c.requires c.bit.ensures

@@ -1,0 +1,22 @@
+-- Ill formed, or a step on a well formed heap.
+use mathlib.Core.Path.{◌∙◌, sym}
+use native.Mathlib.Omega.{arith}
+use borrow.Author.Tests.{not-true, not-false}
+use Rattle.stepper.proofs.Steps.{steps, ill_formed}
+use borrow.Author.Rules.{rules}
+use Rattle.stepper.proofs.Heap64.step.Goals as goal
+
+pub returns-then-not-is_well_formed : goal.returns-then-not-is_well_formed
+returns-then-not-is_well_formed c =
+    let a = c.args in
+    let w = c.is_well_formed in
+    steps a.self w.ensures.1 a.kind a.a a.b a.value (omega arith) _
+    (ill_formed a.self a.kind a.a a.b a.value (sym w.ensures.0 ∙ c.if-not-is_well_formed.true))
+
+pub step_formed-requires : goal.step_formed-requires
+step_formed-requires c =
+    let w = c.is_well_formed in
+    record { sized = w.ensures.1; formed = sym w.ensures.0 ∙ c.if-not-is_well_formed.false }
+
+pub returns : goal.returns
+returns c = c.step_formed.ensures

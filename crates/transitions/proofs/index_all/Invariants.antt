@@ -1,0 +1,15 @@
+-- The loop, last to first: the transitions from the i-th on are in the index.
+use mathlib.Core.Path.{◌≡◌, ◌∙◌}
+use Prim.Native.Nat.{◌+◌, ◌-◌, ◌*◌, ◌≤◌}
+use native.Mathlib.Omega.{arith}
+use lib.ListN.{length, length-set}
+use Rattle.transitions.specs.Transitions.{to_byte}
+use Rattle.transitions.proofs.Index.{Indexing, index_none, index_more, index_out, index_all}
+use borrow.Author.Rules.{rules}
+use Rattle.transitions.proofs.index_all.Given as goal
+
+abbrev pub invariant-loop-i : goal.invariant-loop-i
+invariant-loop-i l = Indexing (to_byte l.job l.first) l.count l.initial.index l.index l.i
+
+abbrev pub decreases-loop-i : goal.decreases-loop-i
+decreases-loop-i l = l.i
