@@ -1,10 +1,8 @@
 -- The facts from i on are closed.
-use mathlib.Core.Path.{◌≡◌, ◌∙◌}
-use Prim.Native.Nat.{◌-◌, ◌≤◌}
+use mathlib.Core.Path.{◌∙◌}
 use native.Mathlib.Omega.{arith}
-use Rattle.factrows.specs.Listed.{count, closed_from}
+use Rattle.factrows.specs.Listed.{count}
 use Rattle.factrows.proofs.Cases.{closed_more, closed_none, closed_all}
-use borrow.Author.Rules.{rules}
 use Rattle.factrows.proofs.close.Goals as goal
 use Rattle.factrows.proofs.close.Lts as lts
 use Rattle.factrows.proofs.close.Reads as reads

@@ -1,12 +1,11 @@
 -- The rows before j are without the digit of the cell; its own two are emptied at the end.
 use mathlib.Core.Path.{◌≡◌, refl, ap, ◌∙◌}
-use Prim.Native.Nat.{ℕ, ◌-◌, ◌≤◌, ◌<◌}
+use Prim.Native.Nat.{ℕ}
 use native.Mathlib.Omega.{arith}
 use borrow.Author.Tests.{lt-ltb, le-ltb}
 use lib.ListN.{get_or}
 use Rattle.factrows.specs.Rows.{off_row}
-use Rattle.factrows.proofs.Turning.{Turned, turn_none, turn_more, drop_set}
-use borrow.Author.Rules.{rules}
+use Rattle.factrows.proofs.Turning.{turn_none, turn_more, drop_set}
 use Rattle.factrows.proofs.drop_cell.Goals as goal
 use Rattle.factrows.proofs.drop_cell.Lts as lts
 use Rattle.factrows.proofs.drop_cell.Reads as reads

@@ -1,10 +1,8 @@
 -- The rows of below before p are new.
 use mathlib.Core.Path.{◌∙◌}
-use Prim.Native.Nat.{◌-◌, ◌≤◌}
 use native.Mathlib.Omega.{arith}
 use Rattle.factrows.specs.Rows.{equal_at}
-use Rattle.factrows.proofs.Turning.{Turned, turn_none, turn_more, turn_all, equal_new, equal_rest}
-use borrow.Author.Rules.{rules}
+use Rattle.factrows.proofs.Turning.{turn_none, turn_more, turn_all, equal_new, equal_rest}
 use Rattle.factrows.proofs.equal_rows.Goals as goal
 use Rattle.factrows.proofs.equal_rows.Lts as lts
 use Rattle.factrows.proofs.equal_rows.Reads as reads

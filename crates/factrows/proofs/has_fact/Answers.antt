@@ -2,7 +2,6 @@
 use mathlib.Core.Path.{refl}
 use native.Mathlib.Omega.{arith}
 use borrow.Author.Tests.{lt-ltb, le-ltb}
-use borrow.Author.Rules.{rules}
 use Rattle.factrows.proofs.has_fact.Goals as goal
 use Rattle.factrows.proofs.has_fact.Lts as lts
 use Rattle.factrows.proofs.has_fact.Reads as reads

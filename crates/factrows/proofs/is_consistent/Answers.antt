@@ -1,12 +1,9 @@
 -- The cells before p are passed.
-use mathlib.Core.Path.{◌≡◌, refl, sym, ap, ◌∙◌}
-use Prim.Native.Nat.{◌-◌, ◌≤◌}
+use mathlib.Core.Path.{refl, sym, ap, ◌∙◌}
 use native.Mathlib.Omega.{arith}
 use mathlib.Core.Bool.{not}
-use Rattle.lists.specs.Test.{all_from}
 use Rattle.lists.proofs.Test.{all_passed, all_failed, all_done}
-use Rattle.factrows.specs.Rows.{loose_at, is_consistent}
-use borrow.Author.Rules.{rules}
+use Rattle.factrows.specs.Rows.{loose_at}
 use Rattle.factrows.proofs.is_consistent.Goals as goal
 use Rattle.factrows.proofs.is_consistent.Lts as lts
 use Rattle.factrows.proofs.is_consistent.Reads as reads

@@ -1,11 +1,10 @@
 -- The rows before j are moved; the last is emptied after the loop.
 use mathlib.Core.Path.{◌≡◌}
-use Prim.Native.Nat.{◌+◌, ◌-◌, ◌≤◌}
+use Prim.Native.Nat.{◌+◌}
 use native.Mathlib.Omega.{arith}
 use lib.ListN.{get_or}
 use Rattle.factrows.specs.Rows.{moved_at}
-use Rattle.factrows.proofs.Turning.{Turned, turn_none, turn_more, turn_all, moved_first, moved_new, moved_last, moved_rest}
-use borrow.Author.Rules.{rules}
+use Rattle.factrows.proofs.Turning.{turn_none, turn_more, turn_all, moved_first, moved_new, moved_last, moved_rest}
 use Rattle.factrows.proofs.move_rows.Goals as goal
 use Rattle.factrows.proofs.move_rows.Lts as lts
 use Rattle.factrows.proofs.move_rows.Reads as reads
