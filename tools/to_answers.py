@@ -96,9 +96,19 @@ class Places:
                 self.args = m[3].split()
         self.new = dict(zip([p[0] for p in names["places"]], names["places_by_name"]))
         self.arms = {p[0]: a for p, a in zip(names["places"], names["arms"]) if a}
+        # A place that a helper speaks of: inside an arm of several steps it is the last of them, and so many steps above it.
         self.by_plain = {}
         for p in names["places"]:
-            self.by_plain.setdefault(plain(p[0]), p[0])
+            self.by_plain.setdefault(plain(p[0]), self.last(p[0]))
+
+    def last(self, raw):
+        low, n = raw, 0
+        while low in self.arms:
+            below = [q for q, up in self.parent.items() if up == low and q in self.arms and self.arms[q][0] == self.arms[low][0] and self.arms[q][1] > self.arms[low][1]]
+            if len(below) != 1:
+                break
+            low, n = below[0], n + 1
+        return low, n
 
     def wraps(self, raw):
         return self.given.get(self.new[raw], "Lts.").startswith("View.")
@@ -219,7 +229,7 @@ class Function:
             return self.path(m[1], env[m[1]], ["before"] * m[2].count(".before"))[1]
         m = re.match(rf"({VAR})\s", text)
         if m and m[1] in self.returning:
-            return (self.returning[m[1]], 0, False)
+            return (*self.returning[m[1]], False)
         m = re.fullmatch(r"\((.*)\)((?:\.before)*)", text, re.S)
         if m:
             inner = self.place_of(m[1], env)
@@ -230,11 +240,11 @@ class Function:
         env = dict(env)
         for m in re.finditer(rf"\(((?:{VAR} )+): tie\.({W})\)", text):
             raw = self.places.by_plain.get(plain(m[2]))
-            env.update({n: (raw, 0, False) for n in m[1].split() if raw and n not in env})
+            env.update({n: (*raw, False) for n in m[1].split() if raw and n not in env})
         for m in re.finditer(rf"(?m)^ +(?:abbrev )?({VAR}) : tie\.({W})$", text):
             raw = self.places.by_plain.get(plain(m[2]))
             if raw:
-                env.setdefault(m[1], (raw, 0, False))
+                env.setdefault(m[1], (*raw, False))
         alone = set()
         token = re.compile(
             rf"(?P<let>\blet ({VAR})(?P<type> : [^=\n]*)? = )|(?P<tie>\btie\.({W}))|(?<![\w.'₀-₉-])(?P<head>{VAR})(?P<fields>{FIELDS})?|(?P<close>\))(?P<after>{FIELDS})"
@@ -261,6 +271,7 @@ class Function:
                 raw = self.places.by_plain.get(plain(m[5]))
                 if raw is None:
                     return "goal." + m[5]
+                raw = raw[0]
                 self.cited[self.places.new[raw]] = ("Past-" if f"Past-{raw}" in self.places.records else "") + raw
                 return self.places.new[raw]
             if m["close"]:
@@ -326,19 +337,20 @@ class Function:
         found, to = self.binders(lines[0])
         m = re.fullmatch(rf"{re.escape(name)} ({VAR}) = \1((?:\.before)+)", " ".join(l.strip() for l in lines[1:]))
         if m and to and len(found) == 1 and found[0][1]:
-            d = 0
-            while d < 99 and self.places.up(found[0][1], d) not in (to, None):
+            d, (low, above) = 0, found[0][1]
+            goal = self.places.up(*to)
+            while d < 99 and self.places.up(low, above + d) not in (goal, None):
                 d += 1
-            if self.places.up(found[0][1], d) == to:
-                n, _, left = self.places.climb(found[0][1], d)
-                if not left:
+            if self.places.up(low, above + d) == goal:
+                n, place, left = self.places.climb(low, above + d)
+                if (place, left) == to:
                     return self.turn(lines[0], {}) + f"\n{name} {m[1]} = {m[1]}" + ".before" * n
         k = 1
         while k < len(lines) and not re.match(rf"{re.escape(name)}(?=\s|$)", lines[k]) and not lines[k].startswith("unfolding "):
             k += 1
         signature = "\n".join(lines[:k])
         found, _ = self.binders(signature)
-        out = self.turn(signature, {n: (p, 0, False) for n, p in found if n and p})
+        out = self.turn(signature, {n: (*p, False) for n, p in found if n and p})
         body = []
         block = []
         for l in lines[k:]:
@@ -359,7 +371,7 @@ class Function:
         env = {}
         for w, (_, p) in zip(head.split()[1:], found):
             if p and re.fullmatch(VAR, w):
-                env[w] = (p, 0, False)
+                env[w] = (*p, False)
         return head + eq + self.turn(rest, env)
 
     def invariant(self, lines, kind, label):
@@ -455,7 +467,7 @@ class Function:
                 answers.append(note + self.helper(named(text).split("\n")))
             else:
                 m = re.findall(r"\((\S+) : tie\.([^\s)]+)", lines[0])
-                env = {n: (self.places.by_plain[plain(p)], 0, False) for n, p in m if plain(p) in self.places.by_plain}
+                env = {n: (*self.places.by_plain[plain(p)], False) for n, p in m if plain(p) in self.places.by_plain}
                 answers.append(note + self.turn(named(text), env))
         path = rf"{VAR}{FIELDS}"
         text = "\n\n".join(answers)

@@ -1,21 +1,16 @@
 -- Rows read by tests: which digits joined and chosen rows have, which facts stand in rows, that there are none, and that they are consistent.
 use mathlib.Core.Bool.{Bool, true, false, cond}
 use mathlib.Core.List.{List}
-use mathlib.Core.Logic.{◌≢◌, ◌⊎◌, inl, inr}
+use mathlib.Core.Logic.{◌⊎◌, inl, inr}
 use mathlib.Core.Path.{◌≡◌, sym, ap, subst, ◌∙◌}
-use Prim.Native.Nat.{ℕ, zero, suc, ◌+◌, ◌/◌, ◌%◌, ◌^◌, ◌-◌, ◌<◌}
-use native.Mathlib.Nat.{mod-lt, div-one}
-use native.Mathlib.Decide.{dec_lt}
+use Prim.Native.Nat.{ℕ, zero, suc, ◌+◌, ◌^◌, ◌<◌}
 use native.Mathlib.Omega.{arith}
 use lib.Bits.{bit_or}
-use lib.Dec.{eqb}
 use lib.ListN.{get_or, get_or-replicate}
-use lib.Pow.{pow_pos, shr-shr}
 use Rattle.lists.proofs.Reflect.{Reflect, r_eq, r_lt, r_and, r_not, r_iff, r_all}
 use Rattle.facts.specs.Laws.{Consistent, Alike, Kinds}
 use Rattle.factrows.specs.Rows.{digit, on, row_of, FactsIn, has_fact, rows_by, no_facts, loose_at, is_consistent, off_row}
 use Rattle.factrows.proofs.Digits.{or_out, or_left, or_right, bit_same, bit_other, no_digit, off_out, off_in}
-use Rattle.factrows.proofs.Shrinking.{low_digit}
 use Rattle.factrows.proofs.Turning.{row_read}
 
 -- what a test tells is decided

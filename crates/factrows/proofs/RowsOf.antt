@@ -3,14 +3,14 @@ use mathlib.Core.Bool.{◌&&◌, not}
 use mathlib.Core.List.Memᴰ
 use mathlib.Core.List.{List, [], ◌∷◌, map}
 use mathlib.Core.Logic.{inl, inr}
-use mathlib.Core.Path.{◌≡◌, refl, sym, ap, subst, subst₂}
+use mathlib.Core.Path.{◌≡◌, refl, sym, ap, subst₂}
 use Prim.Native.Nat.{ℕ, zero, suc, ◌-◌, ◌≤◌, ◌<◌}
 use native.Mathlib.Omega.{arith}
 use lib.Dec.{eqb}
 use Rattle.lists.specs.List.{◌∈◌, Every}
 use Rattle.lists.specs.Range.{range}
 use Rattle.lists.proofs.List.{every_none, every_cons}
-use Rattle.lists.proofs.Reflect.{Reflect, r_eq, r_and, r_not, r_iff, r_all_of, same_test}
+use Rattle.lists.proofs.Reflect.{r_eq, r_and, r_not, r_all_of, same_test}
 use Rattle.heap.specs.Place.{cell}
 use Rattle.facts.specs.Facts.{Fact, given, Follows, FactOf, FactsOf, close, follows?, consistent}
 use Rattle.facts.specs.Laws.{Laws, Plus, Consistent}

@@ -1,5 +1,5 @@
 -- Facts as they are listed, three bytes each: the kind and two cells by their numbers. A rest of one or two bytes is no fact.
-use Rattle.std.specs.Prelude.{Bool, ◌||◌, not, cond, List, map, ℕ, zero, suc, ◌+◌, ◌-◌, ◌*◌, ◌/◌, eqb, ltb, length, get_or}
+use Rattle.std.specs.Prelude.{Bool, ◌||◌, not, cond, List, map, ℕ, zero, suc, ◌+◌, ◌*◌, ◌/◌, eqb, ltb, length, get_or}
 use Rattle.lists.specs.Range.{range}
 use Rattle.lists.specs.Test.{all_from, lowest, number_or}
 use Rattle.heap.specs.Place.{cell}

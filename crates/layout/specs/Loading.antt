@@ -3,7 +3,6 @@ use Rattle.std.specs.Prelude.{Bool, ◌&&◌, cond, List, [], ℕ, ◌+◌, ◌-
 use Rattle.std.proofs.Math.Seq.{paste}
 use Rattle.heap.specs.Place.{null}
 use Rattle.factrows.specs.Listed.{closed}
-use Rattle.factrows.specs.Rows.{no_facts}
 use Rattle.layout.specs.Entries.{version_of, facts_first, fact_bytes, links_end, links_inside, entry_end, is_whole}
 
 -- The most codes that an entry in range has, 8 of variables ahead of its first link and 12 of links from it on, are inside the buffer.

@@ -1,5 +1,4 @@
 -- Both cells equal themselves, then the rows of below change.
-use borrow.Author.Rules.{rules}
 use Rattle.factrows.proofs.add_below.Goals as goal
 
 pub returns : goal.returns

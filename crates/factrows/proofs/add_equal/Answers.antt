@@ -1,5 +1,4 @@
 -- The rows of below change, then those of equal.
-use borrow.Author.Rules.{rules}
 use Rattle.factrows.proofs.add_equal.Goals as goal
 
 pub returns : goal.returns

@@ -3,7 +3,6 @@ use mathlib.Core.Path.{refl}
 use native.Mathlib.Omega.{arith}
 use borrow.Author.Tests.{lt-ltb, le-ltb}
 use Rattle.factrows.proofs.Cases.{no_kind}
-use borrow.Author.Rules.{rules}
 use Rattle.factrows.proofs.add_fact.Goals as goal
 use Rattle.factrows.proofs.add_fact.Lts as lts
 use Rattle.factrows.proofs.add_fact.Reads as reads

@@ -1,7 +1,6 @@
 -- The cell itself, or a bit of its two rows.
 use mathlib.Core.Path.{refl}
 use borrow.Author.Tests.{eq-eqb, ne_eqb}
-use borrow.Author.Rules.{rules}
 use Rattle.factrows.proofs.at_most.Goals as goal
 
 pub returns-then-p-q : goal.returns-then-p-q

@@ -1,7 +1,6 @@
 -- By the test.
 use mathlib.Core.Path.{refl, sym, ◌∙◌}
 use Rattle.factrows.specs.Rows.{below_row}
-use borrow.Author.Rules.{rules}
 use Rattle.factrows.proofs.below_row.Goals as goal
 
 pub returns-then-is_on : goal.returns-then-is_on

@@ -1,10 +1,8 @@
 -- The rows of below before p are new.
 use mathlib.Core.Path.{◌∙◌}
-use Prim.Native.Nat.{◌-◌, ◌≤◌}
 use native.Mathlib.Omega.{arith}
 use Rattle.factrows.specs.Rows.{below_at}
-use Rattle.factrows.proofs.Turning.{Turned, turn_none, turn_more, turn_all, below_new, below_rest}
-use borrow.Author.Rules.{rules}
+use Rattle.factrows.proofs.Turning.{turn_none, turn_more, turn_all, below_new, below_rest}
 use Rattle.factrows.proofs.below_rows.Goals as goal
 use Rattle.factrows.proofs.below_rows.Lts as lts
 use Rattle.factrows.proofs.below_rows.Reads as reads
@@ -20,15 +18,15 @@ Start = lts.Start tie.the-claims reads.Pre reads.Post goal.the-invariant-loop-p 
 
 -- the beginning, from the loop
 abbrev begun : At-loop-p → Start
-begun c = c.before.before.before.before.before
+begun c = c.before.before.before.before
 
 pub loop-p-init : goal.loop-p-init
-loop-p-init c = let a = c.args in (omega arith, turn_none (below_at a.c a.d a.rows.now) a.rows.now 0 c.before.before.sized.ensures (λ j h. absurd (omega arith)))
+loop-p-init c = let a = c.args in (omega arith, turn_none (below_at a.c a.d a.rows.now) a.rows.now 0 c.sized.ensures (λ j h. absurd (omega arith)))
 
 pub loop-p-preserved : goal.loop-p-preserved
 loop-p-preserved c =
     let o = c.before.before.before.before in
-    let a = (begun o).args in
+    let a = (begun o.before).args in
     let at = o.loop-p in
     let l = a.rows.now in (
       omega arith,

@@ -1,10 +1,7 @@
 -- The rows of below before p are new.
-use mathlib.Core.Path.{◌∙◌}
 use Prim.Native.Nat.{◌-◌, ◌≤◌}
-use native.Mathlib.Omega.{arith}
 use Rattle.factrows.specs.Rows.{below_at}
-use Rattle.factrows.proofs.Turning.{Turned, turn_none, turn_more, turn_all, below_new, below_rest}
-use borrow.Author.Rules.{rules}
+use Rattle.factrows.proofs.Turning.{Turned}
 use Rattle.factrows.proofs.below_rows.Given as goal
 
 abbrev pub invariant-loop-p : goal.invariant-loop-p

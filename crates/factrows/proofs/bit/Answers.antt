@@ -1,6 +1,5 @@
 -- A one shifted is a power of two.
 use Rattle.factrows.proofs.Digits.{bit_fits}
-use borrow.Author.Rules.{rules}
 use Rattle.factrows.proofs.bit.Goals as goal
 
 pub returns : goal.returns

@@ -1,12 +1,10 @@
 -- Of the facts before i, those of cell p are there.
-use mathlib.Core.Path.{◌≡◌, refl, sym, ap, ◌∙◌}
-use Prim.Native.Nat.{ℕ, ◌-◌, ◌≤◌}
+use mathlib.Core.Path.{refl, sym, ap, ◌∙◌}
+use Prim.Native.Nat.{ℕ}
 use native.Mathlib.Omega.{arith}
-use borrow.Author.Tests.{not-true, not-false}
 use Rattle.lists.specs.Test.{all_from}
 use Rattle.lists.proofs.Test.{all_passed, all_failed, all_done}
 use Rattle.factrows.specs.Listed.{count, holds_for}
-use borrow.Author.Rules.{rules}
 use Rattle.factrows.proofs.cell_holds.Goals as goal
 use Rattle.factrows.proofs.cell_holds.Lts as lts
 use Rattle.factrows.proofs.cell_holds.Reads as reads

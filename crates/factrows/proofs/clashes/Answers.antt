@@ -3,7 +3,6 @@ use mathlib.Core.Path.{refl}
 use native.Mathlib.Omega.{arith}
 use borrow.Author.Tests.{lt-ltb, le-ltb}
 use Rattle.factrows.proofs.Cases.{no_clash}
-use borrow.Author.Rules.{rules}
 use Rattle.factrows.proofs.clashes.Goals as goal
 use Rattle.factrows.proofs.clashes.Lts as lts
 use Rattle.factrows.proofs.clashes.Reads as reads

@@ -1,7 +1,6 @@
 -- The rows of equal of the two, and their own bits.
 use mathlib.Core.Path.{refl}
 use Rattle.factrows.specs.Rows.{class_of}
-use borrow.Author.Rules.{rules}
 use Rattle.factrows.proofs.class_of.Goals as goal
 
 pub returns : goal.returns

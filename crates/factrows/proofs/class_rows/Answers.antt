@@ -1,10 +1,8 @@
 -- The rows of equal before j are new.
 use mathlib.Core.Path.{◌∙◌}
-use Prim.Native.Nat.{◌-◌, ◌≤◌}
 use native.Mathlib.Omega.{arith}
 use Rattle.factrows.specs.Rows.{class_at}
-use Rattle.factrows.proofs.Turning.{Turned, turn_none, turn_more, turn_all, class_first, class_new}
-use borrow.Author.Rules.{rules}
+use Rattle.factrows.proofs.Turning.{turn_none, turn_more, turn_all, class_first, class_new}
 use Rattle.factrows.proofs.class_rows.Goals as goal
 use Rattle.factrows.proofs.class_rows.Lts as lts
 use Rattle.factrows.proofs.class_rows.Reads as reads
@@ -31,7 +29,7 @@ loop-j-init c =
 pub loop-j-preserved : goal.loop-j-preserved
 loop-j-preserved c =
     let o = c.before.before.before in
-    let a = (begun o).args in
+    let a = (begun o.before).args in
     let at = o.loop-j in
     let l = a.rows.now in
     let t = at.invariant.1.1 in

@@ -1,10 +1,7 @@
 -- The rows of equal before j are new.
-use mathlib.Core.Path.{◌∙◌}
 use Prim.Native.Nat.{◌-◌, ◌≤◌}
-use native.Mathlib.Omega.{arith}
 use Rattle.factrows.specs.Rows.{class_at}
-use Rattle.factrows.proofs.Turning.{Turned, turn_none, turn_more, turn_all, class_first, class_new}
-use borrow.Author.Rules.{rules}
+use Rattle.factrows.proofs.Turning.{Turned}
 use Rattle.factrows.proofs.class_rows.Given as goal
 
 abbrev pub invariant-loop-j : goal.invariant-loop-j

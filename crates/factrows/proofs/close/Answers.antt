@@ -1,10 +1,8 @@
 -- The facts from i on are closed.
-use mathlib.Core.Path.{◌≡◌, ◌∙◌}
-use Prim.Native.Nat.{◌-◌, ◌≤◌}
+use mathlib.Core.Path.{◌∙◌}
 use native.Mathlib.Omega.{arith}
-use Rattle.factrows.specs.Listed.{count, closed_from}
+use Rattle.factrows.specs.Listed.{count}
 use Rattle.factrows.proofs.Cases.{closed_more, closed_none, closed_all}
-use borrow.Author.Rules.{rules}
 use Rattle.factrows.proofs.close.Goals as goal
 use Rattle.factrows.proofs.close.Lts as lts
 use Rattle.factrows.proofs.close.Reads as reads
@@ -41,7 +39,7 @@ loop-i-preserved c =
     let at = o.loop-i in (
       omega arith,
       c.add_fact.ensures
-          ∙ rw (v.wide.ensures.0, w.wide-in-loop-i.ensures.0, c.wide-in-loop-i-2.ensures.0, at.inv.1) (closed_more s (count s) at.i (omega arith) at.inv.0),
+          ∙ rw (v.wide.ensures.0, w.wide-in-loop-i.ensures.0, c.wide-in-loop-i-2.ensures.0, at.invariant.1) (closed_more s (count s) at.i (omega arith) at.invariant.0),
     )
 
 pub returns : goal.returns

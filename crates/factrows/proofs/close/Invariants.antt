@@ -1,10 +1,7 @@
 -- The facts from i on are closed.
-use mathlib.Core.Path.{◌≡◌, ◌∙◌}
+use mathlib.Core.Path.{◌≡◌}
 use Prim.Native.Nat.{◌-◌, ◌≤◌}
-use native.Mathlib.Omega.{arith}
 use Rattle.factrows.specs.Listed.{count, closed_from}
-use Rattle.factrows.proofs.Cases.{closed_more, closed_none, closed_all}
-use borrow.Author.Rules.{rules}
 use Rattle.factrows.proofs.close.Given as goal
 
 abbrev pub invariant-loop-i : goal.invariant-loop-i

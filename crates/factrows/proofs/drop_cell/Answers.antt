@@ -1,12 +1,11 @@
 -- The rows before j are without the digit of the cell; its own two are emptied at the end.
 use mathlib.Core.Path.{◌≡◌, refl, ap, ◌∙◌}
-use Prim.Native.Nat.{ℕ, ◌-◌, ◌≤◌, ◌<◌}
+use Prim.Native.Nat.{ℕ}
 use native.Mathlib.Omega.{arith}
 use borrow.Author.Tests.{lt-ltb, le-ltb}
 use lib.ListN.{get_or}
 use Rattle.factrows.specs.Rows.{off_row}
-use Rattle.factrows.proofs.Turning.{Turned, turn_none, turn_more, drop_set}
-use borrow.Author.Rules.{rules}
+use Rattle.factrows.proofs.Turning.{turn_none, turn_more, drop_set}
 use Rattle.factrows.proofs.drop_cell.Goals as goal
 use Rattle.factrows.proofs.drop_cell.Lts as lts
 use Rattle.factrows.proofs.drop_cell.Reads as reads
@@ -36,7 +35,7 @@ loop-j-init c =
 pub loop-j-preserved : goal.loop-j-preserved
 loop-j-preserved c =
     let o = c.before.before.before in
-    let a = (begun o).args in
+    let a = (begun o.before).args in
     let at = o.loop-j in
     let l = a.rows.now in
     let t = at.invariant.1.1 in
@@ -44,7 +43,7 @@ loop-j-preserved c =
 
 pub returns : goal.returns
 returns c =
-    let a = (begun c.before).args in
+    let a = (begun c.before.before).args in
     let at = c.loop-j in
     let end : at.j ≡ 28 = omega (arith, at.invariant.1.0) in
     rw (lt-ltb a.c 14 at.invariant.0) (drop_set a.c a.rows.now at.rows at.invariant.0 (rw end at at.invariant.1.1))

@@ -1,12 +1,8 @@
 -- The rows before j are without the digit of the cell; its own two are emptied at the end.
-use mathlib.Core.Path.{◌≡◌, refl, ap, ◌∙◌}
-use Prim.Native.Nat.{ℕ, ◌-◌, ◌≤◌, ◌<◌}
-use native.Mathlib.Omega.{arith}
-use borrow.Author.Tests.{lt-ltb, le-ltb}
+use Prim.Native.Nat.{◌-◌, ◌≤◌, ◌<◌}
 use lib.ListN.{get_or}
 use Rattle.factrows.specs.Rows.{off_row}
-use Rattle.factrows.proofs.Turning.{Turned, turn_none, turn_more, drop_set}
-use borrow.Author.Rules.{rules}
+use Rattle.factrows.proofs.Turning.{Turned}
 use Rattle.factrows.proofs.drop_cell.Given as goal
 
 abbrev pub invariant-loop-j : goal.invariant-loop-j

@@ -1,7 +1,6 @@
 -- By the two tests.
 use mathlib.Core.Path.{refl, sym, ◌∙◌}
 use Rattle.factrows.specs.Rows.{equal_row}
-use borrow.Author.Rules.{rules}
 use Rattle.factrows.proofs.equal_row.Goals as goal
 
 pub returns-then-is_either_on : goal.returns-then-is_either_on

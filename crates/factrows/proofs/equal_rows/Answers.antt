@@ -1,10 +1,8 @@
 -- The rows of below before p are new.
 use mathlib.Core.Path.{◌∙◌}
-use Prim.Native.Nat.{◌-◌, ◌≤◌}
 use native.Mathlib.Omega.{arith}
 use Rattle.factrows.specs.Rows.{equal_at}
-use Rattle.factrows.proofs.Turning.{Turned, turn_none, turn_more, turn_all, equal_new, equal_rest}
-use borrow.Author.Rules.{rules}
+use Rattle.factrows.proofs.Turning.{turn_none, turn_more, turn_all, equal_new, equal_rest}
 use Rattle.factrows.proofs.equal_rows.Goals as goal
 use Rattle.factrows.proofs.equal_rows.Lts as lts
 use Rattle.factrows.proofs.equal_rows.Reads as reads
@@ -23,24 +21,24 @@ Start = lts.Start tie.the-claims reads.Pre reads.Post goal.the-invariant-loop-p 
 
 -- the beginning, once class, over and some are known
 abbrev begun : After-some_of-some → Start
-begun c = c.before.before.before.before.before.before.before
+begun c = c.before.before.before.before.before
 
 -- where the class became known, once all three are
 abbrev classed : After-some_of-some → After-class_of-class
-classed c = c.before.before.before
+classed c = c.before.before
 
 pub loop-p-init : goal.loop-p-init
 loop-p-init c =
     let a = (begun c).args in
-    (omega arith, turn_none (equal_at a.c a.d a.rows.now) a.rows.now 0 (classed c).before.before.sized.ensures (λ j h. absurd (omega arith)))
+    (omega arith, turn_none (equal_at a.c a.d a.rows.now) a.rows.now 0 c.sized.ensures (λ j h. absurd (omega arith)))
 
 pub loop-p-preserved : goal.loop-p-preserved
 loop-p-preserved c =
     let o = c.before.before.before.before in
-    let a = (begun o).args in
+    let a = (begun o.before).args in
     let at = c.loop-p in
     let l = a.rows.now in
-    let class = (classed o).class_of-class in
+    let class = (classed o.before).class_of-class in
     let over = o.over_of-over in
     let some = o.some_of-some in (
       omega arith,

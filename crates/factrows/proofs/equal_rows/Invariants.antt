@@ -1,10 +1,7 @@
 -- The rows of below before p are new.
-use mathlib.Core.Path.{◌∙◌}
 use Prim.Native.Nat.{◌-◌, ◌≤◌}
-use native.Mathlib.Omega.{arith}
 use Rattle.factrows.specs.Rows.{equal_at}
-use Rattle.factrows.proofs.Turning.{Turned, turn_none, turn_more, turn_all, equal_new, equal_rest}
-use borrow.Author.Rules.{rules}
+use Rattle.factrows.proofs.Turning.{Turned}
 use Rattle.factrows.proofs.equal_rows.Given as goal
 
 abbrev pub invariant-loop-p : goal.invariant-loop-p

@@ -1,11 +1,7 @@
 -- The cells before p have no missing fact.
-use mathlib.Core.Path.{refl, sym, ◌∙◌}
 use Prim.Native.Nat.{◌-◌}
-use native.Mathlib.Omega.{arith}
-use borrow.Author.Tests.{not-true, not-false}
-use Rattle.lists.proofs.Lowest.{Passing, pass_none, pass_more, pass_failed, pass_all}
+use Rattle.lists.proofs.Lowest.{Passing}
 use Rattle.factrows.specs.Listed.{cell_holds}
-use borrow.Author.Rules.{rules}
 use Rattle.factrows.proofs.first_missing.Given as goal
 
 abbrev pub invariant-loop-p : goal.invariant-loop-p

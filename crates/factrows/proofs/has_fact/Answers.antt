@@ -2,7 +2,6 @@
 use mathlib.Core.Path.{refl}
 use native.Mathlib.Omega.{arith}
 use borrow.Author.Tests.{lt-ltb, le-ltb}
-use borrow.Author.Rules.{rules}
 use Rattle.factrows.proofs.has_fact.Goals as goal
 use Rattle.factrows.proofs.has_fact.Lts as lts
 use Rattle.factrows.proofs.has_fact.Reads as reads
@@ -27,10 +26,10 @@ pub returns-then-q-ge14 : goal.returns-then-q-ge14
 returns-then-q-ge14 c = let a = c.args in rw (lt-ltb a.p 14 (omega arith), le-ltb a.q 14 (omega arith)) refl
 
 pub returns-then-kind-eq0 : goal.returns-then-kind-eq0
-returns-then-kind-eq0 c = let a = (begun c.before.before.before.before).args in rw (lt-ltb a.p 14 (omega arith), lt-ltb a.q 14 (omega arith), c.if-kind-eq0.true) c.is_on.ensures
+returns-then-kind-eq0 c = let a = (begun c.before.before.before.before.before).args in rw (lt-ltb a.p 14 (omega arith), lt-ltb a.q 14 (omega arith), c.if-kind-eq0.true) c.is_on.ensures
 
 pub returns-then-kind-eq1 : goal.returns-then-kind-eq1
-returns-then-kind-eq1 c = let a = (begun c.before.before.before.before.before).args in rw (lt-ltb a.p 14 (omega arith), lt-ltb a.q 14 (omega arith), c.if-kind-eq1.true) c.is_on-then-kind-eq1.ensures
+returns-then-kind-eq1 c = let a = (begun c.before.before.before.before.before.before).args in rw (lt-ltb a.p 14 (omega arith), lt-ltb a.q 14 (omega arith), c.if-kind-eq1.true) c.is_on-then-kind-eq1.ensures
 
 pub returns : goal.returns
 returns c = let a = (begun c.before.before).args in rw (lt-ltb a.p 14 (omega arith), lt-ltb a.q 14 (omega arith), le-ltb a.kind 2 (omega arith)) refl

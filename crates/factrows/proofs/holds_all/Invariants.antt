@@ -1,12 +1,8 @@
 -- The facts before i are there.
-use mathlib.Core.Path.{◌≡◌, refl, sym, ap, ◌∙◌}
-use Prim.Native.Nat.{ℕ, ◌-◌, ◌≤◌}
-use native.Mathlib.Omega.{arith}
-use borrow.Author.Tests.{not-true, not-false}
+use mathlib.Core.Path.{◌≡◌}
+use Prim.Native.Nat.{◌-◌, ◌≤◌}
 use Rattle.lists.specs.Test.{all_from}
-use Rattle.lists.proofs.Test.{all_passed, all_failed, all_done}
 use Rattle.factrows.specs.Listed.{count, holds_at}
-use borrow.Author.Rules.{rules}
 use Rattle.factrows.proofs.holds_all.Given as goal
 
 abbrev pub invariant-loop-i : goal.invariant-loop-i

@@ -1,6 +1,5 @@
 -- The fact is looked for at the images.
 use mathlib.Core.Path.{refl, ◌∙◌}
-use borrow.Author.Rules.{rules}
 use Rattle.factrows.proofs.holds_at.Goals as goal
 
 pub returns : goal.returns

@@ -2,7 +2,6 @@
 use mathlib.Core.Path.{refl, sym, ◌∙◌}
 use borrow.Author.Tests.{eq-eqb, ne_eqb}
 use Rattle.factrows.specs.Listed.{left_at}
-use borrow.Author.Rules.{rules}
 use Rattle.factrows.proofs.holds_for.Goals as goal
 use Rattle.factrows.proofs.holds_for.Lts as lts
 use Rattle.factrows.proofs.holds_for.Reads as reads

@@ -2,7 +2,6 @@
 use mathlib.Core.Path.{refl}
 use native.Mathlib.Omega.{arith}
 use borrow.Author.Tests.{lt-ltb, le-ltb}
-use borrow.Author.Rules.{rules}
 use Rattle.factrows.proofs.image_cell.Goals as goal
 
 pub returns-then-p-ge12 : goal.returns-then-p-ge12

@@ -1,12 +1,8 @@
 -- The cells before p are passed.
-use mathlib.Core.Path.{◌≡◌, refl, sym, ap, ◌∙◌}
+use mathlib.Core.Path.{◌≡◌}
 use Prim.Native.Nat.{◌-◌, ◌≤◌}
-use native.Mathlib.Omega.{arith}
-use mathlib.Core.Bool.{not}
 use Rattle.lists.specs.Test.{all_from}
-use Rattle.lists.proofs.Test.{all_passed, all_failed, all_done}
 use Rattle.factrows.specs.Rows.{loose_at, is_consistent}
-use borrow.Author.Rules.{rules}
 use Rattle.factrows.proofs.is_consistent.Given as goal
 
 abbrev pub invariant-loop-p : goal.invariant-loop-p

@@ -1,6 +1,5 @@
 -- By the first bit.
 use mathlib.Core.Path.{sym, ◌∙◌}
-use borrow.Author.Rules.{rules}
 use Rattle.factrows.proofs.is_either_on.Goals as goal
 
 pub returns-then-is_on : goal.returns-then-is_on

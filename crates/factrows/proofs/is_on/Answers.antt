@@ -1,7 +1,6 @@
 -- The shifted row is odd.
 use mathlib.Core.Path.{refl}
 use Rattle.factrows.specs.Rows.{digit}
-use borrow.Author.Rules.{rules}
 use Rattle.factrows.proofs.is_on.Goals as goal
 
 pub returns : goal.returns

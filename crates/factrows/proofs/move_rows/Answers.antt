@@ -1,11 +1,10 @@
 -- The rows before j are moved; the last is emptied after the loop.
 use mathlib.Core.Path.{◌≡◌}
-use Prim.Native.Nat.{◌+◌, ◌-◌, ◌≤◌}
+use Prim.Native.Nat.{◌+◌}
 use native.Mathlib.Omega.{arith}
 use lib.ListN.{get_or}
 use Rattle.factrows.specs.Rows.{moved_at}
-use Rattle.factrows.proofs.Turning.{Turned, turn_none, turn_more, turn_all, moved_first, moved_new, moved_last, moved_rest}
-use borrow.Author.Rules.{rules}
+use Rattle.factrows.proofs.Turning.{turn_none, turn_more, turn_all, moved_first, moved_new, moved_last, moved_rest}
 use Rattle.factrows.proofs.move_rows.Goals as goal
 use Rattle.factrows.proofs.move_rows.Lts as lts
 use Rattle.factrows.proofs.move_rows.Reads as reads
@@ -32,7 +31,7 @@ loop-j-init c =
 pub loop-j-preserved : goal.loop-j-preserved
 loop-j-preserved c =
     let o = c.before.before in
-    let a = (begun o.before).args in
+    let a = (begun o.before.before).args in
     let at = o.loop-j in
     let l = a.rows.now in
     let t = at.invariant.1.1 in (
@@ -45,7 +44,7 @@ loop-j-preserved c =
 
 pub returns : goal.returns
 returns c =
-    let a = (begun c.before.before).args in
+    let a = (begun c.before.before.before).args in
     let at = c.loop-j in
     let l = a.rows.now in
     let f = moved_at a.first a.last l in

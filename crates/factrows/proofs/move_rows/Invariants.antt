@@ -1,11 +1,7 @@
 -- The rows before j are moved; the last is emptied after the loop.
-use mathlib.Core.Path.{◌≡◌}
-use Prim.Native.Nat.{◌+◌, ◌-◌, ◌≤◌}
-use native.Mathlib.Omega.{arith}
-use lib.ListN.{get_or}
+use Prim.Native.Nat.{◌-◌, ◌≤◌}
 use Rattle.factrows.specs.Rows.{moved_at}
-use Rattle.factrows.proofs.Turning.{Turned, turn_none, turn_more, turn_all, moved_first, moved_new, moved_last, moved_rest}
-use borrow.Author.Rules.{rules}
+use Rattle.factrows.proofs.Turning.{Turned}
 use Rattle.factrows.proofs.move_rows.Given as goal
 
 abbrev pub invariant-loop-j : goal.invariant-loop-j

@@ -1,7 +1,6 @@
 -- The bit is put on, then turned.
 use mathlib.Core.Path.{refl}
 use Rattle.factrows.specs.Rows.{off_row}
-use borrow.Author.Rules.{rules}
 use Rattle.factrows.proofs.off.Goals as goal
 
 pub returns : goal.returns

@@ -1,7 +1,6 @@
 -- The rows of below of the two.
 use mathlib.Core.Path.{refl}
 use Rattle.factrows.specs.Rows.{over_of}
-use borrow.Author.Rules.{rules}
 use Rattle.factrows.proofs.over_of.Goals as goal
 
 pub returns : goal.returns

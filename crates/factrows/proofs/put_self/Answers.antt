@@ -1,6 +1,5 @@
 -- One row is changed.
 use Rattle.factrows.proofs.Turning.{self_set}
-use borrow.Author.Rules.{rules}
 use Rattle.factrows.proofs.put_self.Goals as goal
 
 pub returns : goal.returns

@@ -2,7 +2,6 @@
 use mathlib.Core.Path.{refl}
 use native.Mathlib.Omega.{arith}
 use borrow.Author.Tests.{lt-ltb, le-ltb}
-use borrow.Author.Rules.{rules}
 use Rattle.factrows.proofs.remove_cell.Goals as goal
 use Rattle.factrows.proofs.remove_cell.Lts as lts
 use Rattle.factrows.proofs.remove_cell.Reads as reads

@@ -1,11 +1,10 @@
 -- The rows before j are shrunk.
 use mathlib.Core.Path.{ap, ◌∙◌}
-use Prim.Native.Nat.{ℕ, ◌-◌, ◌%◌, ◌≤◌}
+use Prim.Native.Nat.{ℕ, ◌%◌}
 use native.Mathlib.Omega.{arith}
 use lib.ListN.{get_or}
 use Rattle.factrows.specs.Rows.{shrink}
-use Rattle.factrows.proofs.Turning.{Turned, turn_none, turn_more, turn_all}
-use borrow.Author.Rules.{rules}
+use Rattle.factrows.proofs.Turning.{turn_none, turn_more, turn_all}
 use Rattle.factrows.proofs.shrink_rows.Goals as goal
 use Rattle.factrows.proofs.shrink_rows.Lts as lts
 use Rattle.factrows.proofs.shrink_rows.Reads as reads
@@ -32,7 +31,7 @@ loop-j-init c =
 pub loop-j-preserved : goal.loop-j-preserved
 loop-j-preserved c =
     let o = c.before.before.before in
-    let a = (begun o).args in
+    let a = (begun o.before).args in
     let at = o.loop-j in
     let l = a.rows.now in
     let t = at.invariant.1 in

@@ -1,11 +1,8 @@
 -- The rows before j are shrunk.
-use mathlib.Core.Path.{ap, ◌∙◌}
-use Prim.Native.Nat.{ℕ, ◌-◌, ◌%◌, ◌≤◌}
-use native.Mathlib.Omega.{arith}
+use Prim.Native.Nat.{◌-◌, ◌%◌, ◌≤◌}
 use lib.ListN.{get_or}
 use Rattle.factrows.specs.Rows.{shrink}
-use Rattle.factrows.proofs.Turning.{Turned, turn_none, turn_more, turn_all}
-use borrow.Author.Rules.{rules}
+use Rattle.factrows.proofs.Turning.{Turned}
 use Rattle.factrows.proofs.shrink_rows.Given as goal
 
 abbrev pub invariant-loop-j : goal.invariant-loop-j

@@ -6,7 +6,6 @@ use lib.Bits.{bit_or}
 use lib.Pow.{split}
 use Rattle.factrows.specs.Rows.{shrink}
 use Rattle.factrows.proofs.Shrinking.{high_fits, half_fits, low_part}
-use borrow.Author.Rules.{rules}
 use Rattle.factrows.proofs.shrunk.Goals as goal
 
 pub overflow_sub-result : goal.overflow_sub-result

@@ -1,7 +1,6 @@
 -- By the test.
 use mathlib.Core.Path.{refl, sym, ◌∙◌}
 use Rattle.factrows.specs.Rows.{some_of}
-use borrow.Author.Rules.{rules}
 use Rattle.factrows.proofs.some_of.Goals as goal
 
 pub returns-then-is_either_on : goal.returns-then-is_either_on

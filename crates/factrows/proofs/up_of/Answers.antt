@@ -1,7 +1,6 @@
 -- The two rows of the cell.
 use mathlib.Core.Path.{refl}
 use Rattle.factrows.specs.Rows.{up_of}
-use borrow.Author.Rules.{rules}
 use Rattle.factrows.proofs.up_of.Goals as goal
 
 pub returns : goal.returns
