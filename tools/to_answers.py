@@ -32,6 +32,56 @@ DIRECT = {"args": "args", "pre": "requires", "requires": "requires", "lifetimes"
 TEST = {"taken": "true", "left": "false"}
 
 
+def contracts():
+    """The names of the clauses of each function, by crate and name, for each kind of which it has several."""
+    found = {}
+    for crate in os.listdir("crates"):
+        for folder, _, files in os.walk(os.path.join("crates", crate, "src")):
+            for f in files:
+                text = re.sub(r"//[^\n]*", "", open(os.path.join(folder, f), encoding="utf-8").read()) if f.endswith(".rt") else ""
+                for m in re.finditer(r"\bfn (\w+)[^\n]*?(?:\n|\{)((?:.*\n)*?)(?=\{|\}|\s*(?:pub|fn)\b)", text):
+                    head = text[m.start() : text.find("\n{", m.start()) + 1 or len(text)]
+                    for kind in ("requires", "ensures"):
+                        some = re.findall(rf"(?m)^\s+{kind} (\w+) \{{", head)
+                        if len(some) > 1:
+                            found.setdefault((crate, m[1], kind), some)
+    return found
+
+
+CLAUSES = {}
+
+
+def clauses(path, kind):
+    parts = path.split("::")
+    return CLAUSES.get((parts[0], parts[-1], kind))
+
+
+def as_record(text, labels):
+    """Facts that were a tuple are a record by the clauses' names today."""
+    end = text.rstrip()
+    if not labels or not end.endswith(")"):
+        return text
+    deep, k = 0, len(end) - 1
+    while k >= 0:
+        deep += (end[k] in ")]}") - (end[k] in "([{")
+        if not deep:
+            break
+        k -= 1
+    parts, deep, part = [], 0, ""
+    for ch in end[k + 1 : -1]:
+        deep += (ch in "([{") - (ch in ")]}")
+        if ch == "," and not deep:
+            parts.append(part)
+            part = ""
+        else:
+            part += ch
+    if part.strip():
+        parts.append(part)
+    if len(parts) != len(labels):
+        return text
+    return end[:k] + "(record { " + "; ".join(f"{n} = {p.strip()}" for n, p in zip(labels, parts)) + " })\n"
+
+
 def name_of(first):
     m = re.match(rf"(?:(?:abbrev|pub|unfoldable) )*({W}) :", first)
     return m[1] if m else None
@@ -145,8 +195,8 @@ class Places:
 
 
 class Function:
-    def __init__(self, names, folder, text, own):
-        self.names, self.own = names, own
+    def __init__(self, names, folder, text, own, path):
+        self.names, self.own, self.path_of = names, own, path
         self.places = Places(names, folder)
         self.head, self.uses, self.decls = parse(text)
         self.loops = {plain(l[0][0]): (l, c) for l, c in zip(names["loops"], names["changed"])}
@@ -171,6 +221,12 @@ class Function:
                 if re.search(r"(^if-|-test$)", self.places.field.get(place) or ""):
                     p = TEST.get(p, p)
                 p = {"inv": "invariant", "last": "new"}.get(p, p)
+                if p == "ensures" and self.places.callee.get(place) and len(parts) > 1 and parts[1].isdigit():
+                    some = clauses(self.places.callee[place], "ensures")
+                    if some and int(parts[1]) < len(some):
+                        out += ["ensures", some[int(parts[1])]]
+                        i = 2
+                        continue
                 if p == "new" and self.places.callee.get(place):
                     params = self.names["params"].get(self.places.callee[place])
                     k, n = i + 1, 0
@@ -196,6 +252,10 @@ class Function:
         if not parts:
             n, to, left = P.climb(place, d)
             return base + ".before" * (n + (wrap if n or view else 0)), (to, left, False)
+        if parts[0] in ("pre", "requires") and len(parts) > 1 and parts[1].isdigit():
+            some = clauses(self.path_of, "requires")
+            if some and int(parts[1]) < len(some):
+                parts = ["requires", some[int(parts[1])]] + parts[2:]
         if parts[0] in DIRECT:
             if parts[0] in ("args", "ranges") and len(parts) > 1 and parts[1] in self.renamed:
                 parts = [parts[0], self.renamed[parts[1]]] + parts[2:]
@@ -238,6 +298,12 @@ class Function:
 
     def turn(self, text, env):
         env = dict(env)
+        # A pattern for several clauses, part by part.
+        text = re.sub(
+            rf"\blet \(([^()=]*)\) = ((?:{VAR}|\([^()]*\))(?:{FIELDS})?\.(?:ensures|requires|pre)) in\b",
+            lambda m: " ".join(f"let {n.strip()} = {m[2]}.{k} in" for k, n in enumerate(m[1].split(",")) if n.strip() != "_"),
+            text,
+        )
         for m in re.finditer(rf"\(((?:{VAR} )+): tie\.({W})\)", text):
             raw = self.places.by_plain.get(plain(m[2]))
             env.update({n: (*raw, False) for n in m[1].split() if raw and n not in env})
@@ -305,6 +371,14 @@ class Function:
             return text
         some = "|".join(sorted(map(re.escape, args), key=len, reverse=True))
         return re.sub(rf"(tie\.{W})((?:(?: +|\n +)(?:{some})(?![\w'-]))+)", r"\1", text)
+
+    def callee_of(self, label, place):
+        """The function whose call a goal is about."""
+        name = step(re.sub(r"-requires.*$", "", label))
+        for raw, callee in self.places.callee.items():
+            if callee and self.places.parent.get(raw) == place and step(callee.split("::")[-1]) == re.sub(r"\d+$", "", name):
+                return callee
+        return None
 
     def binders(self, signature):
         """The places of the arguments of a helper, by position, with their names if they have some."""
@@ -456,13 +530,19 @@ class Function:
                 if re.fullmatch(rf"{re.escape(name)}(?: {W})* =\s*search (?:rules|needs)\s*", body):
                     continue
                 body = re.sub(rf"(?m)^{re.escape(name)}((?: {W})*?)(?: κs)? =", rf"{name}\1 =", body)
-                clauses = []
+                turned = []
                 for part in re.split(rf"(?m)^(?={re.escape(name)}(?:\s|$))", body):
                     head, eq, rest = part.partition(" =")
                     words = head.split()
                     env = {words[1]: (place[name], 0, True)} if len(words) > 1 and re.fullmatch(VAR, words[1]) else {}
-                    clauses.append(named(head) + eq + self.turn(named(rest), env))
-                answers.append(note + f"pub {goal[name]} : goal.{goal[name]}\n" + "".join(clauses))
+                    rest = self.turn(named(rest), env)
+                    new, callee = goal[name], self.callee_of(kinds[name][1], place[name])
+                    if new.startswith("returns"):
+                        rest = as_record(rest, clauses(self.path_of, "ensures"))
+                    elif "-requires" in new and callee:
+                        rest = as_record(rest, clauses(callee, "requires"))
+                    turned.append(named(head) + eq + rest)
+                answers.append(note + f"pub {goal[name]} : goal.{goal[name]}\n" + "".join(turned).rstrip())
             elif name:
                 answers.append(note + self.helper(named(text).split("\n")))
             else:
@@ -486,6 +566,7 @@ def main(argv):
     crate, only = argv[0].rstrip("/").split("/")[-1], argv[1:]
     where = os.path.join("crates", crate)
     proofs = os.path.join(where, "proofs")
+    CLAUSES.update(contracts())
     top = tempfile.mkdtemp()
     old = os.path.join(top, "old")
     said = run("rt", "check", "--generated", old, "--old-names", where=where)
@@ -513,7 +594,7 @@ def main(argv):
             os.rename(kept, path)
             continue
         own = f"Rattle.{crate}.proofs.{f.replace('/', '.')}"
-        function = Function(names[key], folder, open(kept, encoding="utf-8").read(), own)
+        function = Function(names[key], folder, open(kept, encoding="utf-8").read(), own, f"{crate}::" + f.replace("/", "::"))
         got = function.turned()
         if isinstance(got, str):
             print(f"by hand: {path}: {got}")
