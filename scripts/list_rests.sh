@@ -15,7 +15,7 @@ none() {
 }
 
 mapfile -t proofs < <(find crates/blocklist crates/list_calls -name '*.antt')
-none "a proof of the stepper is cited" 'Rattle·(stepper|kinds)[^ ]*\.proofs' "${proofs[@]}"
+none "a proof of the stepper is cited" 'Rattle\.(stepper|kinds)\.proofs' "${proofs[@]}"
 none "a heap is made, or a part of one is written" 'Heap64 \{|\.(variables|vars|used|links|values)(\[[^]]*\])? = ' crates/blocklist/src/lib.rt crates/list_calls/src/lib.rt
 none "the list stands on another crate than these" '^blocklist: .*' <(sed 's/^blocklist: lists heap place stepper$//' crates.txt)
-none "the calls stand on the checker" '^list_calls:.* (jobreader|verdict|reader|checker|covering|format)( |$)' crates.txt
+none "the calls stand on the checker" '^list_calls staticlib:.* (jobreader|verdict|reader|checker|covering|format)( |$)' crates.txt

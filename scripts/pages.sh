@@ -4,7 +4,7 @@ set -euo pipefail
 cd "$(dirname "$0")/.."
 
 missing=0
-for crate in $(sed -nE 's/^([a-z_]+):.*/\1/p' crates.txt); do
+for crate in $(sed -nE 's/^([a-z_]+)( staticlib)?:.*/\1/p' crates.txt); do
     grep -qE "^\| .*\`$crate\`" docs/MAP.md || { echo "docs/MAP.md has no line for $crate" >&2; missing=1; }
     grep -qE "^\| $crate \|" docs/PROOF.md || { echo "docs/PROOF.md has no size of $crate" >&2; missing=1; }
 done

@@ -8,8 +8,8 @@ if [ ! -d "$folder" ]; then
     exit 2
 fi
 cd "$(dirname "$0")/.."
-scripts/progress.sh release build/release.log rt check release
-program=$PWD/target/bin/release
+scripts/progress.sh release build/release.log rt run
+program=$PWD/crates/release/out/release
 
 cd "$folder"
 pairs=()

@@ -2,7 +2,9 @@
 # The release program and `make release`: the lines of the verdicts are those of the bench program, the sheet is the last line, files that are missing count as empty.
 set -euo pipefail
 cd "$(dirname "$0")/.."
-release=$PWD/target/bin/release judge=$PWD/target/bin/judge
+scripts/progress.sh judge build/run.log rt run
+scripts/progress.sh release build/release.log rt run
+release=$PWD/crates/release/out/release judge=$PWD/crates/judge/out/judge
 rm -rf build/release
 mkdir -p build/release/folder/sample build/release/folder/without build/release/none
 cp -r crates/release/data/p1 crates/release/data/p2 build/release/folder

@@ -2,6 +2,6 @@
 # Proves and builds the bench program, if that is not done yet, and runs it on its sample: a routine that reverses a list.
 set -euo pipefail
 cd "$(dirname "$0")/.."
-scripts/progress.sh judge build/run.log rt check judge
+scripts/progress.sh judge build/run.log rt run
 cd crates/judge/data
-../../../target/bin/judge
+../out/judge

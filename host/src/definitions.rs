@@ -80,6 +80,11 @@ fn crates() -> PathBuf {
     Path::new(env!("CARGO_MANIFEST_DIR")).join("../crates")
 }
 
+/// Not a library of the kit.
+fn is_crate(folder: &str) -> bool {
+    crates().join(folder).is_dir()
+}
+
 fn read(file: &str) -> Result<Module, String> {
     let path = crates().join(file);
     let text = fs::read_to_string(&path).map_err(|error| format!("{file}: {error}"))?;
@@ -93,16 +98,16 @@ fn read(file: &str) -> Result<Module, String> {
 
 /// The project's names that a `use` line brings in, with their places.
 fn import(line: &str) -> Option<Vec<(String, Place)>> {
-    let (path, names) = line.strip_prefix("use Rattle·")?.split_once(".{")?;
-    let mut parts = path.split(['.', '·']).filter(|part| *part != "specs");
-    let folder = parts.next()?;
+    let (path, names) = line.strip_prefix("use Rattle.")?.split_once(".{")?;
+    let mut parts = path.split('.').filter(|part| *part != "specs");
+    let folder = parts.next().filter(|folder| is_crate(folder))?;
     let modules: Vec<&str> = parts.collect();
     let names = names.trim_end_matches('}').split(", ").map(|name| {
         let (name, here) = name.split_once(" as ").unwrap_or((name, name));
         (word(here), word(name))
     });
     let place = |name: String| match modules[..] {
-        ["declared", .., declared] if declared != "the-variants" => {
+        ["declared", .., declared] if declared != "TheVariants" => {
             (declaring(folder, declared), declared.to_string())
         }
         ["declared", .., declared, _] => (declaring(folder, declared), declared.to_string()),
@@ -143,10 +148,10 @@ fn declarations(text: &str) -> Module {
     }
 }
 
-/// Neither a comment nor an import.
+/// Neither a comment nor an import, nor an attribute of the code.
 fn is_said(line: &str) -> bool {
     let line = line.trim();
-    let left_out = ["--", "//", "use ", "ghost use "];
+    let left_out = ["--", "//", "use ", "ghost use ", "#["];
     !line.is_empty() && !left_out.iter().any(|start| line.starts_with(start))
 }
 
@@ -174,16 +179,18 @@ fn block(part: &str) -> Option<Block> {
 
 /// An operator without the places of its operands.
 fn word(name: &str) -> String {
-    match name.trim_matches('_') {
+    match name.trim_matches('◌') {
         "" => name.to_string(),
         operator => operator.to_string(),
     }
 }
 
-/// All words of some lines. `do` stands for the operators that it means.
+/// All words of some lines, of `r.f` the one before the dot. `do` stands for the operators that it
+/// means.
 fn words(lines: &[&str]) -> BTreeSet<String> {
     let separate = |c: char| c.is_whitespace() || "(){};,[]|".contains(c);
     let words = lines.iter().flat_map(|line| line.split(separate));
+    let words = words.filter_map(|word| word.split('.').next());
     let mut words: BTreeSet<String> = words.filter(|word| !word.is_empty()).map(word).collect();
     if words.contains("do") {
         words.extend([">>=", ">>"].map(str::to_string));

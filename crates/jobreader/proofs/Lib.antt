@@ -1,3 +1,2 @@
 pub mod PreambleNumbers
-pub mod Readers
 pub mod OneNumber

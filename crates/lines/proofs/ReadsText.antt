@@ -3,15 +3,13 @@ use mathlib.Core.Bool.{Bool, true, false, ◌&&◌, cond}
 use mathlib.Core.List.{List, [], ◌∷◌, ◌++◌, append-nil, append_assoc}
 use mathlib.Core.Path.{◌≡◌, refl, sym, ap, ap₂, ◌∙◌, subst}
 use Prim.Native.Nat.{ℕ, zero, suc, ◌+◌, ◌-◌, ◌*◌, ◌/◌, ◌%◌, ◌≤◌, ◌<◌, min}
-use native.Mathlib.Decide.{dec_lt}
-use native.Mathlib.Nat.{mod-lt, div-add-mod'}
 use native.Mathlib.Omega.{arith}
-use borrow.Author.Tests.{leb-true, leb-false, eqb-true, ne_eqb, lt-ltb, le-ltb, le-leb}
+use borrow.Author.Tests.{leb-true, eqb-true, ne_eqb, lt-ltb, le-ltb, le-leb}
 use lib.Dec.{eqb, leb, ltb}
 use lib.ListN.{length, get_or, drop, drop_of_length-le}
 use Rattle.lists.specs.List.{absent}
 use Rattle.lists.proofs.Test.{and_left, and_right}
-use Rattle.kinds.specs.Kinds.{most_b_of, allowed}
+use Rattle.kinds.specs.Kinds.{allowed}
 use Rattle.lists.proofs.List.{end as no_row, ◌&◌}
 use Rattle.heap.proofs.Rows.{by_kind}
 use Rattle.lines.specs.Words.{null, any, end, while, if, mark, equals, differs, gets, next, next_gets, new, delete, close, starts, is_word}
@@ -20,7 +18,7 @@ use Rattle.lines.specs.declared.Operand.{Operand}
 use Rattle.lines.specs.declared.Operation.{Operation}
 use Rattle.lines.specs.declared.Line.{Line}
 use Rattle.lines.specs.declared.Line.TheVariants.{Perform, While, If, End, Mark, Other}
-use Rattle.lines.proofs.TextReads.{Operands, operands, operation_operands}
+use Rattle.lines.proofs.TextReads.{operands, operation_operands}
 
 -- the line, unless it is outside the grammar, is of the grammar and has this text
 abbrev Told : List ℕ → Line → Type 0

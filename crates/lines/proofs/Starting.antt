@@ -1,7 +1,6 @@
 -- What a word at the front of bytes says of the bytes, and the test of it byte by byte.
 use mathlib.Core.Bool.{Bool, true, false, ◌&&◌}
 use mathlib.Core.List.{List, [], ◌∷◌}
-use mathlib.Core.Logic.{⊎_elim}
 use mathlib.Core.Path.{◌≡◌, refl, ap₂}
 use Prim.Native.Nat.{ℕ, suc, ◌+◌, ◌-◌, ◌≤◌, ◌<◌, min}
 use native.Mathlib.Numerals.{add-one}
@@ -13,9 +12,6 @@ use lib.Seq.{drop-cons, take_all}
 use Rattle.lists.proofs.Test.{and_right}
 use Rattle.lines.specs.Words.{starts}
 use Rattle.lines.specs.Line.{letter_of, opens, opens_line}
-use denote.Enum.Declared.{tag_of}
-use types.Run.{OneOf}
-use Rattle.lines.specs.contracts.Line.{the_type}
 use Rattle.lines.specs.declared.Line.{Line}
 use Rattle.lines.specs.declared.Line.TheVariants.{Perform, While, If, End, Mark, Other}
 use Rattle.lines.specs.declared.Operation.{Operation}
@@ -72,9 +68,8 @@ module _ (loops : Bool) where
   pub test_left : (o : Operation) → 2 < o.kind → Other ≡ opens_line loops (Perform o)
   test_left o h = simp (lt-leb o.kind 2 h)
 
-  pub no_operation : (l : Line) → OneOf (1 ∷ 2 ∷ 3 ∷ 4 ∷ 5 ∷ []) (tag_of the_type l) → Other ≡ opens_line loops l
-  no_operation (Perform o) k =
-      ⊎_elim (λ w. absurd (omega arith)) (⊎_elim (λ w. absurd (omega arith)) (⊎_elim (λ w. absurd (omega arith)) (⊎_elim (λ w. absurd (omega arith)) (λ w. absurd (omega arith))))) k
+  pub no_operation : (l : Line) → ((o : Operation) → l ≡ Perform o → ⊥) → Other ≡ opens_line loops l
+  no_operation (Perform o) k = absurd (k o refl)
   no_operation (While t) k = refl
   no_operation (If t) k = refl
   no_operation End k = refl

@@ -15,14 +15,13 @@ use Rattle.lists.specs.Range.{range}
 use Rattle.lists.proofs.List.{keep_mem, concat_map_mem}
 use Rattle.lists.proofs.Test.{and_left}
 use Rattle.heap.specs.Place.{nowhere, null, dangling, cell}
-use Rattle.shape.specs.Placing.{place, placed_from}
+use Rattle.shape.specs.Placing.{place}
 use Rattle.shape.specs.Shape.{Shape, var_at, size}
 use Rattle.shape.proofs.Laws.{var_set_same, var_set_other}
 use Rattle.shape.proofs.PlacingByNumber.{choice, choices_from, choice_from, place_by_number}
 use Rattle.backward.specs.Predecessors.{retain}
 use Rattle.placing.specs.Choice.{chosen, choice_of, exists, opened, made}
 use Rattle.placing.specs.Retained.{link_open, retained, retained_in}
-use Rattle.placing.proofs.Lists.{concat_map_none}
 
 pub choice_made : (v : ℕ) (s : Shape) (k : ℕ) → choice v s k ≡ keep (exists s.links k) (made v s k)
 unfolding exists made chosen opened

@@ -2,70 +2,91 @@
 // sheet as its last line.
 #![tactic(auto)]
 
-use libc::{STDERR_FILENO, STDOUT_FILENO};
+ghost use Rattle.std.specs.Prelude.{◌≡◌, ◌≤◌, length, take, IfOk};
+
 use loading::load;
 use sheet::report;
-use tally::{Taken, Tally, added};
+use std::env::FillError;
+use std::io;
+use std::rt::{Env, Files};
+use tally::{Tally, added};
 use telling::put_line;
 use verdict::Verdict;
 
+// How many arguments there are, the program's name among them: each is there up to the first that is not.
+fn argument_count(rt: &impl Env) -> usize {
+    let mut start = [0u8; 1];
+    for i in 0..usize::MAX {
+        if let Err(FillError::NotPresent) = rt.arg(i, &mut start) {
+            return i;
+        }
+    }
+    usize::MAX
+}
+
+// Puts an argument at the start of a buffer and gives its length, or 0 where it is missing or longer than the buffer. One that isn't
+// UTF-8 is an error, as in `std::env::args`: no file of that name can be opened by std.
+fn argument(rt: &impl Env, i: usize, name: &mut [u8]) -> io::Result<usize>
+    ensures in_buffer { IfOk result (λ n. (n ≤ length name.new) × (n ≡ length (take n name.new))) }
+{
+    let n = rt.arg(i, name).unwrap_or(0);
+    match str::from_utf8(&name[..n]) {
+        Ok(_) => Ok(n),
+        Err(_) => Err(io::Error::from(io::ErrorKind::InvalidData)),
+    }
+}
+
 // The verdict on the pair of files that two arguments name, the job's and then the certificate's, printed with the job's name.
-fn judge_pair(job_argument: usize, certificate_argument: usize) -> Verdict {
-    let mut name = io::buffer();
+fn judge_pair(
+    rt: &(impl Env + Files + Print),
+    job_argument: usize,
+    certificate_argument: usize,
+) -> io::Result<Verdict> {
+    let mut name = [0u8; 4096];
     let mut job = [0u8; 65537];
     let mut cert = [0u8; 65537];
     let mut line = [0u8; 128];
-    let certificate_named = os::arg(certificate_argument, &mut name);
-    let c = load(&name[..certificate_named], &mut cert);
-    let named = os::arg(job_argument, &mut name);
-    let j = load(&name[..named], &mut job);
+    let certificate_named = argument(rt, certificate_argument, &mut name)?;
+    let c = load(rt, &name[..certificate_named], &mut cert);
+    let named = argument(rt, job_argument, &mut name)?;
+    let j = load(rt, &name[..named], &mut job);
     let judged = checker::check(&job[..j], &cert[..c]);
     let length = put_line(judged, &mut line);
-    let n = io::count(length as isize, &line);
-    io::write_all(STDOUT_FILENO, &name[..named]);
-    io::write_all(STDOUT_FILENO, b": ");
-    io::write_all(STDOUT_FILENO, &line[..n]);
-    io::write_all(STDOUT_FILENO, b"\n");
-    judged
+    rt.write_all(&name[..named])?;
+    rt.write_all(b": ")?;
+    rt.write_all(&line[..length])?;
+    rt.write_all(b"\n")?;
+    Ok(judged)
 }
 
 // The tally after a verdict, or the same where it is full, which is told.
-fn taken_in(tally: Tally, judged: Verdict) -> Tally {
+fn taken_in(rt: &impl Eprint, tally: Tally, judged: Verdict) -> io::Result<Tally> {
     let taken = added(tally, judged);
     if taken.number != 0 {
-        io::write_all(
-            STDERR_FILENO,
-            b"the tally is full: this verdict is not in it\n",
-        );
+        eprintln!(rt; "the tally is full: this verdict is not in it")?;
     }
-    taken.tally
+    Ok(taken.tally)
 }
 
 // Prints the release sheet.
-fn print_sheet(tally: Tally) {
+fn print_sheet(rt: &impl Print, tally: Tally) -> io::Result<()> {
     let mut text = [0u8; 56];
     let reported = report(tally.verdicts, tally.accepted, tally.covers, &mut text);
-    let length = io::count(reported.length as isize, &text);
-    io::write_all(STDOUT_FILENO, &text[..length]);
-    io::write_all(STDOUT_FILENO, b"\n");
+    rt.write_all(&text[..reported.length])?;
+    rt.write_all(b"\n")
 }
 
 // Judges each pair that the arguments name.
-fn main() {
-    let arguments = os::arg_count();
+fn main(rt: HostRuntime) -> io::Result<()> {
+    let arguments = argument_count(&rt);
     if arguments < 3 || arguments % 2 == 0 {
-        io::write_all(
-            STDERR_FILENO,
-            b"usage: release JOB CERTIFICATE [JOB CERTIFICATE ...]\n",
-        );
-        return;
+        return eprintln!(&rt; "usage: release JOB CERTIFICATE [JOB CERTIFICATE ...]");
     }
     let mut tally = tally::begin();
     let pairs = arguments / 2;
-    let mut i = 0;
-    while i < pairs {
-        tally = taken_in(tally, judge_pair(2 * i + 1, 2 * i + 2));
-        i += 1;
+    for i in 0..pairs {
+        let judged = judge_pair(&rt, 2 * i + 1, 2 * i + 2)?;
+        tally = taken_in(&rt, tally, judged)?;
     }
-    print_sheet(tally);
+    print_sheet(&rt, tally)
 }

@@ -1,40 +1,23 @@
 -- Kinds 6 and 7: the shapes before, by their cases, are all that were before.
 use mathlib.Core.Bool.{Bool, true, false, cond}
-use mathlib.Core.List.{List, [], ◌∷◌, ◌++◌}
+use mathlib.Core.List.{List, [], ◌∷◌}
 use mathlib.Core.Logic.{◌≢◌}
-use mathlib.Core.Path.{◌≡◌, refl, sym, ap, ◌∙◌}
-use Prim.Native.Nat.{ℕ, suc, ◌+◌, ◌-◌, ◌≤◌, ◌<◌}
+use mathlib.Core.Path.{◌≡◌, refl, sym}
+use Prim.Native.Nat.{ℕ, ◌+◌, ◌-◌, ◌≤◌, ◌<◌}
 use native.Mathlib.Decide.{ℕ_discrete, dec_lt}
 use native.Mathlib.Omega.{arith}
-use borrow.Author.Tests.{lt-ltb, le-ltb, le-leb, lt-leb, eq-eqb, ne_eqb}
-use lib.Seq.{set-get_or}
-use Rattle.lists.specs.Range.{range}
-use Rattle.lists.proofs.List.{range_append, concat_map_append, concat_map_range}
-use Rattle.heap.specs.Operation.{new, delete, kind_of}
+use borrow.Author.Tests.{lt-ltb, le-leb, lt-leb}
+use Rattle.lists.proofs.List.{concat_map_range}
+use Rattle.heap.specs.Operation.{delete}
 use Rattle.heap.specs.Place.{nowhere, null, dangling}
 use Rattle.shape.specs.Shape.{Shape}
 use Rattle.backward.specs.Predecessors as backward
 use Rattle.layout.specs.ShapeArray.{cell_count, operand_at, shape_in, ShapeArray}
-use Rattle.layout.specs.Transitions.{op_of}
 use Rattle.placing.proofs.Ranges.{stretch}
-use Rattle.shapes.specs.Change.{
-  set_operand,
-  array_restored,
-  case_count,
-  array_by_case,
-  cases_of_new,
-  cases_of_delete,
-  cases_of,
-  operand_forgotten,
-  array_prepared,
-  is_before,
-  array_before,
-  before_by_case,
-}
+use Rattle.shapes.specs.Change.{set_operand, array_restored, case_count, array_by_case, cases_of_delete, operand_forgotten, array_prepared, is_before, array_before, before_by_case}
 use Rattle.shapes.specs.Without.{without}
 use Rattle.shapes.specs.declared.Cases.{Cases}
 use Rattle.shapes.proofs.Free.{by_array, Restorable, restorable, not_restorable}
-use Rattle.shapes.proofs.Remove.{new_nowhere, new_none, new_cell}
 use Rattle.shapes.proofs.Restored.{array_restored_lem, delete_some, delete_none}
 use Rattle.shapes.proofs.Slots.{count_operand, array_operand}
 

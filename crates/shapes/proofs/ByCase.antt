@@ -80,8 +80,11 @@ module _ (c n k p : ℕ) (ps : List ℕ) where
 
 pub length_by_case : (c n k : ℕ) (l : List ℕ) → length (vars_by_case c n k l) ≡ length l
 unfolding vars_by_case
-length_by_case c n k [] = refl
-length_by_case c n k (p ∷ ps) = ap suc (length_by_case c _ _ ps)
+length_by_case c n k l = long l n k
+  where
+    long : (l : List ℕ) (n k : ℕ) → length (vars_by_case c n k l) ≡ length l
+    long [] n k = refl
+    long (p ∷ ps) n k = ap suc (long ps _ _)
 
 -- ---- a loop over the variables: those before the i-th of v stand by their case, and the others are to follow
 

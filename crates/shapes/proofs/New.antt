@@ -93,6 +93,7 @@ at_end [] x = refl
 at_end (y ∷ ys) x = at_end ys x
 
 below_more : (c : ℕ) (l : List ℕ) → 0 < c → AllBelow c l → AllBelow c (l ++ (nowhere ∷ []))
+below_more c [] z b y (Memᴰ.tail m) = elim m [ ]
 below_more c [] z b y (Memᴰ.head e) = rw e z
 below_more c (x ∷ xs) z b y (Memᴰ.head e) = b y (Memᴰ.head e)
 below_more c (x ∷ xs) z b y (Memᴰ.tail m) = below_more c xs z (λ y m. b y (Memᴰ.tail m)) y m

@@ -1,13 +1,9 @@
 -- The call's promise, by its outcome.
 use mathlib.Core.Bool.{Bool, true, false}
-use mathlib.Core.List.{List, [], ◌∷◌}
-use mathlib.Core.Logic.{⊎_elim}
+use mathlib.Core.List.{List}
 use mathlib.Core.Path.{◌≡◌, refl, subst}
 use Prim.Native.Nat.{ℕ}
 use native.Mathlib.Omega.{arith}
-use denote.Enum.Declared.{tag_of}
-use types.Run.{OneOf}
-use Rattle.stepper.specs.contracts.Outcome.{the_type}
 use Rattle.stepper.specs.Step.{outcome_code, Steps}
 use Rattle.stepper.specs.declared.Heap64.{Heap64}
 use Rattle.stepper.specs.declared.Outcome.{Outcome}
@@ -29,9 +25,9 @@ module _ (bytes values : List ℕ) (kind a b value : ℕ) where
         }
 
 -- an outcome other than the first, moved, leaves the bytes and the numbers
-pub left : (o : Outcome) → OneOf (1 ∷ 2 ∷ []) (tag_of the_type o) → (t : Heap64) (bytes values : List ℕ)
+pub left : (o : Outcome) → (o ≡ Moved → ⊥) → (t : Heap64) (bytes values : List ℕ)
     → (bytes ≡ bytes_after o t bytes) × (values ≡ values_after o t values)
-left Moved k t bytes values = ⊎_elim (λ w. absurd (omega arith)) (λ w. absurd (omega arith)) k
+left Moved k t bytes values = absurd (k refl)
 left Blocked k t bytes values = (refl, refl)
 left (Refused r) k t bytes values = (refl, refl)
 

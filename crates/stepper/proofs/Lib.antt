@@ -7,5 +7,4 @@ pub mod Perform
 pub mod Values
 pub mod Steps
 pub mod InPlace
-pub mod Outcomes
 pub mod Turns

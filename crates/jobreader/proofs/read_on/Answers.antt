@@ -3,7 +3,6 @@ use mathlib.Core.Path.{sym, ◌∙◌}
 use native.Mathlib.Omega.{arith}
 use Rattle.format.specs.Parser.{job_buffer, ranged}
 use Rattle.jobreader.proofs.OneNumber.{refused_before, unread, outside, value}
-use borrow.Author.Rules.{rules}
 use Rattle.jobreader.proofs.read_on.Goals as goal
 use Rattle.jobreader.proofs.read_on.Lts as lts
 use Rattle.jobreader.proofs.read_on.Reads as reads

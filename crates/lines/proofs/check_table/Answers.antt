@@ -1,7 +1,6 @@
 -- As the table of kinds says.
 use mathlib.Core.Path.{sym, ◌∙◌}
 use Rattle.lines.specs.Line.{checked}
-use borrow.Author.Rules.{rules}
 use Rattle.lines.proofs.check_table.Goals as goal
 
 pub returns-then-allows : goal.returns-then-allows

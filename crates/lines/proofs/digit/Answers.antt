@@ -2,7 +2,6 @@
 use native.Mathlib.Omega.{arith}
 use borrow.Author.Tests.{le-leb, lt-leb}
 use Rattle.lines.specs.Line.{digit_of}
-use borrow.Author.Rules.{rules}
 use Rattle.lines.proofs.digit.Goals as goal
 
 pub returns-then-byte-lt48 : goal.returns-then-byte-lt48

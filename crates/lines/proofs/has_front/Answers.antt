@@ -1,14 +1,13 @@
 -- Byte by byte: so far the bytes and the word agree, and what is left decides.
 use mathlib.Core.Bool.{◌&&◌}
 use mathlib.Core.Path.{◌≡◌, refl, sym, ◌∙◌}
-use Prim.Native.Nat.{ℕ, ◌+◌, ◌-◌, ◌≤◌}
+use Prim.Native.Nat.{ℕ, ◌+◌}
 use native.Mathlib.Omega.{arith}
 use borrow.Author.Tests.{eq-eqb, ne_eqb}
 use lib.Dec.{eqb}
-use lib.ListN.{length, get_or, drop}
+use lib.ListN.{get_or, drop}
 use Rattle.lines.specs.Words.{starts}
 use Rattle.lines.proofs.Starting.{starts_short, starts_here, starts_end}
-use borrow.Author.Rules.{rules}
 use Rattle.lines.proofs.has_front.Goals as goal
 use Rattle.lines.proofs.has_front.Lts as lts
 use Rattle.lines.proofs.has_front.Reads as reads

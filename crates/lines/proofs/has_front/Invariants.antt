@@ -1,14 +1,8 @@
 -- Byte by byte: so far the bytes and the word agree, and what is left decides.
-use mathlib.Core.Bool.{◌&&◌}
-use mathlib.Core.Path.{◌≡◌, refl, sym, ◌∙◌}
-use Prim.Native.Nat.{ℕ, ◌+◌, ◌-◌, ◌≤◌}
-use native.Mathlib.Omega.{arith}
-use borrow.Author.Tests.{eq-eqb, ne_eqb}
-use lib.Dec.{eqb}
-use lib.ListN.{length, get_or, drop}
+use mathlib.Core.Path.{◌≡◌}
+use Prim.Native.Nat.{◌-◌, ◌≤◌}
+use lib.ListN.{length, drop}
 use Rattle.lines.specs.Words.{starts}
-use Rattle.lines.proofs.Starting.{starts_short, starts_here, starts_end}
-use borrow.Author.Rules.{rules}
 use Rattle.lines.proofs.has_front.Given as goal
 
 abbrev pub invariant-loop-i : goal.invariant-loop-i

@@ -3,7 +3,6 @@ use mathlib.Core.Path.{◌∙◌}
 use borrow.Author.Tests.{eq-eqb, ne_eqb}
 use lib.ListN.{length}
 use Rattle.lines.specs.Words.{is_word}
-use borrow.Author.Rules.{rules}
 use Rattle.lines.proofs.is_word.Goals as goal
 
 pub returns-then-bytes-word : goal.returns-then-bytes-word

@@ -2,7 +2,6 @@
 use native.Mathlib.Omega.{arith}
 use borrow.Author.Tests.{le-leb, lt-leb}
 use Rattle.lines.specs.Line.{letter_of}
-use borrow.Author.Rules.{rules}
 use Rattle.lines.proofs.letter.Goals as goal
 
 pub returns-then-byte-lt97 : goal.returns-then-byte-lt97

@@ -7,7 +7,6 @@ use mathlib.Core.List.{List}
 use mathlib.Core.Path.{◌≡◌, sym, ap, ◌∙◌}
 use Prim.Native.Nat.{ℕ}
 use native.Mathlib.Omega.{arith}
-use borrow.Author.Rules.{rules}
 use Rattle.lines.proofs.read_between.Goals as goal
 use Rattle.lines.proofs.read_between.Lts as lts
 use Rattle.lines.proofs.read_between.Reads as reads

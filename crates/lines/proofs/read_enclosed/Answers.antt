@@ -4,7 +4,6 @@ use Rattle.lines.proofs.Starting.{rest}
 use lib.ListN.{drop}
 use Rattle.lines.specs.Words.{is_word, close}
 use Rattle.lines.specs.Line.{enclosed_of}
-use borrow.Author.Rules.{rules}
 use Rattle.lines.proofs.read_enclosed.Goals as goal
 use Rattle.lines.proofs.read_enclosed.Lts as lts
 use Rattle.lines.proofs.read_enclosed.Reads as reads

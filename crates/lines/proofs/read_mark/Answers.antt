@@ -5,7 +5,6 @@ use native.Mathlib.Omega.{arith}
 use borrow.Author.Tests.{eq-eqb, ne_eqb, le-leb, lt-leb}
 use lib.ListN.{length, get_or}
 use Rattle.lines.specs.Line.{digit_of, mark_for, mark_of}
-use borrow.Author.Rules.{rules}
 use Rattle.lines.proofs.read_mark.Goals as goal
 use Rattle.lines.proofs.read_mark.Lts as lts
 use Rattle.lines.proofs.read_mark.Reads as reads

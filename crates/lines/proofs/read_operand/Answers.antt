@@ -3,7 +3,6 @@ use Rattle.lines.proofs.Starting.{operand_none, operand_letter}
 use mathlib.Core.Path.{sym, ◌∙◌}
 use native.Mathlib.Omega.{arith}
 use Rattle.lines.specs.Line.{operand_of}
-use borrow.Author.Rules.{rules}
 use Rattle.lines.proofs.read_operand.Goals as goal
 use Rattle.lines.proofs.read_operand.Lts as lts
 use Rattle.lines.proofs.read_operand.Reads as reads

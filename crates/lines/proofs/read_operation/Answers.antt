@@ -9,7 +9,6 @@ use lib.ListN.{drop}
 use Rattle.lines.specs.Words.{new, starts}
 use Rattle.lines.specs.Line.{enclosed_of, between_of, operation_of}
 use Rattle.lines.specs.declared.Operand.{Operand}
-use borrow.Author.Rules.{rules}
 use Rattle.lines.proofs.read_operation.Goals as goal
 use Rattle.lines.proofs.read_operation.Lts as lts
 use Rattle.lines.proofs.read_operation.Reads as reads

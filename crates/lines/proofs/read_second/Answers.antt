@@ -7,7 +7,6 @@ use mathlib.Core.List.{List, []}
 use borrow.Author.Tests.{eq-eqb, ne_eqb}
 use Rattle.lines.specs.Words.{next, is_word}
 use Rattle.lines.specs.Line.{second_of}
-use borrow.Author.Rules.{rules}
 use Rattle.lines.proofs.read_second.Goals as goal
 use Rattle.lines.proofs.read_second.Lts as lts
 use Rattle.lines.proofs.read_second.Reads as reads

@@ -1,9 +1,6 @@
 -- No room, or the loop: the bytes before the i-th stand in the output, what is after them as before.
-use Prim.Native.Nat.{◌-◌}
 use native.Mathlib.Omega.{arith}
-use lib.ListN.{length}
-use Rattle.putting.proofs.Putting.{no_room, had_room, Copying, copy_none, copy_more, copy_all}
-use borrow.Author.Rules.{rules}
+use Rattle.putting.proofs.Putting.{no_room, had_room, copy_none, copy_more, copy_all}
 use Rattle.putting.proofs.put_all.Goals as goal
 
 pub returns-then-bytes-at : goal.returns-then-bytes-at

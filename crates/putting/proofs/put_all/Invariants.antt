@@ -1,9 +1,7 @@
 -- No room, or the loop: the bytes before the i-th stand in the output, what is after them as before.
 use Prim.Native.Nat.{◌-◌}
-use native.Mathlib.Omega.{arith}
 use lib.ListN.{length}
-use Rattle.putting.proofs.Putting.{no_room, had_room, Copying, copy_none, copy_more, copy_all}
-use borrow.Author.Rules.{rules}
+use Rattle.putting.proofs.Putting.{Copying}
 use Rattle.putting.proofs.put_all.Given as goal
 
 abbrev pub invariant-loop-i : goal.invariant-loop-i

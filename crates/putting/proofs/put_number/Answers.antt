@@ -3,9 +3,8 @@ use mathlib.Core.Path.{refl, subst}
 use Prim.Native.Nat.{◌+◌, ◌/◌}
 use native.Mathlib.Omega.{arith}
 use lib.ListN.{length-set}
-use Rattle.putting.proofs.Decimal.{Writing, writing_none, writing_more, writing_last, digits_left, length_more, some_digits}
+use Rattle.putting.proofs.Decimal.{writing_none, writing_more, writing_last, digits_left, length_more, some_digits}
 use Rattle.putting.specs.Put.{PutIfRoom}
-use borrow.Author.Rules.{rules}
 use Rattle.putting.proofs.put_number.Goals as goal
 
 pub loop-left-init : goal.loop-left-init
@@ -39,16 +38,16 @@ pub slice_bounds-put_all-count : goal.slice_bounds-put_all-count
 slice_bounds-put_all-count c = omega (arith, c.loop-left.invariant.upto)
 
 pub slice_bounds-put_all-start : goal.slice_bounds-put_all-start
-slice_bounds-put_all-start c = omega (arith, c.before.before.before.loop.invariant.upto)
+slice_bounds-put_all-start c = omega (arith, c.loop-left.invariant.upto)
 
 pub slice_bounds-put_all-end : goal.slice_bounds-put_all-end
 slice_bounds-put_all-end c =
-    let i = c.before.before.before.loop in
+    let i = c.loop-left in
     omega (arith, length-set i.written i.first (48 + i.left), i.invariant.all)
 
 pub returns : goal.returns
 returns c =
     let o = c.args in
     subst (λ l. PutIfRoom o.at o.bytes.now l c.put_all.result c.put_all.new.bytes)
-    (writing_last _ _ _ _ c.before.before.before.before.before.before.before.loop.invariant (omega arith))
+    (writing_last _ _ _ _ c.loop-left.invariant (omega arith))
     c.put_all.ensures

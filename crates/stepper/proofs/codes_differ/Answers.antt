@@ -1,6 +1,5 @@
 -- One of the two comparisons, as it is asked.
 use mathlib.Core.Path.{◌∙◌}
-use borrow.Author.Rules.{rules}
 use Rattle.stepper.proofs.codes_differ.Goals as goal
 
 pub returns-then-larger : goal.returns-then-larger

@@ -1,7 +1,6 @@
 -- By the code: no cell's, outside the heap, or a cell's mark.
 use native.Mathlib.Omega.{arith}
 use Rattle.stepper.proofs.Fits.{aimed_low, aimed_cell, aimed_high}
-use borrow.Author.Rules.{rules}
 use Rattle.stepper.proofs.is_aimed.Goals as goal
 
 pub returns-then-code-lt-FIRST_CELL : goal.returns-then-code-lt-FIRST_CELL

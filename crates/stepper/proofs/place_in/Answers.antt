@@ -4,7 +4,6 @@ use mathlib.Core.Path.{refl, ◌∙◌}
 use native.Mathlib.Omega.{arith}
 use Rattle.heap.proofs.Codes.{operand_slot}
 use Rattle.stepper.proofs.Places.{code_at}
-use borrow.Author.Rules.{rules}
 use Rattle.stepper.proofs.place_in.Goals as goal
 
 pub returns-then-a-eq0 : goal.returns-then-a-eq0

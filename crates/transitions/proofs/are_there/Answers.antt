@@ -1,7 +1,6 @@
 -- By the place and what is left after it.
 use native.Mathlib.Omega.{arith}
 use lib.ListN.{length}
-use borrow.Author.Rules.{rules}
 use Rattle.transitions.proofs.Bytes.{beyond, fits_left}
 use Rattle.transitions.proofs.are_there.Goals as goal
 

@@ -1,11 +1,6 @@
 -- The loop, last to first: the transitions from the i-th on are in the index.
-use mathlib.Core.Path.{◌≡◌, ◌∙◌}
-use Prim.Native.Nat.{◌+◌, ◌-◌, ◌*◌, ◌≤◌}
-use native.Mathlib.Omega.{arith}
-use lib.ListN.{length, length-set}
 use Rattle.transitions.specs.Transitions.{to_byte}
-use Rattle.transitions.proofs.Index.{Indexing, index_none, index_more, index_out, index_all}
-use borrow.Author.Rules.{rules}
+use Rattle.transitions.proofs.Index.{Indexing}
 use Rattle.transitions.proofs.index_all.Given as goal
 
 abbrev pub invariant-loop-i : goal.invariant-loop-i

@@ -3,8 +3,7 @@ use mathlib.Core.Path.{refl, sym, ◌∙◌}
 use Prim.Native.Nat.{◌+◌, ◌*◌, ◌≤◌}
 use native.Mathlib.Omega.{arith}
 use lib.ListN.{length}
-use borrow.Author.Rules.{rules}
-use borrow.Author.Tests.{not-true, not-false, leb-true, leb-false}
+use borrow.Author.Tests.{leb-true, leb-false}
 use Rattle.transitions.proofs.Bytes.{there, too_many, not_there}
 use Rattle.transitions.proofs.index_transitions.Goals as goal
 use Rattle.transitions.proofs.index_transitions.Lts as lts

@@ -1,7 +1,6 @@
 -- All five bytes there, or not.
 use mathlib.Core.Path.{sym, ◌∙◌}
-use borrow.Author.Rules.{rules}
-use borrow.Author.Tests.{not-true, not-false, leb-true}
+use borrow.Author.Tests.{leb-true}
 use Rattle.transitions.proofs.Bytes.{bytes_none, bytes_all}
 use Rattle.transitions.proofs.transition_at.Goals as goal
 

@@ -5,8 +5,7 @@ use Prim.Native.Nat.{ℕ, ◌+◌, ◌-◌, ◌*◌, ◌≤◌, ◌<◌}
 use native.Mathlib.Omega.{arith}
 use lib.Dec.{leb}
 use lib.ListN.{length}
-use borrow.Author.Rules.{rules}
-use borrow.Author.Tests.{not-true, not-false, leb-true}
+use borrow.Author.Tests.{leb-true}
 use Rattle.transitions.proofs.Bytes.{bytes_none, bytes_all, named_zero, named_some}
 use Rattle.transitions.proofs.transition_named.Goals as goal
 use Rattle.transitions.proofs.transition_named.Lts as lts

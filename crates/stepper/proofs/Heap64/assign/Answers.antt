@@ -4,9 +4,8 @@ use mathlib.Core.Path.{refl, ◌∙◌, sym}
 use native.Mathlib.Omega.{arith}
 use Rattle.stepper.proofs.Formed.{formed}
 use Rattle.stepper.specs.InPlace.{with_var}
-use Rattle.stepper.proofs.Perform.{moved, blocked, put, operand_stands, taken}
+use Rattle.stepper.proofs.Perform.{moved, blocked, put, operand_stands}
 use Rattle.heap.specs.Operation.{assign}
-use borrow.Author.Rules.{rules}
 use Rattle.stepper.proofs.Heap64.assign.Goals as goal
 
 pub place_in-p-requires : goal.place_in-p-requires

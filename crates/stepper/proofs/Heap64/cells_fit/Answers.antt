@@ -1,20 +1,16 @@
 -- The loop: every cell before the i-th fits, by the test of its link in halves.
-use Prim.Native.Nat.{ℕ, ◌+◌, ◌-◌, ◌≤◌, ◌<◌}
+use Prim.Native.Nat.{ℕ, ◌+◌, ◌<◌}
 use mathlib.Core.Bool.{false}
 use mathlib.Core.Path.{◌≡◌, refl, ap, ◌∙◌, sym, subst}
 use native.Mathlib.Decide.{ℕ_discrete}
 use native.Mathlib.Omega.{arith}
 use lib.ListN.{get_or}
-use Rattle.lists.specs.Test.{all_from}
 use Rattle.lists.proofs.Test.{all_passed, all_failed, all_done, all_missed}
 use Rattle.place.specs.Place.{place_of}
 use Rattle.stepper.specs.Table.{cell_fits, aimed}
 use Rattle.stepper.specs.declared.Heap64.{Heap64}
 use Rattle.stepper.proofs.Fits.{place_fits, unlike, alike}
 use Rattle.stepper.proofs.Places.{code_at}
-use borrow.Author.Tests.{not-true, not-false}
-use borrow.Author.Rules.{rules}
-use Rattle.stepper.proofs.Heap64.cells_fit.Invariants.{Marked}
 use Rattle.stepper.proofs.Heap64.cells_fit.Goals as goal
 use Rattle.stepper.proofs.Heap64.cells_fit.Lts as lts
 use Rattle.stepper.proofs.Heap64.cells_fit.Reads as reads

@@ -8,7 +8,6 @@ use Rattle.stepper.specs.Table.{code_in}
 use Rattle.stepper.specs.declared.Heap64.{Heap64}
 use Rattle.stepper.proofs.Formed.{formed}
 use Rattle.stepper.proofs.Values.{test_passes, test_fails}
-use borrow.Author.Rules.{rules}
 use Rattle.stepper.proofs.Heap64.compare_values.Goals as goal
 use Rattle.stepper.proofs.Heap64.compare_values.Lts as lts
 use Rattle.stepper.proofs.Heap64.compare_values.Reads as reads

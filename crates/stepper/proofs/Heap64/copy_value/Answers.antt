@@ -7,7 +7,6 @@ use Rattle.place.specs.Place.{codes}
 use Rattle.stepper.specs.Table.{code_in}
 use Rattle.stepper.proofs.Formed.{formed, value_most}
 use Rattle.stepper.proofs.Values.{copied, copy_fails}
-use borrow.Author.Rules.{rules}
 use Rattle.stepper.proofs.Heap64.copy_value.Goals as goal
 use Rattle.stepper.proofs.Heap64.copy_value.Lts as lts
 use Rattle.stepper.proofs.Heap64.copy_value.Reads as reads

@@ -1,17 +1,11 @@
 -- The loop: the links of the cells before the i-th that stood at the place stand at *.
 use Prim.Native.Nat.{◌-◌, ◌≤◌}
-use mathlib.Core.Path.{◌≡◌, refl, ap, ◌∙◌}
-use native.Mathlib.Omega.{arith}
-use lib.ListN.{length}
-use mathlib.Core.Logic.{⊎_elim}
+use mathlib.Core.Path.{◌≡◌}
 use mathlib.Core.List.{List}
-use Rattle.lists.proofs.Sweep.{swept, swept_all}
+use Rattle.lists.proofs.Sweep.{swept}
 use Rattle.place.specs.declared.Place.{Place}
 use Rattle.stepper.specs.Table.{dangle_place}
 use Rattle.stepper.specs.declared.Heap64.{Heap64}
-use Rattle.stepper.proofs.Dangle.{hit, miss}
-use lib.ListN.{length-map}
-use borrow.Author.Rules.{rules}
 use Rattle.stepper.proofs.Heap64.dangle_links.Given as goal
 
 abbrev pub with : Heap64 → List Place → Heap64

@@ -13,7 +13,6 @@ use Rattle.stepper.specs.declared.Outcome.TheVariants.{Moved}
 use Rattle.stepper.specs.Table.{dangle_links, Sized}
 use Rattle.stepper.proofs.Formed.{Formed, formed}
 use Rattle.stepper.proofs.Perform.{moved, blocked, UsedCell, linked, cut, without_place, freed}
-use borrow.Author.Rules.{rules}
 use Rattle.stepper.proofs.Heap64.free_cell.Goals as goal
 use Rattle.stepper.proofs.Heap64.free_cell.Lts as lts
 use Rattle.stepper.proofs.Heap64.free_cell.Reads as reads

@@ -3,8 +3,7 @@ use mathlib.Core.Bool.{true}
 use mathlib.Core.Path.{◌≡◌, ◌∙◌, sym}
 use lib.Dec.{leb}
 use Rattle.lists.specs.Test.{all_from}
-use borrow.Author.Tests.{le-leb, lt-leb, not-true, not-false}
-use lib.ListN.{length-map}
+use borrow.Author.Tests.{le-leb, lt-leb}
 use Rattle.stepper.specs.Table.{well_formed, Sized, slot_fits, cell_fits}
 use Rattle.stepper.specs.declared.Heap64.{Heap64}
 use borrow.Author.Rules.{rules}
@@ -31,9 +30,9 @@ Start = lts.Start tie.the-claims reads.Pre reads.Post
 sizes : (c : Start) → Sized c.args.self
 sizes c =
     record {
-      vars = simp length-map at c.well_formed.0.1.1.1.0.1.0.1;
+      vars = search rules;
       used = search rules;
-      links = simp length-map at c.well_formed.0.1.1.1.1.1.0.1.0.1;
+      links = search rules;
       values = search rules;
     }
 

@@ -9,7 +9,6 @@ use Rattle.stepper.proofs.Perform.{moved, blocked, put, linked_stands}
 use Rattle.heap.specs.Operation.{load}
 use Rattle.heap.specs.Codes.{var_in, link_in}
 use Rattle.place.specs.Place.{codes}
-use borrow.Author.Rules.{rules}
 use Rattle.stepper.proofs.Heap64.load.Goals as goal
 use Rattle.stepper.proofs.Heap64.load.Lts as lts
 use Rattle.stepper.proofs.Heap64.load.Reads as reads

@@ -1,12 +1,8 @@
 -- The loop: every cell before the i-th is used.
 use Prim.Native.Nat.{◌+◌, ◌-◌, ◌≤◌}
 use mathlib.Core.Path.{◌≡◌}
-use native.Mathlib.Omega.{arith}
-use lib.ListN.{length, drop}
+use lib.ListN.{drop}
 use Rattle.stepper.specs.Step.{lowest_unused}
-use Rattle.stepper.proofs.Places.{lowest_here, lowest_later, lowest_end}
-use borrow.Author.Tests.{not-true, not-false}
-use borrow.Author.Rules.{rules}
 use Rattle.stepper.proofs.Heap64.lowest_unused.Given as goal
 
 abbrev pub invariant-loop-i : goal.invariant-loop-i

@@ -10,8 +10,6 @@ use Rattle.stepper.specs.Table.{code_in}
 use Rattle.stepper.specs.declared.Heap64.{Heap64}
 use Rattle.stepper.proofs.Formed.{formed}
 use Rattle.stepper.proofs.Values.{other_read, other_fails}
-use borrow.Author.Tests.{not-true, not-false}
-use borrow.Author.Rules.{rules}
 use Rattle.stepper.proofs.Heap64.read_other.Goals as goal
 use Rattle.stepper.proofs.Heap64.read_other.Lts as lts
 use Rattle.stepper.proofs.Heap64.read_other.Reads as reads

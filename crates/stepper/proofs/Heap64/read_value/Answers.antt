@@ -9,7 +9,6 @@ use Rattle.place.specs.Place.{codes}
 use Rattle.stepper.proofs.Formed.{formed}
 use Rattle.stepper.proofs.Change.{with_value}
 use Rattle.stepper.proofs.Perform.{moved, blocked, UsedCell, linked, written}
-use borrow.Author.Rules.{rules}
 use Rattle.stepper.proofs.Heap64.read_value.Goals as goal
 use Rattle.stepper.proofs.Heap64.read_value.Lts as lts
 use Rattle.stepper.proofs.Heap64.read_value.Reads as reads

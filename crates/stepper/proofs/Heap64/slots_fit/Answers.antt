@@ -1,15 +1,11 @@
 -- The loop: every slot before the i-th fits.
-use Prim.Native.Nat.{◌-◌, ◌≤◌}
 use mathlib.Core.Path.{◌≡◌, refl, ap, ◌∙◌, sym}
 use native.Mathlib.Omega.{arith}
 use lib.Dec.{ltb}
-use Rattle.lists.specs.Test.{all_from}
 use Rattle.lists.proofs.Test.{all_passed, all_failed, all_done}
 use Rattle.stepper.specs.Table.{slot_fits}
 use Rattle.stepper.proofs.Fits.{place_fits, unlike, alike}
 use Rattle.stepper.proofs.Places.{code_at}
-use borrow.Author.Tests.{not-true, not-false}
-use borrow.Author.Rules.{rules}
 use Rattle.stepper.proofs.Heap64.slots_fit.Goals as goal
 use Rattle.stepper.proofs.Heap64.slots_fit.Lts as lts
 use Rattle.stepper.proofs.Heap64.slots_fit.Reads as reads

@@ -1,9 +1,7 @@
 -- Ill formed, or a step on a well formed heap.
 use mathlib.Core.Path.{◌∙◌, sym}
 use native.Mathlib.Omega.{arith}
-use borrow.Author.Tests.{not-true, not-false}
 use Rattle.stepper.proofs.Steps.{steps, ill_formed}
-use borrow.Author.Rules.{rules}
 use Rattle.stepper.proofs.Heap64.step.Goals as goal
 
 pub returns-then-not-is_well_formed : goal.returns-then-not-is_well_formed

@@ -2,13 +2,11 @@
 use mathlib.Core.Bool.{true}
 use mathlib.Core.Path.{◌≡◌, ◌∙◌, sym}
 use native.Mathlib.Omega.{arith}
-use borrow.Author.Tests.{not-true, not-false}
 use Rattle.heap.specs.Operation.{operation}
 use Rattle.kinds.specs.Kinds.{allowed}
 use Rattle.stepper.specs.Step.{perform_named, step_of, Steps}
 use Rattle.stepper.specs.declared.Stepped.{Stepped}
 use Rattle.stepper.proofs.Steps.{steps, not_allowed, by_table}
-use borrow.Author.Rules.{rules}
 use Rattle.stepper.proofs.Heap64.step_formed.Goals as goal
 use Rattle.stepper.proofs.Heap64.step_formed.Lts as lts
 use Rattle.stepper.proofs.Heap64.step_formed.Reads as reads

@@ -1,9 +1,7 @@
 -- Ill formed, or steps in turn on a well formed heap.
 use mathlib.Core.Bool.{true, true≢false}
 use mathlib.Core.Path.{◌≡◌, refl, sym, ◌∙◌}
-use borrow.Author.Tests.{not-true, not-false}
 use Rattle.stepper.specs.Table.{well_formed}
-use borrow.Author.Rules.{rules}
 use Rattle.stepper.proofs.Heap64.steps.Goals as goal
 use Rattle.stepper.proofs.Heap64.steps.Lts as lts
 use Rattle.stepper.proofs.Heap64.steps.Reads as reads

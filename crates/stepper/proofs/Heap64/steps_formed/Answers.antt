@@ -16,9 +16,7 @@ use Rattle.stepper.specs.declared.Put.{Put}
 use Rattle.stepper.specs.declared.Stepped.{Stepped}
 use Rattle.stepper.specs.declared.Turn.{Turn}
 use Rattle.stepper.proofs.Formed.{formed}
-use Rattle.stepper.proofs.Outcomes.{other_outcome}
 use Rattle.stepper.proofs.Turns.{Going, goes_on, ends_here}
-use borrow.Author.Rules.{rules}
 use Rattle.stepper.proofs.Heap64.steps_formed.Goals as goal
 use Rattle.stepper.proofs.Heap64.steps_formed.Lts as lts
 use Rattle.stepper.proofs.Heap64.steps_formed.Reads as reads
@@ -158,7 +156,7 @@ step_formed-stepped-requires c = (in_loop2 c.before.before).loop-left.invariant.
 pub returns-in_default : goal.returns-in_default
 returns-in_default c =
     let s = c.step_formed-stepped in
-    stop c.before.before.before.before s.result s.ensures (other_outcome s.result.outcome c.in_default.in_default-own.keys2)
+    stop c.before.before.before.before s.result s.ensures c.in_default.not-Moved
 
 pub loop-left-preserved : goal.loop-left-preserved
 loop-left-preserved c =

@@ -10,7 +10,6 @@ use Rattle.stepper.proofs.Perform.{moved, blocked, UsedCell, linked, stored}
 use Rattle.heap.specs.Codes.{var_in, link_in}
 use Rattle.heap.specs.Operation.{store}
 use Rattle.place.specs.Place.{codes}
-use borrow.Author.Rules.{rules}
 use Rattle.stepper.proofs.Heap64.store.Goals as goal
 use Rattle.stepper.proofs.Heap64.store.Lts as lts
 use Rattle.stepper.proofs.Heap64.store.Reads as reads

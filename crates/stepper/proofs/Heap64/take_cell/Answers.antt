@@ -8,7 +8,6 @@ use Rattle.stepper.proofs.Perform.{moved, taken, full}
 use Rattle.heap.specs.Operation.{new}
 use Rattle.place.specs.Place.{cell_place}
 use borrow.Author.Tests.{le-leb}
-use borrow.Author.Rules.{rules}
 use Rattle.stepper.proofs.Heap64.take_cell.Goals as goal
 
 pub returns-then-i-ge64 : goal.returns-then-i-ge64
