@@ -78,7 +78,7 @@ returns-in-Holds c =
     let s = begun (read n) in
     let told = c.in-Holds.is in
     let answered = v.cover_answer-answer.ensures in
-    take_holding _ _ _ _ _ (byte s) (covered s) _ refl _ _ (read n).read_cover-reading.ensures (rows_test s.args.facts.now) _ _ n.in-Taken.is _ (sym (ap answer_of told) ∙ answered.0) (rw told at answered.1)
+    take_holding _ _ _ _ _ (byte s) (covered s) _ refl _ _ (read n).read_cover-reading.ensures (rows_test s.args.facts.now) _ _ n.in-Taken.is _ (sym (ap answer_of told) ∙ answered.answer) (rw told at answered.links)
 
 pub returns-in-Breaks : goal.returns-in-Breaks
 returns-in-Breaks c =

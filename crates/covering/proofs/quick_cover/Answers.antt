@@ -13,6 +13,7 @@ use Rattle.layout.specs.Entries.{version_of, links_end, Whole}
 use Rattle.covering.proofs.CoverCases.{quick_embedding}
 use Rattle.covering.proofs.Facts.{bare_facts, bare_whole}
 use Rattle.covering.proofs.quick_cover.Goals as goal
+use Rattle.covering.proofs.quick_cover.Goals.{then-m-ge128+else-high-eq0+else-high-ge128, else-m-ge128}
 use Rattle.covering.proofs.quick_cover.Lts as lts
 use Rattle.covering.proofs.quick_cover.Reads as reads
 use Rattle.covering.proofs.quick_cover.Tie as tie
@@ -60,16 +61,24 @@ number_read : (c : Joined-m-ge128) → let a = (begun c.before).args in number_a
 number_read c =
     let a = (begun c.before).args in
     let w = c.wide-m in
-    ⊎_elim
-    (λ (i, _, v, n, h, m_is, first_is). rw (m_is, first_is) (sym (two_bytes a.cert.now a.at w.result w.ensures.0 i.taken v.result v.ensures.0 (omega arith) n.left h.left)))
-    (λ (i, m_is, first_is). rw (m_is, first_is) (sym (one_byte a.cert.now a.at w.result w.ensures.0 (omega arith) i.left)))
-    c.if-m-ge128.branch
+    elim c.if-m-ge128.branch [
+      | then-m-ge128+else-high-eq0+else-high-ge128 b ↦ rw (b.m-is, b.first-is) (sym (two_bytes a.cert.now a.at w.result w.ensures.0 b.if-m-ge128.true b.wide-high.result b.wide-high.ensures.0 (omega arith) b.if-high-eq0.false b.if-high-ge128.false))
+      | else-m-ge128 b ↦ rw (b.m-is, b.first-is) (sym (one_byte a.cert.now a.at w.result w.ensures.0 (omega arith) b.if-m-ge128.false))
+    ]
 
 number_ends : (c : Joined-m-ge128) → c.if-m-ge128.first ≤ (begun c.before).args.at + 2
-number_ends c = ⊎_elim (λ (_, _, _, _, _, _, first_is). omega arith) (λ (_, _, first_is). omega arith) c.if-m-ge128.branch
+number_ends c =
+    elim c.if-m-ge128.branch [
+      | then-m-ge128+else-high-eq0+else-high-ge128 b ↦ omega (arith, b.first-is)
+      | else-m-ge128 b ↦ omega (arith, b.first-is)
+    ]
 
 number_begins : (c : Joined-m-ge128) → 1 ≤ c.if-m-ge128.first
-number_begins c = ⊎_elim (λ (_, _, _, _, _, _, first_is). omega arith) (λ (_, _, first_is). omega arith) c.if-m-ge128.branch
+number_begins c =
+    elim c.if-m-ge128.branch [
+      | then-m-ge128+else-high-eq0+else-high-ge128 b ↦ omega (arith, b.first-is)
+      | else-m-ge128 b ↦ omega (arith, b.first-is)
+    ]
 
 -- the member lists no fact, and stands whole
 bare : (c : Else-not-is_bare)
@@ -141,9 +150,9 @@ returns c =
     let w = sized b in
     let j = numbered b in
     let o = begun j.before in
-    let byte : o.args.state < 256 = omega (arith, o.fits.state) in (record {
+    let byte : o.args.state < 256 = omega (arith, o.ranges.state) in (record {
       given = λ among _.
           quick_embedding _ _ o.args.starts.now _ _ byte _ _ _ (number_read j) (omega (arith, (named w).if-starts-m.false)) (stands b)
-          (sym w.if-state-cert.false) _ w.wide-count.ensures.0 _ (i.images_embed-quick.ensures (c.if-not-quick.false)) among;
+          (sym w.if-state-cert.false) _ w.wide-count.ensures.0 _ (i.images_embed-quick.ensures (not-false _ c.if-not-quick.false)) among;
       left = λ z. absurd (omega (arith, number_begins j));
     })

@@ -15,6 +15,7 @@ use Rattle.covering.proofs.Links.{Fitting, fit_none, fit_all, fit_ends, fit_skip
 use borrow.Author.Tests.{not-true, not-false}
 use borrow.Author.Rules.{rules}
 use Rattle.covering.proofs.fitting.follow_paths.Goals as goal
+use Rattle.covering.proofs.fitting.follow_paths.Goals.{then-p-ne0+else-met-end+else-not-is_stop, else-p-ne0}
 use Rattle.covering.proofs.fitting.follow_paths.Lts as lts
 use Rattle.covering.proofs.fitting.follow_paths.Reads as reads
 use Rattle.covering.proofs.fitting.follow_paths.Tie as tie
@@ -96,17 +97,17 @@ pub loop-i-init : goal.loop-i-init
 loop-i-init c = (omega arith, λ m p l. fit_none _ _ _ _ _ _ _ _ l)
 
 pub overflow_add-first : goal.overflow_add-first
-overflow_add-first c = let m = (begun c.before).requires.0 in let p = (begun c.before).requires.1 in let l = (begun c.before).requires.2 in omega (arith, l.inside)
+overflow_add-first c = omega (arith, c.requires.2.inside)
 
 pub bounds-cert-first : goal.bounds-cert-first
-bounds-cert-first c = let m = (begun c.before.before).requires.0 in let p = (begun c.before.before).requires.1 in let l = (begun c.before.before).requires.2 in omega (arith, l.inside)
+bounds-cert-first c = omega (arith, c.requires.2.inside)
 
 pub bounds-images-i : goal.bounds-images-i
-bounds-images-i c = let m = (begun c.before.before.before.before).requires.0 in let p = (begun c.before.before.before.before).requires.1 in let l = (begun c.before.before.before.before).requires.2 in omega (arith, l.images.few)
+bounds-images-i c = omega (arith, c.requires.2.images.few)
 
 pub bounds-s-from : goal.bounds-s-from
 bounds-s-from c =
-    let b = c.before.before.before.before in
+    let b = c.before.before.before.before.before in
     let (m, p, l) = (begun (turn b)).requires in
     omega (arith, (walking b m p l).high, l.linked.fit)
 
@@ -138,14 +139,17 @@ loop-i-preserved c = (
   λ m p l.
       let f = c.loop-i.invariant.1 m p l in
       let e = c.wide-p.ensures.0 in
-      ⊎_elim
-      (λ (n, _, s, q, t, _, _, x, w, _, z, _, k, h, _, y, a).
-      let v = fit_walked _ _ _ _ _ _ _ _ l _ _ _ f (omega arith) _ e _ s.ensures.0 _ _ _ _ x.ensures.0 w.ensures.0 w.ensures.1 w.ensures.2 in
-      let most = walked_few _ _ _ _ _ _ _ _ l _ _ _ f _ _ w.ensures.1 in
-      rw (y, a)
-      (fit_good _ _ _ _ _ _ _ _ l _ _ _ f (omega arith) _ e _ s.ensures.0 n.taken _ (t.ensures.0 ∙ q.ensures) _ _ _ v z.left
-      (v.marked_stop (is_a_stop _ _ _ _ _ _ _ _ l _ _ (sym k.ensures ∙ not-false _ h.left))) most))
-      (λ (n, y, a). rw a (fit_skip _ _ _ _ _ _ _ _ l _ _ _ f (omega arith) _ e _ y n.left)) c.if-p-ne0.branch,
+      elim c.if-p-ne0.branch [
+        | then-p-ne0+else-met-end+else-not-is_stop w ↦
+            let s = w.wide-from.ensures.0 in
+            let x = w.walk-met.ensures in
+            let v = fit_walked _ _ _ _ _ _ _ _ l _ _ _ f (omega arith) _ e _ s _ _ _ _ w.wide.ensures.0 x.0 x.1 x.2 in
+            let most = walked_few _ _ _ _ _ _ _ _ l _ _ _ f _ _ x.1 in
+            rw (w.marks-is, w.links-is)
+            (fit_good _ _ _ _ _ _ _ _ l _ _ _ f (omega arith) _ e _ s w.if-p-ne0.true _ (w.wide-end.ensures.0 ∙ w.image_of.ensures) _ _ _ v w.if-met-end.false
+            (v.marked_stop (is_a_stop _ _ _ _ _ _ _ _ l _ _ (sym w.is_stop.ensures ∙ w.if-not-is_stop.false))) most)
+        | else-p-ne0 w ↦ rw w.links-is (fit_skip _ _ _ _ _ _ _ _ l _ _ _ f (omega arith) _ e _ w.marks-is w.if-p-ne0.false)
+      ],
 )
 
 pub returns : goal.returns

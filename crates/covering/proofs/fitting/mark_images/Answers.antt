@@ -13,6 +13,7 @@ use Rattle.covering.proofs.Marking.{Marked, marked_none, mark_new, mark_again, m
 use borrow.Author.Tests.{not-true, not-false}
 use borrow.Author.Rules.{rules}
 use Rattle.covering.proofs.fitting.mark_images.Goals as goal
+use Rattle.covering.proofs.fitting.mark_images.Goals.{then-not-mark_image, else-not-mark_image}
 use Rattle.covering.proofs.fitting.mark_images.Lts as lts
 use Rattle.covering.proofs.fitting.mark_images.Reads as reads
 use Rattle.covering.proofs.fitting.mark_images.Tie as tie
@@ -62,10 +63,10 @@ loop-i-preserved c =
     let room : p < 28 = omega (arith, c.wide.ensures.0, m.high l.i (omega arith)) in
     let was = c.mark_image.ensures.0 in let now = c.mark_image.ensures.1 in (
       omega arith,
-      ⊎_elim
-          (λ (t, y). rw (y, now, marking_read l.marks p room) (mark_again images _ _ l.i l.inv.1 (omega arith) p e room (was_marked l.marks p room (sym was ∙ not-true _ t.taken))))
-          (λ (t, y). rw (y, now, marking_read l.marks p room) (mark_new images _ _ l.i l.inv.1 (omega arith) p e room (was_free l.marks p room (sym was ∙ not-false _ t.left))))
-          c.if-not-mark_image.branch,
+      elim c.if-not-mark_image.branch [
+        | then-not-mark_image w ↦ rw (w.apart-is, now, marking_read l.marks p room) (mark_again images _ _ l.i l.invariant.1 (omega arith) p e room (was_marked l.marks p room (sym was ∙ w.if-not-mark_image.true)))
+        | else-not-mark_image w ↦ rw (w.apart-is, now, marking_read l.marks p room) (mark_new images _ _ l.i l.invariant.1 (omega arith) p e room (was_free l.marks p room (sym was ∙ w.if-not-mark_image.false)))
+      ],
     )
 
 pub returns : goal.returns

@@ -9,6 +9,7 @@ use Rattle.lists.proofs.Lowest.{Passing, pass_none, pass_more, pass_failed, pass
 use Rattle.covering.proofs.Variables.{unplaced, at_image, elsewhere}
 use borrow.Author.Rules.{rules}
 use Rattle.covering.proofs.fitting.variable_elsewhere.Goals as goal
+use Rattle.covering.proofs.fitting.variable_elsewhere.Goals.{then-p-ne0+else-image_of-s, else-p-ne0}
 use Rattle.covering.proofs.fitting.variable_elsewhere.Lts as lts
 use Rattle.covering.proofs.fitting.variable_elsewhere.Reads as reads
 use Rattle.covering.proofs.fitting.variable_elsewhere.Tie as tie
@@ -49,8 +50,10 @@ loop-i-preserved c =
     let i = t.loop-i.i in
     let e = c.wide-p.ensures.0 in
     pass_more _ _ i t.loop-i.invariant (omega arith)
-    (⊎_elim (λ (_, m, _, z). at_image a.cert.now a.first a.images.now a.s.now i c.wide-p.result e m.result m.ensures z.left)
-    (λ n. unplaced a.cert.now a.first a.images.now a.s.now i c.wide-p.result e n.left) c.if-p-ne0.branch)
+    (elim c.if-p-ne0.branch [
+      | then-p-ne0+else-image_of-s w ↦ at_image a.cert.now a.first a.images.now a.s.now i c.wide-p.result e w.image_of.result w.image_of.ensures w.if-image_of-s.false
+      | else-p-ne0 w ↦ unplaced a.cert.now a.first a.images.now a.s.now i c.wide-p.result e w.if-p-ne0.false
+    ])
 
 pub returns : goal.returns
 returns c = sym (ap (number_or _) (pass_all _ _ _ c.loop-i.invariant (omega arith)))

@@ -58,13 +58,13 @@ held c =
 marked : (c : Else-not-read_and_mark)
     → let a = (begun (sized c)).args in
     let l = c.read_and_mark.new in
-    ImagesMarked a.cert.now a.first (sized c).wide-n.result a.count l.1.1.1.1.0 l.1.1.1.1.1.0
+    ImagesMarked a.cert.now a.first (sized c).wide-n.result a.count l.images l.marks
 marked c = c.read_and_mark.ensures.whole (c.if-not-read_and_mark.false)
 
 linking : (c : Else-not-read_and_mark)
     → let a = (begun (sized c)).args in
     let l = c.read_and_mark.new in
-    Linking (located_at a.cert.now a.variables a.start).shape (shape_in a.variables a.s.now) a.cert.now (a.start + 2 + a.variables) a.count l.1.1.1.1.0 l.1.1.1.1.1.0 a.s.now
+    Linking (located_at a.cert.now a.variables a.start).shape (shape_in a.variables a.s.now) a.cert.now (a.start + 2 + a.variables) a.count l.images l.marks a.s.now
 linking c = let (w, _, e, _) = (begun (sized c)).requires in taken_linking _ _ _ _ _ w (held (sized c)) _ _ e _ _ (marked c)
 
 pub returns-then-all-n : goal.returns-then-all-n

@@ -11,6 +11,7 @@ use Rattle.covering.proofs.Images.{image_read, image_stops}
 use Rattle.covering.proofs.Links.{Fitting, fit_none, fit_all, fit_skip, fit_walk, fit_walked, walked_few, fit_good}
 use borrow.Author.Rules.{rules}
 use Rattle.covering.proofs.quick.quick_links.Goals as goal
+use Rattle.covering.proofs.quick.quick_links.Goals.{then-p-ne0+else-count-p+then-s-from, then-p-ne0+else-count-p+else-s-from+else-met-wide, else-p-ne0}
 use Rattle.covering.proofs.quick.quick_links.Lts as lts
 use Rattle.covering.proofs.quick.quick_links.Reads as reads
 use Rattle.covering.proofs.quick.quick_links.Tie as tie
@@ -67,37 +68,37 @@ pub loop-i-init : goal.loop-i-init
 loop-i-init c = (omega arith, λ m p l. fit_none _ _ _ _ _ _ _ _ l)
 
 pub overflow_add-first : goal.overflow_add-first
-overflow_add-first c = let m = (begun c.before).requires.0 in let p = (begun c.before).requires.1 in let l = (begun c.before).requires.2 in omega (arith, l.inside)
+overflow_add-first c = omega (arith, c.requires.2.inside)
 
 pub bounds-cert-first : goal.bounds-cert-first
-bounds-cert-first c = let m = (begun c.before.before).requires.0 in let p = (begun c.before.before).requires.1 in let l = (begun c.before.before).requires.2 in omega (arith, l.inside)
+bounds-cert-first c = omega (arith, c.requires.2.inside)
 
 pub overflow_add-count : goal.overflow_add-count
-overflow_add-count c = omega (arith, few (begun c.before.before.before.before))
+overflow_add-count c = omega (arith, c.requires.2.images.few)
 
 pub returns-then-count-p : goal.returns-then-count-p
 returns-then-count-p c = λ m p l z. let v : ◌≡◌ {A = ℕ} 0 1 = cc in absurd (omega arith)
 
 pub bounds-images-i : goal.bounds-images-i
-bounds-images-i c = omega (arith, few (begun c.before.before.before.before.before))
+bounds-images-i c = omega (arith, c.requires.2.images.few)
 
 pub bounds-s-from : goal.bounds-s-from
-bounds-s-from c = inside c.before
+bounds-s-from c = inside c.before.before
 
 pub bounds-images-p : goal.bounds-images-p
-bounds-images-p c = omega (arith, few (begun (turn c.before.before)))
+bounds-images-p c = omega (arith, c.requires.2.images.few)
 
 pub overflow_add-links : goal.overflow_add-links
 overflow_add-links c =
-    let t = turn c.before.before.before.before in
+    let t = turn c.before.before.before.before.before in
     let m = (begun t).requires.0 in let p = (begun t).requires.1 in let l = (begun t).requires.2 in
     omega (arith, (t.loop-i.invariant.1 m p l).few, few (begun t))
 
 pub bounds-s-from-else-s-from : goal.bounds-s-from-else-s-from
-bounds-s-from-else-s-from c = inside c.before.before.before.before.before
+bounds-s-from-else-s-from c = inside c.before.before.before.before.before.before
 
 pub bounds-images-p-else-s-from : goal.bounds-images-p-else-s-from
-bounds-images-p-else-s-from c = omega (arith, few (begun (turn (imaged c.before))))
+bounds-images-p-else-s-from c = omega (arith, c.requires.2.images.few)
 
 pub returns-then-met-wide : goal.returns-then-met-wide
 returns-then-met-wide c = λ m p l z. let v : ◌≡◌ {A = ℕ} 0 1 = cc in absurd (omega arith)
@@ -120,24 +121,30 @@ loop-i-preserved c = (
       let e = c.wide-p.ensures.0 in
       let images = (begun c.before.before.before.before).args.images.now in
       let q = c.wide-p.result in
-      ⊎_elim
-      (λ (n, b, _, s, _, _, d, y, a).
-      let stop = image_stops _ _ images l.images q (omega (arith, b.left)) in
-      let read = image_read images q (omega (arith, b.left, l.images.few)) in
-      let w = fit_walk _ _ _ _ _ _ _ _ l _ _ _ f (omega arith) _ e _ s.ensures.0 in
-      let v = follow_direct _ _ _ _ _ _ w _ (d.taken ∙ sym read) stop in
-      rw (y, a) (fit_good _ _ _ _ _ _ _ _ l _ _ _ f (omega arith) _ e _ s.ensures.0 n.taken _ refl _ _ _ v refl stop (omega arith)))
-      (⊎_elim
-      (λ (n, b, _, s, _, _, _, _, _, x, w, _, t, _, z, _, y, a).
-      let v = fit_walked _ _ _ _ _ _ _ _ l _ _ _ f (omega arith) _ e _ s.ensures.0 _ _ _ _ x.ensures.0 w.ensures.0 w.ensures.1 w.ensures.2 in
-      let most = walked_few _ _ _ _ _ _ _ _ l _ _ _ f _ _ w.ensures.1 in
-      let stop = image_stops _ _ images l.images q (omega (arith, b.left)) in
-      let read = image_read images q (omega (arith, b.left, l.images.few)) in
-      rw (y, a)
-      (fit_good _ _ _ _ _ _ _ _ l _ _ _ f (omega arith) _ e _ s.ensures.0 n.taken _ (t.ensures.0 ∙ sym read) _ _ _ v z.left
-      (rw (z.left, t.ensures.0, ← read) stop) most))
-      (λ (n, y, a). rw a (fit_skip _ _ _ _ _ _ _ _ l _ _ _ f (omega arith) _ e _ y n.left)))
-      c.if-p-ne0.branch,
+      elim c.if-p-ne0.branch [
+        | then-p-ne0+else-count-p+then-s-from w ↦
+            let b = w.if-count-p.false in
+            let s = w.wide-from.ensures.0 in
+            let stop = image_stops _ _ images l.images q (omega (arith, b)) in
+            let read = image_read images q (omega (arith, b, l.images.few)) in
+            let walking = fit_walk _ _ _ _ _ _ _ _ l _ _ _ f (omega arith) _ e _ s in
+            let v = follow_direct _ _ _ _ _ _ walking _ (w.if-s-from.true ∙ sym read) stop in
+            rw (w.marks-is, w.links-is) (fit_good _ _ _ _ _ _ _ _ l _ _ _ f (omega arith) _ e _ s w.if-p-ne0.true _ refl _ _ _ v refl stop (omega arith))
+        | then-p-ne0+else-count-p+else-s-from+else-met-wide w ↦
+            let b = w.if-count-p.false in
+            let s = w.wide-from.ensures.0 in
+            let x = w.walk-met.ensures in
+            let t = w.wide-else-s-from.ensures.0 in
+            let z = w.if-met-wide.false in
+            let v = fit_walked _ _ _ _ _ _ _ _ l _ _ _ f (omega arith) _ e _ s _ _ _ _ w.wide.ensures.0 x.0 x.1 x.2 in
+            let most = walked_few _ _ _ _ _ _ _ _ l _ _ _ f _ _ x.1 in
+            let stop = image_stops _ _ images l.images q (omega (arith, b)) in
+            let read = image_read images q (omega (arith, b, l.images.few)) in
+            rw (w.marks-is, w.links-is)
+            (fit_good _ _ _ _ _ _ _ _ l _ _ _ f (omega arith) _ e _ s w.if-p-ne0.true _ (t ∙ sym read) _ _ _ v z
+            (rw (z, t, ← read) stop) most)
+        | else-p-ne0 w ↦ rw w.links-is (fit_skip _ _ _ _ _ _ _ _ l _ _ _ f (omega arith) _ e _ w.marks-is w.if-p-ne0.false)
+      ],
 )
 
 pub returns : goal.returns

@@ -15,8 +15,8 @@ use Rattle.covering.proofs.quick.quick_links.Given as goal
 abbrev pub invariant-loop-i : goal.invariant-loop-i
 invariant-loop-i l =
     (l.i ≤ l.count)
-    × ((member covered : Shape) (l : Linking member covered l.cert l.first l.count l.images l.initial.marks l.s)
-    → Fitting member covered l.cert l.first l.count l.images l.initial.marks l.s l l.marks l.i l.links)
+    × ((member covered : Shape) (k : Linking member covered l.cert l.first l.count l.images l.initial.marks l.s)
+    → Fitting member covered l.cert l.first l.count l.images l.initial.marks l.s k l.marks l.i l.links)
 
 abbrev pub decreases-loop-i : goal.decreases-loop-i
 decreases-loop-i l = l.count - l.i

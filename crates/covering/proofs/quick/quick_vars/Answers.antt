@@ -9,6 +9,7 @@ use Rattle.lists.proofs.Lowest.{Passing, pass_none, pass_more, pass_all}
 use Rattle.covering.proofs.Variables.{unplaced, at_image}
 use borrow.Author.Rules.{rules}
 use Rattle.covering.proofs.quick.quick_vars.Goals as goal
+use Rattle.covering.proofs.quick.quick_vars.Goals.{then-p-ne0+else-p-ge15+else-images-p, else-p-ne0}
 use Rattle.covering.proofs.quick.quick_vars.Lts as lts
 use Rattle.covering.proofs.quick.quick_vars.Reads as reads
 use Rattle.covering.proofs.quick.quick_vars.Tie as tie
@@ -45,9 +46,10 @@ loop-i-preserved c =
     let p = c.wide-p.result in
     let e = c.wide-p.ensures.0 in
     pass_more _ _ i t.loop-i.invariant (omega arith)
-    (⊎_elim
-    (λ (_, b, _, _, z). at_image a.cert.now a.first a.images.now a.s.now i p e _ (sym (image_read a.images.now p (omega (arith, b.left)))) z.left)
-    (λ n. unplaced a.cert.now a.first a.images.now a.s.now i p e n.left) c.if-p-ne0.branch)
+    (elim c.if-p-ne0.branch [
+      | then-p-ne0+else-p-ge15+else-images-p w ↦ at_image a.cert.now a.first a.images.now a.s.now i p e _ (sym (image_read a.images.now p (omega (arith, w.if-p-ge15.false)))) w.if-images-p.false
+      | else-p-ne0 w ↦ unplaced a.cert.now a.first a.images.now a.s.now i p e w.if-p-ne0.false
+    ])
 
 pub returns : goal.returns
 returns c = λ _. pass_all _ _ _ c.loop-i.invariant (omega arith)

@@ -6,6 +6,7 @@ use Rattle.coverreader.specs.Images.{ImageCodes}
 use Rattle.covering.proofs.Twice.{Differing, differ_none, differ_all, differ_itself, differ_more, differ_not}
 use borrow.Author.Rules.{rules}
 use Rattle.covering.proofs.rules.image_once.Goals as goal
+use Rattle.covering.proofs.rules.image_once.Goals.{then-i-j+else-images-i, else-i-j}
 use Rattle.covering.proofs.rules.image_once.Lts as lts
 use Rattle.covering.proofs.rules.image_once.Reads as reads
 
@@ -52,7 +53,10 @@ overflow_add-j-in-loop-j c = omega (arith, (begun c.before).requires.0.few)
 pub loop-j-preserved : goal.loop-j-preserved
 loop-j-preserved c = λ m b.
     let t = c.loop-j in
-    ⊎_elim (λ (_, _, _, z). differ_more _ _ m _ b t.j (t.invariant m b) (omega arith) z.left) (λ n. differ_itself _ _ m _ b t.j (t.invariant m b) (omega arith) n.left) c.if-i-j.branch
+    elim c.if-i-j.branch [
+      | then-i-j+else-images-i w ↦ differ_more _ _ m _ b t.j (t.invariant m b) (omega arith) w.if-images-i.false
+      | else-i-j w ↦ differ_itself _ _ m _ b t.j (t.invariant m b) (omega arith) w.if-i-j.false
+    ]
 
 pub returns : goal.returns
 returns c =

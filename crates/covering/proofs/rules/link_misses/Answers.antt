@@ -13,6 +13,7 @@ use Rattle.covering.specs.Marks.{Linking}
 use Rattle.covering.proofs.Links.{walk_from, meet_skip, meet_more, meet_not}
 use borrow.Author.Rules.{rules}
 use Rattle.covering.proofs.rules.link_misses.Goals as goal
+use Rattle.covering.proofs.rules.link_misses.Goals.{then-p-ne0+else-stop_from-end, else-p-ne0}
 use Rattle.covering.proofs.rules.link_misses.Lts as lts
 use Rattle.covering.proofs.rules.link_misses.Reads as reads
 use Rattle.covering.proofs.rules.link_misses.Tie as tie
@@ -43,13 +44,13 @@ pub loop-i-init : goal.loop-i-init
 loop-i-init c = (omega arith, λ m p l. pass_none _ _)
 
 pub overflow_add-first : goal.overflow_add-first
-overflow_add-first c = let m = (begun c.before).requires.0 in let p = (begun c.before).requires.1 in let l = (begun c.before).requires.2 in omega (arith, l.inside)
+overflow_add-first c = omega (arith, c.requires.2.inside)
 
 pub bounds-cert-first : goal.bounds-cert-first
-bounds-cert-first c = let m = (begun c.before.before).requires.0 in let p = (begun c.before.before).requires.1 in let l = (begun c.before.before).requires.2 in omega (arith, l.inside)
+bounds-cert-first c = omega (arith, c.requires.2.inside)
 
 pub bounds-images-i : goal.bounds-images-i
-bounds-images-i c = let m = (begun c.before.before.before.before.before).requires.0 in let p = (begun c.before.before.before.before.before).requires.1 in let l = (begun c.before.before.before.before.before).requires.2 in omega (arith, l.images.few)
+bounds-images-i c = omega (arith, c.requires.2.images.few)
 
 pub bounds-s-from : goal.bounds-s-from
 bounds-s-from c =
@@ -64,7 +65,7 @@ returns-then-stop_from-end c = λ m p l.
     let b = n.before.before in
     let t = (turn b.before).loop-i in
     sym (ap (number_or _)
-    (meet_not _ _ _ _ _ _ _ _ l t.i (t.inv.1 m p l) (omega arith) _ b.wide-p.ensures.0 _ b.wide-from.ensures.0 b.if-p-ne0.true _ (n.wide-end.ensures.0 ∙ n.image_of.ensures) _ _
+    (meet_not _ _ _ _ _ _ _ _ l t.i (t.invariant.1 m p l) (omega arith) _ b.wide-p.ensures.0 _ b.wide-from.ensures.0 b.if-p-ne0.true _ (n.wide-end.ensures.0 ∙ n.image_of.ensures) _ _
     c.wide.ensures.0 c.stop_from.ensures c.if-stop_from-end.true))
 
 pub loop-i-preserved : goal.loop-i-preserved
@@ -73,11 +74,12 @@ loop-i-preserved c = (
   λ m p l.
       let t = c.loop-i in
       let e = c.wide-p.ensures.0 in
-      ⊎_elim
-      (λ (o, _, s, q, v, _, x, w, z).
-      meet_more _ _ _ _ _ _ _ _ l t.i (t.invariant.1 m p l) (omega arith) _ e _ s.ensures.0 o.taken _ (v.ensures.0 ∙ q.ensures) _ _ x.ensures.0
-      w.ensures z.left)
-      (λ o. meet_skip _ _ _ _ _ _ _ _ l t.i (t.invariant.1 m p l) (omega arith) _ e o.left) c.if-p-ne0.branch,
+      elim c.if-p-ne0.branch [
+        | then-p-ne0+else-stop_from-end w ↦
+            meet_more _ _ _ _ _ _ _ _ l t.i (t.invariant.1 m p l) (omega arith) _ e _ w.wide-from.ensures.0 w.if-p-ne0.true _ (w.wide-end.ensures.0 ∙ w.image_of.ensures) _ _ w.wide.ensures.0
+            w.stop_from.ensures w.if-stop_from-end.false
+        | else-p-ne0 w ↦ meet_skip _ _ _ _ _ _ _ _ l t.i (t.invariant.1 m p l) (omega arith) _ e w.if-p-ne0.false
+      ],
 )
 
 pub returns : goal.returns
