@@ -150,7 +150,7 @@ file_is job h d =
       job =
           record {
             variables = d.variables_are k;
-            start = d.start-is k;
+            start = d.start_is k;
             transitions = d.transitions_are k;
             forbidden = d.forbidden_are k;
           };

@@ -66,7 +66,7 @@ joint_refusal_requires c κs =
     let told = c.before.before.before in
     let a = (begun (checked told)).args in
     let (d, (_, m)) = kept told in
-    ((begun (checked told)).requires, m.table-is (bounds a.job2.now a.cert2.now _ d (short told)))
+    ((begun (checked told)).requires, m.table_is (bounds a.job2.now a.cert2.now _ d (short told)))
 
 tell_requires : tie.Need-tell-requires
 tell_requires c κs = search rules
