@@ -5,12 +5,14 @@ use Prim.Native.Nat.{ℕ, zero, suc, ◌+◌, ◌-◌, ◌≤◌, ◌<◌}
 use native.Mathlib.Omega.{arith}
 use lib.ListN.{get_or}
 use Rattle.run.specs.Run.{Located}
+use Rattle.format.specs.Certificate.{read_cover}
+use Rattle.format.specs.Parser.{certificate_buffer}
 use Rattle.transitions.specs.Index.{next_into, Chained}
 use Rattle.checker.proofs.Into.{before, owed_from, FirstInto, none_into, some_into}
 use Rattle.reader.specs.declared.Header.{Header}
 use Rattle.verdict.specs.declared.Refusal.{Refusal}
 use Rattle.checker.specs.Jobs.{transition_in, to_state, owed_by}
-use Rattle.checker.specs.Checking.{Within, covers_of, ChecksAll, Taking, cover_of}
+use Rattle.checker.specs.Checking.{Within, covers_of, ChecksAll}
 use Rattle.checker.specs.declared.checked.Checked.{Checked}
 use Rattle.checker.specs.declared.checked.Checked.TheVariants.{Upto, Refused}
 use Rattle.checker.specs.declared.checked.Position.{Position}
@@ -26,13 +28,13 @@ left_from_lem count zero h = absurd (omega arith)
 left_from_lem count (suc i) h = omega arith
 
 -- covers are taken for the transitions below `passed`; k names the first into the member's state among the others
-pub record Chain (job : List ℕ) (h : Header) (cert : List ℕ) (ms : Taking) (m : Located) (from : Position) (k : ℕ) (t : Position) : Type 0 where
+pub record Chain (job : List ℕ) (h : Header) (cert : List ℕ) (ms : List Located) (m : Located) (from : Position) (k : ℕ) (t : Position) : Type 0 where
   pub passed : ℕ
   pub inside : passed ≤ h.transitions
   pub named : k ≡ next_into (to_state job h) m.state (h.transitions - passed) passed
   pub progress : Progress cert (covers_of cert ms (owed_by job h m)) from (covers_of cert ms (owed_from (transition_in job h) m (h.transitions - passed) passed)) t
 
-module _ {job : List ℕ} {h : Header} {cert : List ℕ} {ms : Taking} {m : Located} {from : Position} where
+module _ {job : List ℕ} {h : Header} {cert : List ℕ} {ms : List Located} {m : Located} {from : Position} where
   pub chain_begin : {k : ℕ} → k ≡ next_into (to_state job h) m.state h.transitions 0 → Within cert from → Chain job h cert ms m from k from
   chain_begin e w =
       let all : h.transitions - 0 ≡ h.transitions = omega arith in
@@ -63,7 +65,7 @@ module _ {job : List ℕ} {h : Header} {cert : List ℕ} {ms : Taking} {m : Loca
     left : Progress cert (covers_of cert ms (owed_by job h m)) from (covers_of cert ms here ++ covers_of cert ms rest) t
     left =
         let same : c.passed + (h.transitions - c.passed) - suc (k - 1) ≡ h.transitions - suc (k - 1) = omega (arith, c.inside) in
-        rw (map-append (cover_of cert ms) here rest) at (rw same at (rw first.owes at c.progress))
+        rw (map-append (read_cover (certificate_buffer cert) ms) here rest) at (rw same at (rw first.owes at c.progress))
 
     module _ {g : Checked} (taken : ChecksAll cert ms here t g) where
       pub chain_halt : {r : Refusal} {place : ℕ} → g ≡ Refused r place → ChecksAll cert ms (owed_by job h m) from g

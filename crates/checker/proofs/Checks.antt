@@ -5,15 +5,16 @@ use Prim.Native.Nat.{ℕ, ◌+◌, ◌%◌, ◌≤◌, ◌<◌}
 use lib.ListN.{length}
 use native.Mathlib.Nat.{mod-lt, div-add-mod'}
 use native.Mathlib.Omega.{arith}
+use Rattle.run.specs.Run.{Located}
 use Rattle.undoing.specs.Rowed.{Rowed}
 use Rattle.factrows.specs.Rows.{rows_test}
-use Rattle.format.specs.Parser.{parsed, fault}
+use Rattle.format.specs.Parser.{parsed, fault, certificate_buffer}
 use Rattle.verdict.specs.Verdict.{reason_of}
 use Rattle.verdict.specs.declared.Refusal.{Refusal}
-use Rattle.checker.specs.Checking.{Tally, one_more, take_all, tally_of, checked_of, located, cover_rowed, Within, Checks, Taking}
+use Rattle.checker.specs.Checking.{Tally, one_more, take_all, tally_of, checked_of, located, cover_rowed, Within, Checks}
 use Rattle.checker.specs.declared.checked.Checked.TheVariants.{Upto, Refused}
 use Rattle.checker.specs.declared.checked.Position.{Position}
-use Rattle.checker.proofs.Purpose.{taken_place}
+use Rattle.checker.proofs.CoverPlace.{cover_place}
 use Rattle.checker.proofs.Checking.{take_one}
 
 -- there is room to count one more, with its links
@@ -23,7 +24,7 @@ counted_fits cert t w =
     let rest : t.counted % 4294967296 < 4294967296 = mod-lt t.counted (omega arith) in
     omega (arith, w.counted, w.inside, w.fits)
 
-module _ (cert : List ℕ) (ms : Taking) (state : ℕ) where
+module _ (cert : List ℕ) (ms : List Located) (state : ℕ) where
   -- one cover
   module _ (o : Rowed) (t : Position) where
     module _ (links next : ℕ) (e : parsed links next ≡ cover_rowed cert ms state o t.at) (w : Within cert t) (small : links < 65536) where
@@ -31,7 +32,7 @@ module _ (cert : List ℕ) (ms : Taking) (state : ℕ) where
       further = record { at = next; counted = t.counted + 4294967296 + links }
 
       place : (t.at < next) × (next ≤ length cert)
-      place = taken_place cert ms (rows_test o.rows) (located state o.shape) t.at (sym e)
+      place = cover_place (certificate_buffer cert) (rows_test o.rows) ms (located state o.shape) t.at (sym e)
 
       -- 65,535 links for each of 65,536 covers are less than 2^32
       links_room : (tally_of t).links + links < 4294967296

@@ -7,12 +7,13 @@ use native.Mathlib.Decide.{ℕ_discrete, dec_lt}
 use native.Mathlib.Omega.{arith}
 use Rattle.lists.specs.List.{concat_map}
 use Rattle.lists.specs.Range.{range}
+use Rattle.run.specs.Run.{Located}
 use Rattle.undoing.specs.Rowed.{Rowed}
 use Rattle.format.specs.Parser.{Parser}
 use Rattle.verdict.specs.declared.Refusal.{Refusal}
 use Rattle.placing.specs.declared.Choices.{Choices}
 use Rattle.placing.proofs.Ranges.{stretch, Covers}
-use Rattle.checker.specs.Checking.{Within, cover_rowed, covers_rowed, Checks, Taking}
+use Rattle.checker.specs.Checking.{Within, cover_rowed, covers_rowed, Checks}
 use Rattle.checker.specs.declared.checked.Checked.{Checked}
 use Rattle.checker.specs.declared.checked.Checked.TheVariants.{Upto, Refused}
 use Rattle.checker.specs.declared.checked.Position.{Position}
@@ -49,7 +50,7 @@ abbrev Among : Choices → ℕ → Type 0
 Among c k = (c.step ≡ 1) ⊎ ((k ≡ c.from) ⊎ (c.to ≤ suc k))
 
 -- covers are taken for the choices before k, which is one of those to try
-pub record ChoiceLoop (cert : List ℕ) (ms : Taking) (state : ℕ) (f : ℕ → List Rowed) (c : Choices) (start past : ℕ) (t₀ : Position) (k : ℕ) (t : Position) : Type 0 where
+pub record ChoiceLoop (cert : List ℕ) (ms : List Located) (state : ℕ) (f : ℕ → List Rowed) (c : Choices) (start past : ℕ) (t₀ : Position) (k : ℕ) (t : Position) : Type 0 where
   pub progress : Progress cert (rest (cover_rowed cert ms state) f past start) t₀ (rest (cover_rowed cert ms state) f past k) t
   pub among : Among c k
 
@@ -72,7 +73,7 @@ module _ {f : ℕ → List Rowed} {c : Choices} {start past : ℕ} (h : Covers c
       let e : k + 1 + (c.step - 1) ≡ k + c.step = omega (arith, h.forward) in
       rest_skip cover f past (c.step - 1) (k + 1) (λ i l b m. passed a (ℕ_discrete c.step 1) i l (omega arith) m) ∙ rw e refl
 
-module _ {cert : List ℕ} {ms : Taking} {state : ℕ} {f : ℕ → List Rowed} {c : Choices} {start past : ℕ} (h : Covers c (λ j. f j ≡ []) start past) where
+module _ {cert : List ℕ} {ms : List Located} {state : ℕ} {f : ℕ → List Rowed} {c : Choices} {start past : ℕ} (h : Covers c (λ j. f j ≡ []) start past) where
   pub loop_none : {t : Position} → Within cert t → ChoiceLoop cert ms state f c start past t c.from t
   loop_none w =
       let e : start + (c.from - start) ≡ c.from = omega (arith, h.least) in

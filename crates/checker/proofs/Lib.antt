@@ -1,7 +1,6 @@
 pub mod Pairs
 pub mod Members
 pub mod CoverPlace
-pub mod Purpose
 pub mod Lists
 pub mod Checking
 pub mod Checks

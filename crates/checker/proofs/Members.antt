@@ -7,7 +7,7 @@ use lib.ListN.{length, get_or}
 use Rattle.run.specs.Run.{Located}
 use Rattle.layout.specs.Entries.{located_at, members_at, Table}
 use Rattle.layout.specs.Members.{member_at, members_from}
-use Rattle.layout.proofs.Whole.{is_whole_lem, entry_whole}
+use Rattle.layout.proofs.Whole.{is_whole, entry_whole}
 
 same_on : (f g : ℕ → Located) (xs : List ℕ) → ((i : ℕ) → i < length xs → f (get_or xs i 0) ≡ g (get_or xs i 0)) → map f xs ≡ map g xs
 same_on f g [] h = refl
@@ -20,5 +20,5 @@ from_table cert variables starts t = same_on (member_at cert variables) (located
     stands : (i : ℕ) → i < length starts → member_at cert variables (get_or starts i 0) ≡ located_at cert variables (get_or starts i 0)
     stands i b =
         let e = t.entry i b in
-        rw (is_whole_lem cert variables (get_or starts i 0) (entry_whole cert variables (get_or starts i 0) e t.variables_most))
+        rw (is_whole cert variables (get_or starts i 0) (entry_whole cert variables (get_or starts i 0) e t.variables_most))
         refl

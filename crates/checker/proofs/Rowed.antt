@@ -8,11 +8,12 @@ use lib.Dec.{eqb}
 use Rattle.lists.specs.List.{concat_map}
 use Rattle.lists.specs.Range.{range}
 use Rattle.lists.proofs.List.{concat_map_append}
-use Rattle.shape.specs.Shape.{Shape, size}
+use Rattle.shape.specs.Shape.{Shape}
+use Rattle.run.specs.Run.{Located}
 use Rattle.cover.specs.Test.{closed_in}
 use Rattle.factrows.specs.Listed.{closed}
 use Rattle.factrows.specs.Rows.{has_fact, no_facts, cell_number, rows_test, lowered}
-use Rattle.format.specs.Certificate.{read_cover_by}
+use Rattle.format.specs.Certificate.{read_cover, read_cover_by}
 use Rattle.format.specs.Parser.{certificate_buffer}
 use Rattle.format.proofs.Among.{cover_among, cover_bare}
 use Rattle.layout.specs.Entries.{version_of}
@@ -27,23 +28,21 @@ use Rattle.undoing.specs.Rowed.{Rowed, StandsFor, AllStandFor, rowed}
 use Rattle.undoing.specs.Undone.{is_undone, rows_undone}
 use Rattle.undoing.proofs.None.{has_none, closed_none, lowered_none}
 use Rattle.undoing.proofs.Rowed.{rows_among}
-use Rattle.checker.specs.Checking.{located, cover_rowed, covers_rowed, covers_of, take_all, Within, ChecksAll, Checks, Taking, cover_of}
+use Rattle.checker.specs.Checking.{located, cover_rowed, covers_rowed, covers_of, take_all, Within, ChecksAll, Checks}
 use Rattle.undoing.specs.Before.{facts_before, valued_before, is_taken_out, is_before_rowed, rows_before, before_rowed, cases_rowed}
 use Rattle.checker.specs.declared.checked.Checked.{Checked}
 use Rattle.checker.specs.declared.checked.Checked.TheVariants.{Upto}
 use Rattle.checker.specs.declared.checked.Position.{Position}
 use Rattle.checker.proofs.Checking.{Same, take_same}
-use Rattle.checker.proofs.Purpose.{same_cover}
 
 -- ---- covers
 
-module _ (cert : List ℕ) (ms : Taking) (state : ℕ) where
-  cover_stands : (o : Rowed) (s : Shape) → StandsFor o s → (at : ℕ) → cover_rowed cert ms state o at ≡ cover_of cert ms (located state s) at
+module _ (cert : List ℕ) (ms : List Located) (state : ℕ) where
+  cover_stands : (o : Rowed) (s : Shape) → StandsFor o s → (at : ℕ) → cover_rowed cert ms state o at ≡ read_cover (certificate_buffer cert) ms (located state s) at
   cover_stands o s h at =
-      same_cover cert ms (rows_test o.rows) (closed_in s) (located state o.shape) (located state s) at (ap size h.bare)
-      (ap (λ (t : Shape). read_cover_by (certificate_buffer cert) (rows_test o.rows) ms.members (located state t) at) h.bare
-      ∙ cover_bare (certificate_buffer cert) (rows_test o.rows) ms.members state s at
-      ∙ cover_among (rows_test o.rows) (closed_in s) (rows_among o s h) (certificate_buffer cert) ms.members (located state s) at)
+      ap (λ (t : Shape). read_cover_by (certificate_buffer cert) (rows_test o.rows) ms (located state t) at) h.bare
+      ∙ cover_bare (certificate_buffer cert) (rows_test o.rows) ms state s at
+      ∙ cover_among (rows_test o.rows) (closed_in s) (rows_among o s h) (certificate_buffer cert) ms (located state s) at
 
   covers_stand : (os : List Rowed) (ss : List Shape) → AllStandFor os ss → Same (covers_rowed cert ms state os) (covers_of cert ms (map (located state) ss))
   covers_stand [] [] h = tt
@@ -139,6 +138,6 @@ module _ (variables kind a b : ℕ) (s rows : List ℕ) (u : Bool) (u-is : u ≡
       → valued_before variables kind a b s rows ≡ rowed l (shape_in variables s) ∷ []
   valued_one e l l_is = rw (← u-is, l_is, e) refl
 
-pub checks_none : (cert : List ℕ) (ms : Taking) (state : ℕ) (t : Position) → Within cert t → Checks cert ms state [] t (Upto t)
+pub checks_none : (cert : List ℕ) (ms : List Located) (state : ℕ) (t : Position) → Within cert t → Checks cert ms state [] t (Upto t)
 unfolding take_all
 checks_none cert ms state t w = (refl, w)

@@ -1,13 +1,11 @@
 -- Checking covers in turn: "In turn, each cover is taken as read or refused on the spot."
-use Rattle.std.specs.Prelude.{Bool, cond, List, [], ◌∷◌, map, ◌≡◌, ℕ, suc, ◌+◌, ◌*◌, ◌/◌, ◌%◌, ◌≤◌, length}
-use Rattle.shape.specs.Shape.{Shape, size}
+use Rattle.std.specs.Prelude.{List, [], ◌∷◌, map, ◌≡◌, ℕ, suc, ◌+◌, ◌*◌, ◌/◌, ◌%◌, ◌≤◌, length}
+use Rattle.shape.specs.Shape.{Shape}
 use Rattle.run.specs.Run.{Located}
 use Rattle.factrows.specs.Rows.{no_facts, rows_test}
 use Rattle.layout.specs.Entries.{version_of}
 use Rattle.undoing.specs.Rowed.{Rowed}
-use Rattle.cover.specs.Test.{closed_in}
-use Rattle.coverreader.specs.Reading.{read_alone}
-use Rattle.format.specs.Certificate.{read_cover_by}
+use Rattle.format.specs.Certificate.{read_cover, read_cover_by}
 use Rattle.format.specs.Parser.{Parsed, parsed, fault, Parser, ◌>>=◌, return, certificate_buffer}
 use Rattle.verdict.specs.Verdict.{reason_of}
 use Rattle.checker.specs.declared.checked.Checked.{Checked}
@@ -62,38 +60,22 @@ Takes cert ps t g = (checked_of g ≡ take_all ps (tally_of t) t.at) × StaysWit
 abbrev pub located : ℕ → Shape → Located
 located state s = record { state = state; shape = s }
 
--- what covers are taken with: the members, and whether they are judged
-pub record Taking : Type 0 where
-  pub judged : Bool
-  pub members : List Located
-
-abbrev pub taking : Bool → List Located → Taking
-taking judged ms = record { judged = judged; members = ms }
-
--- a cover of a shape at a state, whose facts a test tells: judged, or only read
-abbrev pub cover_by : List ℕ → Taking → (ℕ → ℕ → ℕ → Bool) → Located → Parser ℕ
-cover_by cert ms among o =
-    cond ms.judged (read_cover_by (certificate_buffer cert) among ms.members o) (read_alone (certificate_buffer cert) ms.members (size o.shape))
-
-abbrev pub cover_of : List ℕ → Taking → Located → Parser ℕ
-cover_of cert ms o = cover_by cert ms (closed_in o.shape) o
-
--- a cover of each
-abbrev pub covers_of : List ℕ → Taking → List Located → List (Parser ℕ)
-covers_of cert ms os = map (cover_of cert ms) os
+-- a cover of each, with members ms
+abbrev pub covers_of : List ℕ → List Located → List Located → List (Parser ℕ)
+covers_of cert ms os = map (read_cover (certificate_buffer cert) ms) os
 
 -- a cover of a shape at a state whose facts are in rows, and of each of them
-abbrev pub cover_rowed : List ℕ → Taking → ℕ → Rowed → Parser ℕ
-cover_rowed cert ms state o = cover_by cert ms (rows_test o.rows) (located state o.shape)
+abbrev pub cover_rowed : List ℕ → List Located → ℕ → Rowed → Parser ℕ
+cover_rowed cert ms state o = read_cover_by (certificate_buffer cert) (rows_test o.rows) ms (located state o.shape)
 
-abbrev pub covers_rowed : List ℕ → Taking → ℕ → List Rowed → List (Parser ℕ)
+abbrev pub covers_rowed : List ℕ → List Located → ℕ → List Rowed → List (Parser ℕ)
 covers_rowed cert ms state os = map (cover_rowed cert ms state) os
 
 -- g is how far the covers of all these are checked, from t on
-abbrev pub ChecksAll : List ℕ → Taking → List Located → Position → Checked → Type 0
+abbrev pub ChecksAll : List ℕ → List Located → List Located → Position → Checked → Type 0
 ChecksAll cert ms os t g = Takes cert (covers_of cert ms os) t g
 
-abbrev pub Checks : List ℕ → Taking → ℕ → List Rowed → Position → Checked → Type 0
+abbrev pub Checks : List ℕ → List Located → ℕ → List Rowed → Position → Checked → Type 0
 Checks cert ms state os t g = Takes cert (covers_rowed cert ms state os) t g
 
 -- a certificate of version 1 has no facts, so that rows beside it are empty

@@ -1,20 +1,17 @@
 -- A job by its bytes and its header.
-use Rattle.std.specs.Prelude.{Bool, cond, List, ℕ, ◌+◌, ◌*◌}
+use Rattle.std.specs.Prelude.{List, ℕ, ◌+◌, ◌*◌}
 use Rattle.lists.specs.List.{concat_map, sum}
 use Rattle.run.specs.Run.{Transition, Located, Job}
 use Rattle.cover.specs.Cover.{predecessors_by, owed}
-use Rattle.format.specs.Certificate.{without_places}
+use Rattle.format.specs.Certificate.{read_cover}
 use Rattle.format.specs.Conditions.{counts_of}
-use Rattle.format.specs.Job.{read_whole_job}
 use Rattle.format.specs.JobNumbers.{JobFile}
-use Rattle.format.specs.Parser.{refusal, Parsed, Parser, onward, ◌>>=◌, ◌>>◌, return, each, job_buffer, certificate_buffer, end}
-use Rattle.format.specs.Verdict.{Counts, Verdict, refused, conclude, fits}
+use Rattle.format.specs.Parser.{Parser, ◌>>=◌, ◌>>◌, return, each, certificate_buffer, end}
+use Rattle.format.specs.Verdict.{Counts}
 use Rattle.layout.specs.Entries.{version_of, entries_at}
 use Rattle.layout.specs.Transitions.{transition_at}
 use Rattle.reader.specs.Transitions.{transitions_in}
-use Rattle.reader.specs.Members.{read_tested}
 use Rattle.reader.specs.declared.Header.{Header}
-use Rattle.checker.specs.Checking.{taking, cover_of}
 
 module _ (job : List ℕ) (h : Header) where
   abbrev pub transition_in : ℕ → Transition
@@ -42,22 +39,9 @@ module _ (job : List ℕ) (h : Header) where
   abbrev pub owed_by : Located → List Located
   owed_by m = concat_map (predecessors_by m) (transitions_in job h)
 
--- the covers that a job and members owe, judged or only read, and nothing after them
-unfoldable pub read_covers : Bool → List ℕ → Job → List Located → Parser Counts
-read_covers judged cert j ms = do
-  links ← each (cover_of cert (taking judged ms)) (owed j ms)
+-- the covers that a job and members owe, and nothing after them
+unfoldable pub read_covers : List ℕ → Job → List Located → Parser Counts
+read_covers cert j ms = do
+  links ← each (read_cover (certificate_buffer cert) ms) (owed j ms)
   end (certificate_buffer cert)
   return (counts_of j ms (sum links))
-
--- a certificate for a job: 8 is judged at the state `tested`, covers are judged or only read
-unfoldable pub read_for : Bool → ℕ → List ℕ → JobFile → Parsed Counts
-read_for judged tested cert f =
-    onward (read_tested (certificate_buffer cert) f.version f.job.variables f.states tested 0)
-    (λ ms. read_covers judged cert f.job (without_places ms))
-
--- the verdict on a job and a certificate, with covers judged or only read; document 02, wish 7: "(8 and 9 aren't judged)"
-unfoldable pub verdict_for : Bool → (JobFile → ℕ) → List ℕ → List ℕ → Verdict
-verdict_for judged tested job cert =
-    let read = conclude (onward (read_whole_job (job_buffer job) 0) (λ f next. read_for judged (tested f) cert f)) in
-    let sized = cond (fits cert) read (refused (refusal 2) 0) in
-    cond (fits job) sized (refused (refusal 1) 0)

@@ -1,9 +1,9 @@
 -- A pair that is judged with what was read of it kept: the job's header, and the places of the members in a table.
-use Rattle.std.specs.Prelude.{Bool, true, false, List, [], ◌++◌, ℕ, take, drop, replicate}
+use Rattle.std.specs.Prelude.{Bool, true, false, ◌&&◌, cond, List, ℕ}
 use Rattle.format.specs.Job.{read_whole_job}
 use Rattle.format.specs.JobNumbers.{JobFile}
 use Rattle.format.specs.Parser.{Parsed, parsed, fault, job_buffer, certificate_buffer}
-use Rattle.format.specs.Verdict.{start_of, no_state, Verdict, accepted, refused}
+use Rattle.format.specs.Verdict.{start_of, no_state, Verdict, accepted, refused, fits}
 use Rattle.layout.specs.Entries.{version_of}
 use Rattle.reader.specs.Members.{member_places, with_places, MembersRead}
 use Rattle.reader.specs.declared.Header.{Header}
@@ -11,7 +11,7 @@ use Rattle.verdict.specs.Verdict.{reason_of, counts_told}
 use Rattle.checker.specs.declared.PairVerdict.{PairVerdict}
 use Rattle.checker.specs.declared.PairVerdict.TheVariants.{Accepted, Refused}
 
--- where 8 is tested: at the job's start, or at no state
+-- where 8 is judged: at the job's start, or at no state
 abbrev pub tested_if : Bool → JobFile → ℕ
 tested_if true = start_of
 tested_if false = no_state
@@ -29,20 +29,10 @@ MembersKept job cert h tested count table = (next : ℕ) × MembersRead cert (ve
 abbrev pub placed : List ℕ → JobFile → List ℕ → List ℕ
 placed cert f table = with_places (member_places (certificate_buffer cert) f.version f.job.variables f.states) table
 
-abbrev placed_by : List ℕ → Parsed JobFile → List ℕ
-placed_by cert (parsed f next) = placed cert f (replicate 512 0)
-placed_by cert (fault why place) = []
+abbrev placed_by : List ℕ → List ℕ → Parsed JobFile → List ℕ
+placed_by cert table (parsed f next) = placed cert f table
+placed_by cert table (fault why place) = table
 
--- the table of a pair by itself: none where the job is refused
-unfoldable pub places_read : List ℕ → List ℕ → List ℕ
-places_read job cert = placed_by cert (read_whole_job (job_buffer job) 0)
-
--- a table with the places of the members of an accepted pair; else as it was
-abbrev pub kept_of : Verdict → List ℕ → List ℕ → List ℕ
-kept_of (accepted c) places table = take c.members places ++ drop c.members table
-kept_of (refused why place) places table = table
-
--- they are kept where 8 is not tested
-abbrev pub kept_if : Bool → Verdict → List ℕ → List ℕ → List ℕ
-kept_if true v places table = table
-kept_if false v places table = kept_of v places table
+-- as it was, where a length or the job is refused
+unfoldable pub places_after : List ℕ → List ℕ → List ℕ → List ℕ
+places_after job cert table = let by_job = placed_by cert table (read_whole_job (job_buffer job) 0) in cond (fits job && fits cert) by_job table

@@ -8,12 +8,12 @@ ghost use Rattle.placing.specs.Choice.{put};
 ghost use Rattle.placing.specs.Retained.{changed};
 ghost use Rattle.placing.specs.Wanted.{fits_in};
 ghost use Rattle.shapes.specs.Operands.{HoldsShape, shape_under, Working, OneToPlace, first_placed_in, last_operand_in, wanted_last_in};
-ghost use Rattle.checker.specs.Checking.{Within, Checks, taking};
+ghost use Rattle.checker.specs.Checking.{Within, Checks};
 ghost use Rattle.checker.specs.Placing.{second_operand, with_helper};
 ghost use Rattle.undoing.specs.Before.{choices_rowed, valued_before};
 
 use crate::change::{place_operand, undo};
-use crate::checked::{Checked, Position, Spot};
+use crate::checked::{Checked, Position};
 use crate::single::check_cover;
 use crate::wanted::{is_wanted_in, last_operand, place_of, wanted_of_first, wanted_of_last};
 use kinds::{LOAD, READ};
@@ -23,12 +23,12 @@ use transitions::Transition;
 use undoing::undo_values;
 
 // The predecessor by choice k of the operand that is placed last, which is wanted, in place.
-pub(crate) fn undo_choice(spot: Spot, operand: u8, s: &mut [u8; 28], k: u8)
-    requires { (OneToPlace spot.variables spot.by.kind spot.by.a spot.by.b s.old) × (operand ≡ last_operand_in spot.by.a spot.by.b s.old) × (k < cell_count s.old + (2 + cell_count s.old)) × (fits_in (links_in s.old) (wanted_last_in spot.by.kind spot.by.a spot.by.b s.old) k ≡ true) }
-    ensures { HoldsShape spot.variables s.new (changed spot.variables spot.by.kind spot.by.a spot.by.b (put operand (shape_under spot.variables spot.by.b s.old) k)) }
+pub(crate) fn undo_choice(variables: usize, by: Transition, operand: u8, s: &mut [u8; 28], k: u8)
+    requires { (OneToPlace variables by.kind by.a by.b s.old) × (operand ≡ last_operand_in by.a by.b s.old) × (k < cell_count s.old + (2 + cell_count s.old)) × (fits_in (links_in s.old) (wanted_last_in by.kind by.a by.b s.old) k ≡ true) }
+    ensures { HoldsShape variables s.new (changed variables by.kind by.a by.b (put operand (shape_under variables by.b s.old) k)) }
 {
     place_operand(s, operand, k);
-    undo(spot.variables, spot.by.kind, spot.by.a, spot.by.b, s);
+    undo(variables, by.kind, by.a, by.b, s);
 }
 
 // The number of the cell at which an operand stands; 14, which is in no fact, where it stands at none.
@@ -47,42 +47,37 @@ fn cell_of(s: &[u8; 28], operand: u8) -> usize
 fn check_valued(
     cert: &[u8],
     starts: &[u16],
-    spot: Spot,
+    variables: usize,
+    by: Transition,
     s: &[u8; 28],
     facts: &[u16; 28],
     t: Position,
-    judged: bool,
 ) -> Checked
-    requires { (spot.by.a ≤ 9) × (spot.by.b ≤ 9) × (Within cert.now t) }
-    ensures { Checks cert.now (taking judged (members_from cert.now spot.variables starts.now)) spot.by.from (valued_before spot.variables spot.by.kind spot.by.a spot.by.b s.now facts.now) t result }
+    requires { (by.a ≤ 9) × (by.b ≤ 9) × (Within cert.now t) }
+    ensures { Checks cert.now (members_from cert.now variables starts.now) by.from (valued_before variables by.kind by.a by.b s.now facts.now) t result }
 {
     let mut rows = *facts;
-    if !undo_values(
-        &mut rows,
-        spot.by.kind,
-        cell_of(s, spot.by.a),
-        cell_of(s, spot.by.b),
-    ) {
+    if !undo_values(&mut rows, by.kind, cell_of(s, by.a), cell_of(s, by.b)) {
         return Checked::Upto(t);
     }
-    check_cover(cert, starts, spot, s, &rows, t, judged)
+    check_cover(cert, starts, variables, by.from, s, &rows, t)
 }
 
 // Covers of the predecessors where at most one variable is still to be placed.
 pub(crate) fn check_last_choices(
     cert: &[u8],
     starts: &[u16],
-    spot: Spot,
+    variables: usize,
+    by: Transition,
     s: &[u8; 28],
     facts: &[u16; 28],
     from: Position,
-    judged: bool,
 ) -> Checked
-    requires { (OneToPlace spot.variables spot.by.kind spot.by.a spot.by.b s.now) × (5 < spot.by.kind) × (Within cert.now from) }
-    ensures { Checks cert.now (taking judged (members_from cert.now spot.variables starts.now)) spot.by.from (choices_rowed spot.variables spot.by.kind spot.by.a spot.by.b s.now facts.now) from result }
+    requires { (OneToPlace variables by.kind by.a by.b s.now) × (5 < by.kind) × (Within cert.now from) }
+    ensures { Checks cert.now (members_from cert.now variables starts.now) by.from (choices_rowed variables by.kind by.a by.b s.now facts.now) from result }
 {
-    let operand = last_operand(spot.by.a, spot.by.b, s);
-    let wanted = wanted_of_last(spot.by.kind, spot.by.a, spot.by.b, s);
+    let operand = last_operand(by.a, by.b, s);
+    let wanted = wanted_of_last(by.kind, by.a, by.b, s);
     let c = choices_of(s[0], wanted);
     let mut t = from;
     let mut k = c.from;
@@ -91,8 +86,8 @@ pub(crate) fn check_last_choices(
         k += c.step;
         if is_wanted_in(s, wanted, j) {
             let mut v = *s;
-            undo_choice(spot, operand, &mut v, j);
-            let g = check_valued(cert, starts, spot, &v, facts, t, judged);
+            undo_choice(variables, by, operand, &mut v, j);
+            let g = check_valued(cert, starts, variables, by, &v, facts, t);
             let Checked::Upto(u) = g else {
                 return g;
             };
@@ -118,16 +113,16 @@ pub(crate) fn place_first(a: u8, b: u8, s: &mut [u8; 28], k: u8)
 pub(crate) fn check_first_choices(
     cert: &[u8],
     starts: &[u16],
-    spot: Spot,
+    variables: usize,
+    by: Transition,
     s: &[u8; 28],
     facts: &[u16; 28],
     from: Position,
-    judged: bool,
 ) -> Checked
-    requires { (Working 12 spot.variables spot.by.kind spot.by.a spot.by.b s.now) × (5 < spot.by.kind) × (Within cert.now from) }
-    ensures { Checks cert.now (taking judged (members_from cert.now spot.variables starts.now)) spot.by.from (choices_rowed spot.variables spot.by.kind spot.by.a spot.by.b s.now facts.now) from result }
+    requires { (Working 12 variables by.kind by.a by.b s.now) × (5 < by.kind) × (Within cert.now from) }
+    ensures { Checks cert.now (members_from cert.now variables starts.now) by.from (choices_rowed variables by.kind by.a by.b s.now facts.now) from result }
 {
-    let wanted = wanted_of_first(spot.by.a, spot.by.b, s);
+    let wanted = wanted_of_first(by.a, by.b, s);
     let c = choices_of(s[0], wanted);
     let mut t = from;
     let mut k = c.from;
@@ -136,8 +131,8 @@ pub(crate) fn check_first_choices(
         k += c.step;
         if is_wanted_in(s, wanted, j) {
             let mut v = *s;
-            place_first(spot.by.a, spot.by.b, &mut v, j);
-            let g = check_last_choices(cert, starts, spot, &v, facts, t, judged);
+            place_first(by.a, by.b, &mut v, j);
+            let g = check_last_choices(cert, starts, variables, by, &v, facts, t);
             let Checked::Upto(u) = g else {
                 return g;
             };
@@ -165,19 +160,15 @@ fn second_operand(variables: usize, kind: u8, a: u8, b: u8) -> u8
 }
 
 // The transition with it.
-pub(crate) fn with_helper(spot: Spot) -> Spot
-    requires { spot.variables ≤ 8 }
-    ensures { result ≡ record { variables = spot.variables; by = with_helper spot.variables spot.by } }
+pub(crate) fn with_helper(variables: usize, by: Transition) -> Transition
+    requires { variables ≤ 8 }
+    ensures { result ≡ with_helper variables by }
 {
-    let by = Transition {
-        from: spot.by.from,
-        kind: spot.by.kind,
-        a: spot.by.a,
-        b: second_operand(spot.variables, spot.by.kind, spot.by.a, spot.by.b),
-        to: spot.by.to,
-    };
-    Spot {
-        variables: spot.variables,
-        by,
+    Transition {
+        from: by.from,
+        kind: by.kind,
+        a: by.a,
+        b: second_operand(variables, by.kind, by.a, by.b),
+        to: by.to,
     }
 }

@@ -1,14 +1,14 @@
 // The checker: one verdict for the bytes of a job and of a certificate.
 #![tactic(auto)]
 
-ghost use Rattle.std.specs.Prelude.{true, false, List, ◌++◌, ◌↔◌, ◌≡◌, ℕ, ◌≤◌, length, take, drop};
-ghost use Rattle.checker.specs.Jobs.{file_in, read_covers, read_for, verdict_for};
-ghost use Rattle.checker.specs.Pairs.{tested_if, pair_of, MembersKept, placed, places_read, kept_of, kept_if};
+ghost use Rattle.std.specs.Prelude.{List, ◌↔◌, ◌≡◌, ℕ, ◌≤◌, length};
+ghost use Rattle.checker.specs.Jobs.{file_in, read_covers};
+ghost use Rattle.checker.specs.Pairs.{tested_if, pair_of, MembersKept, placed, places_after};
 ghost use Rattle.checker.specs.declared.PairVerdict.TheVariants.{Accepted as PairAccepted};
 ghost use Rattle.format.specs.Conditions.{Conditions, ConditionsAt};
 ghost use Rattle.format.specs.JobBytes.{SafeBytes};
-ghost use Rattle.format.specs.Parser.{within};
-ghost use Rattle.format.specs.Verdict.{Counts as CountsDue, accepted, conclude, verdict_at, verdict};
+ghost use Rattle.format.specs.Parser.{certificate_buffer, within};
+ghost use Rattle.format.specs.Verdict.{Counts as CountsDue, accepted, conclude, read_certificate, verdict_at, verdict};
 ghost use Rattle.layout.specs.Entries.{members_at, Table};
 ghost use Rattle.reader.specs.Job.{JobRead};
 ghost use Rattle.reader.specs.declared.Header.{Header as HeaderRead};
@@ -48,19 +48,12 @@ fn fits(len: usize) -> bool
     len <= 65536
 }
 
-// Checks the covers, or only reads them, and sees that nothing is left after them.
-fn check_covers(
-    job: &[u8],
-    h: Header,
-    cert: &[u8],
-    starts: &[u16],
-    at: usize,
-    judged: bool,
-) -> Verdict
+// Checks the covers and sees that nothing is left after them.
+fn check_covers(job: &[u8], h: Header, cert: &[u8], starts: &[u16], at: usize) -> Verdict
     requires { (JobRead job.now h) × (Table cert.now h.variables starts.now) × (at ≤ length cert.now) × (length cert.now ≤ 65536) }
-    ensures { verdict_of result ≡ conclude (read_covers judged cert.now (file_in job.now h).job (members_at cert.now h.variables starts.now) at) }
+    ensures { verdict_of result ≡ conclude (read_covers cert.now (file_in job.now h).job (members_at cert.now h.variables starts.now) at) }
 {
-    let g = check_owed(job, h, cert, starts, at, judged);
+    let g = check_owed(job, h, cert, starts, at);
     match g {
         Checked::Refused(why, place) => Verdict::Refused(why, place),
         Checked::Upto(t) => {
@@ -77,17 +70,16 @@ fn check_covers(
     }
 }
 
-// Checks a certificate for a job that was read; 8 is judged at the state `tested`, covers are judged or only read. The places of its members go into a table.
+// Checks a certificate for a job that was read; 8 is judged at the state `tested`. The places of its members go into a table.
 fn check_certificate(
     job: &[u8],
     h: Header,
     tested: usize,
     cert: &[u8],
     starts: &mut [u16; 512],
-    judged: bool,
 ) -> Verdict
     requires { (JobRead job.now h) × (length cert.now ≤ 65536) }
-    ensures verdict { verdict_of result ≡ conclude (read_for judged tested cert.now (file_in job.now h)) }
+    ensures verdict { verdict_of result ≡ conclude (read_certificate tested (certificate_buffer cert.now) (file_in job.now h) 0) }
     ensures kept { (c : CountsAnswer) → result ≡ Accepted c → MembersKept job.now cert.now h tested c.members starts.new }
     ensures starts { starts.new ≡ placed cert.now (file_in job.now h) starts.old }
 {
@@ -97,7 +89,7 @@ fn check_certificate(
         MembersAnswer::Refused(why, place) => Verdict::Refused(why, place),
         MembersAnswer::Members(members, at) => {
             let all = &starts[..];
-            check_covers(job, h, cert, &all[..members], at, judged)
+            check_covers(job, h, cert, &all[..members], at)
         }
     }
 }
@@ -120,16 +112,16 @@ pub fn check(job: &[u8], cert: &[u8]) -> Verdict
         JobAnswer::Refused(why, place) => Verdict::Refused(why, place),
         JobAnswer::Job(h) => {
             let mut starts = [0u16; 512];
-            check_certificate(job, h, h.start, cert, &mut starts, true)
+            check_certificate(job, h, h.start, cert, &mut starts)
         }
     }
 }
 
 // The state at which 8 is judged: the start, or the first number that is no state, where no member is.
-fn tested_state(h: Header, tested: bool) -> usize
-    ensures { (job : List ℕ) → result ≡ tested_if tested (file_in job h) }
+fn tested_state(h: Header, judged: bool) -> usize
+    ensures { (job : List ℕ) → result ≡ tested_if judged (file_in job h) }
 {
-    if tested {
+    if judged {
         return h.start;
     }
     h.states
@@ -145,44 +137,12 @@ fn with_job(v: Verdict, h: Header) -> PairVerdict
     }
 }
 
-// Copies the first so many places of a table.
-fn copy_places(table: &[u16], count: usize, starts: &mut [u16])
-    requires { (count ≤ length table.now) × (count ≤ length starts.old) }
-    ensures { starts.new ≡ take count table.now ++ drop count starts.old }
-{
-    let mut i = 0;
-    while i < count {
-        starts[i] = table[i];
-        i += 1;
-    }
-}
-
-// Keeps the places of the members, where the certificate is accepted.
-fn keep_places(v: Verdict, table: &[u16; 512], starts: &mut [u16; 512])
-    requires { (c : CountsAnswer) → v ≡ Accepted c → c.members ≤ 512 }
-    ensures kept { starts.new ≡ kept_of (verdict_of v) table.now starts.old }
-    ensures room { (c : CountsAnswer) → v ≡ Accepted c → length starts.old ≡ 512 }
-{
-    match v {
-        Verdict::Accepted(counts) => copy_places(table, counts.members as usize, starts),
-        Verdict::Refused(_, _) => {}
-    }
-}
-
-// The verdict with 8 tested or not, and covers judged or only read; and what was read of an accepted pair: where each part of the job stands, and, where 8 is
-// not tested, the places of the members. These go by way of a table of its own: a cover costs more where the table is lent.
-pub fn check_pair(
-    job: &[u8],
-    cert: &[u8],
-    tested: bool,
-    judged: bool,
-    starts: &mut [u16; 512],
-) -> PairVerdict
-    ensures exact { pair_of result ≡ verdict_for judged (tested_if tested) job.now cert.now }
-    ensures judged { judged ≡ true → pair_of result ≡ verdict_at (tested_if tested) job.now cert.now }
-    ensures accepted { judged ≡ true → (c : CountsDue) → (pair_of result ≡ accepted c) ↔ ConditionsAt (tested_if tested) job.now cert.now c }
-    ensures kept { (c : CountsAnswer) (h : HeaderRead) → result ≡ PairAccepted c h → JobRead job.now h × (tested ≡ false → MembersKept job.now cert.now h h.states c.members starts.new) }
-    ensures starts { starts.new ≡ kept_if tested (verdict_for judged (tested_if tested) job.now cert.now) (places_read job.now cert.now) starts.old }
+// The verdict with 8 judged or not, and what was read of an accepted pair: where each part of the job stands, and the places of the members.
+pub fn check_pair(job: &[u8], cert: &[u8], judged: bool, starts: &mut [u16; 512]) -> PairVerdict
+    ensures exact { pair_of result ≡ verdict_at (tested_if judged) job.now cert.now }
+    ensures accepted { (c : CountsDue) → (pair_of result ≡ accepted c) ↔ ConditionsAt (tested_if judged) job.now cert.now c }
+    ensures kept { (c : CountsAnswer) (h : HeaderRead) → result ≡ PairAccepted c h → JobRead job.now h × MembersKept job.now cert.now h (tested_if judged (file_in job.now h)) c.members starts.new }
+    ensures starts { starts.new ≡ places_after job.now cert.now starts.old }
 {
     if !fits(job.len()) {
         return PairVerdict::Refused(Refusal::JobLength, 0);
@@ -194,14 +154,8 @@ pub fn check_pair(
     match r {
         JobAnswer::Refused(why, place) => PairVerdict::Refused(why, place),
         JobAnswer::Job(h) => {
-            let state = tested_state(h, tested);
-            let mut table = [0u16; 512];
-            let v = check_certificate(job, h, state, cert, &mut table, judged);
-            if tested {
-                return with_job(v, h);
-            }
-            keep_places(v, &table, starts);
-            with_job(v, h)
+            let tested = tested_state(h, judged);
+            with_job(check_certificate(job, h, tested, cert, starts), h)
         }
     }
 }

@@ -5,7 +5,7 @@ ghost use Rattle.heap.specs.Operation.{kind_of};
 ghost use Rattle.backward.specs.Predecessors.{before};
 ghost use Rattle.cover.specs.Cover.{owed};
 ghost use Rattle.checker.specs.Jobs.{to_state, file_in, owed_by};
-ghost use Rattle.checker.specs.Checking.{no_covers, take_all, checked_of, located, covers_of, Within, ChecksAll, OwnVersion, taking};
+ghost use Rattle.checker.specs.Checking.{no_covers, take_all, checked_of, located, covers_of, Within, ChecksAll, OwnVersion};
 ghost use Rattle.shape.specs.Shape.{Shape};
 ghost use Rattle.undoing.specs.Rowed.{Settled, rowed};
 ghost use Rattle.factrows.specs.Rows.{no_facts, is_consistent};
@@ -18,7 +18,7 @@ ghost use Rattle.layout.specs.Transitions.{op_of};
 ghost use Rattle.transitions.specs.Index.{IndexedFrom};
 ghost use Rattle.reader.specs.Job.{JobRead};
 
-use crate::checked::{Checked, Position, Spot};
+use crate::checked::{Checked, Position};
 use crate::choices::{check_first_choices, with_helper};
 use crate::quickly::check_first_quickly;
 use crate::removal::check_cases;
@@ -40,47 +40,33 @@ fn load_rows(job: &[u8], at: usize, variables: usize, facts: &mut [u16; 28])
     }
 }
 
-// Where the cover of a forbidden shape is owed.
-fn forbidden_at(variables: usize, state: u8) -> Spot
-    ensures { result ≡ record { variables = variables; by = record { from = state; kind = 0; a = 0; b = 0; to = 0 } } }
-{
-    let by = Transition {
-        from: state,
-        kind: 0,
-        a: 0,
-        b: 0,
-        to: 0,
-    };
-    Spot { variables, by }
-}
-
-// Covers of the forbidden shapes.
+// Covers of so many forbidden shapes, from a place of the job on.
 pub(crate) fn check_forbidden(
     job: &[u8],
-    h: Header,
+    first: usize,
+    bads: usize,
     cert: &[u8],
     starts: &[u16],
+    variables: usize,
     from: Position,
-    judged: bool,
 ) -> Checked
-    requires { (EntriesIn job.now h.variables h.bads_at h.bads) × (h.variables ≤ 8) × (Within cert.now from) }
-    ensures { ChecksAll cert.now (taking judged (members_from cert.now h.variables starts.now)) (entries_at job.now h.variables h.bads_at h.bads) from result }
+    requires { (EntriesIn job.now variables first bads) × (variables ≤ 8) × (Within cert.now from) }
+    ensures { ChecksAll cert.now (members_from cert.now variables starts.now) (entries_at job.now variables first bads) from result }
 {
-    let mut at = h.bads_at;
+    let mut at = first;
     let mut t = from;
     let mut i = 0;
-    while i < h.bads {
+    while i < bads {
         let mut s = [0u8; 28];
-        load_shape(job, at, h.variables, &mut s);
+        load_shape(job, at, variables, &mut s);
         let mut facts = [0u16; 28];
-        load_rows(job, at, h.variables, &mut facts);
-        let spot = forbidden_at(h.variables, job[at]);
-        let g = check_cover(cert, starts, spot, &s, &facts, t, judged);
+        load_rows(job, at, variables, &mut facts);
+        let g = check_cover(cert, starts, variables, job[at], &s, &facts, t);
         let Checked::Upto(u) = g else {
             return g;
         };
         t = u;
-        at = entry_end(job, at, h.variables);
+        at = entry_end(job, at, variables);
         i += 1;
     }
     Checked::Upto(t)
@@ -104,27 +90,27 @@ fn is_below_itself(kind: u8, a: u8, b: u8) -> bool
 fn check_transition(
     cert: &[u8],
     starts: &[u16],
-    spot: Spot,
+    variables: usize,
+    by: Transition,
     s: &[u8; 28],
     facts: &[u16; 28],
     t: Position,
-    judged: bool,
 ) -> Checked
-    requires { (allowed spot.variables spot.by.kind spot.by.a spot.by.b ≡ true) × (spot.variables ≤ 8) × (ShapeArray spot.variables s.now) × (cell_count s.now ≤ 12) × (OwnVersion cert.now facts.now) × (Within cert.now t) × ((whole : Shape) × Settled (rowed facts.now (shape_in spot.variables s.now)) whole) }
-    ensures { (whole : Shape) → Settled (rowed facts.now (shape_in spot.variables s.now)) whole → ChecksAll cert.now (taking judged (members_from cert.now spot.variables starts.now)) (map (located spot.by.from) (before (op_of (kind_of spot.by.kind) spot.by.a spot.by.b) whole)) t result }
+    requires { (allowed variables by.kind by.a by.b ≡ true) × (variables ≤ 8) × (ShapeArray variables s.now) × (cell_count s.now ≤ 12) × (OwnVersion cert.now facts.now) × (Within cert.now t) × ((whole : Shape) × Settled (rowed facts.now (shape_in variables s.now)) whole) }
+    ensures { (whole : Shape) → Settled (rowed facts.now (shape_in variables s.now)) whole → ChecksAll cert.now (members_from cert.now variables starts.now) (map (located by.from) (before (op_of (kind_of by.kind) by.a by.b) whole)) t result }
 {
-    if spot.by.kind <= STORE {
-        let placed = with_helper(spot);
-        return check_first_quickly(cert, starts, placed, s, facts, t, judged);
+    if by.kind <= STORE {
+        let placed = with_helper(variables, by);
+        return check_first_quickly(cert, starts, variables, placed, s, facts, t);
     }
-    if is_removal(spot.by.kind) {
-        return check_cases(cert, starts, spot, s, facts, t, judged);
+    if is_removal(by.kind) {
+        return check_cases(cert, starts, variables, by, s, facts, t);
     }
-    if is_below_itself(spot.by.kind, spot.by.a, spot.by.b) {
+    if is_below_itself(by.kind, by.a, by.b) {
         return Checked::Upto(t);
     }
-    let placed = with_helper(spot);
-    check_first_choices(cert, starts, placed, s, facts, t, judged)
+    let placed = with_helper(variables, by);
+    check_first_choices(cert, starts, variables, placed, s, facts, t)
 }
 
 // Loads the facts of the member at a place, and all that follows from them, into empty rows. Whether no cell is then below itself. Version 1 has none.
@@ -140,28 +126,19 @@ fn settle_facts(cert: &[u8], at: usize, variables: usize, facts: &mut [u16; 28])
     is_consistent(facts)
 }
 
-// A job's header and the number of a member.
-#[derive(Clone, Copy)]
-pub struct Visit {
-    pub h: Header,
-    pub member: usize,
-}
-
-// Covers of the predecessors of a member, by each transition into its state.
+// Covers of the predecessors of member m, by each transition into its state.
 fn check_member(
     job: &[u8],
-    visit: Visit,
+    h: Header,
     index: &[u16; 320],
     cert: &[u8],
     starts: &[u16],
+    m: usize,
     from: Position,
-    judged: bool,
 ) -> Checked
-    requires { (JobRead job.now visit.h) × (IndexedFrom (to_state job.now visit.h) visit.h.transitions 0 index.now) × (Table cert.now visit.h.variables starts.now) × (visit.member < length starts.now) × (Within cert.now from) }
-    ensures { ChecksAll cert.now (taking judged (members_from cert.now visit.h.variables starts.now)) (owed_by job.now visit.h (located_at cert.now visit.h.variables (get_or starts.now visit.member 0))) from result }
+    requires { (JobRead job.now h) × (IndexedFrom (to_state job.now h) h.transitions 0 index.now) × (Table cert.now h.variables starts.now) × (m < length starts.now) × (Within cert.now from) }
+    ensures { ChecksAll cert.now (members_from cert.now h.variables starts.now) (owed_by job.now h (located_at cert.now h.variables (get_or starts.now m 0))) from result }
 {
-    let h = visit.h;
-    let m = visit.member;
     let at = starts[m] as usize;
     let mut k = index[cert[at] as usize];
     if k == 0 {
@@ -176,11 +153,7 @@ fn check_member(
     let mut t = from;
     while 0 < k {
         let by = transition_named(job, h.transitions_at, k);
-        let spot = Spot {
-            variables: h.variables,
-            by,
-        };
-        let g = check_transition(cert, starts, spot, &s, &facts, t, judged);
+        let g = check_transition(cert, starts, h.variables, by, &s, &facts, t);
         let Checked::Upto(u) = g else {
             return g;
         };
@@ -198,15 +171,14 @@ pub(crate) fn check_members(
     cert: &[u8],
     starts: &[u16],
     from: Position,
-    judged: bool,
 ) -> Checked
     requires { (JobRead job.now h) × (IndexedFrom (to_state job.now h) h.transitions 0 index.now) × (Table cert.now h.variables starts.now) × (Within cert.now from) }
-    ensures { ChecksAll cert.now (taking judged (members_from cert.now h.variables starts.now)) (concat_map (owed_by job.now h) (members_at cert.now h.variables starts.now)) from result }
+    ensures { ChecksAll cert.now (members_from cert.now h.variables starts.now) (concat_map (owed_by job.now h) (members_at cert.now h.variables starts.now)) from result }
 {
     let mut t = from;
     let mut m = 0;
     while m < starts.len() {
-        let g = check_member(job, Visit { h, member: m }, index, cert, starts, t, judged);
+        let g = check_member(job, h, index, cert, starts, m, t);
         let Checked::Upto(u) = g else {
             return g;
         };
@@ -217,16 +189,9 @@ pub(crate) fn check_members(
 }
 
 // Covers of all that is owed, from a place of the certificate on.
-pub(crate) fn check_owed(
-    job: &[u8],
-    h: Header,
-    cert: &[u8],
-    starts: &[u16],
-    at: usize,
-    judged: bool,
-) -> Checked
+pub(crate) fn check_owed(job: &[u8], h: Header, cert: &[u8], starts: &[u16], at: usize) -> Checked
     requires { (JobRead job.now h) × (Table cert.now h.variables starts.now) × (at ≤ length cert.now) × (length cert.now ≤ 65536) }
-    ensures { checked_of result ≡ take_all (covers_of cert.now (taking judged (members_at cert.now h.variables starts.now)) (owed (file_in job.now h).job (members_at cert.now h.variables starts.now))) no_covers at }
+    ensures { checked_of result ≡ take_all (covers_of cert.now (members_at cert.now h.variables starts.now) (owed (file_in job.now h).job (members_at cert.now h.variables starts.now))) no_covers at }
 {
     // neither is ever so: said for the compiler, so that tests of it in the loops go
     if 8 < h.variables {
@@ -238,9 +203,9 @@ pub(crate) fn check_owed(
     let mut index = [0u16; 320];
     index_transitions(job, h.transitions_at, h.transitions, &mut index);
     let from = Position { at, counted: 0 };
-    let g = check_forbidden(job, h, cert, starts, from, judged);
+    let g = check_forbidden(job, h.bads_at, h.bads, cert, starts, h.variables, from);
     let Checked::Upto(t) = g else {
         return g;
     };
-    check_members(job, h, &index, cert, starts, t, judged)
+    check_members(job, h, &index, cert, starts, t)
 }

@@ -3,13 +3,14 @@
 ghost use Rattle.std.specs.Prelude.{◌≤◌};
 ghost use Rattle.layout.specs.Members.{members_from};
 ghost use Rattle.shapes.specs.Operands.{Working, OneToPlace};
-ghost use Rattle.checker.specs.Checking.{Within, Checks, taking};
+ghost use Rattle.checker.specs.Checking.{Within, Checks};
 ghost use Rattle.undoing.specs.Before.{choices_rowed};
 
-use crate::checked::{COVER, Checked, Position, Spot};
+use crate::checked::{COVER, Checked, Position};
 use crate::choices::{place_first, undo_choice};
-use crate::single::{check_cover, judge_quickly};
+use crate::single::check_cover;
 use crate::wanted::{is_wanted_in, last_operand, wanted_of_first, wanted_of_last};
+use covering::quick_cover;
 use placing::choices_of;
 use transitions::Transition;
 
@@ -17,17 +18,17 @@ use transitions::Transition;
 pub(crate) fn check_last_quickly(
     cert: &[u8],
     starts: &[u16],
-    spot: Spot,
+    variables: usize,
+    by: Transition,
     s: &[u8; 28],
     facts: &[u16; 28],
     from: Position,
-    judged: bool,
 ) -> Checked
-    requires { (OneToPlace spot.variables spot.by.kind spot.by.a spot.by.b s.now) × (spot.by.kind ≤ 5) × (Within cert.now from) }
-    ensures { Checks cert.now (taking judged (members_from cert.now spot.variables starts.now)) spot.by.from (choices_rowed spot.variables spot.by.kind spot.by.a spot.by.b s.now facts.now) from result }
+    requires { (OneToPlace variables by.kind by.a by.b s.now) × (by.kind ≤ 5) × (Within cert.now from) }
+    ensures { Checks cert.now (members_from cert.now variables starts.now) by.from (choices_rowed variables by.kind by.a by.b s.now facts.now) from result }
 {
-    let operand = last_operand(spot.by.a, spot.by.b, s);
-    let wanted = wanted_of_last(spot.by.kind, spot.by.a, spot.by.b, s);
+    let operand = last_operand(by.a, by.b, s);
+    let wanted = wanted_of_last(by.kind, by.a, by.b, s);
     let c = choices_of(s[0], wanted);
     let mut t = from;
     let mut k = c.from;
@@ -36,10 +37,10 @@ pub(crate) fn check_last_quickly(
         k += c.step;
         if is_wanted_in(s, wanted, j) {
             let mut v = *s;
-            undo_choice(spot, operand, &mut v, j);
-            let quick = judge_quickly(cert, starts, spot.variables, t.at, spot.by.from, &v, judged);
+            undo_choice(variables, by, operand, &mut v, j);
+            let quick = quick_cover(cert, starts, variables, t.at, by.from, &v);
             if quick.next == 0 {
-                let g = check_cover(cert, starts, spot, &v, facts, t, judged);
+                let g = check_cover(cert, starts, variables, by.from, &v, facts, t);
                 let Checked::Upto(u) = g else {
                     return g;
                 };
@@ -59,16 +60,16 @@ pub(crate) fn check_last_quickly(
 pub(crate) fn check_first_quickly(
     cert: &[u8],
     starts: &[u16],
-    spot: Spot,
+    variables: usize,
+    by: Transition,
     s: &[u8; 28],
     facts: &[u16; 28],
     from: Position,
-    judged: bool,
 ) -> Checked
-    requires { (Working 12 spot.variables spot.by.kind spot.by.a spot.by.b s.now) × (spot.by.kind ≤ 5) × (Within cert.now from) }
-    ensures { Checks cert.now (taking judged (members_from cert.now spot.variables starts.now)) spot.by.from (choices_rowed spot.variables spot.by.kind spot.by.a spot.by.b s.now facts.now) from result }
+    requires { (Working 12 variables by.kind by.a by.b s.now) × (by.kind ≤ 5) × (Within cert.now from) }
+    ensures { Checks cert.now (members_from cert.now variables starts.now) by.from (choices_rowed variables by.kind by.a by.b s.now facts.now) from result }
 {
-    let wanted = wanted_of_first(spot.by.a, spot.by.b, s);
+    let wanted = wanted_of_first(by.a, by.b, s);
     let c = choices_of(s[0], wanted);
     let mut t = from;
     let mut k = c.from;
@@ -77,8 +78,8 @@ pub(crate) fn check_first_quickly(
         k += c.step;
         if is_wanted_in(s, wanted, j) {
             let mut v = *s;
-            place_first(spot.by.a, spot.by.b, &mut v, j);
-            let g = check_last_quickly(cert, starts, spot, &v, facts, t, judged);
+            place_first(by.a, by.b, &mut v, j);
+            let g = check_last_quickly(cert, starts, variables, by, &v, facts, t);
             let Checked::Upto(u) = g else {
                 return g;
             };

@@ -1,12 +1,12 @@
 // Kinds 6 (new) and 7 (delete): covers of the predecessors.
 ghost use Rattle.std.specs.Prelude.{cond, not, ◌&&◌, ◌≡◌, ◌≤◌, ◌<◌};
 ghost use Rattle.factrows.specs.Rows.{has_fact};
-ghost use Rattle.checker.specs.Checking.{Within, Checks, OwnVersion, taking};
+ghost use Rattle.checker.specs.Checking.{Within, Checks, OwnVersion};
 ghost use Rattle.undoing.specs.Before.{is_taken_out, rows_before, cases_rowed};
 ghost use Rattle.layout.specs.Members.{members_from};
 ghost use Rattle.layout.specs.ShapeArray.{cell_count, ShapeArray};
 
-use crate::checked::{Checked, Position, Spot};
+use crate::checked::{Checked, Position};
 use crate::single::check_cover;
 use kinds::NEW;
 use layout::version_of;
@@ -38,27 +38,27 @@ fn undo_rows(cert: &[u8], kind: u8, prepared: &[u8; 28], k: usize, rows: &mut [u
 pub(crate) fn check_cases(
     cert: &[u8],
     starts: &[u16],
-    spot: Spot,
+    variables: usize,
+    by: Transition,
     s: &[u8; 28],
     facts: &[u16; 28],
     from: Position,
-    judged: bool,
 ) -> Checked
-    requires { (ShapeArray spot.variables s.now) × (cell_count s.now ≤ 12) × (1 ≤ spot.by.a) × (spot.by.a ≤ spot.variables) × (5 < spot.by.kind) × (spot.by.kind ≤ 7) × (OwnVersion cert.now facts.now) × (Within cert.now from) }
-    ensures { Checks cert.now (taking judged (members_from cert.now spot.variables starts.now)) spot.by.from (cases_rowed spot.variables spot.by.kind spot.by.a s.now facts.now) from result }
+    requires { (ShapeArray variables s.now) × (cell_count s.now ≤ 12) × (1 ≤ by.a) × (by.a ≤ variables) × (5 < by.kind) × (by.kind ≤ 7) × (OwnVersion cert.now facts.now) × (Within cert.now from) }
+    ensures { Checks cert.now (members_from cert.now variables starts.now) by.from (cases_rowed variables by.kind by.a s.now facts.now) from result }
 {
     let mut prepared = *s;
-    let cases = prepare_cases(spot.variables, spot.by.kind, spot.by.a, &mut prepared);
+    let cases = prepare_cases(variables, by.kind, by.a, &mut prepared);
     let mut t = from;
     let mut k = cases.first;
     while k < cases.end {
         let mut v = prepared;
         let case = k;
         k += 1;
-        if undo_case(spot.variables, spot.by.kind, cases.end, case, &mut v) {
+        if undo_case(variables, by.kind, cases.end, case, &mut v) {
             let mut rows = *facts;
-            if undo_rows(cert, spot.by.kind, &prepared, case, &mut rows) {
-                let g = check_cover(cert, starts, spot, &v, &rows, t, judged);
+            if undo_rows(cert, by.kind, &prepared, case, &mut rows) {
+                let g = check_cover(cert, starts, variables, by.from, &v, &rows, t);
                 let Checked::Upto(u) = g else {
                     return g;
                 };

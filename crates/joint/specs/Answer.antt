@@ -1,5 +1,5 @@
 -- The code's answer on two pairs as that of the definitions, and what a host is told.
-use Rattle.std.specs.Prelude.{Bool, true, ◌&&◌, ◌||◌, not, List, [], ◌∷◌, ◌≡◌, ℕ, zero, suc, eqb}
+use Rattle.std.specs.Prelude.{Bool, ◌&&◌, ◌||◌, not, List, [], ◌∷◌, ℕ, zero, suc, eqb}
 use Rattle.std.proofs.Math.Option.{Option, none, some}
 use Rattle.lists.specs.List.{any_of}
 use Rattle.shape.specs.Shape.{Shape}
@@ -8,9 +8,7 @@ use Rattle.format.specs.Parser.{reason_number}
 use Rattle.format.specs.Verdict.{Counts}
 use Rattle.joining.specs.Conditions.{JoinMeans}
 use Rattle.joining.specs.Join.{Joining, both, pair_refused, joint_refused, same_shape}
-use Rattle.layout.specs.Entries.{entries_at, EntriesIn}
 use Rattle.number.specs.CallResult.{CallResult}
-use Rattle.reader.specs.declared.Header.{Header}
 use Rattle.verdict.specs.Verdict.{reason_of, counts_told, rule_told, name_told}
 use Rattle.joint.specs.declared.JoinAnswer.{JoinAnswer}
 use Rattle.joint.specs.declared.JoinAnswer.TheVariants.{Both, PairRefused, Refused}
@@ -33,15 +31,6 @@ listed_among state bads s = any_of (λ bad. eqb bad.state state && same_shape ba
 -- a member at this start is listed among them
 abbrev pub is_settled : ℕ → List Located → ℕ → Located → Bool
 is_settled state bads start m = not (eqb m.state start) || listed_among state bads m.shape
-
--- the forbidden shapes of a job that was read
-abbrev pub bads_of : List ℕ → Header → List Located
-bads_of job h = entries_at job h.variables h.bads_at h.bads
-
--- so many entries from a place on are in range, and what is listed among them is listed among all
-pub record Behind (job : List ℕ) (h : Header) (state at left : ℕ) : Type 0 where
-  pub entries : EntriesIn job h.variables at left
-  pub listed : (s : Shape) → listed_among state (entries_at job h.variables at left) s ≡ true → listed_among state (bads_of job h) s ≡ true
 
 -- What a host is told: 0 with the four counts of the first pair and those of the second; the number of a pair's refusal with the pair, the place, the
 -- rule that broke, the name and zeros; 24 to 27 with zeros.

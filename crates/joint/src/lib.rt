@@ -1,7 +1,7 @@
 // Two jobs joined at a hand-over state: one answer for the bytes of both pairs and the state.
 #![tactic(auto)]
 
-ghost use Rattle.std.specs.Prelude.{true, not, ◌&&◌, List, ◌↔◌, ◌≡◌, ℕ, ◌+◌, ◌*◌, ◌≤◌, ◌<◌, eqb, length, get_or, take, drop};
+ghost use Rattle.std.specs.Prelude.{not, ◌&&◌, List, ◌↔◌, ◌≡◌, ℕ, ◌+◌, ◌*◌, ◌≤◌, ◌<◌, eqb, length, get_or};
 ghost use Rattle.lists.specs.List.{all_of};
 ghost use Rattle.lists.specs.Test.{all_from};
 ghost use Rattle.checker.specs.Jobs.{file_in};
@@ -9,15 +9,15 @@ ghost use Rattle.format.specs.Parser.{parsed};
 ghost use Rattle.format.specs.Verdict.{no_state, verdict_at};
 ghost use Rattle.joining.specs.Conditions.{JoinMeans, SafeJoined};
 ghost use Rattle.joining.specs.Join.{Joining, joint_of, same_numbers, same_shape, joint_refusal, read_joint, after_pairs, after_second, join as joinDue};
-ghost use Rattle.joint.specs.Answer.{joining_of, refusal_or, listed_among, is_settled, bads_of, Behind};
+ghost use Rattle.joint.specs.Answer.{joining_of, refusal_or, listed_among, is_settled};
 ghost use Rattle.joint.specs.declared.JoinAnswer.TheVariants.{Both};
-ghost use Rattle.layout.specs.Entries.{version_of, located_at, entry_end, entries_at, members_at, EntryInRange, EntriesIn, Table};
+ghost use Rattle.layout.specs.Entries.{located_at, entries_at, members_at, EntryInRange, EntriesIn, Table};
 ghost use Rattle.reader.specs.Job.{JobRead};
 ghost use Rattle.verdict.specs.Verdict.{counts_told};
 ghost use Rattle.verdict.specs.declared.Counts.{Counts as CountsAnswer};
 
 use checker::{PairVerdict, check_pair};
-use layout::{entry_end, fact_span, version_of};
+use layout::{entry_end, fact_span};
 use number::wide;
 use reader::Header;
 use verdict::{Counts, Refusal};
@@ -118,132 +118,15 @@ fn is_listed(
     false
 }
 
-// Whether a shape is listed; and which of the first's forbidden shapes are looked at next, so many from a place on.
-#[derive(Clone, Copy)]
-struct Rest {
-    listed: bool,
-    at: usize,
-    left: usize,
-}
-
-// The place after an entry. In version 1 it takes a sum.
-fn next_entry(bytes: &[u8], at: usize, variables: usize) -> usize
-    requires { (EntryInRange bytes.now variables at) × (variables ≤ 8) }
-    ensures { result ≡ entry_end bytes.now variables at }
-{
-    if version_of(bytes) == 2 {
-        return entry_end(bytes, at, variables);
-    }
-    at + 2 + variables + wide(bytes[at + 1])
-}
-
-// Whether these bytes stand behind a state at a place.
-fn stands(job: &[u8], at: usize, state: usize, owed: &[u8]) -> bool
-    requires { at < length job.now }
-    ensures { result ≡ (eqb (get_or job.now at 0) state && same_numbers (take (length owed.now) (drop (at + 1) job.now)) owed.now) }
-{
-    if wide(job[at]) != state {
-        return false;
-    }
-    let first = at + 1;
-    let len = owed.len();
-    let after = job.len() - first;
-    if after < len {
-        return false;
-    }
-    let end = first + len;
-    same_bytes(&job[first..end], owed)
-}
-
-// Looks on for the bytes of a member, up to a place, in a file of the same version. What is found has the member's shape.
-fn scan(
-    job: &[u8],
-    h: Header,
-    state: usize,
-    cert: &[u8],
-    member: usize,
-    end: usize,
-    from: Rest,
-) -> Rest
-    requires { (Behind job.now h state from.at from.left) × (EntryInRange cert.now h.variables member) × (h.variables ≤ 8) × (end ≡ entry_end cert.now h.variables member) × (version_of job.now ≡ version_of cert.now) }
-    ensures { (result.listed ≡ true → listed_among state (bads_of job.now h) (located_at cert.now h.variables member).shape ≡ true) × Behind job.now h state result.at result.left }
-{
-    let first = member + 1;
-    let owed = &cert[first..end];
-    let mut at = from.at;
-    let mut left = from.left;
-    while 0 < left {
-        left -= 1;
-        if stands(job, at, state, owed) {
-            return Rest {
-                listed: true,
-                at: at + 1 + owed.len(),
-                left,
-            };
-        }
-        at = next_entry(job, at, h.variables);
-    }
-    Rest {
-        listed: false,
-        at: from.at,
-        left: from.left,
-    }
-}
-
-// Looks on for a member's shape by its bytes, where both files are of one version: shapes that are listed in the order of the members are found so.
-fn look_on(job: &[u8], h: Header, state: usize, cert: &[u8], member: usize, from: Rest) -> Rest
-    requires { (Behind job.now h state from.at from.left) × (EntryInRange cert.now h.variables member) × (h.variables ≤ 8) }
-    ensures { (result.listed ≡ true → listed_among state (bads_of job.now h) (located_at cert.now h.variables member).shape ≡ true) × Behind job.now h state result.at result.left }
-{
-    if version_of(job) != version_of(cert) {
-        return Rest {
-            listed: false,
-            at: from.at,
-            left: from.left,
-        };
-    }
-    let end = next_entry(cert, member, h.variables);
-    scan(job, h, state, cert, member, end, from)
-}
-
-// Whether the first job lists the shape of the second's member: looked for from where the last one was found, and else among all.
-fn find(job: &[u8], h: Header, state: usize, cert: &[u8], member: usize, from: Rest) -> Rest
-    requires { (Behind job.now h state from.at from.left) × (EntriesIn job.now h.variables h.bads_at h.bads) × (EntryInRange cert.now h.variables member) × (h.variables ≤ 8) }
-    ensures { (result.listed ≡ listed_among state (bads_of job.now h) (located_at cert.now h.variables member).shape) × Behind job.now h state result.at result.left }
-{
-    let r = look_on(job, h, state, cert, member, from);
-    if r.listed {
-        return r;
-    }
-    let listed = is_listed(job, h.bads_at, h.bads, h.variables, state, cert, member);
-    Rest {
-        listed,
-        at: from.at,
-        left: from.left,
-    }
-}
-
 // Whether a member of the second is listed by the first, if it is at the second's start.
-fn settle(
-    job: &[u8],
-    h: Header,
-    state: usize,
-    cert: &[u8],
-    member: usize,
-    start: usize,
-    from: Rest,
-) -> Rest
-    requires { (Behind job.now h state from.at from.left) × (EntriesIn job.now h.variables h.bads_at h.bads) × (EntryInRange cert.now h.variables member) × (h.variables ≤ 8) }
-    ensures { (result.listed ≡ is_settled state (bads_of job.now h) start (located_at cert.now h.variables member)) × Behind job.now h state result.at result.left }
+fn is_settled(job: &[u8], h: Header, state: usize, cert: &[u8], member: usize, start: usize) -> bool
+    requires { (EntriesIn job.now h.variables h.bads_at h.bads) × (EntryInRange cert.now h.variables member) × (h.variables ≤ 8) }
+    ensures { result ≡ is_settled state (entries_at job.now h.variables h.bads_at h.bads) start (located_at cert.now h.variables member) }
 {
     if wide(cert[member]) != start {
-        return Rest {
-            listed: true,
-            at: from.at,
-            left: from.left,
-        };
+        return true;
     }
-    find(job, h, state, cert, member, from)
+    is_listed(job, h.bads_at, h.bads, h.variables, state, cert, member)
 }
 
 // 27: whether all members of the second at its start are listed by the first.
@@ -256,17 +139,11 @@ fn owed_listed(
     start: usize,
 ) -> bool
     requires { (EntriesIn job.now h.variables h.bads_at h.bads) × (Table cert.now h.variables starts.now) }
-    ensures { result ≡ all_of (is_settled state (bads_of job.now h) start) (members_at cert.now h.variables starts.now) }
+    ensures { result ≡ all_of (is_settled state (entries_at job.now h.variables h.bads_at h.bads) start) (members_at cert.now h.variables starts.now) }
 {
-    let mut rest = Rest {
-        listed: true,
-        at: h.bads_at,
-        left: h.bads,
-    };
     let mut i = 0;
     while i < starts.len() {
-        rest = settle(job, h, state, cert, starts[i] as usize, start, rest);
-        if !rest.listed {
+        if !is_settled(job, h, state, cert, starts[i] as usize, start) {
             return false;
         }
         i += 1;
@@ -339,7 +216,7 @@ fn join_second(
     ensures { joining_of result ≡ after_second (counts_told a) (verdict_at no_state job2.now cert2.now) (read_joint job1.now job2.now cert2.now state) }
 {
     let mut starts = [0u16; 512];
-    let v = check_pair(job2, cert2, false, true, &mut starts);
+    let v = check_pair(job2, cert2, false, &mut starts);
     match v {
         PairVerdict::Refused(why, place) => JoinAnswer::PairRefused(2, why, place),
         PairVerdict::Accepted(b, second) => {
@@ -362,7 +239,7 @@ pub fn join(job1: &[u8], cert1: &[u8], job2: &[u8], cert2: &[u8], state: usize) 
     ensures safe { (a b : CountsAnswer) → result ≡ Both a b → SafeJoined job1.now job2.now state }
 {
     let mut starts = [0u16; 512];
-    let v = check_pair(job1, cert1, true, true, &mut starts);
+    let v = check_pair(job1, cert1, true, &mut starts);
     match v {
         PairVerdict::Refused(why, place) => JoinAnswer::PairRefused(1, why, place),
         PairVerdict::Accepted(a, first) => join_second(job1, first, a, job2, cert2, state),

@@ -10,13 +10,12 @@ use native.Mathlib.Omega.{arith}
 use borrow.Author.Tests.{lt-ltb, le-ltb, eq-eqb, ne_eqb}
 use lib.ListN.{length, set, length-map}
 use lib.Seq.{set-get_or}
-use Rattle.lists.specs.List.{Every, concat_map, keep}
+use Rattle.lists.specs.List.{concat_map, keep}
 use Rattle.lists.specs.Range.{range}
 use Rattle.lists.proofs.List.{range_append, range_mem, concat_map_append}
 use Rattle.lists.proofs.Reflect.{passes}
 use Rattle.heap.specs.Operation.{new, delete}
-use Rattle.heap.specs.Place.{nowhere, null, dangling, cell}
-use Rattle.heap.specs.Value.{equals}
+use Rattle.heap.specs.Place.{nowhere, cell}
 use Rattle.facts.specs.Facts.{Fact, FactOf, FactsOf}
 use Rattle.shape.specs.Placing.{set_var}
 use Rattle.shape.specs.Shape.{Shape, AllBelow, var_at, size}
@@ -37,8 +36,8 @@ use Rattle.shapes.proofs.Remove.{vars_below, links_below}
 use Rattle.shapes.proofs.Slots.{size_in, vars_in, var_in_lem, shape_operand, count_operand}
 use Rattle.undoing.specs.Before.{is_taken_out, is_before_rowed, rows_before, before_rowed, cases_rowed}
 use Rattle.undoing.specs.Rowed.{Rowed, rowed, StandsFor, Settled, AllStandFor}
-use Rattle.undoing.proofs.Before.{same_size, facts_of, whole_is, before_few, stands}
-use Rattle.undoing.proofs.Rowed.{all_kept, all_append, all_concat, all_rowed}
+use Rattle.undoing.proofs.Before.{same_size, facts_of, whole_is, before_few}
+use Rattle.undoing.proofs.Rowed.{all_append, all_concat, all_rowed}
 
 -- ---- lists
 

@@ -30,7 +30,7 @@ fits_requires c κs = search rules
 returns : tie.Need-returns
 returns c =
     let a = c.before.before.before.before.args in
-    promised a.job.now a.cert.now _ (job_length true start_of a.job.now a.cert.now (sym c.before.fits2.ensures ∙ not-true _ c.if1.true))
+    promised a.job.now a.cert.now _ (job_length start_of a.job.now a.cert.now (sym c.before.fits2.ensures ∙ not-true _ c.if1.true))
 
 fits_requires_2 : tie.Need-fits-requires-2
 fits_requires_2 c κs = search rules
@@ -39,7 +39,7 @@ returns_2 : tie.Need-returns-2
 returns_2 c =
     let i = c.before.before in
     let a = i.before.before.before.before.args in
-    promised a.job.now a.cert.now _ (certificate_length true start_of a.job.now a.cert.now (job_fits i) (sym c.before.fits3.ensures ∙ not-true _ c.if2.true))
+    promised a.job.now a.cert.now _ (certificate_length start_of a.job.now a.cert.now (job_fits i) (sym c.before.fits3.ensures ∙ not-true _ c.if2.true))
 
 read_job_requires : tie.Need-read-job-requires
 read_job_requires c κs = search rules
@@ -60,7 +60,7 @@ returns_3 c =
     let o = c.before.before.before in
     let i = o.before in
     let a = (begun i).args in
-    promised a.job.now a.cert.now _ (job_refused true start_of a.job.now a.cert.now (job_fits i.before.before) (cert_fits i) _ _ (rw c.before.r.given.1 at o.read-job.ensures))
+    promised a.job.now a.cert.now _ (job_refused start_of a.job.now a.cert.now (job_fits i.before.before) (cert_fits i) _ _ (rw c.before.r.given.1 at o.read-job.ensures))
 
 returns_4 : tie.Need-returns-4
 returns_4 c =
@@ -69,7 +69,7 @@ returns_4 c =
     let i = o.before in
     let a = (begun i).args in
     promised a.job.now a.cert.now _
-    (c.check-certificate.ensures.0 ∙ job_read true start_of a.job.now a.cert.now (job_fits i.before.before) (cert_fits i) v.0.0 (rw v.1 at o.read-job.ensures))
+    (c.check-certificate.ensures.0 ∙ job_read start_of a.job.now a.cert.now (job_fits i.before.before) (cert_fits i) v.0.0 (rw v.1 at o.read-job.ensures))
 
 pub check_spec : {M : Type 1} → statement M
 check_spec =

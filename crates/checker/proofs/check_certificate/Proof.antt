@@ -72,14 +72,14 @@ check_covers_requires c κs =
     let told = c.before.before.before in
     let m = members told in
     let s = begun (read told) in
-    (s.pre.0, m.table_is (limits s), m.inside, s.pre.1)
+    (s.pre.0, m.table-is (limits s), m.inside, s.pre.1)
 
 returns : tie.Need-returns
 returns c =
     let o = c.before.before.before in
     let a = (begun o).args in
     let version = o.before.before.version_of.ensures in (
-      certificate_refused a.judged a.tested a.cert.now (file_in a.job.now a.h) _ _ (rw (c.before.r.given.1, version) at o.read-members.ensures.0),
+      certificate_refused a.cert.now (file_in a.job.now a.h) a.tested _ _ (rw (c.before.r.given.1, version) at o.read-members.ensures.0),
       (λ k e. absurd (not_accepted e), o.read-members.ensures.1 ∙ placed_by (begun o) version),
     )
 
@@ -94,11 +94,11 @@ returns_2 c =
     let f = file_in a.job.now a.h in
     let version = o.before.before.version_of.ensures in (
       c.check-covers.ensures
-          ∙ ap conclude (ap (λ ms. read_covers a.judged a.cert.now f.job ms next) (sym (m.members_are (limits s)))
-          ∙ certificate_members a.judged a.tested a.cert.now f m.members next
+          ∙ ap conclude (ap (λ ms. read_covers a.cert.now f.job ms next) (sym (m.members_are (limits s)))
+          ∙ certificate_members a.cert.now f a.tested m.members next
           (subst (λ (w : ℕ). read_tested (certificate_buffer a.cert.now) w a.h.variables a.h.states a.tested 0 ≡ parsed m.members next) version m.read)),
       (
-        λ k e. members_kept a.judged a.job.now a.cert.now a.h f.job a.tested _ _ next _ (counts_told k) version m (sym (ap verdict_of e) ∙ c.check-covers.ensures),
+        λ k e. members_kept a.job.now a.cert.now a.h f.job a.tested _ _ next _ (counts_told k) version m (sym (ap verdict_of e) ∙ c.check-covers.ensures),
         o.read-members.ensures.1 ∙ placed_by (begun o) version,
       ),
     )

@@ -47,19 +47,19 @@ returns c =
     let s = begun o in
     let a = s.args in
     let v = told.before.g2.given in
-    covers_left a.judged a.cert.now (file_in a.job.now a.h).job (members s) a.at _ o.check-owed.ensures v.0.0 v.1 (omega arith)
+    covers_left a.cert.now (file_in a.job.now a.h).job (members s) a.at _ o.check-owed.ensures v.0.0 v.1 (omega arith)
+
+cast_t14 : tie.Need-overflow-cast-t14
+cast_t14 c = omega (arith, (begun (reached (ended c))).requires.0.bads_number)
 
 cast_t15 : tie.Need-overflow-cast-t15
-cast_t15 c = omega (arith, (begun (reached (ended c))).requires.0.bads_number)
+cast_t15 c = omega (arith, (begun (reached (ended c))).requires.1.count_most)
 
-cast_t16 : tie.Need-overflow-cast-t16
-cast_t16 c = omega (arith, (begun (reached (ended c))).requires.1.count_most)
+cast_t17 : tie.Need-overflow-cast-t17
+cast_t17 c = search rules
 
-cast_t18 : tie.Need-overflow-cast-t18
-cast_t18 c = search rules
-
-cast_t20 : tie.Need-overflow-cast-t20
-cast_t20 c = search rules
+cast_t19 : tie.Need-overflow-cast-t19
+cast_t19 c = search rules
 
 returns_2 : tie.Need-returns-2
 returns_2 c =
@@ -67,7 +67,7 @@ returns_2 c =
     let s = begun o in
     let a = s.args in
     let v = c.before.g.given in
-    covers_refused a.judged a.cert.now (file_in a.job.now a.h).job (members s) a.at _ o.check-owed.ensures v.0.0 v.0.1.0 v.1
+    covers_refused a.cert.now (file_in a.job.now a.h).job (members s) a.at _ o.check-owed.ensures v.0.0 v.0.1.0 v.1
 
 returns_3 : tie.Need-returns-3
 returns_3 c =
@@ -76,7 +76,7 @@ returns_3 c =
     let s = begun o in
     let a = s.args in
     let v = told.before.g2.given in
-    covers_taken a.judged a.cert.now (file_in a.job.now a.h).job (members s) a.at _ o.check-owed.ensures v.0.0 v.1 a.h.bads _ (omega arith)
+    covers_taken a.cert.now (file_in a.job.now a.h).job (members s) a.at _ o.check-owed.ensures v.0.0 v.1 a.h.bads _ (omega arith)
     (sym (entries_number a.job.now a.h.variables a.h.bads_at a.h.bads)) (sym (length-map a.starts.now (located_at a.cert.now a.h.variables)))
 
 pub check_covers_spec : {M : Type 1} → statement M
@@ -87,9 +87,9 @@ check_covers_spec =
     enum_known_g
     enum_known_g_2
     returns
+    cast_t14
     cast_t15
-    cast_t16
-    cast_t18
-    cast_t20
+    cast_t17
+    cast_t19
     returns_2
     returns_3)

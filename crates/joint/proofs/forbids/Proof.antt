@@ -18,7 +18,7 @@ same_shape_requires : tie.Need-same-shape-requires
 same_shape_requires c κs = search rules
 
 returns_2 : tie.Need-returns-2
-returns_2 c = rw (eq-eqb _ _ (sym c.before.before.wide.ensures.0 ∙ c.before.if1.false)) c.same-shape.ensures
+returns_2 c = rw (eq-eqb _ _ (sym c.before.before.wide.ensures.0 ∙ c.before.if1.false)) c.same_shape.ensures
 
 pub forbids_spec : {M : Type 1} → statement M
 forbids_spec =

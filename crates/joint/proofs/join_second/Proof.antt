@@ -33,14 +33,11 @@ kept : (c : tie.After-known-told2)
     let a = (begun o).args in
     let v = c.before.v2.given.0 in
     JobRead a.job2.now v.1.0
-    × MembersKept a.job2.now a.cert2.now v.1.0 v.1.0.states v.0.members o.check-pair.last.1.1.1.1.0
-kept c =
-    let v = c.before.v2.given in
-    let (d, m) = (checked c).check-pair.ensures.1.1.1.0 v.0.0 v.0.1.0 v.1 in
-    (d, m refl)
+    × MembersKept a.job2.now a.cert2.now v.1.0 v.1.0.states v.0.members o.check-pair.last.1.1.1.0
+kept c = let v = c.before.v2.given in (checked c).check-pair.ensures.1.1.0 v.0.0 v.0.1.0 v.1
 
 short : (c : tie.After-known-told2) → length (begun (checked c)).args.cert2.now ≤ 65536
-short c = let v = c.before.v2.given in (((checked c).check-pair.ensures.1.1.0 refl (counts_told v.0.0)).0 (ap pair_of v.1)).certificate_length.1
+short c = let v = c.before.v2.given in (((checked c).check-pair.ensures.1.0 (counts_told v.0.0)).0 (ap pair_of v.1)).certificate_length.1
 
 -- ---- what is to be shown
 
@@ -69,13 +66,13 @@ joint_refusal_requires c κs =
     let told = c.before.before.before in
     let a = (begun (checked told)).args in
     let (d, (_, m)) = kept told in
-    ((begun (checked told)).requires, m.table_is (bounds a.job2.now a.cert2.now _ d (short told)))
+    ((begun (checked told)).requires, m.table-is (bounds a.job2.now a.cert2.now _ d (short told)))
 
 tell_requires : tie.Need-tell-requires
 tell_requires c κs = search rules
 
 returns : tie.Need-returns
-returns c = rw (← c.before.before.before.check-pair.ensures.1.0 refl, c.before.v.given.1) refl
+returns c = rw (← c.before.before.before.check-pair.ensures.0, c.before.v.given.1) refl
 
 returns_2 : tie.Need-returns-2
 returns_2 c =
@@ -91,7 +88,7 @@ returns_2 c =
     c.tell.ensures at
     ∙ ap (λ (r : Option ℕ). after_pairs (counts_told a.a) (counts_told v.0.0) (parsed r at)) (j.joint-refusal.ensures a.job2.now)
     ∙ ap (after_pairs (counts_told a.a) (counts_told v.0.0)) (sym is)
-    ∙ ap (λ (w : Verdict). after_second (counts_told a.a) w read) (sym (ap pair_of v.1) ∙ o.check-pair.ensures.1.0 refl)
+    ∙ ap (λ (w : Verdict). after_second (counts_told a.a) w read) (sym (ap pair_of v.1) ∙ o.check-pair.ensures.0)
 
 pub join_second_spec : {M : Type 1} → statement M
 join_second_spec =

@@ -3,7 +3,7 @@ use Prim.Native.Nat.{◌+◌}
 use mathlib.Core.Path.{◌≡◌, sym}
 use native.Mathlib.Omega.{arith}
 use Rattle.heap.specs.Place.{cell}
-use Rattle.shapes.proofs.Place.{placed_same, placed_cell, placed_null, stored_fresh, stored_middle}
+use Rattle.shapes.proofs.Place.{Placed-same, placed_cell, placed_null, stored_fresh, stored_middle}
 use borrow.Author.Rules.{rules}
 use Rattle.checker.proofs.change.place_operand.Statement.{statement}
 use Rattle.checker.proofs.change.place_operand.Tie as tie
@@ -22,7 +22,7 @@ element_copy_out_if1 : tie.Need-element-copy-out-if1
 element_copy_out_if1 c = search rules
 
 returns : tie.Need-returns
-returns c = let a = c.before.before.before.args in sym (placed_same a.s.now a.x a.k c.if1.true)
+returns c = let a = c.before.before.before.args in sym (Placed-same a.s.now a.x a.k c.if1.true)
 
 add_s : tie.Need-overflow-add-s
 add_s c = search rules

@@ -10,7 +10,8 @@ use Rattle.placing.specs.Wanted.{fits_in}
 use Rattle.placing.proofs.Ranges.{stretch, Covers, step_most}
 use Rattle.shapes.specs.Operands.{wanted_first_in}
 use Rattle.shapes.proofs.Steps.{first_some, first_placed}
-use Rattle.checker.specs.Checking.{Checks, taking, Taking}
+use Rattle.run.specs.Run.{Located}
+use Rattle.checker.specs.Checking.{Checks}
 use Rattle.checker.specs.declared.checked.Checked.{Checked}
 use Rattle.undoing.specs.Before.{choices_rowed}
 use Rattle.undoing.specs.Rowed.{Rowed}
@@ -21,11 +22,11 @@ use Rattle.checker.proofs.choices.check_first_choices.Statement.{statement}
 use Rattle.checker.proofs.choices.check_first_choices.Tie as tie
 
 abbrev invariant_loop : tie.invariant-loop
-invariant_loop cert starts spot s facts judged wanted c t₀ k₀ t k =
-    ChoiceLoop cert (taking judged (members_from cert spot.variables starts)) spot.by.from (first_given spot.variables spot.by s facts) c 0 (cell_count s + (2 + cell_count s)) t₀ k t
+invariant_loop cert starts variables by s facts wanted c t₀ k₀ t k =
+    ChoiceLoop cert (members_from cert variables starts) by.from (first_given variables by s facts) c 0 (cell_count s + (2 + cell_count s)) t₀ k t
 
 abbrev decreases_loop : tie.decreases-loop
-decreases_loop cert starts spot s facts judged wanted c t₀ k₀ t k = c.to - k
+decreases_loop cert starts variables by s facts wanted c t₀ k₀ t k = c.to - k
 
 -- ---- moments on the way, and what is so then
 
@@ -42,10 +43,10 @@ abbrev number : tie.Start invariant_loop decreases_loop → ℕ
 number s = cell_count s.args.s.now + (2 + cell_count s.args.s.now)
 
 abbrev given : tie.Start invariant_loop decreases_loop → ℕ → List Rowed
-given s = first_given s.args.spot.variables s.args.spot.by s.args.s.now s.args.facts.now
+given s = first_given s.args.variables s.args.by s.args.s.now s.args.facts.now
 
-abbrev members : tie.Start invariant_loop decreases_loop → Taking
-members s = taking s.args.judged (members_from s.args.cert.now s.args.spot.variables s.args.starts.now)
+abbrev members : tie.Start invariant_loop decreases_loop → List Located
+members s = members_from s.args.cert.now s.args.variables s.args.starts.now
 
 -- the choices to try leave none out
 covers : (c : tie.After-choices-of invariant_loop decreases_loop)
@@ -54,14 +55,14 @@ covers : (c : tie.After-choices-of invariant_loop decreases_loop)
 covers c =
     let s = begun c in
     let a = s.args in
-    first_tried a.spot.variables a.spot.by a.s.now a.facts.now s.pre.0 c.before.before.wanted-of-first.ensures c.choices-of.ensures
+    first_tried a.variables a.by a.s.now a.facts.now s.pre.0 c.before.before.wanted-of-first.ensures c.choices-of.ensures
 
 -- all choices give all
 whole : (c : tie.After-choices-of invariant_loop decreases_loop)
     → let s = begun c in
     let a = s.args in
-    stretch (given s) 0 (number s) ≡ choices_rowed a.spot.variables a.spot.by.kind a.spot.by.a a.spot.by.b a.s.now a.facts.now
-whole c = let s = begun c in first_all s.args.spot.variables s.args.spot.by s.args.s.now s.args.facts.now s.pre.0
+    stretch (given s) 0 (number s) ≡ choices_rowed a.variables a.by.kind a.by.a a.by.b a.s.now a.facts.now
+whole c = let s = begun c in first_all s.args.variables s.args.by s.args.s.now s.args.facts.now s.pre.0
 
 -- the loop as a turn began
 abbrev loop_at : tie.Then1 invariant_loop decreases_loop → tie.At-loop invariant_loop decreases_loop
@@ -79,7 +80,7 @@ abbrev Tried : tie.Then1 invariant_loop decreases_loop → Checked → Type 0
 Tried i g =
     let l = loop_at i in
     let s = first l in
-    Checks s.args.cert.now (members s) s.args.spot.by.from (given s l.loop.k) l.loop.t g
+    Checks s.args.cert.now (members s) s.args.by.from (given s l.loop.k) l.loop.t g
 
 -- the turn in which a choice is wanted
 abbrev turn : tie.Then2 invariant_loop decreases_loop → tie.Then1 invariant_loop decreases_loop
@@ -89,7 +90,7 @@ turn w = w.before.before.before
 fits : (w : tie.Then2 invariant_loop decreases_loop)
     → let l = loop_at (turn w) in
     let a = (first l).args in
-    fits_in (links_in a.s.now) (wanted_first_in a.spot.by.a a.spot.by.b a.s.now) l.loop.k ≡ true
+    fits_in (links_in a.s.now) (wanted_first_in a.by.a a.by.b a.s.now) l.loop.k ≡ true
 fits w =
     rw (← (loop_at (turn w)).before.before.before.wanted-of-first.ensures) (sym w.before.is-wanted-in.ensures ∙ w.if2.true)
 
@@ -188,7 +189,7 @@ loop_again_2 c =
     let s = first l in
     let a = s.args in
     loop_past (covers l.before) l.loop.inv i.if1.true
-    (first_nothing a.spot.variables a.spot.by a.s.now a.facts.now s.pre.0 l.loop.k
+    (first_nothing a.variables a.by a.s.now a.facts.now s.pre.0 l.loop.k
     (rw (← l.before.before.before.wanted-of-first.ensures) (sym c.before.is-wanted-in.ensures ∙ c.if2.false)))
 
 returns_2 : tie.Need-returns-2 invariant_loop decreases_loop

@@ -10,7 +10,8 @@ use Rattle.placing.specs.Wanted.{fits_in}
 use Rattle.placing.proofs.Ranges.{stretch, Covers, step_most}
 use Rattle.shapes.specs.Operands.{wanted_last_in}
 use Rattle.shapes.proofs.Steps.{last_one}
-use Rattle.checker.specs.Checking.{Checks, taking, Taking}
+use Rattle.run.specs.Run.{Located}
+use Rattle.checker.specs.Checking.{Checks}
 use Rattle.checker.specs.declared.checked.Checked.{Checked}
 use Rattle.undoing.specs.Before.{valued_before, choices_rowed}
 use Rattle.undoing.specs.Rowed.{Rowed}
@@ -22,11 +23,11 @@ use Rattle.checker.proofs.choices.check_last_choices.Statement.{statement}
 use Rattle.checker.proofs.choices.check_last_choices.Tie as tie
 
 abbrev invariant_loop : tie.invariant-loop
-invariant_loop cert starts spot s facts judged operand wanted c t₀ k₀ t k =
-    ChoiceLoop cert (taking judged (members_from cert spot.variables starts)) spot.by.from (last_given spot.variables spot.by s facts) c 0 (cell_count s + (2 + cell_count s)) t₀ k t
+invariant_loop cert starts variables by s facts operand wanted c t₀ k₀ t k =
+    ChoiceLoop cert (members_from cert variables starts) by.from (last_given variables by s facts) c 0 (cell_count s + (2 + cell_count s)) t₀ k t
 
 abbrev decreases_loop : tie.decreases-loop
-decreases_loop cert starts spot s facts judged operand wanted c t₀ k₀ t k = c.to - k
+decreases_loop cert starts variables by s facts operand wanted c t₀ k₀ t k = c.to - k
 
 -- ---- moments on the way, and what is so then
 
@@ -43,10 +44,10 @@ abbrev number : tie.Start invariant_loop decreases_loop → ℕ
 number s = cell_count s.args.s.now + (2 + cell_count s.args.s.now)
 
 abbrev given : tie.Start invariant_loop decreases_loop → ℕ → List Rowed
-given s = last_given s.args.spot.variables s.args.spot.by s.args.s.now s.args.facts.now
+given s = last_given s.args.variables s.args.by s.args.s.now s.args.facts.now
 
-abbrev members : tie.Start invariant_loop decreases_loop → Taking
-members s = taking s.args.judged (members_from s.args.cert.now s.args.spot.variables s.args.starts.now)
+abbrev members : tie.Start invariant_loop decreases_loop → List Located
+members s = members_from s.args.cert.now s.args.variables s.args.starts.now
 
 -- the choices to try leave none out
 covers : (c : tie.After-choices-of invariant_loop decreases_loop)
@@ -55,14 +56,14 @@ covers : (c : tie.After-choices-of invariant_loop decreases_loop)
 covers c =
     let s = begun c in
     let a = s.args in
-    last_tried a.spot.variables a.spot.by a.s.now a.facts.now s.pre.0 c.before.before.wanted-of-last.ensures c.choices-of.ensures
+    last_tried a.variables a.by a.s.now a.facts.now s.pre.0 c.before.before.wanted-of-last.ensures c.choices-of.ensures
 
 -- all choices give all
 whole : (c : tie.After-choices-of invariant_loop decreases_loop)
     → let s = begun c in
     let a = s.args in
-    stretch (given s) 0 (number s) ≡ choices_rowed a.spot.variables a.spot.by.kind a.spot.by.a a.spot.by.b a.s.now a.facts.now
-whole c = let s = begun c in last_all s.args.spot.variables s.args.spot.by s.args.s.now s.args.facts.now s.pre.0
+    stretch (given s) 0 (number s) ≡ choices_rowed a.variables a.by.kind a.by.a a.by.b a.s.now a.facts.now
+whole c = let s = begun c in last_all s.args.variables s.args.by s.args.s.now s.args.facts.now s.pre.0
 
 -- the loop as a turn began
 abbrev loop_at : tie.Then1 invariant_loop decreases_loop → tie.At-loop invariant_loop decreases_loop
@@ -80,7 +81,7 @@ abbrev Tried : tie.Then1 invariant_loop decreases_loop → Checked → Type 0
 Tried i g =
     let l = loop_at i in
     let s = first l in
-    Checks s.args.cert.now (members s) s.args.spot.by.from (given s l.loop.k) l.loop.t g
+    Checks s.args.cert.now (members s) s.args.by.from (given s l.loop.k) l.loop.t g
 
 -- the turn in which a choice is wanted
 abbrev turn : tie.Then2 invariant_loop decreases_loop → tie.Then1 invariant_loop decreases_loop
@@ -90,7 +91,7 @@ turn w = w.before.before.before
 fits : (w : tie.Then2 invariant_loop decreases_loop)
     → let l = loop_at (turn w) in
     let a = (first l).args in
-    fits_in (links_in a.s.now) (wanted_last_in a.spot.by.kind a.spot.by.a a.spot.by.b a.s.now) l.loop.k ≡ true
+    fits_in (links_in a.s.now) (wanted_last_in a.by.kind a.by.a a.by.b a.s.now) l.loop.k ≡ true
 fits w =
     rw (← (loop_at (turn w)).before.before.before.wanted-of-last.ensures) (sym w.before.is-wanted-in.ensures ∙ w.if2.true)
 
@@ -118,8 +119,8 @@ valued c =
       last_one s.pre.0 l.loop.k (fits (wanted c)),
       ← l.before.before.before.before.last-operand.ensures,
       ← u.ensures.same,
-      facts_valued a.spot.variables a.spot.by.kind a.spot.by.a a.spot.by.b _ a.facts.now s.pre.1 u.ensures.array,
-      append-nil (valued_before a.spot.variables a.spot.by.kind a.spot.by.a a.spot.by.b u.new.1.1.0 a.facts.now),
+      facts_valued a.variables a.by.kind a.by.a a.by.b _ a.facts.now s.pre.1 u.ensures.array,
+      append-nil (valued_before a.variables a.by.kind a.by.a a.by.b u.new.1.1.1.0 a.facts.now),
     )
     c.check-valued.ensures
 
@@ -203,7 +204,7 @@ loop_again_2 c =
     let s = first l in
     let a = s.args in
     loop_past (covers l.before) l.loop.inv i.if1.true
-    (last_nothing a.spot.variables a.spot.by a.s.now a.facts.now s.pre.0 l.loop.k
+    (last_nothing a.variables a.by a.s.now a.facts.now s.pre.0 l.loop.k
     (rw (← l.before.before.before.wanted-of-last.ensures) (sym c.before.is-wanted-in.ensures ∙ c.if2.false)))
 
 returns_2 : tie.Need-returns-2 invariant_loop decreases_loop

@@ -2,7 +2,6 @@
 use mathlib.Core.Path.{◌≡◌}
 use borrow.Author.Tests.{not-true, not-false}
 use Rattle.factrows.specs.Rows.{cell_number}
-use Rattle.checker.specs.Checking.{taking}
 use Rattle.layout.specs.Members.{members_from}
 use Rattle.layout.specs.ShapeArray.{operand_at}
 use Rattle.undoing.specs.Undone.{is_undone}
@@ -20,7 +19,7 @@ begun c = c.before.before.before.before.before.before.before
 -- whether they are, and to what
 undone : (c : tie.After-undo-values)
     → let a = (begun c).args in
-    c.undo-values.result ≡ is_undone a.spot.by.kind (cell_number (operand_at a.s.now a.spot.by.a)) (cell_number (operand_at a.s.now a.spot.by.b)) a.facts.now
+    c.undo-values.result ≡ is_undone a.by.kind (cell_number (operand_at a.s.now a.by.a)) (cell_number (operand_at a.s.now a.by.b)) a.facts.now
 undone c = rw (c.before.before.cell-of.ensures, c.before.cell-of2.ensures) at c.undo-values.ensures.0
 
 -- ---- what is to be shown
@@ -38,8 +37,8 @@ returns : tie.Need-returns
 returns c =
     let s = begun c.before in
     let a = s.args in
-    rw (valued_none a.spot.variables a.spot.by.kind a.spot.by.a a.spot.by.b a.s.now a.facts.now _ (undone c.before) (not-true _ c.if1.true))
-    (checks_none a.cert.now (taking a.judged (members_from a.cert.now a.spot.variables a.starts.now)) a.spot.by.from a.t s.pre.2)
+    rw (valued_none a.variables a.by.kind a.by.a a.by.b a.s.now a.facts.now _ (undone c.before) (not-true _ c.if1.true))
+    (checks_none a.cert.now (members_from a.cert.now a.variables a.starts.now) a.by.from a.t s.pre.2)
 
 check_cover_requires : tie.Need-check-cover-requires
 check_cover_requires c κs = search rules
@@ -49,7 +48,7 @@ returns_2 c =
     let e = c.before.before in
     let u = e.before in
     let a = (begun u).args in
-    rw (valued_one a.spot.variables a.spot.by.kind a.spot.by.a a.spot.by.b a.s.now a.facts.now _ (undone u) (not-false _ e.if1.false) _
+    rw (valued_one a.variables a.by.kind a.by.a a.by.b a.s.now a.facts.now _ (undone u) (not-false _ e.if1.false) _
     (rw (u.before.before.cell-of.ensures, u.before.cell-of2.ensures) at u.undo-values.ensures.1))
     c.check-cover.ensures
 

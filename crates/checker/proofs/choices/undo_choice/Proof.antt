@@ -15,7 +15,7 @@ undo_requires c κs =
     let p = c.before.before.before.requires in
     let w = p.0.work in
     let slots = last_slots p.0 a.k p.3 p.2 in
-    rw (c.before.place-operand.ensures, p.1) (omega (arith, w.operands.a_most, w.operands.variables_most), omega (arith, w.operands.b_most, w.operands.variables_most), slots a.spot.by.a, slots a.spot.by.b)
+    rw (c.before.place-operand.ensures, p.1) (omega (arith, w.operands.a_most, w.operands.variables_most), omega (arith, w.operands.b_most, w.operands.variables_most), slots a.by.a, slots a.by.b)
 
 returns : tie.Need-returns
 returns c =

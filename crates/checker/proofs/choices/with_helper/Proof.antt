@@ -11,8 +11,7 @@ second_operand_requires c κs = search rules
 returns : tie.Need-returns
 returns c =
     let a = c.before.args in
-    ap (λ (q : ℕ). record { variables = a.spot.variables; by = record { from = a.spot.by.from; kind = a.spot.by.kind; a = a.spot.by.a; b = q; to = a.spot.by.to } })
-    c.second-operand.ensures
+    ap (λ (q : ℕ). record { from = a.by.from; kind = a.by.kind; a = a.by.a; b = q; to = a.by.to }) c.second-operand.ensures
 
 pub with_helper_spec : {M : Type 1} → statement M
 with_helper_spec = tie.close (tie.spec second_operand_requires returns)

@@ -22,7 +22,7 @@ use Rattle.transitions.specs.declared.Transition.{Transition}
 use Rattle.layout.proofs.Loaded.{Loaded, loaded}
 use Rattle.shape.specs.Shape.{Shape}
 use Rattle.run.specs.Run.{Located}
-use Rattle.checker.specs.Checking.{located, ChecksAll, taking, Taking}
+use Rattle.checker.specs.Checking.{located, ChecksAll}
 use Rattle.reader.specs.Job.{TransitionIn}
 use Rattle.reader.specs.Transitions.{transitions_in}
 use Rattle.undoing.specs.Rowed.{rowed, Settled}
@@ -36,16 +36,16 @@ use Rattle.checker.proofs.owed.check_member.Statement.{statement}
 use Rattle.checker.proofs.owed.check_member.Tie as tie
 
 abbrev invariant_loop : tie.invariant-loop
-invariant_loop job index cert starts judged h m at k₀ s facts t₀ k t = Chain job h cert (taking judged (members_from cert h.variables starts)) (located_at cert h.variables (get_or starts m 0)) t₀ k t
+invariant_loop job h index cert starts m at k₀ s facts t₀ k t = Chain job h cert (members_from cert h.variables starts) (located_at cert h.variables (get_or starts m 0)) t₀ k t
 
 abbrev decreases_loop : tie.decreases-loop
-decreases_loop job index cert starts judged h m at k₀ s facts t₀ k t = left_from h.transitions k
+decreases_loop job h index cert starts m at k₀ s facts t₀ k t = left_from h.transitions k
 
 -- ---- moments on the way, and what is so then
 
 -- the beginning, once the facts are loaded
 abbrev begun : tie.After-settle-facts invariant_loop decreases_loop → tie.Start invariant_loop decreases_loop
-begun c = c.before.before.before.before.before.before.before.before.before.before.before.before
+begun c = c.before.before.before.before.before.before.before.before.before.before.before
 
 -- the same in the loop
 abbrev first : tie.In-loop invariant_loop decreases_loop → tie.Start invariant_loop decreases_loop
@@ -53,31 +53,31 @@ first c = begun c.before.before.before
 
 -- the member's first place, the member, and all members
 abbrev place : tie.Start invariant_loop decreases_loop → ℕ
-place s = get_or s.args.starts.now s.args.visit.member 0
+place s = get_or s.args.starts.now s.args.m 0
 
 abbrev member : tie.Start invariant_loop decreases_loop → Located
-member s = located_at s.args.cert.now s.args.visit.h.variables (place s)
+member s = located_at s.args.cert.now s.args.h.variables (place s)
 
-abbrev members : tie.Start invariant_loop decreases_loop → Taking
-members s = taking s.args.judged (members_from s.args.cert.now s.args.visit.h.variables s.args.starts.now)
+abbrev members : tie.Start invariant_loop decreases_loop → List Located
+members s = members_from s.args.cert.now s.args.h.variables s.args.starts.now
 
 -- the entry there
-entry_in : (s : tie.Start invariant_loop decreases_loop) → EntryInRange s.args.cert.now s.args.visit.h.variables (place s)
-entry_in s = s.requires.2.entry s.args.visit.member s.requires.3
+entry_in : (s : tie.Start invariant_loop decreases_loop) → EntryInRange s.args.cert.now s.args.h.variables (place s)
+entry_in s = s.requires.2.entry s.args.m s.requires.3
 
 -- the index names the transitions into its state
-linked : (s : tie.Start invariant_loop decreases_loop) → Chain s.args.job.now s.args.visit.h s.args.cert.now (members s) (member s) s.args.from (get_or s.args.index.now (member s).state 0) s.args.from
+linked : (s : tie.Start invariant_loop decreases_loop) → Chain s.args.job.now s.args.h s.args.cert.now (members s) (member s) s.args.from (get_or s.args.index.now (member s).state 0) s.args.from
 linked s =
     let a = s.args in
-    chain_begin (linked_head (to_state a.job.now a.visit.h) a.visit.h.transitions a.index.now s.requires.1 (member s).state (entry_in s).state) s.requires.4
+    chain_begin (linked_head (to_state a.job.now a.h) a.h.transitions a.index.now s.requires.1 (member s).state (entry_in s).state) s.requires.4
 
 -- its shape was loaded
 here : (c : tie.After-settle-facts invariant_loop decreases_loop)
     → let s = begun c in
-    Loaded s.args.cert.now s.args.visit.h.variables (place s) c.before.before.load-shape.new.1.1.1.0
+    Loaded s.args.cert.now s.args.h.variables (place s) c.before.before.load-shape.new.1.1.1.0
 here c =
     let s = begun c in
-    loaded s.args.cert.now s.args.visit.h.variables (place s) _ (entry_in s) s.pre.2.variables_most c.before.before.load-shape.ensures
+    loaded s.args.cert.now s.args.h.variables (place s) _ (entry_in s) s.pre.2.variables_most c.before.before.load-shape.ensures
 
 -- no cell is below itself
 consistent : (c : tie.Else2 invariant_loop decreases_loop) → is_consistent c.before.settle-facts.new.1.1.1.0 ≡ true
@@ -88,20 +88,20 @@ abbrev closed : tie.Else2 invariant_loop decreases_loop → Shape
 closed c =
     let e = c.before in
     let s = begun e in
-    whole s.args.cert.now s.args.visit.h.variables (place s) (entry_in s) s.pre.2.variables_most _ _ e.before.before.load-shape.ensures e.settle-facts.ensures.1
+    whole s.args.cert.now s.args.h.variables (place s) (entry_in s) s.pre.2.variables_most _ _ e.before.before.load-shape.ensures e.settle-facts.ensures.1
 
 settled : (c : tie.Else2 invariant_loop decreases_loop)
     → let e = c.before in
-    Settled (rowed e.settle-facts.new.1.1.1.0 (shape_in (begun e).args.visit.h.variables e.before.before.load-shape.new.1.1.1.0)) (closed c)
+    Settled (rowed e.settle-facts.new.1.1.1.0 (shape_in (begun e).args.h.variables e.before.before.load-shape.new.1.1.1.0)) (closed c)
 settled c =
     let e = c.before in
     let s = begun e in
-    entry_settled s.args.cert.now s.args.visit.h.variables (place s) (entry_in s) s.pre.2.variables_most _ _ e.before.before.load-shape.ensures e.settle-facts.ensures.1 (consistent c)
+    entry_settled s.args.cert.now s.args.h.variables (place s) (entry_in s) s.pre.2.variables_most _ _ e.before.before.load-shape.ensures e.settle-facts.ensures.1 (consistent c)
 
 -- the transition that k names is in the job
 there : (c : tie.In-loop invariant_loop decreases_loop)
     → let a = (first c).args in
-    TransitionIn a.job.now a.visit.h.variables a.visit.h.states (a.visit.h.transitions_at + 5 * (c.before.loop.k - 1))
+    TransitionIn a.job.now a.h.variables a.h.states (a.h.transitions_at + 5 * (c.before.loop.k - 1))
 there c = (first c).requires.0.transitions (c.before.loop.k - 1) (chain_below c.before.loop.invariant c.loop-test.true)
 
 -- there are few names, so that a slot of the index fits
@@ -129,12 +129,12 @@ inside k h = omega arith
 -- it is its bytes
 bytes : (c : tie.After-transition-named invariant_loop decreases_loop)
     → let a = (first c.before).args in
-    c.transition-named.result ≡ transition_from a.job.now (a.visit.h.transitions_at + 5 * (c.before.before.loop.k - 1))
+    c.transition-named.result ≡ transition_from a.job.now (a.h.transitions_at + 5 * (c.before.before.loop.k - 1))
 bytes c =
     let l = c.before.before in
     let a = (first c.before).args in
-    c.transition-named.ensures ∙ named_some a.job.now a.visit.h.transitions_at l.loop.k c.before.loop-test.true
-    ∙ bytes_all a.job.now (a.visit.h.transitions_at + 5 * (l.loop.k - 1)) (le-leb _ _ (there c.before).inside)
+    c.transition-named.ensures ∙ named_some a.job.now a.h.transitions_at l.loop.k c.before.loop-test.true
+    ∙ bytes_all a.job.now (a.h.transitions_at + 5 * (l.loop.k - 1)) (le-leb _ _ (there c.before).inside)
 
 -- where the loop's turn began, once its transition was checked
 abbrev turn : tie.After-check-transition invariant_loop decreases_loop → tie.In-loop invariant_loop decreases_loop
@@ -144,15 +144,15 @@ turn c = c.before.before.before.before
 taken : (c : tie.After-check-transition invariant_loop decreases_loop)
     → let l = (turn c).before.loop in
     let s = first (turn c) in
-    ChecksAll s.args.cert.now (members s) (before (member s) (transition_in s.args.job.now s.args.visit.h (l.k - 1))) l.t c.check-transition.result
+    ChecksAll s.args.cert.now (members s) (before (member s) (transition_in s.args.job.now s.args.h (l.k - 1))) l.t c.check-transition.result
 taken c =
     let l = (turn c).before in
     let o = l.before in
     let e = o.before in
     let s = first (turn c) in
-    let by = transition_in s.args.job.now s.args.visit.h (l.loop.k - 1) in
+    let by = transition_in s.args.job.now s.args.h (l.loop.k - 1) in
     subst (λ (ss : List Shape). ChecksAll s.args.cert.now (members s) (map (located by.from) ss) l.loop.t c.check-transition.result)
-    (sym (entry_before s.args.cert.now s.args.visit.h.variables (place s) (entry_in s) s.pre.2.variables_most _ _ e.before.before.load-shape.ensures e.settle-facts.ensures.1 (consistent o) by.op))
+    (sym (entry_before s.args.cert.now s.args.h.variables (place s) (entry_in s) s.pre.2.variables_most _ _ e.before.before.load-shape.ensures e.settle-facts.ensures.1 (consistent o) by.op))
     (subst (λ (t : Transition). ChecksAll s.args.cert.now (members s) (map (located t.from) (predecessorsBefore (op_of (kind_of t.kind) t.a t.b) (closed o))) l.loop.t c.check-transition.result)
     (bytes c.before.before.before) (c.check-transition.ensures (closed o) (settled o)))
 
@@ -165,11 +165,11 @@ shared_slice_read_at : tie.Need-shared-slice-read-at invariant_loop decreases_lo
 shared_slice_read_at c = search rules
 
 cast_at : tie.Need-overflow-cast-at invariant_loop decreases_loop
-cast_at c = omega (arith, (entry_in c.before.before.before.before.before).inside)
+cast_at c = omega (arith, (entry_in c.before.before.before.before).inside)
 
 -- before the state is read
 abbrev unread : tie.After-shared-slice-known5 invariant_loop decreases_loop → tie.Start invariant_loop decreases_loop
-unread c = c.before.before.before.before.before.before
+unread c = c.before.before.before.before.before
 
 shared_slice_read_k : tie.Need-shared-slice-read-k invariant_loop decreases_loop
 shared_slice_read_k c = omega (arith, (entry_in (unread c)).inside)
@@ -200,7 +200,7 @@ returns_2 c =
     let s = begun e in
     let a = s.args in
     let fails : is_consistent e.settle-facts.new.1.1.1.0 ≡ false = rw e.settle-facts.ensures.1 (sym e.settle-facts.ensures.0 ∙ not-true _ c.if2.true) in
-    rw (nothing_owed (member s) (entry_none a.cert.now a.visit.h.variables (place s) (entry_in s) s.pre.2.variables_most _ _ e.before.before.load-shape.ensures e.settle-facts.ensures.1 fails) (transitions_in a.job.now a.visit.h))
+    rw (nothing_owed (member s) (entry_none a.cert.now a.h.variables (place s) (entry_in s) s.pre.2.variables_most _ _ e.before.before.load-shape.ensures e.settle-facts.ensures.1 fails) (transitions_in a.job.now a.h))
     (checks_none a.cert.now (members s) 0 a.from s.pre.4)
 
 loop_holds : tie.Need-loop-init invariant_loop decreases_loop
@@ -220,7 +220,7 @@ check_transition_requires c κs =
       s.pre.0.variables.1,
       o.array,
       o.cells,
-      (λ n. e.settle-facts.ensures.1 ∙ loaded_none s.args.cert.now s.args.visit.h.variables (place s) n),
+      (λ n. e.settle-facts.ensures.1 ∙ loaded_none s.args.cert.now s.args.h.variables (place s) n),
       l.loop.invariant.progress.within,
       (closed l.before, settled l.before),
     )

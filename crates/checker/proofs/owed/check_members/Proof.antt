@@ -7,10 +7,12 @@ use lib.ListN.{length, get_or, drop, drop_of_length-le}
 use lib.Seq.{drop-cons}
 use mathlib.Core.List.{List, ◌∷◌, ◌++◌, map-append}
 use Rattle.lists.specs.List.{concat_map}
+use Rattle.format.specs.Certificate.{read_cover}
+use Rattle.format.specs.Parser.{certificate_buffer}
 use Rattle.layout.specs.Entries.{located_at, members_at}
 use Rattle.layout.specs.Members.{members_from}
 use Rattle.run.specs.Run.{Located}
-use Rattle.checker.specs.Checking.{covers_of, taking, Taking, cover_of}
+use Rattle.checker.specs.Checking.{covers_of}
 use Rattle.checker.specs.Jobs.{owed_by}
 use Rattle.checker.proofs.Checking.{Progress, begin, advance, halt, finish}
 use borrow.Author.Rules.{rules}
@@ -18,12 +20,12 @@ use Rattle.checker.proofs.owed.check_members.Statement.{statement}
 use Rattle.checker.proofs.owed.check_members.Tie as tie
 
 abbrev invariant_loop : tie.invariant-loop
-invariant_loop job h index cert starts judged t₀ m₀ t m =
-    Progress cert (covers_of cert (taking judged (members_from cert h.variables starts)) (concat_map (owed_by job h) (members_at cert h.variables starts))) t₀
-    (covers_of cert (taking judged (members_from cert h.variables starts)) (concat_map (owed_by job h) (members_at cert h.variables (drop m starts)))) t
+invariant_loop job h index cert starts t₀ m₀ t m =
+    Progress cert (covers_of cert (members_from cert h.variables starts) (concat_map (owed_by job h) (members_at cert h.variables starts))) t₀
+    (covers_of cert (members_from cert h.variables starts) (concat_map (owed_by job h) (members_at cert h.variables (drop m starts)))) t
 
 abbrev decreases_loop : tie.decreases-loop
-decreases_loop job h index cert starts judged t₀ m₀ t m = length starts - m
+decreases_loop job h index cert starts t₀ m₀ t m = length starts - m
 
 -- ---- moments on the way, and what is so then
 
@@ -32,8 +34,8 @@ abbrev begun : tie.At-loop invariant_loop decreases_loop → tie.Start invariant
 begun l = l.before.before.before.before
 
 -- all members, what is owed for one, and for those from the m-th on
-abbrev members : tie.Start invariant_loop decreases_loop → Taking
-members s = taking s.args.judged (members_from s.args.cert.now s.args.h.variables s.args.starts.now)
+abbrev members : tie.Start invariant_loop decreases_loop → List Located
+members s = members_from s.args.cert.now s.args.h.variables s.args.starts.now
 
 abbrev owed : tie.Start invariant_loop decreases_loop → Located → List Located
 owed s = owed_by s.args.job.now s.args.h
@@ -60,7 +62,7 @@ owing : (l : tie.At-loop invariant_loop decreases_loop)
     → Progress cert (covers_of cert ms (owed_from s 0)) s.args.from (covers_of cert ms (owed s (member l)) ++ covers_of cert ms (owed_from s (l.loop.m + 1))) l.loop.t
 owing l b =
     let s = begun l in
-    rw (map-append (cover_of s.args.cert.now (members s)) (owed s (member l)) (owed_from s (l.loop.m + 1))) at
+    rw (map-append (read_cover (certificate_buffer s.args.cert.now) (members s)) (owed s (member l)) (owed_from s (l.loop.m + 1))) at
     (rw (next s.args.starts.now l.loop.m b) at l.loop.invariant)
 
 -- ---- what is to be shown

@@ -3,10 +3,12 @@ use mathlib.Core.List.{List, ◌++◌}
 use mathlib.Core.Path.{refl, ◌∙◌}
 use native.Mathlib.Omega.{arith}
 use Rattle.lists.specs.List.{concat_map}
+use Rattle.format.specs.Certificate.{read_cover}
+use Rattle.format.specs.Parser.{certificate_buffer}
 use Rattle.layout.specs.Entries.{entries_at, members_at}
 use Rattle.layout.specs.Members.{members_from}
 use Rattle.run.specs.Run.{Located}
-use Rattle.checker.specs.Checking.{covers_of, taking, Taking, cover_of}
+use Rattle.checker.specs.Checking.{covers_of}
 use Rattle.checker.specs.Jobs.{owed_by}
 use Rattle.checker.specs.declared.checked.Position.{Position}
 use Rattle.checker.proofs.Indexed.{linked_job}
@@ -27,8 +29,8 @@ abbrev indexed : tie.After-index-transitions → tie.Start
 indexed c = begun c.before.before.before.before.before
 
 -- all members, the forbidden shapes, what the members owe, and where the covers begin
-abbrev members : tie.Start → Taking
-members s = taking s.args.judged (members_from s.args.cert.now s.args.h.variables s.args.starts.now)
+abbrev members : tie.Start → List Located
+members s = members_from s.args.cert.now s.args.h.variables s.args.starts.now
 
 abbrev forbidden : tie.Start → List Located
 forbidden s = entries_at s.args.job.now s.args.h.variables s.args.h.bads_at s.args.h.bads
@@ -44,7 +46,7 @@ two : (s : tie.Start)
     → let cert = s.args.cert.now in
     let ms = members s in
     Progress cert (covers_of cert ms (forbidden s ++ owing s)) (from s) (covers_of cert ms (forbidden s) ++ covers_of cert ms (owing s)) (from s)
-two s = begin_two (cover_of s.args.cert.now (members s)) (forbidden s) (owing s) (at_start s.args.at s.requires.2 s.requires.3)
+two s = begin_two (read_cover (certificate_buffer s.args.cert.now) (members s)) (forbidden s) (owing s) (at_start s.args.at s.requires.2 s.requires.3)
 
 -- ---- what is to be shown
 

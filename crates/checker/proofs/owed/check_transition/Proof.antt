@@ -15,10 +15,10 @@ use Rattle.layout.specs.Members.{members_from}
 use Rattle.layout.specs.ShapeArray.{shape_in}
 use Rattle.layout.specs.Transitions.{op_of}
 use Rattle.undoing.specs.Before.{cases_rowed, choices_rowed}
+use Rattle.run.specs.Run.{Located}
 use Rattle.undoing.specs.Rowed.{Rowed, rowed, Settled, AllStandFor}
 use Rattle.undoing.proofs.Before.{below_none}
 use Rattle.undoing.proofs.Removed.{new_stand, delete_stand}
-use Rattle.checker.specs.Checking.{taking, Taking}
 use Rattle.checker.specs.Placing.{second_operand}
 use Rattle.checker.proofs.Operands.{operands_of, Plays, plays}
 use Rattle.checker.proofs.Rowed.{checks_none, checks_stand}
@@ -41,21 +41,21 @@ abbrev valued : tie.After-is-below-itself → tie.Start
 valued c = begun c.before.before
 
 -- all members, the second operand as it is placed, what the choices give, and the predecessors
-abbrev members : tie.Start → Taking
-members s = taking s.args.judged (members_from s.args.cert.now s.args.spot.variables s.args.starts.now)
+abbrev members : tie.Start → List Located
+members s = members_from s.args.cert.now s.args.variables s.args.starts.now
 
 abbrev second : tie.Start → ℕ
-second s = second_operand s.args.spot.variables s.args.spot.by.kind s.args.spot.by.a s.args.spot.by.b
+second s = second_operand s.args.variables s.args.by.kind s.args.by.a s.args.by.b
 
 abbrev given : tie.Start → List Rowed
-given s = choices_rowed s.args.spot.variables s.args.spot.by.kind s.args.spot.by.a (second s) s.args.s.now s.args.facts.now
+given s = choices_rowed s.args.variables s.args.by.kind s.args.by.a (second s) s.args.s.now s.args.facts.now
 
 abbrev predecessors : tie.Start → Shape → List Shape
-predecessors s whole = before (op_of (kind_of s.args.spot.by.kind) s.args.spot.by.a s.args.spot.by.b) whole
+predecessors s whole = before (op_of (kind_of s.args.by.kind) s.args.by.a s.args.by.b) whole
 
 -- a shape that the array and the rows stand for
 abbrev Whole : tie.Start → Shape → Type 0
-Whole s whole = Settled (rowed s.args.facts.now (shape_in s.args.spot.variables s.args.s.now)) whole
+Whole s whole = Settled (rowed s.args.facts.now (shape_in s.args.variables s.args.s.now)) whole
 
 -- a kind that is 6 or 7, and one that is neither
 abbrev Removes : ℕ → Type 0
@@ -64,42 +64,42 @@ Removes k = (k ≡ 6) ⊎ (k ≡ 7)
 abbrev Places : ℕ → Type 0
 Places k = (k ≡ 6 → ⊥) × (k ≡ 7 → ⊥)
 
-removes : (c : tie.Then2) → Removes (begun c.before).args.spot.by.kind
+removes : (c : tie.Then2) → Removes (begun c.before).args.by.kind
 removes c =
-    let k = (begun c.before).args.spot.by.kind in
+    let k = (begun c.before).args.by.kind in
     go k (ℕ_discrete k 6) ((r_or (r_eq k 6) (r_eq k 7)).holds (passes (eqb k 6 || eqb k 7) (sym c.before.is-removal.ensures ∙ c.if2.true)))
   where
     go : (k : ℕ) → Dec (k ≡ 6) → ((k ≡ 6 → ⊥) → k ≡ 7) → Removes k
     go k (yes e) f = inl e
     go k (no n) f = inr (f n)
 
-places : (c : tie.Else2) → Places (begun c.before).args.spot.by.kind
+places : (c : tie.Else2) → Places (begun c.before).args.by.kind
 places c =
-    let k = (begun c.before).args.spot.by.kind in
+    let k = (begun c.before).args.by.kind in
     let no = fails (eqb k 6 || eqb k 7) (sym c.before.is-removal.ensures ∙ c.if2.false) in
     ((λ e. no ((r_or (r_eq k 6) (r_eq k 7)).tests (λ n. absurd (n e)))), (λ e. no ((r_or (r_eq k 6) (r_eq k 7)).tests (λ _. e))))
 
-few : (c : tie.After-with-helper) → Places (quick c).args.spot.by.kind
+few : (c : tie.After-with-helper) → Places (quick c).args.by.kind
 few c = ((λ e. omega (arith, c.before.if1.true)), (λ e. omega (arith, c.before.if1.true)))
 
 -- the shape to work on, and that what its choices give stands for the predecessors
-placed : (s : tie.Start) (other : Places s.args.spot.by.kind) (whole : Shape) (settled : Whole s whole)
+placed : (s : tie.Start) (other : Places s.args.by.kind) (whole : Shape) (settled : Whole s whole)
     → let a = s.args in
-    Plays a.spot.variables a.spot.by.kind a.spot.by.a a.spot.by.b s.requires.0 other a.s.now a.facts.now s.requires.1 s.requires.3 s.requires.2 whole settled (second s)
+    Plays a.variables a.by.kind a.by.a a.by.b s.requires.0 other a.s.now a.facts.now s.requires.1 s.requires.3 s.requires.2 whole settled (second s)
 placed s other whole settled =
     let a = s.args in
-    plays a.spot.variables a.spot.by.kind a.spot.by.a a.spot.by.b s.requires.0 other a.s.now a.facts.now s.requires.1 s.requires.3 s.requires.2 whole settled _ refl
+    plays a.variables a.by.kind a.by.a a.by.b s.requires.0 other a.s.now a.facts.now s.requires.1 s.requires.3 s.requires.2 whole settled _ refl
 
 -- what the cases give does so for kinds 6 and 7
-cases : (s : tie.Start) (whole : Shape) → Whole s whole → (k : ℕ) → Removes k → 1 ≤ s.args.spot.by.a
+cases : (s : tie.Start) (whole : Shape) → Whole s whole → (k : ℕ) → Removes k → 1 ≤ s.args.by.a
     → let a = s.args in
-    AllStandFor (cases_rowed a.spot.variables k a.spot.by.a a.s.now a.facts.now) (before (op_of (kind_of k) a.spot.by.a a.spot.by.b) whole)
+    AllStandFor (cases_rowed a.variables k a.by.a a.s.now a.facts.now) (before (op_of (kind_of k) a.by.a a.by.b) whole)
 cases s whole settled k (inl e) some =
     let a = s.args in
-    rw e (new_stand a.spot.variables a.s.now a.facts.now s.requires.2 s.requires.3 whole settled a.spot.by.a some (operands_of a.spot.variables a.spot.by.kind a.spot.by.a a.spot.by.b s.requires.0).1)
+    rw e (new_stand a.variables a.s.now a.facts.now s.requires.2 s.requires.3 whole settled a.by.a some (operands_of a.variables a.by.kind a.by.a a.by.b s.requires.0).1)
 cases s whole settled k (inr e) some =
     let a = s.args in
-    rw e (delete_stand a.spot.variables a.s.now a.facts.now s.requires.2 s.requires.3 whole settled a.spot.by.a some (operands_of a.spot.variables a.spot.by.kind a.spot.by.a a.spot.by.b s.requires.0).1)
+    rw e (delete_stand a.variables a.s.now a.facts.now s.requires.2 s.requires.3 whole settled a.by.a some (operands_of a.variables a.by.kind a.by.a a.by.b s.requires.0).1)
 
 -- ---- what is to be shown
 
@@ -118,7 +118,7 @@ returns c whole settled =
     let h = c.before in
     let s = quick h in
     let a = s.args in
-    checks_stand a.cert.now (members s) a.spot.by.from (given s) (predecessors s whole) (placed s (few h) whole settled).stand a.t c.check-first-quickly.result
+    checks_stand a.cert.now (members s) a.by.from (given s) (predecessors s whole) (placed s (few h) whole settled).stand a.t c.check-first-quickly.result
     (rw h.with-helper.ensures at c.check-first-quickly.ensures)
 
 is_removal_requires : tie.Need-is-removal-requires
@@ -127,7 +127,7 @@ is_removal_requires c κs = search rules
 check_cases_requires : tie.Need-check-cases-requires
 check_cases_requires c κs =
     let s = begun c.before in
-    let by = s.args.spot.by in
+    let by = s.args.by in
     let p = s.pre in
     let (some, fits, _) = operands_of _ by.kind by.a by.b p.0 in
     let (low, high) = bounds by.kind (removes c) in
@@ -142,9 +142,9 @@ returns_2 : tie.Need-returns-2
 returns_2 c whole settled =
     let s = begun c.before.before in
     let a = s.args in
-    let (some, _, _) = operands_of a.spot.variables a.spot.by.kind a.spot.by.a a.spot.by.b s.pre.0 in
-    checks_stand a.cert.now (members s) a.spot.by.from (cases_rowed a.spot.variables a.spot.by.kind a.spot.by.a a.s.now a.facts.now) (predecessors s whole)
-    (cases s whole settled a.spot.by.kind (removes c.before) (some (omega arith))) a.t c.check-cases.result c.check-cases.ensures
+    let (some, _, _) = operands_of a.variables a.by.kind a.by.a a.by.b s.pre.0 in
+    checks_stand a.cert.now (members s) a.by.from (cases_rowed a.variables a.by.kind a.by.a a.s.now a.facts.now) (predecessors s whole)
+    (cases s whole settled a.by.kind (removes c.before) (some (omega arith))) a.t c.check-cases.result c.check-cases.ensures
 
 is_below_itself_requires : tie.Need-is-below-itself-requires
 is_below_itself_requires c κs = search rules
@@ -154,9 +154,9 @@ returns_3 : tie.Need-returns-3
 returns_3 c whole settled =
     let s = valued c.before in
     let a = s.args in
-    let (k, e) = (r_and (r_eq a.spot.by.kind 9) (r_eq a.spot.by.a a.spot.by.b)).holds (passes (eqb a.spot.by.kind 9 && eqb a.spot.by.a a.spot.by.b) (sym c.before.is-below-itself.ensures ∙ c.if3.true)) in
-    rw (k, ← e, below_none a.spot.variables a.s.now a.facts.now s.pre.2 s.pre.3 whole settled a.spot.by.a)
-    (checks_none a.cert.now (members s) a.spot.by.from a.t s.pre.5)
+    let (k, e) = (r_and (r_eq a.by.kind 9) (r_eq a.by.a a.by.b)).holds (passes (eqb a.by.kind 9 && eqb a.by.a a.by.b) (sym c.before.is-below-itself.ensures ∙ c.if3.true)) in
+    rw (k, ← e, below_none a.variables a.s.now a.facts.now s.pre.2 s.pre.3 whole settled a.by.a)
+    (checks_none a.cert.now (members s) a.by.from a.t s.pre.5)
 
 with_helper_requires_2 : tie.Need-with-helper-requires-2
 with_helper_requires_2 c κs = (valued c.before).requires.1
@@ -175,7 +175,7 @@ returns_4 c whole settled =
     let o = h.before.before.before in
     let s = begun o.before in
     let a = s.args in
-    checks_stand a.cert.now (members s) a.spot.by.from (given s) (predecessors s whole) (placed s (places o) whole settled).stand a.t c.check-first-choices.result
+    checks_stand a.cert.now (members s) a.by.from (given s) (predecessors s whole) (placed s (places o) whole settled).stand a.t c.check-first-choices.result
     (rw h.with-helper2.ensures at c.check-first-choices.ensures)
 
 pub check_transition_spec : {M : Type 1} → statement M

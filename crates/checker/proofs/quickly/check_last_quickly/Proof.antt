@@ -4,14 +4,16 @@ use mathlib.Core.List.{List, [], ◌∷◌}
 use mathlib.Core.Path.{◌≡◌, refl, ◌∙◌, sym}
 use Prim.Native.Nat.{ℕ, ◌+◌, ◌-◌, ◌<◌}
 use native.Mathlib.Omega.{arith}
+use Rattle.factrows.specs.Rows.{rows_test}
 use Rattle.layout.specs.ShapeArray.{cell_count, links_in, shape_in}
 use Rattle.layout.specs.Members.{members_from}
 use Rattle.placing.specs.Wanted.{fits_in}
 use Rattle.placing.proofs.Ranges.{stretch, Covers, step_most}
 use Rattle.shapes.specs.Operands.{wanted_last_in}
 use Rattle.undoing.specs.Before.{choices_rowed}
+use Rattle.run.specs.Run.{Located}
 use Rattle.undoing.specs.Rowed.{Rowed, rowed}
-use Rattle.checker.specs.Checking.{Checks, taking, Taking}
+use Rattle.checker.specs.Checking.{Checks}
 use Rattle.checker.specs.declared.checked.Checked.{Checked}
 use Rattle.checker.specs.declared.checked.Checked.TheVariants.{Upto}
 use Rattle.checker.specs.declared.checked.Position.{Position}
@@ -23,11 +25,11 @@ use Rattle.checker.proofs.quickly.check_last_quickly.Statement.{statement}
 use Rattle.checker.proofs.quickly.check_last_quickly.Tie as tie
 
 abbrev invariant_loop : tie.invariant-loop
-invariant_loop cert starts spot s facts judged operand wanted c t₀ k₀ t k =
-    ChoiceLoop cert (taking judged (members_from cert spot.variables starts)) spot.by.from (last_given spot.variables spot.by s facts) c 0 (cell_count s + (2 + cell_count s)) t₀ k t
+invariant_loop cert starts variables by s facts operand wanted c t₀ k₀ t k =
+    ChoiceLoop cert (members_from cert variables starts) by.from (last_given variables by s facts) c 0 (cell_count s + (2 + cell_count s)) t₀ k t
 
 abbrev decreases_loop : tie.decreases-loop
-decreases_loop cert starts spot s facts judged operand wanted c t₀ k₀ t k = c.to - k
+decreases_loop cert starts variables by s facts operand wanted c t₀ k₀ t k = c.to - k
 
 -- ---- moments on the way, and what is so then
 
@@ -44,10 +46,10 @@ abbrev number : tie.Start invariant_loop decreases_loop → ℕ
 number s = cell_count s.args.s.now + (2 + cell_count s.args.s.now)
 
 abbrev given : tie.Start invariant_loop decreases_loop → ℕ → List Rowed
-given s = last_given s.args.spot.variables s.args.spot.by s.args.s.now s.args.facts.now
+given s = last_given s.args.variables s.args.by s.args.s.now s.args.facts.now
 
-abbrev members : tie.Start invariant_loop decreases_loop → Taking
-members s = taking s.args.judged (members_from s.args.cert.now s.args.spot.variables s.args.starts.now)
+abbrev members : tie.Start invariant_loop decreases_loop → List Located
+members s = members_from s.args.cert.now s.args.variables s.args.starts.now
 
 -- the choices to try leave none out
 covers : (c : tie.After-choices-of invariant_loop decreases_loop)
@@ -56,14 +58,14 @@ covers : (c : tie.After-choices-of invariant_loop decreases_loop)
 covers c =
     let s = begun c in
     let a = s.args in
-    last_tried a.spot.variables a.spot.by a.s.now a.facts.now s.pre.0 c.before.before.wanted-of-last.ensures c.choices-of.ensures
+    last_tried a.variables a.by a.s.now a.facts.now s.pre.0 c.before.before.wanted-of-last.ensures c.choices-of.ensures
 
 -- all choices give all
 whole : (c : tie.After-choices-of invariant_loop decreases_loop)
     → let s = begun c in
     let a = s.args in
-    stretch (given s) 0 (number s) ≡ choices_rowed a.spot.variables a.spot.by.kind a.spot.by.a a.spot.by.b a.s.now a.facts.now
-whole c = let s = begun c in last_all s.args.spot.variables s.args.spot.by s.args.s.now s.args.facts.now s.pre.0
+    stretch (given s) 0 (number s) ≡ choices_rowed a.variables a.by.kind a.by.a a.by.b a.s.now a.facts.now
+whole c = let s = begun c in last_all s.args.variables s.args.by s.args.s.now s.args.facts.now s.pre.0
 
 -- the loop as a turn began
 abbrev loop_at : tie.Then1 invariant_loop decreases_loop → tie.At-loop invariant_loop decreases_loop
@@ -81,7 +83,7 @@ abbrev Tried : tie.Then1 invariant_loop decreases_loop → Checked → Type 0
 Tried i g =
     let l = loop_at i in
     let s = first l in
-    Checks s.args.cert.now (members s) s.args.spot.by.from (given s l.loop.k) l.loop.t g
+    Checks s.args.cert.now (members s) s.args.by.from (given s l.loop.k) l.loop.t g
 
 -- the turn in which a choice is wanted
 abbrev turn : tie.Then2 invariant_loop decreases_loop → tie.Then1 invariant_loop decreases_loop
@@ -91,7 +93,7 @@ turn w = w.before.before.before
 fits : (w : tie.Then2 invariant_loop decreases_loop)
     → let l = loop_at (turn w) in
     let a = (first l).args in
-    fits_in (links_in a.s.now) (wanted_last_in a.spot.by.kind a.spot.by.a a.spot.by.b a.s.now) l.loop.k ≡ true
+    fits_in (links_in a.s.now) (wanted_last_in a.by.kind a.by.a a.by.b a.s.now) l.loop.k ≡ true
 fits w =
     rw (← (loop_at (turn w)).before.before.before.wanted-of-last.ensures) (sym w.before.is-wanted-in.ensures ∙ w.if2.true)
 
@@ -102,26 +104,26 @@ past : (w : tie.Then2 invariant_loop decreases_loop)
 past w = omega (arith, (covers (loop_at (turn w)).before).most, (turn w).if1.true)
 
 -- where it was wanted, once the quick test is made
-abbrev wanted : tie.After-judge-quickly invariant_loop decreases_loop → tie.Then2 invariant_loop decreases_loop
+abbrev wanted : tie.After-quick-cover invariant_loop decreases_loop → tie.Then2 invariant_loop decreases_loop
 wanted q = q.before.before.before.before.before
 
 -- what it gives: the shape in the array once the operation is undone
-gives : (q : tie.After-judge-quickly invariant_loop decreases_loop)
+gives : (q : tie.After-quick-cover invariant_loop decreases_loop)
     → let l = loop_at (turn (wanted q)) in
     let s = first l in
-    given s l.loop.k ≡ rowed s.args.facts.now (shape_in s.args.spot.variables q.before.before.undo-choice.new.1.1.0) ∷ []
+    given s l.loop.k ≡ rowed s.args.facts.now (shape_in s.args.variables q.before.before.undo-choice.new.1.1.1.0) ∷ []
 gives q =
     let l = loop_at (turn (wanted q)) in
     let s = first l in
     let a = s.args in
-    last_left a.spot.variables a.spot.by a.s.now a.facts.now s.pre.0 l.loop.k (fits (wanted q)) s.pre.1 _
+    last_left a.variables a.by a.s.now a.facts.now s.pre.0 l.loop.k (fits (wanted q)) s.pre.1 _
     (rw l.before.before.before.before.last-operand.ensures at q.before.before.undo-choice.ensures)
 
 -- the quick test, once the exact one is made, and where the quick one is enough
-abbrev tested : tie.After-check-cover invariant_loop decreases_loop → tie.After-judge-quickly invariant_loop decreases_loop
+abbrev tested : tie.After-check-cover invariant_loop decreases_loop → tie.After-quick-cover invariant_loop decreases_loop
 tested c = c.before.before.before.before
 
-abbrev enough : tie.After-struct-known5 invariant_loop decreases_loop → tie.After-judge-quickly invariant_loop decreases_loop
+abbrev enough : tie.After-struct-known5 invariant_loop decreases_loop → tie.After-quick-cover invariant_loop decreases_loop
 enough c = c.before.before.before.before
 
 -- the turn then
@@ -136,12 +138,12 @@ exactly : (c : tie.After-check-cover invariant_loop decreases_loop) → Tried (e
 exactly c = rw (gives (tested c)) c.check-cover.ensures
 
 -- its links are a number of 16 bits
-small : (c : tie.After-struct-known5 invariant_loop decreases_loop) → (enough c).judge-quickly.result.links < 65536
+small : (c : tie.After-struct-known5 invariant_loop decreases_loop) → (enough c).quick-cover.result.links < 65536
 small c = omega (arith, c.struct-known5.given)
 
 abbrev further : tie.After-struct-known5 invariant_loop decreases_loop → Position
 further c =
-    let r = (enough c).judge-quickly.result in
+    let r = (enough c).quick-cover.result in
     record { at = r.next; counted = (loop_at (quick_turn c)).loop.t.counted + 4294967296 + r.links }
 
 quickly : (c : tie.After-struct-known5 invariant_loop decreases_loop) → Tried (quick_turn c) (Upto (further c))
@@ -151,9 +153,9 @@ quickly c =
     let s = first l in
     let a = s.args in
     rw (gives q)
-    (one_taken a.cert.now (members s) a.spot.by.from (rowed a.facts.now (shape_in a.spot.variables q.before.before.undo-choice.last.1.1.0))
-    l.loop.t q.judge-quickly.result.links q.judge-quickly.result.next
-    (sym (q.judge-quickly.ensures a.facts.now c.before.before.if3.false)) l.loop.inv.progress.within (small c))
+    (one_taken a.cert.now (members s) a.by.from (rowed a.facts.now (shape_in a.variables q.before.before.undo-choice.last.1.1.1.0))
+    l.loop.t q.quick-cover.result.links q.quick-cover.result.next
+    (sym (q.quick-cover.ensures.0 (rows_test a.facts.now) c.before.before.if3.false)) l.loop.inv.progress.within (small c))
 
 -- ---- what is to be shown
 
@@ -195,8 +197,8 @@ undo_choice_requires c κs =
     let l = loop_at (turn w) in
     ((first l).pre.0, l.before.before.before.before.last-operand.ensures, past w, fits w)
 
-judge_quickly_requires : tie.Need-judge-quickly-requires invariant_loop decreases_loop
-judge_quickly_requires c κs = search rules
+quick_cover_requires : tie.Need-quick-cover-requires invariant_loop decreases_loop
+quick_cover_requires c κs = search rules
 
 check_cover_requires : tie.Need-check-cover-requires invariant_loop decreases_loop
 check_cover_requires c κs = (loop_at (turn (wanted c.before.before.before))).loop.inv.progress.within
@@ -257,7 +259,7 @@ loop_again_3 c =
     let s = first l in
     let a = s.args in
     loop_past (covers l.before) l.loop.inv i.if1.true
-    (last_nothing a.spot.variables a.spot.by a.s.now a.facts.now s.pre.0 l.loop.k
+    (last_nothing a.variables a.by a.s.now a.facts.now s.pre.0 l.loop.k
     (rw (← l.before.before.before.wanted-of-last.ensures) (sym c.before.is-wanted-in.ensures ∙ c.if2.false)))
 
 returns_2 : tie.Need-returns-2 invariant_loop decreases_loop
@@ -280,7 +282,7 @@ check_last_quickly_spec =
     add_k
     is_wanted_in_requires
     undo_choice_requires
-    judge_quickly_requires
+    quick_cover_requires
     check_cover_requires
     enum_known_g
     enum_told

@@ -10,7 +10,7 @@ use Rattle.placing.proofs.Ranges.{stretch, covers_stretch}
 use Rattle.shapes.specs.Change.{is_before}
 use Rattle.undoing.specs.Before.{before_rowed, cases_rowed}
 use Rattle.undoing.specs.Rowed.{Rowed}
-use Rattle.checker.specs.Checking.{Checks, taking}
+use Rattle.checker.specs.Checking.{Checks}
 use Rattle.checker.proofs.ChoiceLoop.{ChoiceLoop, loop_none, loop_past, loop_more, loop_stop, loop_all}
 use Rattle.checker.proofs.Rowed.{case_none, case_new, case_one, cases_all}
 use borrow.Author.Rules.{rules}
@@ -18,12 +18,12 @@ use Rattle.checker.proofs.removal.check_cases.Statement.{statement}
 use Rattle.checker.proofs.removal.check_cases.Tie as tie
 
 abbrev invariant_loop : tie.invariant-loop
-invariant_loop cert starts spot s facts judged prepared cases t₀ k₀ t k =
-    ChoiceLoop cert (taking judged (members_from cert spot.variables starts)) spot.by.from (before_rowed spot.variables spot.by.kind cases.end prepared facts)
+invariant_loop cert starts variables by s facts prepared cases t₀ k₀ t k =
+    ChoiceLoop cert (members_from cert variables starts) by.from (before_rowed variables by.kind cases.end prepared facts)
     (one_by_one cases.first cases.end) cases.first cases.end t₀ k t
 
 abbrev decreases_loop : tie.decreases-loop
-decreases_loop cert starts spot s facts judged prepared cases t₀ k₀ t k = cases.end - k
+decreases_loop cert starts variables by s facts prepared cases t₀ k₀ t k = cases.end - k
 
 -- ---- moments on the way, and what is so then
 
@@ -40,16 +40,16 @@ abbrev given : tie.After-prepare-cases invariant_loop decreases_loop → ℕ →
 given c =
     let a = (begun c).args in
     let p = c.prepare-cases in
-    before_rowed a.spot.variables a.spot.by.kind p.result.end p.new.1.1.1.0 a.facts.now
+    before_rowed a.variables a.by.kind p.result.end p.new.1.1.1.0 a.facts.now
 
 -- all cases give all predecessors
 whole : (c : tie.After-prepare-cases invariant_loop decreases_loop)
     → let a = (begun c).args in
     let r = c.prepare-cases.result in
-    stretch (given c) r.first r.end ≡ cases_rowed a.spot.variables a.spot.by.kind a.spot.by.a a.s.now a.facts.now
+    stretch (given c) r.first r.end ≡ cases_rowed a.variables a.by.kind a.by.a a.s.now a.facts.now
 whole c =
     let a = (begun c).args in
-    cases_all a.spot.variables a.spot.by.kind a.spot.by.a a.s.now a.facts.now _ _ c.prepare-cases.ensures.0 c.prepare-cases.ensures.1
+    cases_all a.variables a.by.kind a.by.a a.s.now a.facts.now _ _ c.prepare-cases.ensures.0 c.prepare-cases.ensures.1
 
 -- the loop as a turn began
 abbrev loop_at : tie.Then1 invariant_loop decreases_loop → tie.At-loop invariant_loop decreases_loop
@@ -69,7 +69,7 @@ turn c = c.before.before.before
 is_before_lem : (c : tie.Then2 invariant_loop decreases_loop)
     → let l = loop_at (turn c) in
     let a = (first l).args in
-    is_before a.spot.variables a.spot.by.kind l.before.prepare-cases.last.1.1.1.0 l.loop.k ≡ true
+    is_before a.variables a.by.kind l.before.prepare-cases.last.1.1.1.0 l.loop.k ≡ true
 is_before_lem c = sym c.before.undo-case.ensures.0 ∙ c.if2.true
 
 -- where this was so, once its facts are undone too
@@ -91,7 +91,7 @@ chosen x y t e = rw t at e
 taken : (c : tie.After-check-cover invariant_loop decreases_loop)
     → let l = loop_at (cover_turn c) in
     let a = (first l).args in
-    Checks a.cert.now (taking a.judged (members_from a.cert.now a.spot.variables a.starts.now)) a.spot.by.from (given l.before l.loop.k) l.loop.t c.check-cover.result
+    Checks a.cert.now (members_from a.cert.now a.variables a.starts.now) a.by.from (given l.before l.loop.k) l.loop.t c.check-cover.result
 taken c =
     let three = c.before.before.before in
     let r = three.before.undo-rows in
@@ -99,7 +99,7 @@ taken c =
     let u = two.before.undo-case in
     let l = loop_at (cover_turn c) in
     let a = (first l).args in
-    rw (case_one a.spot.variables a.spot.by.kind _ _ a.facts.now l.loop.k (is_before_lem two) (sym r.ensures.0 ∙ three.if3.true) _ _
+    rw (case_one a.variables a.by.kind _ _ a.facts.now l.loop.k (is_before_lem two) (sym r.ensures.0 ∙ three.if3.true) _ _
     (chosen _ _ two.if2.taken u.ensures.1) (chosen _ _ three.if3.true r.ensures.1))
     c.check-cover.ensures
 
@@ -155,7 +155,7 @@ loop_again_2 c =
     let l = loop_at (turn two) in
     let a = (first l).args in
     loop_past (covers_stretch _ _ _) l.loop.inv (turn two).if1.taken
-    (case_new a.spot.variables a.spot.by.kind _ _ a.facts.now l.loop.k (is_before_lem two) (sym c.before.undo-rows.ensures.0 ∙ c.if3.false))
+    (case_new a.variables a.by.kind _ _ a.facts.now l.loop.k (is_before_lem two) (sym c.before.undo-rows.ensures.0 ∙ c.if3.false))
 
 loop_less_3 : tie.Need-loop-smaller-3 invariant_loop decreases_loop
 loop_less_3 c = less c.before.before.before
@@ -167,7 +167,7 @@ loop_again_3 c =
     let l = loop_at i in
     let a = (first l).args in
     loop_past (covers_stretch _ _ _) l.loop.inv i.if1.true
-    (case_none a.spot.variables a.spot.by.kind _ _ a.facts.now l.loop.k (sym c.before.undo-case.ensures.0 ∙ c.if2.false))
+    (case_none a.variables a.by.kind _ _ a.facts.now l.loop.k (sym c.before.undo-case.ensures.0 ∙ c.if2.false))
 
 returns_2 : tie.Need-returns-2 invariant_loop decreases_loop
 returns_2 c =
