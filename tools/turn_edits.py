@@ -3,8 +3,8 @@
 
 usage: python3 tools/turn_edits.py prepare PORT OLD ROOM     at the top of the repository; PORT: the kit's port.py; OLD: the commit before the port;
                                                              ROOM: a new folder outside the repository
-       python3 tools/turn_edits.py write OLD ROOM [WORD..]   writes each edit of OLD that does not apply to the text as it stands (with a WORD in its path)
-       python3 tools/turn_edits.py check LANDED OLD          each edit applies, and the names are those of the commits LANDED and OLD
+       python3 tools/turn_edits.py write OLD ROOM [WORD..]   writes each edit of OLD (with a WORD in its path) for the text as it stands
+       python3 tools/turn_edits.py check LANDED OLD          each edit applies, each of the commit LANDED is here, and each here is of LANDED or OLD
 
 Edits are not turned themselves. prepare makes copies of OLD, one as it was and others with edits made in them, far enough apart to be told one from
 another, and turns each copy whole by port.py and by own_names.py's table of the unedited one. write compares the two, word for word, finds the
@@ -340,14 +340,13 @@ def write(old, room, only):
 
 def check(landed, old):
     here = sorted(f for f in git("ls-files", "--cached", "--others", "--exclude-standard", "crates").split("\n") if "/must-fail/" in f and os.path.exists(f))
-    wanted = sorted(set(edits_of(landed)) | set(edits_of(old)))
-    bad = [f"missing: {e}" for e in wanted if e not in here] + [f"more: {e}" for e in here if e not in wanted]
-    for e in here:
-        why = applied(e)[1]
-        if why:
-            bad.append(f"{e}: {why}")
-    print("\n".join(bad))
-    print(f"{len(here)} edits, {len(wanted)} wanted, {len(bad)} bad")
+    first, later = set(edits_of(landed)), set(edits_of(old))
+    bad = [f"missing: {e}" for e in sorted(first) if e not in here] + [f"more: {e}" for e in here if e not in first | later]
+    bad += [f"{e}: {why}" for e in here for why in [applied(e)[1]] if why]
+    for e in sorted(later - first):
+        if e not in here:
+            print("not here, and never landed:", e)
+    print("".join(it + "\n" for it in bad) + f"{len(here)} edits, {len(first)} of them landed, {len(bad)} bad")
     return 1 if bad else 0
 
 
