@@ -223,9 +223,13 @@ class Function:
                 p = {"inv": "invariant", "last": "new"}.get(p, p)
                 if p == "ensures" and self.places.callee.get(place) and len(parts) > 1 and parts[1].isdigit():
                     some = clauses(self.places.callee[place], "ensures")
-                    if some and int(parts[1]) < len(some):
-                        out += ["ensures", some[int(parts[1])]]
-                        i = 2
+                    if some:
+                        # The facts were pairs within pairs.
+                        n = 0
+                        while n < len(some) - 1 and 1 + n < len(parts) and parts[1 + n] == "1":
+                            n += 1
+                        out += ["ensures", some[n]]
+                        i = 1 + n + (n < len(some) - 1)
                         continue
                 if p == "new" and self.places.callee.get(place):
                     params = self.names["params"].get(self.places.callee[place])

@@ -3,7 +3,7 @@
 
 ghost use Rattle.std.specs.Prelude.{◌↔◌, ◌≡◌};
 ghost use Rattle.joining.specs.Conditions.{JoinMeans, SafeJoined};
-ghost use Rattle.joining.specs.Join.{Joining, join as joinDue};
+ghost use Rattle.joining.specs.Join.{Joining, join as join_due};
 ghost use Rattle.joint.specs.Answer.{joining_of, join_result, Joinable};
 ghost use Rattle.number.specs.CallResult.{lent};
 
@@ -56,8 +56,8 @@ pub extern "C" fn vorruda_join(
     state: u32,
     out: &mut [u64],
 ) -> u32
-    ensures number { result ≡ (join_result (joinDue job1.now cert1.now job2.now cert2.now state)).code }
-    ensures values { out.new ≡ lent (join_result (joinDue job1.now cert1.now job2.now cert2.now state)).values out.old }
+    ensures number { result ≡ (join_result (join_due job1.now cert1.now job2.now cert2.now state)).code }
+    ensures values { out.new ≡ lent (join_result (join_due job1.now cert1.now job2.now cert2.now state)).values out.old }
     ensures means { (j : Joining) → JoinMeans job1.now cert1.now job2.now cert2.now state j → (result ≡ (join_result j).code) × (out.new ≡ lent (join_result j).values out.old) }
     ensures accepted { (result ≡ 0) ↔ Joinable job1.now cert1.now job2.now cert2.now state }
     ensures safe { result ≡ 0 → SafeJoined job1.now job2.now state }

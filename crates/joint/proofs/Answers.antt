@@ -10,7 +10,7 @@ use Rattle.reader.specs.declared.Header.{Header}
 use Rattle.format.specs.Verdict.{no_state, verdict_at, verdict}
 use Rattle.joining.specs.Conditions.{JoinMeans, SafeJoined}
 use Rattle.joining.specs.Join.{Joining, pair_refused, read_joint, after_second, after_first, join}
-use Rattle.joining.proofs.Exact.{answers, joined_Bytes}
+use Rattle.joining.proofs.Exact.{answers, joined_bytes}
 use Rattle.verdict.specs.Verdict.{reason_of, counts_told}
 use Rattle.verdict.specs.declared.Counts.{Counts as CountsAnswer}
 use Rattle.verdict.specs.declared.Refusal.{Refusal}
@@ -40,6 +40,6 @@ module _ (job₁ cert₁ job₂ cert₂ : List ℕ) (state : ℕ) where
     e,
     (
       λ j. (λ is. (answers job₁ cert₁ job₂ cert₂ state j).0 (sym e ∙ is), λ m. e ∙ (answers job₁ cert₁ job₂ cert₂ state j).1 m),
-      λ a b is. joined_Bytes job₁ cert₁ job₂ cert₂ state (counts_told a) (counts_told b) (sym e ∙ ap joining_of is),
+      λ a b is. joined_bytes job₁ cert₁ job₂ cert₂ state (counts_told a) (counts_told b) (sym e ∙ ap joining_of is),
     ),
   )

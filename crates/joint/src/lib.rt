@@ -8,7 +8,7 @@ ghost use Rattle.checker.specs.Jobs.{file_in};
 ghost use Rattle.format.specs.Parser.{parsed};
 ghost use Rattle.format.specs.Verdict.{no_state, verdict_at};
 ghost use Rattle.joining.specs.Conditions.{JoinMeans, SafeJoined};
-ghost use Rattle.joining.specs.Join.{Joining, joint_of, same_numbers, same_shape, joint_refusal, read_joint, after_pairs, after_second, join as joinDue};
+ghost use Rattle.joining.specs.Join.{Joining, joint_of, same_numbers, same_shape, joint_refusal, read_joint, after_pairs, after_second, join as join_due};
 ghost use Rattle.joint.specs.Answer.{joining_of, refusal_or, listed_among, is_settled};
 ghost use Rattle.joint.specs.declared.JoinAnswer.TheVariants.{Both};
 ghost use Rattle.layout.specs.Entries.{located_at, entries_at, members_at, EntryInRange, EntriesIn, Table};
@@ -234,7 +234,7 @@ fn join_second(
 // The answer on two pairs and a hand-over state: both sets of counts exactly if the two are to be joined there, and then no run of the joined program
 // meets a shape that it forbids.
 pub fn join(job1: &[u8], cert1: &[u8], job2: &[u8], cert2: &[u8], state: usize) -> JoinAnswer
-    ensures exact { joining_of result ≡ joinDue job1.now cert1.now job2.now cert2.now state }
+    ensures exact { joining_of result ≡ join_due job1.now cert1.now job2.now cert2.now state }
     ensures means { (j : Joining) → (joining_of result ≡ j) ↔ JoinMeans job1.now cert1.now job2.now cert2.now state j }
     ensures safe { (a b : CountsAnswer) → result ≡ Both a b → SafeJoined job1.now job2.now state }
 {
