@@ -38,8 +38,6 @@
 #define VORRUDA_READ_NUMBER_OUT   2
 #define VORRUDA_WRITE_NUMBERS_OUT 1
 #define VORRUDA_VERDICT_OUT       4
-#define VORRUDA_CARRY_JOB_OUT     1 /* vorruda_job_up, vorruda_job_down */
-#define VORRUDA_CARRY_CERT_OUT    2 /* vorruda_certificate_up, vorruda_certificate_down */
 #define VORRUDA_JOIN_OUT          8
 #define VORRUDA_TALLY_VERDICT_OUT 4
 #define VORRUDA_TALLY_REPORT_OUT  2
@@ -65,7 +63,7 @@ extern "C" {
 
 #define VORRUDA_UNREADABLE 3  /* no number can be read at that place */
 #define VORRUDA_TOO_LARGE  11 /* a number to write is above 65,535 */
-#define VORRUDA_NO_ROOM    12 /* the output is too short, or a file would have more than 65,536 bytes */
+#define VORRUDA_NO_ROOM    12 /* the output is too short */
 
 /* Reads the number that begins at place `at`.
  *   0: out[0] is the number, out[1] the place after it.
@@ -208,57 +206,6 @@ uint32_t vorruda_check(const uint8_t *job, size_t job_len, const uint8_t *cert, 
  * 10); 0 for a length or for versions that differ (20). out has four entries. */
 uint32_t vorruda_verdict(const uint8_t *job, size_t job_len, const uint8_t *cert, size_t cert_len,
                          uint64_t *out, size_t out_len);
-
-/* ---- Between the versions ----------------------------------------------------------------------
- *
- * A file of version 1 goes up to version 2, and one of version 2 that has nothing of values comes down
- * to version 1: a job alone, a certificate with its job beside it, which is of the version that the
- * certificate has before. Up, each shape gets the number of its facts, 0, behind its links; down, that
- * goes. All other numbers stay but the version, those of the covers too. A file that goes up and then
- * down is what it was, byte for byte, and a pair that goes up is accepted exactly if it was before, with
- * the same counts.
- *
- * Files are read to their ends, a certificate with as many covers as it owes, and not judged: neither
- * VORRUDA_START_MEMBER nor VORRUDA_COVER is told. Tried after that, on the way down: */
-
-#define VORRUDA_HAS_VALUES 21 /* a kind above 7, or facts, which version 1 hasn't */
-
-/* A job of version 1 goes up. Room of VORRUDA_MOST_BYTES is enough for any file.
- *   0: out[0] is how many bytes were filled, from the first of `bytes`; none beyond is touched.
- *   VORRUDA_JOB_LENGTH, VORRUDA_JOB_UNREADABLE, VORRUDA_JOB_RANGE, VORRUDA_JOB_LEFT: out[0] is the
- *      place. A job of another version is VORRUDA_JOB_RANGE at 0.
- *   VORRUDA_NO_ROOM: out[0] is the length needed.
- * by the first that applies. Where it isn't 0, no byte is touched. out has one entry.
- * The call needs less than 4 KiB of stack. */
-uint32_t vorruda_job_up(const uint8_t *job, size_t job_len, uint8_t *bytes, size_t len,
-                        uint64_t *out, size_t out_len);
-
-/* A job of version 2 comes down. As vorruda_job_up, and ahead of VORRUDA_NO_ROOM
- *   VORRUDA_HAS_VALUES: out[0] is the place of the first kind above 7 or number of facts above 0. */
-uint32_t vorruda_job_down(const uint8_t *job, size_t job_len, uint8_t *bytes, size_t len,
-                          uint64_t *out, size_t out_len);
-
-/* A certificate of version 1 goes up, beside its job of version 1.
- *   0: out[0] is how many bytes were filled, from the first of `bytes`, none beyond is touched; out[1]
- *      is 0.
- *   VORRUDA_JOB_LENGTH to VORRUDA_CERT_RANGE, VORRUDA_CERT_LEFT: out[0] is the place; out[1] is 0 where
- *      it is in the job, 1 where it is in the certificate (2, 6, 7, 10). A file of another version is
- *      VORRUDA_JOB_RANGE or VORRUDA_CERT_RANGE at 0.
- *   VORRUDA_NO_ROOM: out[0] is the length needed, out[1] is 0; also, whatever the room, where more than
- *      65,536 bytes are needed.
- * by the first that applies. Where it isn't 0, no byte is touched. out has two entries.
- * The call needs less than 4 KiB of stack. */
-uint32_t vorruda_certificate_up(const uint8_t *job, size_t job_len,
-                                const uint8_t *cert, size_t cert_len,
-                                uint8_t *bytes, size_t len, uint64_t *out, size_t out_len);
-
-/* A certificate of version 2 comes down, beside its job of version 2. As vorruda_certificate_up, and
- * ahead of VORRUDA_NO_ROOM
- *   VORRUDA_HAS_VALUES: out[0] is the place of the first kind above 7 or number of facts above 0; out[1]
- *      is 0 where it is in the job, which is looked at first, and 1 where it is in the certificate. */
-uint32_t vorruda_certificate_down(const uint8_t *job, size_t job_len,
-                                  const uint8_t *cert, size_t cert_len,
-                                  uint8_t *bytes, size_t len, uint64_t *out, size_t out_len);
 
 /* ---- Two jobs as one ---------------------------------------------------------------------------
  *

@@ -24,7 +24,7 @@ static inline const char *vorruda_text(uint32_t number)
     case 9: return "a cover doesn't hold";
     case 10: return "bytes are left after the last cover";
     case 11: return "a number to write is above 65,535";
-    case 12: return "the output is too short, or a file would have more than 65,536 bytes";
+    case 12: return "the output is too short";
     case 13: return "heap or values are not as the header describes them";
     case 14: return "no such kind of operation, or an operand that it doesn't take";
     case 15: return "all 64 cells are used";
@@ -33,7 +33,6 @@ static inline const char *vorruda_text(uint32_t number)
     case 18: return "more than 16 `while` and `if` are open at once";
     case 19: return "the listing has more than 8 names or 64 states";
     case 20: return "job and certificate are of different versions";
-    case 21: return "a kind above 7, or facts, which version 1 hasn't";
     case 23: return "a count or a sum of the tally would pass 4,294,967,295";
     case 24: return "the hand-over is no state of the first job";
     case 25: return "the jobs to join have different numbers of variables";

@@ -5,16 +5,11 @@ cd "$(dirname "$0")/.."
 mkdir -p build
 flags=(-Wall -Wextra -Werror -O2 -Iinclude)
 gcc -std=c11 "${flags[@]}" examples/host.c target/staticlib/libvorruda.a -o build/host
-gcc -std=c11 "${flags[@]}" examples/carry.c target/staticlib/libvorruda.a -o build/carry
 gcc -std=c11 "${flags[@]}" examples/join.c target/staticlib/libvorruda.a -o build/join
 gcc -std=c11 "${flags[@]}" examples/block_list.c target/staticlib/libvorruda_list.a -o build/block_list
 build/host
 sample=(crates/judge/data/job.bin crates/judge/data/cert.bin)
 build/host "${sample[@]}" | tail -n 1 | grep -x 'share 1/1 covers [0-9]*/1'
-# The sample is of version 1: it goes up, is judged, and comes down again. What is of version 2 already doesn't go up, nor half a certificate.
-build/carry "${sample[@]}" | tail -n 1 | grep -x 'as before'
-{ build/carry <(printf '\2') "${sample[1]}" || [ $? -eq 1 ]; } | grep '^up: refused 4, job at 0: '
-{ build/carry "${sample[0]}" <(head -c 100 "${sample[1]}") || [ $? -eq 1 ]; } | grep '^up: refused 6, certificate at 100: '
 build/block_list
 # A load routine and an edit routine of the corpus: joined where the first ends, refused elsewhere and the other way round.
 mkdir -p build/joined

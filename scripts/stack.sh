@@ -1,5 +1,5 @@
 #!/usr/bin/env bash
-# The most stack that a call takes: of the checker, the tally, files carried, a join, the translation and the block list; fails where a header promises less.
+# The most stack that a call of the checker, of the tally, of a join, of the translation and of the block list takes; fails where a header promises less.
 set -euo pipefail
 cd "$(dirname "$0")/.."
 cargo run --offline --release --quiet --manifest-path host/Cargo.toml --bin stack

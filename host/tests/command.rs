@@ -34,7 +34,9 @@ fn every_subcommand_has_help() {
         "pack",
         "translate",
         "join",
+        #[cfg(feature = "carrying")]
         "up",
+        #[cfg(feature = "carrying")]
         "down",
         "explain",
         "list",

@@ -4,7 +4,9 @@ use std::collections::BTreeMap;
 use std::fs;
 use std::path::Path;
 
-use vorruda_host::library::{self, carry};
+use vorruda_host::library;
+#[cfg(feature = "carrying")]
+use vorruda_host::library::carry;
 use vorruda_host::list_library;
 use vorruda_host::reference::certificate::MOST_MEMBERS;
 use vorruda_host::reference::checker::MOST_BYTES;
@@ -12,6 +14,7 @@ use vorruda_host::reference::facts::MOST_FACTS;
 use vorruda_host::reference::job::{MOST_FORBIDDEN, MOST_STATES, MOST_TRANSITIONS, MOST_VARIABLES};
 use vorruda_host::reference::listing::{MARKS, MOST_OPEN, NO_STATE};
 use vorruda_host::reference::shape::MOST_CELLS;
+#[cfg(feature = "carrying")]
 use vorruda_host::reference::version::Direction;
 
 /// The macros of a header without parameters, by their names behind VORRUDA_.
@@ -73,10 +76,12 @@ const JOB: [u8; 15] = [2, 1, 2, 0, 1, 0, 6, 1, 0, 1, 1, 1, 0, 1, 0];
 const CERTIFICATE: [u8; 7] = [2, 1, 1, 0, 1, 0, 0];
 
 /// The same in version 1.
+#[cfg(feature = "carrying")]
 const OLD_JOB: [u8; 14] = [1, 1, 2, 0, 1, 0, 6, 1, 0, 1, 1, 1, 0, 1];
+#[cfg(feature = "carrying")]
 const OLD_CERTIFICATE: [u8; 6] = [1, 1, 1, 0, 1, 0];
 
-const CALLS: [(&str, Call); 14] = [
+const CALLS: &[(&str, Call)] = &[
     ("READ_NUMBER_OUT", |out| {
         library::read_number(&[5], 0, out);
     }),
@@ -86,15 +91,19 @@ const CALLS: [(&str, Call); 14] = [
     ("VERDICT_OUT", |out| {
         library::verdict(&JOB, &CERTIFICATE, out);
     }),
+    #[cfg(feature = "carrying")]
     ("CARRY_JOB_OUT", |out| {
         carry::job(Direction::Up, &OLD_JOB, &mut [0; 64], out);
     }),
+    #[cfg(feature = "carrying")]
     ("CARRY_JOB_OUT", |out| {
         carry::job(Direction::Down, &JOB, &mut [0; 64], out);
     }),
+    #[cfg(feature = "carrying")]
     ("CARRY_CERT_OUT", |out| {
         carry::certificate(Direction::Up, (&OLD_JOB, &OLD_CERTIFICATE), &mut [], out);
     }),
+    #[cfg(feature = "carrying")]
     ("CARRY_CERT_OUT", |out| {
         carry::certificate(Direction::Down, (&JOB, &CERTIFICATE), &mut [0; 64], out);
     }),
@@ -136,7 +145,7 @@ fn tells(name: &str, length: usize, call: Call) {
 #[test]
 fn out_is_as_long_as_the_macros_say() {
     let macros = macros("vorruda.h");
-    for (name, call) in CALLS {
+    for &(name, call) in CALLS {
         tells(name, number(&macros, name), call);
     }
     let lengths = macros.keys().filter(|name| name.ends_with("_OUT"));

@@ -3,6 +3,7 @@
 //! [`quicker`] is the checker again, in fewer instructions.
 
 pub mod block_list;
+#[cfg(feature = "carrying")]
 pub mod carry;
 pub mod checker;
 pub mod embedding;

@@ -8,8 +8,10 @@ use std::io;
 use std::path::Path;
 use std::process::{Command, Stdio};
 
+#[cfg(feature = "carrying")]
+use super::carries;
 use super::suite::{read_pairs, write_pairs, Suite};
-use super::{block_lists, calls, carries, check_quickly, joins, tallies, Cost, Work};
+use super::{block_lists, calls, check_quickly, joins, tallies, Cost, Work};
 
 /// The argument with which the process does the measured work.
 pub const ARGUMENT: &str = "measured";
@@ -48,6 +50,7 @@ pub fn run(folder: &Path) -> Result<(), String> {
         measure(&joins::work(&joint));
         measure_call(&joins::alone(&joint));
     }
+    #[cfg(feature = "carrying")]
     for case in carries::Cases::new(&corpus).all() {
         measure(&case.work());
         measure_call(&|| case.check());
@@ -78,7 +81,7 @@ pub fn count(
     lists: &mut [block_lists::Case],
     tallies: &mut tallies::Cases,
     joins: &mut joins::Cases,
-    carries: &mut carries::Cases,
+    #[cfg(feature = "carrying")] carries: &mut carries::Cases,
     folder: &Path,
 ) -> Result<Vec<Cost>, String> {
     let pairs = suite.cases().map(|case| &case.pair);
@@ -104,6 +107,7 @@ pub fn count(
         case.joined = cost(&mut counts).ok_or(TOO_LITTLE)?;
         case.alone = counts.next().ok_or(TOO_LITTLE)?;
     }
+    #[cfg(feature = "carrying")]
     for case in carries.all() {
         case.carried = cost(&mut counts).ok_or(TOO_LITTLE)?;
         case.checked = counts.next().ok_or(TOO_LITTLE)?;

@@ -3,6 +3,7 @@
 pub mod block_lists;
 pub mod broken;
 pub mod calls;
+#[cfg(feature = "carrying")]
 pub mod carries;
 pub mod growth;
 pub mod instructions;

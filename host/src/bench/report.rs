@@ -1,7 +1,9 @@
 //! The tables, in markdown.
 
+#[cfg(feature = "carrying")]
+use super::carries;
 use super::suite::{Case, Suite};
-use super::{block_lists, calls, carries, joins, tallies, time, Cost, Work};
+use super::{block_lists, calls, joins, tallies, time, Cost, Work};
 use crate::baseline::checker::check;
 use crate::text::thousands;
 use crate::verdict::Verdict;
@@ -16,7 +18,7 @@ pub fn print(
     lists: &[block_lists::Case],
     tallies: &tallies::Cases,
     joins: &joins::Cases,
-    carries: &carries::Cases,
+    #[cfg(feature = "carrying")] carries: &carries::Cases,
     calls: &[Cost],
 ) {
     summary(suite);
@@ -48,8 +50,11 @@ pub fn print(
     tally(tallies);
     println!("\n### Two pairs joined\n");
     joined(joins);
-    println!("\n### Files carried between the versions\n");
-    carries.print();
+    #[cfg(feature = "carrying")]
+    {
+        println!("\n### Files carried between the versions\n");
+        carries.print();
+    }
     println!("\n### The other calls\n");
     other_calls(calls);
 }

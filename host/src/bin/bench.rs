@@ -7,8 +7,10 @@ use std::env;
 use std::path::Path;
 use std::process::ExitCode;
 
+#[cfg(feature = "carrying")]
+use vorruda_host::bench::carries;
 use vorruda_host::bench::suite::Suite;
-use vorruda_host::bench::{block_lists, carries, instructions, joins, report, tallies};
+use vorruda_host::bench::{block_lists, instructions, joins, report, tallies};
 
 fn main() -> ExitCode {
     let arguments: Vec<String> = env::args().skip(1).collect();
@@ -33,15 +35,25 @@ fn bench(folder: &Path) -> Result<(), String> {
     let mut lists = block_lists::cases();
     let mut tallies = tallies::Cases::new(suite.corpus_pairs());
     let mut joins = joins::Cases::new(&suite.corpus_pairs())?;
+    #[cfg(feature = "carrying")]
     let mut carries = carries::Cases::new(&suite.corpus_pairs());
     let calls = instructions::count(
         &mut suite,
         &mut lists,
         &mut tallies,
         &mut joins,
+        #[cfg(feature = "carrying")]
         &mut carries,
         folder,
     )?;
-    report::print(&mut suite, &lists, &tallies, &joins, &carries, &calls);
+    report::print(
+        &mut suite,
+        &lists,
+        &tallies,
+        &joins,
+        #[cfg(feature = "carrying")]
+        &carries,
+        &calls,
+    );
     Ok(())
 }

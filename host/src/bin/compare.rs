@@ -6,12 +6,14 @@
 use std::env;
 use std::process::ExitCode;
 
-use vorruda_host::compare::carries::Carrier;
+#[cfg(feature = "carrying")]
+use vorruda_host::compare::carries::{self, Carrier};
 use vorruda_host::compare::listings::Translate;
 use vorruda_host::compare::verdicts::Checker;
 use vorruda_host::compare::{
-    block_lists, carries, joins, listings, lists, numbers, ready, steps, tallies, verdicts, Tally,
+    block_lists, joins, listings, lists, numbers, ready, steps, tallies, verdicts, Tally,
 };
+#[cfg(feature = "carrying")]
 use vorruda_host::library::carry::CARRY_CALLS;
 use vorruda_host::library::{Join, TallyCalls};
 use vorruda_host::list_library::{self, Calls};
@@ -63,6 +65,7 @@ const JOINS: [(&str, Join); 2] = [
 ];
 
 /// The calls that carry files, compared with it.
+#[cfg(feature = "carrying")]
 const CARRIERS: [Carrier; 2] = [
     Carrier {
         title: "files carried",
@@ -107,6 +110,7 @@ fn tallies() -> Result<Vec<Tally>, String> {
     let all = all.chain(block_lists::compare(&BLOCK_LISTS));
     let all = all.chain(tallies::compare(&TALLIES, seed));
     let all = all.chain(joins::compare(&JOINS, seed));
+    #[cfg(feature = "carrying")]
     let all = all.chain(carries::compare(&CARRIERS, &corpus, seed));
     let pairs = verdicts::pairs(corpus, seed, pairs);
     let verdicts = verdicts::compare(&CHECKERS, pairs);

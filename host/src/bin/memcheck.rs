@@ -15,15 +15,20 @@ use vorruda_host::pairs::{
 };
 use vorruda_host::random::Random;
 use vorruda_host::reference::block_list::{self, answer, chained};
+#[cfg(feature = "carrying")]
 use vorruda_host::reference::carry::{self, Carried};
 use vorruda_host::reference::heap::Heap;
 use vorruda_host::reference::join;
 use vorruda_host::reference::listing::{translate, MARKS};
 use vorruda_host::reference::ready::{forbid, Set};
 use vorruda_host::reference::tally::{self, NUMBERS};
-use vorruda_host::reference::version::{Direction, Version};
+#[cfg(feature = "carrying")]
+use vorruda_host::reference::version::Direction;
+use vorruda_host::reference::version::Version;
 use vorruda_host::reference::{checker, number, stepper};
-use vorruda_host::verdict::{Files, Verdict};
+#[cfg(feature = "carrying")]
+use vorruda_host::verdict::Files;
+use vorruda_host::verdict::Verdict;
 use vorruda_host::{library, list_library, sweep};
 
 const PAIRS: usize = 300;
@@ -64,11 +69,17 @@ fn main() -> ExitCode {
     let listings = at_limits.chain(Listings::new(seed).take(LISTINGS));
     let listings = listings.enumerate().map(listing).count();
     println!(
-        "{checked} pairs, each also with a tally and carried both ways, {joined} joins, {LISTS} lists, {STEPS} steps, {LIST_CALLS} calls of the block list, \
+        "{checked} pairs, each also with a tally{BOTH_WAYS}, {joined} joins, {LISTS} lists, {STEPS} steps, {LIST_CALLS} calls of the block list, \
          {listings} listings: as the reference"
     );
     ExitCode::SUCCESS
 }
+
+/// What is said where files are carried, too.
+#[cfg(feature = "carrying")]
+const BOTH_WAYS: &str = " and carried both ways";
+#[cfg(not(feature = "carrying"))]
+const BOTH_WAYS: &str = "";
 
 /// A copy in an allocation of just its length.
 fn exact<T: Copy>(slice: &[T]) -> Box<[T]> {
@@ -87,12 +98,14 @@ fn check((turn, Pair { job, certificate }): (usize, Pair)) {
     ready(&job, Set::NotList { variable, state }, turn);
     ready(&job, Set::LostBlock { variable, state }, turn);
     ready(&job, Set::BadSteps, turn);
+    #[cfg(feature = "carrying")]
     for direction in Direction::BOTH {
         carried(direction, (&job, &certificate), turn);
     }
 }
 
 /// Both files carried, in room that is too little, just enough or more.
+#[cfg(feature = "carrying")]
 fn carried(direction: Direction, files: Files, turn: usize) {
     let of_job = carry::job(direction, files.0);
     let of_certificate = carry::certificate(direction, files);
@@ -107,6 +120,7 @@ fn carried(direction: Direction, files: Files, turn: usize) {
 }
 
 /// What a call returned and wrote is what the reference carried, in as much room.
+#[cfg(feature = "carrying")]
 fn written(number: u32, bytes: &[u8], carried: Carried) {
     match carry::in_room(carried, bytes.len()) {
         Ok(expected) => assert_eq!((number, &bytes[..expected.len()]), (0, &expected[..])),

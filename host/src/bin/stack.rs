@@ -14,11 +14,13 @@ use vorruda_host::bench::tallies::{tally_of, LONGEST};
 use vorruda_host::list_library::Edit;
 use vorruda_host::listings::{edges, Listings};
 use vorruda_host::pairs::{joints, Joint, Pair};
+#[cfg(feature = "carrying")]
 use vorruda_host::reference::checker::MOST_BYTES;
 use vorruda_host::reference::heap::{Heap, Place};
 use vorruda_host::reference::listing::MARKS;
 use vorruda_host::reference::stepper::{bytes_of, values_of, CELLS};
 use vorruda_host::reference::tally::NUMBERS;
+#[cfg(feature = "carrying")]
 use vorruda_host::reference::version::Direction;
 use vorruda_host::stack::depth;
 use vorruda_host::{library, list_library};
@@ -50,13 +52,17 @@ const HEADER: &str = "vorruda.h";
 const LIST_HEADER: &str = "vorruda_list.h";
 
 /// The most that the calls took, each with what its header promises.
-fn measured() -> Result<[(&'static str, usize, usize); 8], String> {
+fn measured() -> Result<Vec<(&'static str, usize, usize)>, String> {
     let mut suite = Suite::new()?;
     let of_checker = suite.cases().map(|case| of_pair(&case.pair)).max();
     let of_tally = suite.cases().map(|case| of_taking_in(&case.pair)).max();
+    #[cfg(feature = "carrying")]
     let of_jobs = suite.cases().map(|case| of_job_carried(&case.pair)).max();
-    let of_certificates = suite.cases().map(|case| of_certificate_carried(&case.pair));
-    let of_certificates = of_certificates.max();
+    #[cfg(feature = "carrying")]
+    let of_certificates = suite
+        .cases()
+        .map(|case| of_certificate_carried(&case.pair))
+        .max();
     let of_both = suite.cases().map(|case| of_join(&twice(&case.pair))).max();
     let of_joints = joints(SEED).take(JOINTS).map(|joint| of_join(&joint)).max();
     let listings = edges()
@@ -67,7 +73,7 @@ fn measured() -> Result<[(&'static str, usize, usize); 8], String> {
     ring.links.insert(0, Place::Cell(0));
     let of_lists = (0..=CELLS).map(list_of).chain([ring]);
     let of_lists = of_lists.map(|heap| of_list(&heap)).max();
-    Ok([
+    Ok(vec![
         (
             "the checker",
             of_checker.ok_or("there is no pair")?,
@@ -83,11 +89,13 @@ fn measured() -> Result<[(&'static str, usize, usize); 8], String> {
             of_report(&tally_of(LONGEST)),
             promised(HEADER, "vorruda_tally_report(")?,
         ),
+        #[cfg(feature = "carrying")]
         (
             "a job carried",
             of_jobs.ok_or("there is no pair")?,
             promised(HEADER, "vorruda_job_up(")?,
         ),
+        #[cfg(feature = "carrying")]
         (
             "a certificate carried",
             of_certificates.ok_or("there is no pair")?,
@@ -137,6 +145,7 @@ fn of_taking_in(Pair { job, certificate }: &Pair) -> usize {
 }
 
 /// What the deeper way takes; only one is for the version that the job has.
+#[cfg(feature = "carrying")]
 fn of_job_carried(pair: &Pair) -> usize {
     let mut room = vec![0; MOST_BYTES];
     let ways = Direction::BOTH.map(|direction| {
@@ -148,6 +157,7 @@ fn of_job_carried(pair: &Pair) -> usize {
 }
 
 /// The same for its certificate; where the pair goes up, it comes down again.
+#[cfg(feature = "carrying")]
 fn of_certificate_carried(pair: &Pair) -> usize {
     let mut room = vec![0; MOST_BYTES];
     let carried = pair.carried(Direction::Up);

@@ -2,6 +2,7 @@
 //! them prints comes from the proved calls.
 
 mod arguments;
+#[cfg(feature = "carrying")]
 mod carry;
 mod check;
 mod explain;
@@ -34,7 +35,7 @@ use crate::text::nearest;
 use arguments::Arguments;
 
 /// The subcommands, in the order in which they are told.
-const SUBCOMMANDS: [Subcommand; 17] = [
+const SUBCOMMANDS: &[Subcommand] = &[
     new::NEW,
     fix::FIX,
     try_routine::TRY,
@@ -47,7 +48,9 @@ const SUBCOMMANDS: [Subcommand; 17] = [
     pack::PACK,
     translate::TRANSLATE,
     join::JOIN,
+    #[cfg(feature = "carrying")]
     carry::UP,
+    #[cfg(feature = "carrying")]
     carry::DOWN,
     explain::EXPLAIN,
     list::LIST,

@@ -1,6 +1,7 @@
 //! The proved library against the reference, on many inputs.
 
 pub mod block_lists;
+#[cfg(feature = "carrying")]
 pub mod carries;
 pub mod joins;
 pub mod listings;

@@ -1,6 +1,7 @@
 //! The proved library's calls, as include/vorruda.h declares them. An empty slice goes over as
 //! NULL.
 
+#[cfg(feature = "carrying")]
 pub mod carry;
 
 use std::ptr;

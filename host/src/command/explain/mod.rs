@@ -54,7 +54,7 @@ const WIDTH: usize = 80;
 
 /// The topics by what they are.
 const GROUPS: [(&str, &[Topic]); 4] = [
-    ("Refusals", &refusals::REFUSALS),
+    ("Refusals", refusals::REFUSALS),
     ("Rules that a cover breaks, told with 9", &rules::RULES),
     ("Ready sets, below `forbidden` of a listing", &sets::SETS),
     ("Words", &words::WORDS),

@@ -8,7 +8,7 @@ const JOB: &[u8] = &[2, 1, 2, 0, 1, 0, 6, 1, 0, 1, 1, 1, 0, 1, 0];
 /// One member, the forbidden shape, and one cover.
 const CERTIFICATE: &[u8] = &[2, 1, 1, 0, 1, 0, 0];
 
-pub const REFUSALS: [Topic; 29] = [
+pub const REFUSALS: &[Topic] = &[
     Topic {
         names: &["1"],
         says: "There is nothing in the job, or too much. The certificate isn't looked at.",
@@ -155,6 +155,7 @@ that is free, or part the routine in two: `vorruda try FIRST --then SECOND`.",
 values; a certificate for a job without them has 0 facts in each shape.",
         example: Example::Pair(JOB, &[1, 1, 1, 0, 1, 0], "refused 20 at 0"),
     },
+    #[cfg(feature = "carrying")]
     Topic {
         names: &["21"],
         says: "A file of version 2 goes down to version 1 only if it has nothing that version 1 lacks: kinds 8 \
