@@ -6,7 +6,7 @@ use Prim.Native.Nat.{ℕ}
 use native.Mathlib.Omega.{arith}
 use Rattle.format.specs.Verdict.{Counts}
 use Rattle.joining.specs.Conditions.{JoinMeans, accepted, first_refused, second_refused, outside, variables_differ, goes_on, not_listed, SafeJoined}
-use Rattle.joining.specs.Join.{Joining, both, pair_refused, joint_refused, join}
+use Rattle.joining.specs.Join.{Joining, both, joint_refused, join}
 use Rattle.joint.specs.Answer.{joining_of, join_result, Joinable}
 use Rattle.joint.specs.declared.JoinAnswer.{JoinAnswer}
 use Rattle.joint.specs.declared.JoinAnswer.TheVariants.{Both, PairRefused, Refused}

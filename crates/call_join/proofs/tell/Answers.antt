@@ -1,6 +1,5 @@
 -- By the answer.
 use mathlib.Core.Path.{refl}
-use borrow.Author.Rules.{rules}
 use Rattle.call_join.proofs.tell.Goals as goal
 use Rattle.call_join.proofs.tell.Lts as lts
 use Rattle.call_join.proofs.tell.Reads as reads
