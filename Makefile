@@ -31,20 +31,14 @@ install:
 	@scripts/lib.sh
 	@scripts/install.sh
 
-then = $(if $(THEN),--then "$(THEN)")
-try = try "$(ROUTINE)" $(then)
-check = check "$(ROUTINE)" "$(CERTIFICATE)"
-# Pages of a folder of routines go to one of its name, beside those of the corpus.
-below = $(if $(ROUTINE),$(if $(wildcard $(ROUTINE)/.),/$(notdir $(abspath $(ROUTINE)))))
-
 # Status 1 says that there is no certificate, which is an answer.
 try:
 	@scripts/lib.sh
-	@scripts/tool.sh vorruda $(if $(ROUTINE),$(if $(CERTIFICATE),$(check),$(try)),list) || { status=$$?; [ $$status -eq 1 ] || exit $$status; }
+	@scripts/tool.sh try $(if $(ROUTINE),"$(ROUTINE)") $(if $(THEN),then "$(THEN)") $(if $(CERTIFICATE),"$(CERTIFICATE)") || { status=$$?; [ $$status -eq 1 ] || exit $$status; }
 
 report:
 	@scripts/lib.sh
-	@scripts/tool.sh vorruda report $(if $(ROUTINE),"$(ROUTINE)") $(then) -o "build/report$(below)"
+	@scripts/tool.sh report $(if $(ROUTINE),"$(ROUTINE)") $(if $(THEN),then "$(THEN)")
 
 release:
 	@scripts/release.sh "$(FOLDER)"

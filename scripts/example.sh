@@ -13,7 +13,7 @@ build/host "${sample[@]}" | tail -n 1 | grep -x 'share 1/1 covers [0-9]*/1'
 build/block_list
 # A load routine and an edit routine of the corpus: joined where the first ends, refused elsewhere and the other way round.
 mkdir -p build/joined
-scripts/tool.sh vorruda try load_insert.first --then load_insert.second -o build/joined > build/joined/told
+scripts/tool.sh try load_insert.first then load_insert.second build/joined > build/joined/told
 first=(build/joined/job1.bin build/joined/cert1.bin)
 second=(build/joined/job2.bin build/joined/cert2.bin)
 state=$(sed -n 's/^Owed at the hand-over.*(state \([0-9]*\)).*/\1/p' build/joined/told)

@@ -85,7 +85,7 @@ function checkNever(page, fault) {
   const box = page.querySelector(".banner.good");
   if (!box) return;
   const heading = [...page.querySelectorAll("h2")].find(one => !one.closest(".banner"));
-  if (!/what can't happen$/i.test(heading.textContent)) fault("what can't happen isn't ahead of all else");
+  if (heading.textContent !== "What can't happen") fault("what can't happen isn't ahead of all else");
   if (!page.querySelector(".shapes.never figure")) fault("what can't happen isn't drawn");
 }
 

@@ -1,11 +1,7 @@
 #!/usr/bin/env bash
-# `make report` names the folder of the pages. Those of the corpus are opened in a headless Chromium, wide, narrow and as printed, in light and dark: the pictures
-# are there, and nothing overlaps or is cut off.
+# Opens the pages of the corpus in a headless Chromium, wide, narrow and as printed, in light and dark: the pictures are there, and nothing overlaps or is cut off.
 set -euo pipefail
 cd "$(dirname "$0")/.."
-make -n report ROUTINE=reverse THEN=append | grep ' report "reverse" --then "append" -o "build/report"$' > /dev/null
-make -n report ROUTINE=host/corpus | grep ' report "host/corpus"  -o "build/report/corpus"$' > /dev/null
-
 browser=''
 for name in chromium chromium-browser google-chrome; do
     if command -v "$name" > /dev/null; then browser=$name && break; fi
@@ -16,7 +12,7 @@ if [ -z "$browser" ]; then
 fi
 folder=build/report_test
 rm -rf "$folder"
-scripts/tool.sh vorruda report "$PWD/host/corpus" -o "$folder" > /dev/null
+scripts/tool.sh report "$PWD/host/corpus" "$folder" > /dev/null
 
 # The page that opens the others and says what is wrong with them.
 {

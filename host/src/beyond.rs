@@ -34,16 +34,19 @@ impl Beyond {
 }
 
 /// What may help where the search came to a limit.
+pub const AT_A_LIMIT: &str = "What to do: forbid the lines in two routines that are otherwise the \
+                              same, or spare a variable or a state (docs/CORPUS.md, Limits).";
+
+/// The same, of one line where it alone comes to the limit.
 pub fn at_a_limit(routine: &Routine, stuck: &Stuck) -> String {
-    let alone = stuck.alone.map_or(String::new(), |number| {
-        format!(
-            "One line alone comes to this limit: {}. ",
+    match stuck.alone {
+        None => AT_A_LIMIT.to_string(),
+        Some(number) => format!(
+            "One line alone comes to this limit: {}. What to do: forbid less, or spare a variable or a \
+             state (docs/CORPUS.md, Limits).",
             routine.origins[number]
-        )
-    });
-    format!(
-        "{alone}What to do: forbid less, or spare a variable or a state (docs/CORPUS.md, Limits)."
-    )
+        ),
+    }
 }
 
 const ANYHOW: &str = "Or leave this line out, and see whether all else is certified.";

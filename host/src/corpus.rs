@@ -30,12 +30,14 @@ pub struct Entry {
 
 /// Where the routines are: beside the command where it is installed, else in the project.
 pub fn folder() -> PathBuf {
-    let installed = std::env::current_exe().ok().and_then(|command| {
-        let prefix = command.parent()?.parent()?;
-        Some(prefix.join("share/vorruda/corpus"))
-    });
-    let installed = installed.filter(|folder| folder.is_dir());
-    installed.unwrap_or_else(|| Path::new(env!("CARGO_MANIFEST_DIR")).join("corpus"))
+    installed().unwrap_or_else(|| Path::new(env!("CARGO_MANIFEST_DIR")).join("corpus"))
+}
+
+/// Where they are if the command is installed.
+fn installed() -> Option<PathBuf> {
+    let command = std::env::current_exe().ok()?;
+    let prefix = command.parent()?.parent()?;
+    Some(prefix.join("share/vorruda/corpus")).filter(|folder| folder.is_dir())
 }
 
 /// A file of a folder: its routine, or what is wrong with it.
@@ -136,7 +138,8 @@ fn unknown(name: &str) -> Result<String, String> {
     meant.extend(others);
     let what = format!("{name}: neither a file nor a routine of the corpus");
     Ok(match meant.is_empty() {
-        true => format!("{what}; `vorruda list` tells them"),
+        true if installed().is_some() => format!("{what}; `vorruda list` tells them"),
+        true => format!("{what}; `make try` lists them"),
         false => format!(
             "{what}; did you mean one of these?\n  {}",
             meant.join("\n  ")

@@ -54,7 +54,12 @@ pub fn judge_telling(routine: &Routine, tell: &mut dyn FnMut(Tried)) -> Judged {
 
 /// The same in one job alone.
 pub fn judge_unsplit(routine: &Routine) -> Judged {
-    judge_in(routine, &[], &mut |_| ())
+    judge_unsplit_telling(routine, &mut |_| ())
+}
+
+/// The same; each attempt is told as it ends.
+pub fn judge_unsplit_telling(routine: &Routine, tell: &mut dyn FnMut(Tried)) -> Judged {
+    judge_in(routine, &[], tell)
 }
 
 /// The same; the job may be split between these lines.

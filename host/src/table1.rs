@@ -133,9 +133,7 @@ What to know of single rows:
 - **Insert (bug)** as printed never ends out of order, as the text says it does. Where elem has the value of the first cell, the list becomes a ring.
 - **BubbleSort (bug)** ends out of order, as the text says. With one cell it also follows null at line 9; with `steps` forbidden that would be what is drawn.
 - **InsertionSort** as printed needs a leading cell ahead of the list, since it never puts a cell first.
-- **BubbleSort** and **BubbleSortCyclic** keep `change` by states.
-- **BubbleSortCyclic** would need 526 members with all that is forbidden in one job, and there may be 512. It is split by itself: one job forbids what must not
-  be at the end, the other `steps`. Its check is of both jobs.
+- **BubbleSort** and **BubbleSortCyclic** keep `change` by states. **Merge** and **BubbleSortCyclic** test for null and compare at one state.
 - b17, b18, b24 and b25 (order round a ring) are pictures in the paper; they are read from its words, as `not sorted round` and `not falling round`.
 ";
 

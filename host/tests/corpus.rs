@@ -12,12 +12,10 @@ use vorruda_host::check as proved;
 use vorruda_host::corpus::{self, Entry, Expected};
 use vorruda_host::judge::judge;
 use vorruda_host::outlook::Outlook;
-use vorruda_host::reference::certificate::Certificate;
 use vorruda_host::reference::checker::check;
-use vorruda_host::reference::job::{Job, Transition};
+use vorruda_host::reference::job::Transition;
 use vorruda_host::reference::version::Version;
-use vorruda_host::search::split::Part;
-use vorruda_host::search::{search_lines, Outcome};
+use vorruda_host::search::{search, Outcome};
 use vorruda_host::verdict::Verdict;
 
 fn corpus() -> Vec<Entry> {
@@ -70,21 +68,19 @@ fn routines_end_as_their_names_say() {
         routine,
     } in corpus()
     {
-        let is_expected = matches!(expected, Expected::Certified | Expected::Warned);
-        match search_lines(&routine.job, &routine.forbidding_lines()) {
+        match search(&routine.job) {
             Outcome::Certified(certificate) => {
+                let is_expected = matches!(expected, Expected::Certified | Expected::Warned);
                 assert!(is_expected, "{name}");
-                assert_accepted(&name, &routine.job, &certificate);
-            }
-            Outcome::Split(parts) => {
-                assert!(is_expected, "{name}");
-                for Part {
-                    forbidden,
-                    certificate,
-                    ..
-                } in &parts
-                {
-                    assert_accepted(&name, &routine.job.forbidding(forbidden), certificate);
+                let (job, certificate) = (routine.job.bytes(), certificate.bytes());
+                let verdict = check(&job, &certificate);
+                assert!(matches!(verdict, Verdict::Accepted(_)), "{name}: {verdict}");
+                for other in [
+                    baseline::checker::check,
+                    baseline::quicker::check,
+                    proved::check,
+                ] {
+                    assert_eq!(other(&job, &certificate), verdict, "{name}");
                 }
             }
             Outcome::Wrong(wrong) => {
@@ -95,22 +91,9 @@ fn routines_end_as_their_names_say() {
                 assert_eq!(expected, Expected::Beyond, "{name}");
                 assert_chain_holds(&routine.job, &chain, &name);
             }
-            Outcome::Undecided(stuck, _) => panic!("{name}: {stuck:?}"),
+            Outcome::Split(_) => panic!("{name} is split"),
+            Outcome::Undecided(stuck, _) => panic!("{name}: {}", stuck.limit),
         }
-    }
-}
-
-/// Asserts that each checker accepts a certificate, with the same counts.
-fn assert_accepted(name: &str, job: &Job, certificate: &Certificate) {
-    let (job, certificate) = (job.bytes(), certificate.bytes());
-    let verdict = check(&job, &certificate);
-    assert!(matches!(verdict, Verdict::Accepted(_)), "{name}: {verdict}");
-    for other in [
-        baseline::checker::check,
-        baseline::quicker::check,
-        proved::check,
-    ] {
-        assert_eq!(other(&job, &certificate), verdict, "{name}");
     }
 }
 

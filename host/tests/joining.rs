@@ -1,13 +1,12 @@
 //! Two listings as one: those of the corpus end as their names say, and what is told of them holds by the
 //! reference; and the command that a person uses.
 
-mod command_line;
 mod common;
 
 use std::fs;
 use std::path::PathBuf;
+use std::process::{Command, Output};
 
-use command_line::{folder, vorruda, Ran};
 use common::{assert_chain_holds, assert_wrong_run_holds};
 use vorruda_host::corpus::{self, Expected};
 use vorruda_host::joining::{Joined, Listings, Pairs};
@@ -178,17 +177,29 @@ fn listings_that_cannot_be_one_are_told() {
     );
 }
 
-/// Two listings as one.
-fn try_two(first: &str, second: &str, others: &[&str]) -> Ran {
-    vorruda(&[&["try", first, "--then", second], others].concat())
+fn try_two(arguments: &[&str]) -> Output {
+    Command::new(env!("CARGO_BIN_EXE_try"))
+        .args(arguments)
+        .output()
+        .unwrap()
+}
+
+fn printed(output: &Output) -> String {
+    String::from_utf8(output.stdout.clone()).unwrap()
 }
 
 #[test]
 fn the_command_tells_and_writes_both() {
-    let folder = folder("joined");
-    let into = ["-o", folder.to_str().unwrap()];
-    let Ran { status, text, .. } = try_two("load_insert.first", "load_insert.second", &into);
-    assert_eq!(status, 0, "{text}");
+    let folder = PathBuf::from(env!("CARGO_TARGET_TMPDIR")).join("joined");
+    fs::create_dir_all(&folder).unwrap();
+    let output = try_two(&[
+        "load_insert.first",
+        "then",
+        "load_insert.second",
+        folder.to_str().unwrap(),
+    ]);
+    let text = printed(&output);
+    assert_eq!(output.status.code(), Some(0), "{text}");
     for part in [
         "load_insert.second alone, from the empty heap: refused 8 at",
         "Owed at the hand-over, after line 10 (state 10): ",
@@ -215,8 +226,9 @@ fn the_command_tells_that_nothing_is_owed() {
     let second = folder.join("owes_nothing.listing");
     let text = "new(y)\ny.next := null\nmark 0\n\nforbidden\nmark 0  y at #\n";
     fs::write(&second, text).unwrap();
-    let Ran { status, text, .. } = try_two("load_clear.first", second.to_str().unwrap(), &[]);
-    assert_eq!(status, 0, "{text}");
+    let output = try_two(&["load_clear.first", "then", second.to_str().unwrap()]);
+    let text = printed(&output);
+    assert_eq!(output.status.code(), Some(0), "{text}");
     assert!(
         text.contains("after line 7 (state 7): nothing.\njoined; "),
         "{text}"
@@ -225,9 +237,13 @@ fn the_command_tells_that_nothing_is_owed() {
 
 #[test]
 fn the_command_tells_which_part_goes_wrong() {
-    let Ran { status, text, .. } =
-        try_two("wrong_load_insert.first", "wrong_load_insert.second", &[]);
-    assert_eq!(status, 1, "{text}");
+    let output = try_two(&[
+        "wrong_load_insert.first",
+        "then",
+        "wrong_load_insert.second",
+    ]);
+    let text = printed(&output);
+    assert_eq!(output.status.code(), Some(1), "{text}");
     let handed_over =
         "may hand this over, with which wrong_load_insert.second goes wrong:\n\n       x at #";
     assert!(text.contains(handed_over), "{text}");
@@ -236,29 +252,35 @@ fn the_command_tells_which_part_goes_wrong() {
     let folder = PathBuf::from(env!("CARGO_TARGET_TMPDIR"));
     let first = folder.join("first_wrong.listing");
     fs::write(&first, "x := null\nmark 0\n\nforbidden\nmark 0  x at #\n").unwrap();
-    let Ran { status, text, .. } = try_two(first.to_str().unwrap(), "load_clear.second", &[]);
-    assert_eq!(status, 1, "{text}");
+    let output = try_two(&[first.to_str().unwrap(), "then", "load_clear.second"]);
+    let text = printed(&output);
+    assert_eq!(output.status.code(), Some(1), "{text}");
     assert!(text.contains("Not joined, for what "), "{text}");
     assert!(text.contains("That is at line 2 of the first, `mark 0`"));
 
-    let Ran { status, text, .. } =
-        try_two("beyond_load_copy.first", "beyond_load_copy.second", &[]);
-    assert_eq!(status, 1, "{text}");
+    let output = try_two(&["beyond_load_copy.first", "then", "beyond_load_copy.second"]);
+    let text = printed(&output);
+    assert_eq!(output.status.code(), Some(1), "{text}");
     let owed = "and beyond_load_copy.second owes it:\n\n       [1 x] -> *\n";
     assert!(text.contains(owed), "{text}");
 
-    assert_eq!(try_two("load_insert.second", "queue", &[]).status, 2);
-    assert_eq!(vorruda(&["try", "load_insert.first", "--then"]).status, 2);
+    let output = try_two(&["load_insert.second", "then", "queue"]);
+    assert_eq!(output.status.code(), Some(2));
+    let output = try_two(&["load_insert.first", "then"]);
+    assert_eq!(output.status.code(), Some(2));
 }
 
 /// The page of two listings as one.
 fn page_of(name: &str) -> String {
     let folder = PathBuf::from(env!("CARGO_TARGET_TMPDIR")).join("joined_pages");
     let [first, second] = [format!("{name}.first"), format!("{name}.second")];
-    let into = folder.to_str().unwrap();
-    let ran = vorruda(&["report", &first, "--then", &second, "-o", into]);
+    let output = Command::new(env!("CARGO_BIN_EXE_report"))
+        .args([&first, "then", &second])
+        .arg(&folder)
+        .output()
+        .unwrap();
     let page = folder.join(format!("{first}_then_{second}.html"));
-    assert_eq!(ran.text, format!("{}\n", page.display()));
+    assert_eq!(printed(&output), format!("{}\n", page.display()));
     fs::read_to_string(page).unwrap()
 }
 

@@ -1,11 +1,9 @@
 //! The pages that `report` writes, as far as can be seen without a browser.
 
-mod command_line;
-
 use std::fs;
 use std::path::{Path, PathBuf};
+use std::process::Command;
 
-use command_line::{vorruda, vorruda_in};
 use vorruda_host::corpus::{self, Expected};
 use vorruda_host::judge::{judge, Ending, Judged};
 use vorruda_host::reference::checker::check;
@@ -24,10 +22,14 @@ use vorruda_host::search::{search, Outcome};
 /// Runs the command, and gives the folder of its pages.
 fn report(name: &str, arguments: &[&str]) -> PathBuf {
     let folder = Path::new(env!("CARGO_TARGET_TMPDIR")).join(name);
-    let into = ["-o", folder.to_str().unwrap()];
-    let ran = vorruda(&[&["report"], arguments, &into].concat());
-    assert_eq!(ran.status, 0, "{ran:?}");
-    assert!(Path::new(ran.text.trim_end()).is_file(), "{ran:?}");
+    let output = Command::new(env!("CARGO_BIN_EXE_report"))
+        .args(arguments)
+        .arg(&folder)
+        .output()
+        .unwrap();
+    assert!(output.status.success(), "{output:?}");
+    let printed = String::from_utf8(output.stdout).unwrap();
+    assert!(Path::new(printed.trim_end()).is_file(), "{printed}");
     folder
 }
 
@@ -92,16 +94,10 @@ fn assert_shows_fault(name: &str, page: &str) {
     assert_eq!(listing.matches("<mark class=\"bad\">").count(), 1, "{name}");
 }
 
-/// What can't happen stands below the box, in one part or one for each job: each forbidden shape drawn,
-/// each line in loom words.
+/// What can't happen stands below the box: each forbidden shape drawn, each line in loom words.
 fn assert_shows_never(name: &str, page: &str, routine: &Routine) {
-    let (_, behind) = page.split_once("<h2>Certified").expect(name);
-    let parts = behind.split("<h2>").filter_map(|part| {
-        let (heading, part) = part.split_once("</h2>")?;
-        let is_never = heading.to_lowercase().ends_with("what can't happen");
-        is_never.then_some(part)
-    });
-    let never: String = parts.collect();
+    let (_, behind) = page.split_once("<h2>Certified</h2>").expect(name);
+    let never = between(behind, "<h2>What can't happen</h2>", "<h2>").expect(name);
     let rows: Vec<&str> = never
         .split("<section class=\"forbidden\">")
         .skip(1)
@@ -140,9 +136,6 @@ fn assert_folds(name: &str, page: &str) {
     }
 }
 
-/// The routines of the corpus that need two jobs.
-const SPLIT: [&str; 2] = ["selection_sort_values", "table1_bubble_sort_cyclic"];
-
 #[test]
 fn pages_of_the_corpus() {
     let folder = report("corpus_pages", &[corpus::folder().to_str().unwrap()]);
@@ -154,11 +147,6 @@ fn pages_of_the_corpus() {
         assert_stands_alone(name, &page);
         assert_eq!(page.matches("<svg class=\"graph\"").count(), 1, "{name}");
         let verdict = match entry.expected {
-            Expected::Certified if SPLIT.contains(&&name[..]) => (
-                "good",
-                "certified in two jobs",
-                "<h2>Certified in two jobs</h2>",
-            ),
             Expected::Certified => ("good", "certified", "<h2>Certified</h2>"),
             Expected::Warned => ("open", "certified with a warning", "<h2>Certified</h2>"),
             Expected::Wrong => ("bad", "wrong", "<h2>Wrong: "),
@@ -179,7 +167,7 @@ fn pages_of_the_corpus() {
                 assert_shows_never(name, &page, &entry.routine);
             }
         }
-        let is_certified = heading.starts_with("<h2>Certified");
+        let is_certified = heading == "<h2>Certified</h2>";
         let routine = &entry.routine;
         for state in (0..routine.job.states).filter(|&state| routine.mark(state).is_some()) {
             let said =
@@ -188,7 +176,7 @@ fn pages_of_the_corpus() {
             let is_reached = said("A run that reaches ");
             assert_eq!(is_reached, is_certified && !is_unreached, "{name}");
         }
-        if let Some((before, _)) = page.split_once("<h2>Certified") {
+        if let Some((before, _)) = page.split_once("<h2>Certified</h2>") {
             let warns = before.contains("<h2>Warning: ");
             assert_eq!(warns, entry.expected == Expected::Warned, "{name}");
             assert!(page.contains("\n<p>Looking forward went over "), "{name}");
@@ -214,14 +202,24 @@ fn a_folder_with_a_mistaken_file() {
     }
     fs::write(from.join("faulty.listing"), "x := nul\n").unwrap();
 
-    // Without a folder for the pages they go to one called report.
-    let home = command_line::folder("mixed_home");
-    let ran = vorruda_in(&home, &["report", from.to_str().unwrap()]);
-    assert_eq!(ran.status, 2, "{ran:?}");
-    assert!(ran.said.contains("faulty.listing: 1 mistake"), "{ran:?}");
-    assert_eq!(ran.text, "report/index.html\n");
+    // Without a folder for the pages they go below the usual one, beside the corpus' index.
+    let home = Path::new(env!("CARGO_TARGET_TMPDIR")).join("mixed_home");
+    let usual = home.join("build/report");
+    fs::create_dir_all(&usual).unwrap();
+    fs::write(usual.join("index.html"), "the corpus").unwrap();
+    let output = Command::new(env!("CARGO_BIN_EXE_report"))
+        .arg(&from)
+        .current_dir(&home)
+        .output()
+        .unwrap();
+    assert_eq!(output.status.code(), Some(2), "{output:?}");
+    let said = String::from_utf8(output.stderr).unwrap();
+    assert!(said.contains("faulty.listing: 1 mistake"), "{said}");
+    let printed = String::from_utf8(output.stdout).unwrap();
+    assert_eq!(printed, "build/report/mixed/index.html\n");
+    assert_eq!(page(&usual, "index"), "the corpus");
 
-    let folder = home.join("report");
+    let folder = usual.join("mixed");
     let index = page(&folder, "index");
     assert_stands_alone("index", &index);
     let totals = ">4 routines: 1 certified, 0 certified with a warning, 1 wrong, 1 beyond the \
@@ -235,33 +233,6 @@ fn a_folder_with_a_mistaken_file() {
     for name in ["reverse", "wrong_delete_linked", "beyond_delete_first"] {
         assert!(folder.join(format!("{name}.html")).is_file(), "{name}");
     }
-}
-
-/// Several files have a table; two of one name would have one page.
-#[test]
-fn several_files_have_a_table() {
-    let folder = report("several", &["append", "prepend"]);
-    let index = page(&folder, "index");
-    for name in ["append", "prepend"] {
-        assert!(
-            index.contains(&format!("<a href=\"{name}.html\">")),
-            "{index}"
-        );
-        assert!(folder.join(format!("{name}.html")).is_file(), "{name}");
-    }
-    let twice = vorruda_in(&folder, &["report", "append", "append"]);
-    let said = "vorruda report: two are called append\n";
-    assert_eq!((twice.status, &twice.said[..]), (2, said));
-    assert!(!folder.join("report").exists());
-}
-
-#[test]
-fn the_page_of_a_release_stands_alone() {
-    let folder = command_line::folder("release_page");
-    let files = ["append", "wrong_delete_linked"];
-    let ran = vorruda_in(&folder, &["release", files[0], files[1], "-o", "."]);
-    assert_eq!(ran.status, 1, "{ran:?}");
-    assert_stands_alone("release", &page(&folder, "release"));
 }
 
 #[test]
@@ -321,84 +292,6 @@ fn the_page_of_a_certified_routine() {
     ] {
         assert!(page.contains(text), "{text}\n{page}");
     }
-}
-
-/// A part for each job: what it forbids, its counts and its shapes. The index counts the routine as
-/// certified.
-#[test]
-fn the_page_of_a_routine_in_two_jobs() {
-    let name = "table1_bubble_sort_cyclic";
-    let from = Path::new(env!("CARGO_TARGET_TMPDIR")).join("two_jobs");
-    fs::create_dir_all(&from).unwrap();
-    let file = format!("{name}.routine");
-    fs::copy(corpus::folder().join(&file), from.join(&file)).unwrap();
-    let folder = report("two_jobs_pages", &[from.to_str().unwrap()]);
-    let index = page(&folder, "index");
-    for text in [
-        ">1 routine: 1 certified, 0 certified with a warning, ",
-        "<td class=\"number\">474 and 91</td><td class=\"number\">2,635 and 145</td>",
-    ] {
-        assert!(index.contains(text), "{text}\n{index}");
-    }
-    let page = page(&folder, name);
-    let banner = between(&page, "<h2>Certified in two jobs</h2>", "</section>").unwrap();
-    for text in [
-        " on lists of any length, comes to this: at end, x is on no ring, or a block is lost beside x, or ",
-        "The proved checker has accepted each certificate. Certified in two jobs: each is the routine \
-         with a part of what it forbids, and together they forbid all of it.",
-    ] {
-        assert!(banner.contains(text), "{text}\n{banner}");
-    }
-    for (heading, forbids, members, shapes) in [
-        (
-            "<h2>Job 1 of 2: what can't happen</h2>",
-            "<p>It forbids <code>no ring: x</code> (line 56), <code>lost block: x</code> (line 57) and \
-             <code>not sorted round: x</code> (line 58): accepted bads 13 members 474 ",
-            "<dt>members</dt><dd>474</dd>",
-            13,
-        ),
-        (
-            "<h2>Job 2 of 2: what can't happen</h2>",
-            "<p>It forbids <code>steps</code> (line 59): accepted bads 28 members 91 ",
-            "<dt>members</dt><dd>91</dd>",
-            28,
-        ),
-    ] {
-        let job = between(&page, heading, "<h2>").expect(heading);
-        assert!(job.contains(forbids), "{forbids}\n{job}");
-        assert!(job.contains(members), "{members}\n{job}");
-        assert_eq!(job.matches("<figure>").count(), shapes);
-    }
-    assert!(!page.contains("<h2>What is forbidden</h2>"));
-    assert!(page.contains("<div><dt>jobs</dt><dd>2</dd></div>"));
-}
-
-/// Where one of two certificates is refused, nothing is claimed of the whole, and the page says which.
-#[test]
-fn the_page_of_two_jobs_of_which_one_is_refused() {
-    let routine = corpus::find("table1_bubble_sort_cyclic").unwrap().routine;
-    let mut judged = judge(&routine);
-    let Ending::Split(jobs) = &mut judged.ending else {
-        panic!("{}", judged.ending.words());
-    };
-    let job = &mut jobs[1];
-    job.certificate.covers[0].member += 1;
-    let certificate = job.certificate.bytes();
-    job.verdict = check(&job.routine.job.bytes(), &certificate);
-    assert!(!judged.ending.is_accepted());
-    assert_eq!(judged.expected(), None);
-    let page = routine_page("split", &routine, &judged);
-    assert_stands_alone("split", &page);
-    for text in [
-        "<h2>A certificate is refused</h2>",
-        "<h2>Job 1 of 2: what can't happen</h2>",
-        "<h2>Job 2 of 2: what is forbidden</h2>",
-        "<pre>\nTo be covered at ",
-    ] {
-        assert!(page.contains(text), "{text}");
-    }
-    assert!(!page.contains("Certified in two jobs"));
-    assert!(!page.contains("comes to this"));
 }
 
 /// Where the search makes a wrong certificate, the page says what is wrong with it.

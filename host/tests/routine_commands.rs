@@ -195,7 +195,9 @@ fn a_release_has_its_sheet() {
 fn a_release_with_a_routine_in_two_jobs() {
     let home = folder("split_release");
     let name = "table1_bubble_sort_cyclic";
-    let ran = vorruda_in(&home, &["release", name, "-o", "out"]);
+    let split = concat!(env!("CARGO_MANIFEST_DIR"), "/tests/split");
+    let routine = format!("{split}/{name}.routine");
+    let ran = vorruda_in(&home, &["release", &routine, "-o", "out"]);
     assert_eq!((ran.status, &ran.said[..]), (0, ""));
     let lines: Vec<&str> = ran.text.lines().collect();
     assert_eq!(lines.len(), 3, "{}", ran.text);

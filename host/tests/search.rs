@@ -86,9 +86,16 @@ fn what_the_search_says_of_values_holds_for_every_start() {
     assert_said_holds(jobs(Version::Two, 0x37_5eed).take(400));
 }
 
-/// The routine of the corpus that is split.
+/// A routine that is split, or one beside it.
+fn beside_the_corpus(name: &str) -> Routine {
+    let folder = concat!(env!("CARGO_MANIFEST_DIR"), "/tests/split");
+    let found = corpus::find(&format!("{folder}/{name}.routine"));
+    found.unwrap().routine
+}
+
+/// The routine that is split.
 fn beyond_the_limit() -> Routine {
-    corpus::find("table1_bubble_sort_cyclic").unwrap().routine
+    beside_the_corpus("table1_bubble_sort_cyclic")
 }
 
 /// Asserts that parts are disjoint, are all of what the job forbids, have whole lines each, and that each is
@@ -144,8 +151,10 @@ fn what_can_not_be_split() {
 
 #[test]
 fn what_fits_is_not_split() {
-    for name in ["reverse", "bubble_sort", "table1_merge"] {
-        let routine = corpus::find(name).unwrap().routine;
+    let merge_by_lines = beside_the_corpus("table1_merge");
+    let routines = ["reverse", "bubble_sort", "table1_merge"];
+    let routines = routines.map(|name| (name, corpus::find(name).unwrap().routine));
+    for (name, routine) in routines.into_iter().chain([("by lines", merge_by_lines)]) {
         let lines = routine.forbidding_lines();
         assert!(lines.len() > 1, "{name}");
         let Outcome::Certified(certificate) = search_lines(&routine.job, &lines) else {

@@ -6,14 +6,14 @@ use std::process::Command;
 
 use vorruda_host::check::check;
 use vorruda_host::corpus::{self, Expected};
-use vorruda_host::judge::judge;
 use vorruda_host::random::Random;
-use vorruda_host::routine::Routine;
+use vorruda_host::reference::job::Job;
+use vorruda_host::search::{search, Outcome};
 use vorruda_host::table1::PROGRAMS;
 use vorruda_host::verdict::Verdict;
 
 /// Those of the programs that are right, by the name of their routine.
-fn right() -> Vec<(&'static str, Routine)> {
+fn right() -> Vec<(&'static str, Job)> {
     let entries = PROGRAMS.iter().map(|program| {
         let entry = corpus::find(program.routine).unwrap();
         (program.routine, entry)
@@ -24,23 +24,19 @@ fn right() -> Vec<(&'static str, Routine)> {
             let origins = &entry.routine.origins;
             let has_steps = origins.iter().any(|origin| origin.text == "steps");
             assert!(has_steps, "{name}");
-            (name, entry.routine)
+            (name, entry.routine.job)
         })
         .collect()
 }
 
-/// How many members the accepted certificate has, or each of several.
-fn members(name: &str, routine: &Routine) -> Vec<u64> {
-    let ending = judge(routine).ending;
-    assert!(ending.is_accepted(), "{name}: {}", ending.words());
-    let pairs = ending.pairs(routine).into_iter();
-    let members = pairs.map(|pair| match check(&pair.job, &pair.certificate) {
-        Verdict::Accepted(counts) => counts.members,
-        verdict => panic!("{name}: {verdict}"),
-    });
-    let mut members: Vec<u64> = members.collect();
-    members.sort_unstable();
-    members
+/// How many members the accepted certificate of a job has.
+fn members(name: &str, job: &Job) -> usize {
+    let Outcome::Certified(certificate) = search(job) else {
+        panic!("{name} isn't certified");
+    };
+    let verdict = check(&job.bytes(), &certificate.bytes());
+    assert!(matches!(verdict, Verdict::Accepted(_)), "{name}: {verdict}");
+    certificate.members.len()
 }
 
 #[test]
@@ -56,14 +52,13 @@ fn ten_are_right_and_two_are_not() {
 #[test]
 fn the_order_of_what_is_forbidden_changes_nothing() {
     let mut random = Random::new(0x3d_5eed);
-    for (name, routine) in right() {
-        let as_told = members(name, &routine);
-        let shapes: Vec<usize> = (0..routine.job.forbidden.len()).collect();
-        let turned: Vec<usize> = shapes.iter().copied().rev().collect();
-        let mut mixed = shapes;
-        mixed.sort_by_cached_key(|_| random.word());
-        for order in [turned, mixed] {
-            let other = routine.forbidding(&order);
+    for (name, job) in right() {
+        let as_told = members(name, &job);
+        let mut turned = job.clone();
+        turned.forbidden.reverse();
+        let mut mixed = job;
+        mixed.forbidden.sort_by_cached_key(|_| random.word());
+        for other in [turned, mixed] {
             assert_eq!(members(name, &other), as_told, "{name}");
         }
     }

@@ -1,22 +1,29 @@
-//! What a person sees of `vorruda try` and `vorruda check`: verdicts, runs, mistakes, and the exit status for
-//! scripts.
-
-mod command_line;
+//! What a person sees of `try`: verdicts, runs, mistakes, and the exit status for scripts.
 
 use std::fs;
-use std::path::Path;
+use std::path::PathBuf;
+use std::process::{Command, Output};
 
-use command_line::{file, files_in, folder, vorruda, vorruda_in};
 use vorruda_host::corpus;
 
-/// The exit status of a subcommand, and what was printed to either stream.
-fn ran(subcommand: &str, arguments: &[&str]) -> (i32, String) {
-    let ran = vorruda(&[&[subcommand], arguments].concat());
-    (ran.status, ran.text + &ran.said)
+fn run(arguments: &[&str]) -> Output {
+    let command = &mut Command::new(env!("CARGO_BIN_EXE_try"));
+    command.args(arguments).output().unwrap()
 }
 
+/// The exit status, and what was printed to either stream.
 fn tried(arguments: &[&str]) -> (i32, String) {
-    ran("try", arguments)
+    let output = run(arguments);
+    let text = [output.stdout, output.stderr].concat();
+    let status = output.status.code().expect("it ends by itself");
+    (status, String::from_utf8(text).unwrap())
+}
+
+/// Writes a file of one's own, and gives its path.
+fn file(name: &str, content: impl AsRef<[u8]>) -> PathBuf {
+    let path = PathBuf::from(env!("CARGO_TARGET_TMPDIR")).join(name);
+    fs::write(&path, content).unwrap();
+    path
 }
 
 #[test]
@@ -44,7 +51,9 @@ fn the_readme_shows_what_is_printed() {
         let name = lines.next().expect("a name behind ROUTINE=");
         let shown = lines.take_while(|line| line.is_empty() || line.starts_with("    "));
         let shown: Vec<&str> = shown.collect();
-        let printed = words(&vorruda_in(Path::new(root), &["try", name]).text);
+        let mut command = Command::new(env!("CARGO_BIN_EXE_try"));
+        let output = command.arg(name).current_dir(root).output().unwrap();
+        let printed = words(&String::from_utf8(output.stdout).unwrap());
         for part in shown.join("\n").split("...") {
             let part = words(part);
             assert!(printed.contains(&part), "{name}: {part}\n{printed}");
@@ -112,115 +121,35 @@ fn a_run_that_stops_is_a_warning() {
     }
 }
 
-/// So is it where the certificate is one's own, below the verdict.
+/// So is it where the certificate is one's own.
 #[test]
-fn a_warning_beside_ones_own_certificate() {
-    let folder = folder("warned");
-    let (_, text) = tried(&["warned_never_set", "-o", folder.to_str().unwrap()]);
+fn a_warning_ahead_of_ones_own_certificate() {
+    let folder = PathBuf::from(env!("CARGO_TARGET_TMPDIR")).join("warned");
+    fs::create_dir_all(&folder).unwrap();
+    let (_, text) = tried(&["warned_never_set", folder.to_str().unwrap()]);
     let certificate = folder.join("cert.bin");
-    let (status, again) = ran(
-        "check",
-        &["warned_never_set", certificate.to_str().unwrap()],
-    );
-    assert_eq!(status, 0, "{again}");
-    let (verdict, warning) = again.split_at(again.find("Warning: ").expect("it is warned"));
-    assert!(verdict.starts_with("accepted bads "), "{again}");
-    let (title, tried) = text.split_once('\n').unwrap();
-    assert!(title.starts_with("warned_never_set: "), "{text}");
-    assert_eq!(tried, format!("{warning}{verdict}"));
+    let again = tried(&["warned_never_set", certificate.to_str().unwrap()]);
+    assert_eq!(again, (0, text));
 }
 
-/// A verdict for each job, then what all of them say; and each job is written with its certificate.
-#[test]
-fn a_routine_in_two_jobs() {
-    let folder = folder("two_jobs_tried");
-    let (status, text) = tried(&["table1_bubble_sort_cyclic", "-o", folder.to_str().unwrap()]);
-    assert_eq!(status, 0, "{text}");
-    let verdicts = [
-        "accepted bads 13 members 474 covers 2635 links 2811",
-        "accepted bads 28 members 91 covers 145 links 13",
-    ];
-    let [first, second] = verdicts;
-    let told = format!(
-        "\njob 1, which forbids `no ring: x` (line 56), `lost block: x` (line 57) and `not sorted \
-         round: x` (line 58): {first}\njob 2, which forbids `steps` (line 59): {second}\nCertified in \
-         two jobs: each is the routine with a part of what it forbids, and together they forbid all of \
-         it.\nNo run of table1_bubble_sort_cyclic, on lists of any length, comes to this: at end, x is \
-         on no ring, or a block is lost beside x, or the ring from x on is out of order; anywhere, a \
-         link is followed or set at null or dangling.\n"
-    );
-    assert!(text.ends_with(&told), "{text}");
-    assert_eq!(fs::read_dir(&folder).unwrap().count(), 4);
-    for (number, verdict) in (1..).zip(verdicts) {
-        let [job, certificate] = ["job", "cert"].map(|of| format!("{of}{number}.bin"));
-        let [job, certificate] = [job, certificate].map(|name| folder.join(name));
-        let files = [job.to_str().unwrap(), certificate.to_str().unwrap()];
-        let (status, text) = ran("check", &files);
-        assert_eq!(status, 0, "{text}");
-        assert!(text.starts_with(&format!("{verdict}\n")), "{text}");
-    }
-}
-
-/// Deals a list to four; that none of their blocks is lost is too much alone.
-const DEAL_FOUR: &str = "\
--- Deals the cells of the list x to x itself, y, z and w.
-variables  x y z w r t
-start      begin
-begin      x := null   -> build
-build      skip        -> build.1
-build.1    new(t)      -> build.2
-build.2    t.next := x -> build.3
-build.3    x := t      -> build
-build      y := null   -> begin.1
-begin.1    z := null   -> begin.2
-begin.2    w := null   -> begin.3
-begin.3    r := x      -> begin.4
-begin.4    x := null   -> deal
-deal       r != null   -> deal.1
-deal.1     t := r      -> deal.2
-deal.2     r := r.next -> deal.3
-deal.3     skip        -> deal.4
-deal.4     t.next := x -> deal.5
-deal.5     x := t      -> deal
-deal.3     skip        -> deal.6
-deal.6     skip        -> deal.7
-deal.7     t.next := y -> deal.8
-deal.8     y := t      -> deal
-deal.6     skip        -> deal.9
-deal.9     skip        -> deal.10
-deal.10    t.next := z -> deal.11
-deal.11    z := t      -> deal
-deal.9     skip        -> deal.12
-deal.12    t.next := w -> deal.13
-deal.13    w := t      -> deal
-deal       r = null    -> end
-forbidden
-end        no list: x
-end        lost block: x y z w
-steps
-";
-
-/// The same routine is certified where that line isn't there.
+/// The same routine is certified where that isn't forbidden.
 #[test]
 fn a_limit_says_what_can_be_done() {
-    let path = file("limit.routine", DEAL_FOUR);
+    let known = corpus::folder().join("selection_sort_values.routine");
+    let text = fs::read_to_string(known).unwrap();
+    let path = file("limit.routine", text + "end lost block: y\n");
     let (status, text) = tried(&[path.to_str().unwrap()]);
     assert_eq!(status, 1, "{text}");
     for said in [
-        "\nNo certificate found: 705 members are needed, 512 are allowed.\n",
+        "\nNo certificate found: 521 members are needed, 512 are allowed.\n",
         "\nNo run was found that meets what is forbidden, among ",
-        "\nOne line alone comes to this limit: line 34 forbids `lost block: x y z w`. What to do: forbid less, or ",
+        "\nWhat to do: forbid the lines in two routines that are otherwise the same, ",
         "\nWhat was tried:\n  members as needed: more than 1000 shapes are needed\n",
-        "\n  general members, facts first, by heaps of 6 cells: 763 members are needed, ",
-        "\n  forbidden line 1 alone, by heaps of 6 cells: 354 members\n",
-        "\n  forbidden line 2 alone, by heaps of 7 cells: 705 members are needed, 512 are allowed\n",
+        "\n  general members, facts first, by heaps of 5 cells and 4 values: 745 members are needed, ",
+        "\n  general members, all together, by heaps of 7 cells and 3 values: 521 members are needed, ",
     ] {
         assert!(text.contains(said), "{said}\n{text}");
     }
-    let less = DEAL_FOUR.replace("end        lost block: x y z w\n", "");
-    let path = file("within.routine", less);
-    let (status, text) = tried(&[path.to_str().unwrap()]);
-    assert_eq!(status, 0, "{text}");
 }
 
 /// Ten times `x := x.next` and then a ring: no list of ten blocks shows it.
@@ -269,7 +198,7 @@ fn a_right_routine_beyond_the_rules_says_how_far_was_looked() {
 
 #[test]
 fn all_routines_are_listed_with_their_titles() {
-    let (status, text) = ran("list", &[]);
+    let (status, text) = tried(&[]);
     assert_eq!(status, 0, "{text}");
     for entry in corpus::read().unwrap() {
         let row = format!("  {:<24} {}\n", entry.name, entry.routine.title);
@@ -378,10 +307,7 @@ const ELSEWHERE: [u8; 6] = [1, 1, 1, 0, 2, 0];
 fn tried_pair(name: &str, job: &[u8], certificate: &[u8]) -> (i32, String) {
     let job = file(&format!("{name}_job.bin"), job);
     let certificate = file(&format!("{name}_cert.bin"), certificate);
-    ran(
-        "check",
-        &[job.to_str().unwrap(), certificate.to_str().unwrap()],
-    )
+    tried(&[job.to_str().unwrap(), certificate.to_str().unwrap()])
 }
 
 #[test]
@@ -429,41 +355,37 @@ By member 0, at state 0, with the images 0 1:
 
 #[test]
 fn a_pair_that_does_not_read() {
-    let cut = "refused 3 at 13\nA number of the job, or one read alone, can't be read. The place of v1 of \
-               forbidden shape 0 is missing: the file ends at byte 13.\n";
-    assert_eq!(tried_pair("cut", &JOB[..13], &HOLDS), (1, cut.to_string()));
-    let empty = "refused 2 at 0\nThe certificate is empty or longer than 65,536 bytes. It has 0 bytes; 1 to \
-                 65,536 are allowed.\n";
-    assert_eq!(tried_pair("empty", &JOB, &[]), (1, empty.to_string()));
-    let (status, text) = ran("check", &["reverse", "missing.bin"]);
+    let cut = tried_pair("cut", &JOB[..13], &HOLDS);
+    assert_eq!(cut, (1, "refused 3 at 13\n".to_string()));
+    let empty = tried_pair("empty", &JOB, &[]);
+    assert_eq!(empty, (1, "refused 2 at 0\n".to_string()));
+    let (status, text) = tried(&["reverse", "missing.bin"]);
     assert_eq!(status, 2, "{text}");
     assert!(text.starts_with("missing.bin: "), "{text}");
-    let (status, text) = ran("check", &["missing.bin", "missing.bin"]);
+    let (status, text) = tried(&["job.bin"]);
     assert_eq!(status, 2, "{text}");
-    let (status, text) = tried(&[]);
-    assert_eq!(status, 2, "{text}");
-    assert!(text.contains("\nusage: vorruda try LISTING "), "{text}");
+    assert!(text.starts_with("usage: "), "{text}");
 }
 
 /// The names are the routine's.
 #[test]
 fn a_certificate_of_ones_own() {
     let routine = file("own.routine", DEAD_END);
-    let folder = folder("own");
-    let routine = routine.to_str().unwrap();
-    let (status, text) = tried(&[routine, "-o", folder.to_str().unwrap()]);
+    let folder = PathBuf::from(env!("CARGO_TARGET_TMPDIR")).join("own");
+    fs::create_dir_all(&folder).unwrap();
+    let (routine, folder) = (routine.to_str().unwrap(), folder.to_str().unwrap());
+    let (status, text) = tried(&[routine, folder]);
     assert_eq!(status, 0, "{text}");
-    let certificate = folder.join("cert.bin");
-    let check = || ran("check", &[routine, certificate.to_str().unwrap()]);
-    let (status, again) = check();
-    assert_eq!(status, 0, "{again}");
-    assert!(text.ends_with(&again), "{text}");
+    let certificate = format!("{folder}/cert.bin");
+    assert_eq!(tried(&[routine, &certificate]), (0, text));
 
     let mut bytes = fs::read(&certificate).unwrap();
     assert_eq!(bytes, HOLDS);
     bytes[2] = 0;
     fs::write(&certificate, bytes).unwrap();
-    let refused = "\
+    let (status, text) = tried(&[routine, &certificate]);
+    assert_eq!(status, 1, "{text}");
+    let refused = "
 refused 9 at 5 rule 1 of 0
 The member is at another state: it is to be at made, but is at begin.
 
@@ -472,18 +394,5 @@ To be covered at made, since line 7 forbids `x at #` (cells from 0, -> is a link
 By member 0, at begin:
        x at #
 ";
-    assert_eq!(check(), (1, refused.to_string()));
-}
-
-/// Where there is no certificate the job is written alone, and a certificate of before goes.
-#[test]
-fn the_job_without_a_certificate() {
-    let folder = folder("without");
-    let into = folder.to_str().unwrap();
-    assert_eq!(tried(&["append", "-o", into]).0, 0);
-    assert_eq!(files_in(&folder), ["cert.bin", "job.bin"]);
-    assert_eq!(tried(&["wrong_reverse_ring", "-o", into]).0, 1);
-    assert_eq!(files_in(&folder), ["job.bin"]);
-    let job = corpus::find("wrong_reverse_ring").unwrap().routine.job;
-    assert_eq!(fs::read(folder.join("job.bin")).unwrap(), job.bytes());
+    assert!(text.ends_with(refused), "{text}");
 }

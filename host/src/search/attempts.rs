@@ -77,15 +77,16 @@ impl fmt::Display for Tried {
 
 /// Looks for a certificate, with the needed shapes as members and with members as general as heaps allow,
 /// in several orders, and takes that with the fewest members. Where none is within the limits, larger
-/// heaps are explored as long as that helps.
+/// heaps are explored; as long as that helps, where the job is to be split otherwise.
 pub fn certificate(
     job: &Job,
     heaps: &mut Heaps,
+    is_split_else: bool,
     tell: &mut dyn FnMut(Tried),
 ) -> Result<Certificate, Failure> {
     let mut attempts = Attempts::new(job, tell);
     attempts.closed(heaps.explored(0), Members::AsNeeded)?;
-    attempts.by_heaps(heaps)?;
+    attempts.by_heaps(heaps, is_split_else)?;
     attempts.smallest.ok_or(Failure::Limit(Stuck {
         limit: attempts.least,
         alone: None,
@@ -112,15 +113,20 @@ impl<'a, 't> Attempts<'a, 't> {
     }
 
     /// Makes the attempts with general members by larger and larger heaps, until a certificate is within
-    /// the limits or more cells don't lead to fewer members. Gives the last extent, and the closed sets
+    /// the limits or, where only what helps is asked for, more cells don't lead to fewer members. Gives the last extent, and the closed sets
     /// together.
-    pub fn by_heaps(&mut self, heaps: &mut Heaps) -> Result<(Extent, Vec<Located>), Failure> {
+    pub fn by_heaps(
+        &mut self,
+        heaps: &mut Heaps,
+        only_helpful: bool,
+    ) -> Result<(Extent, Vec<Located>), Failure> {
         let mut number = 0;
         loop {
             let known = self.least;
             let reached = heaps.explored(number);
             let (extent, closed) = (reached.extent, self.general(reached)?);
-            let is_no_help = heaps.has_more_cells(number)
+            let is_no_help = only_helpful
+                && heaps.has_more_cells(number)
                 && matches!(known, Limit::Members(_))
                 && self.least == known;
             number += 1;

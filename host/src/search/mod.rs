@@ -196,8 +196,9 @@ fn certified(
     tell: &mut dyn FnMut(Tried),
 ) -> Result<Outcome, Failure> {
     let mut heaps = Heaps::new(job, extents(job));
-    match certificate(job, &mut heaps, tell) {
-        Err(Failure::Limit(_)) if lines.len() > 1 => {
+    let is_split_else = lines.len() > 1;
+    match certificate(job, &mut heaps, is_split_else, tell) {
+        Err(Failure::Limit(_)) if is_split_else => {
             let parts = split(job, lines, &mut heaps, tell)?;
             Ok(match <[Part; 1]>::try_from(parts) {
                 Ok([whole]) => Outcome::Certified(whole.certificate),

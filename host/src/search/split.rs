@@ -79,7 +79,7 @@ fn alone(
     let of_line = job.forbidding(line);
     let no_one = &mut |_| ();
     let mut attempts = Attempts::new(&of_line, no_one);
-    let found = attempts.by_heaps(heaps);
+    let found = attempts.by_heaps(heaps, true);
     let (extent, closed) = found.map_err(|failure| of_whole(failure, line))?;
     let part = attempts.smallest.map(|certificate| Part {
         forbidden: line.to_vec(),
