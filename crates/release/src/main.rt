@@ -2,7 +2,7 @@
 // sheet as its last line.
 #![tactic(auto)]
 
-ghost use Rattle.std.specs.Prelude.{◌≡◌, ◌≤◌, length, take, IfOk};
+ghost use Rattle.std.specs.Prelude.{◌≡◌, ◌≤◌, length, take};
 
 use loading::load;
 use sheet::report;
@@ -24,16 +24,12 @@ fn argument_count(rt: &impl Env) -> usize {
     usize::MAX
 }
 
-// Puts an argument at the start of a buffer and gives its length, or 0 where it is missing or longer than the buffer. One that isn't
-// UTF-8 is an error, as in `std::env::args`: no file of that name can be opened by std.
-fn argument(rt: &impl Env, i: usize, name: &mut [u8]) -> io::Result<usize>
-    ensures in_buffer { IfOk result (λ n. (n ≤ length name.new) × (n ≡ length (take n name.new))) }
+// Puts an argument at the start of a buffer and gives its length, or 0 where it is missing or longer than the buffer.
+fn argument(rt: &impl Env, i: usize, name: &mut [u8]) -> usize
+    ensures in_buffer { result ≤ length name.new }
+    ensures prefix { result ≡ length (take result name.new) }
 {
-    let n = rt.arg(i, name).unwrap_or(0);
-    match str::from_utf8(&name[..n]) {
-        Ok(_) => Ok(n),
-        Err(_) => Err(io::Error::from(io::ErrorKind::InvalidData)),
-    }
+    rt.arg(i, name).unwrap_or(0)
 }
 
 // The verdict on the pair of files that two arguments name, the job's and then the certificate's, printed with the job's name.
@@ -46,9 +42,9 @@ fn judge_pair(
     let mut job = [0u8; 65537];
     let mut cert = [0u8; 65537];
     let mut line = [0u8; 128];
-    let certificate_named = argument(rt, certificate_argument, &mut name)?;
+    let certificate_named = argument(rt, certificate_argument, &mut name);
     let c = load(rt, &name[..certificate_named], &mut cert);
-    let named = argument(rt, job_argument, &mut name)?;
+    let named = argument(rt, job_argument, &mut name);
     let j = load(rt, &name[..named], &mut job);
     let judged = checker::check(&job[..j], &cert[..c]);
     let length = put_line(judged, &mut line);
