@@ -5,16 +5,19 @@ usage: python3 tools/mend_places.py CRATE [ROUNDS]      at the top of the reposi
 """
 
 import collections
+import json
 import os
 import re
 import subprocess
 import sys
+import tempfile
+
+PLACES = os.path.join(tempfile.gettempdir(), "places-")
 
 
 def parents(crate, function):
     """The place above each place, by the names of their records."""
-    import json
-    names = json.load(open(f"/tmp/places-{crate}/names.json", encoding="utf-8"))
+    names = json.load(open(os.path.join(PLACES + crate, "names.json"), encoding="utf-8"))
     value = names.get(f"Rattle-{crate}-proofs.{function.replace('/', '.')}.Lts") or {"places": []}
     return {p[0]: p[1] for p in value["places"]}
 
@@ -29,7 +32,7 @@ def distance(parent, low, high):
 def main(argv):
     crate, rounds = argv[0], int(argv[1]) if len(argv) > 1 else 6
     where = os.path.join("crates", crate)
-    subprocess.run(["rt", "check", "--generated", f"/tmp/places-{crate}", "--old-names"], cwd=where, stdout=subprocess.DEVNULL, stderr=subprocess.DEVNULL)
+    subprocess.run(["rt", "check", "--generated", PLACES + crate, "--old-names"], cwd=where, stdout=subprocess.DEVNULL, stderr=subprocess.DEVNULL)
     for _ in range(rounds):
         said = subprocess.run(["rt", "check"], cwd=where, stdout=subprocess.PIPE, stderr=subprocess.STDOUT, text=True).stdout
         if re.search(r"(?m)^logic=proved", said.split("crate " + crate)[-1]):
