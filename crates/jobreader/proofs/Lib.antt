@@ -1,2 +1,0 @@
-pub mod PreambleNumbers
-pub mod OneNumber
