@@ -1,0 +1,2 @@
+pub mod OneNumber
+pub mod PreambleNumbers
