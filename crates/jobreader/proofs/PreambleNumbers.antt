@@ -3,7 +3,6 @@ use mathlib.Core.Path.{◌≡◌, refl}
 use Prim.Native.Nat.{ℕ}
 use Rattle.format.specs.Parser.{Reason, parsed, fault, Buffer, ranged}
 use Rattle.jobreader.specs.Reader.{preamble_read}
-use Rattle.jobreader.specs.declared.Preamble.{Preamble}
 
 module _ (s : Buffer) (at : ℕ) where
   pub lost_version : {why : Reason} {place : ℕ} → fault why place ≡ ranged s 1 3 at → fault why place ≡ preamble_read s at

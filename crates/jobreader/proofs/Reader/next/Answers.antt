@@ -1,5 +1,5 @@
 -- By what stands at the place and the two limits: unreadable, out of range, or the number.
-use Rattle.std.proofs.Common.{◌∙◌, sym, arith}
+use Rattle.std.proofs.Common.{sym, arith}
 use Rattle.format.specs.Parser.{job_buffer}
 use Rattle.jobreader.proofs.OneNumber.{unread, outside, value}
 use Rattle.jobreader.proofs.Reader.next.Goals as goal
