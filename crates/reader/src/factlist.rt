@@ -53,7 +53,7 @@ fn read_fact_list(
     // a loop, for the least rank that is due goes from each fact to the next
     let mut at = first;
     let mut least = 0;
-    for i in 0..count {
+    for _i in 0..count {
         let fact = read_fact(input, bytes, at, n, least)?;
         least = fact.value + 1;
         at = fact.next;

@@ -113,7 +113,7 @@ fn read_many<F: Fn(usize) -> Result<usize, Refused>>(
     ensures { (p : Parser (Unit {0})) → ((at : ℕ) (r : _) → F.post each at r → reached_of r ≡ p at) → reached_of result ≡ without_value (many count p first) }
 {
     let mut at = first;
-    for i in 0..count {
+    for _i in 0..count {
         at = each(at)?;
     }
     Ok(at)

@@ -85,7 +85,7 @@ pub(crate) fn test_members(
 {
     // a loop, for what is asked of the reader of a member is that it was read before, which goes from each to the next
     let mut at = first;
-    for i in 0..count {
+    for _i in 0..count {
         at = test_member(cert, at, variables, states, start)?;
     }
     Ok(at)

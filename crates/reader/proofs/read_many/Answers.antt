@@ -12,12 +12,12 @@ pub returns-in_err-at : goal.returns-in_err-at
 returns-in_err-at g c = λ p h.
     let l = c.loop-i in
     handed _ _ c.from_residual.ensures.1
-    (left_lost p _ _ l.at l.i (l.invariant p h) _ _ (omega arith) (ap without_value (sym (h _ _ c.in_err-at.ensures))))
+    (left_lost p _ _ l.at l._i (l.invariant p h) _ _ (omega arith) (ap without_value (sym (h _ _ c.in_err-at.ensures))))
 
 pub loop-i-preserved : goal.loop-i-preserved
 loop-i-preserved g c = λ p h.
     let l = c.loop-i in
-    left_more p _ _ l.at l.i (l.invariant p h) _ (omega arith) (ap without_value (sym (h _ _ c.in_ok-at.ensures)))
+    left_more p _ _ l.at l._i (l.invariant p h) _ (omega arith) (ap without_value (sym (h _ _ c.in_ok-at.ensures)))
 
 pub returns : goal.returns
-returns g c = λ p h. let l = c.loop-i in left_all p _ _ l.at l.i (l.invariant p h) (omega arith)
+returns g c = λ p h. let l = c.loop-i in left_all p _ _ l.at l._i (l.invariant p h) (omega arith)

@@ -6,4 +6,4 @@ use Rattle.reader.proofs.Many.{Left}
 use Rattle.reader.proofs.read_many.Given as goal
 
 abbrev pub invariant-loop-i : goal.invariant-loop-i
-invariant-loop-i g l = (p : Parser (Unit {0})) → ((at : ℕ) (r : _) → goal.F-post g l.each at r → reached_of r ≡ p at) → Left p l.count l.first l.at l.i
+invariant-loop-i g l = (p : Parser (Unit {0})) → ((at : ℕ) (r : _) → goal.F-post g l.each at r → reached_of r ≡ p at) → Left p l.count l.first l.at l._i

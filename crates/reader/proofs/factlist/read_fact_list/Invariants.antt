@@ -4,4 +4,4 @@ use Rattle.reader.proofs.Facts.{Rising}
 use Rattle.reader.proofs.factlist.read_fact_list.Given as goal
 
 abbrev pub invariant-loop-i : goal.invariant-loop-i
-invariant-loop-i l = Rising (buffer_of l.input l.bytes) l.n l.count l.first l.at l.least l.i
+invariant-loop-i l = Rising (buffer_of l.input l.bytes) l.n l.count l.first l.at l.least l._i
