@@ -13,9 +13,7 @@ use lib.Dec.{ltb}
 use lib.ListN.{length, take}
 use Rattle.lists.specs.List.{concat_map}
 use Rattle.lists.proofs.List.{every_none, every_cons}
-use Rattle.number.specs.Number.{number_at}
-use Rattle.number.specs.declared.Read.{Read}
-use Rattle.number.specs.declared.Read.TheVariants.{Number, Unreadable}
+use Rattle.number.specs.Number.{number_at, Read, no_numeral, numeral}
 use Rattle.number.proofs.Reading.{unreadable_at}
 use Rattle.facts.specs.Facts.{Fact, FactOf, FactsOf}
 use Rattle.format.specs.Parser.{Reason, parsed, fault, Buffer, within, such, read_as, ranged}
@@ -127,12 +125,12 @@ module _ (s : Buffer) (n : ℕ) where
       )
 
 -- past the end no number can be read
-past_end : (s : List ℕ) → number_at s (length s) ≡ Unreadable (length s)
+past_end : (s : List ℕ) → number_at s (length s) ≡ no_numeral (length s)
 past_end s = by_read (number_at s (length s)) refl
   where
-    by_read : (r : Read) → number_at s (length s) ≡ r → r ≡ Unreadable (length s)
-    by_read (Number n next) g = let (some_left, _, _) = number_in_lem (length s) _ _ _ _ n next g in absurd (omega arith)
-    by_read (Unreadable p) g = ap Unreadable (sym (unreadable_at (length s) _ _ _ _ p g))
+    by_read : (r : Read) → number_at s (length s) ≡ r → r ≡ no_numeral (length s)
+    by_read (Ok r) g = let (some_left, _, _) = number_in_lem (length s) _ _ _ _ n next g in absurd (omega arith)
+    by_read (Err p) g = ap no_numeral (sym (unreadable_at (length s) _ _ _ _ p g))
 
 module _ (u o l : Reason) (n : ℕ) where
   -- where facts have begun, the next number of them is due
@@ -147,7 +145,7 @@ module _ (u o l : Reason) (n : ℕ) where
 
   -- a number that is refused is so on every buffer with the same bytes up to its end
   facts_again : (b : List ℕ) (k : ℕ) (at : ℕ) (why : Reason) (place : ℕ) → FactRefused (on u o l b) n k none at why place → (m next : ℕ)
-      → number_at b place ≡ Number m next → (b' : List ℕ) → take next b ≡ take next b' → facts_after (on u o l b') n k none at ≡ fault why place
+      → number_at b place ≡ numeral m next → (b' : List ℕ) → take next b ≡ take next b' → facts_after (on u o l b') n k none at ≡ fault why place
   facts_again b k at why place f m next g b' agree =
       let (_, further, _) = number_in_lem place _ _ _ _ m next g in
       facts_refuses (on u o l b') n k none at why place f.facts f.fewer f.of f.rising f.next f.begun

@@ -11,11 +11,9 @@ use lib.Seq.{get_or-take, take-take, take-length, take_at, length-take-le, drop-
 use Rattle.lists.specs.List.{Every, concat_map}
 use Rattle.lists.proofs.List.{every_none, every_cons}
 use Rattle.lists.proofs.Reflect.{r_le, r_lt, r_eq, cond_cases}
-use Rattle.number.specs.Number.{largest, bytes_of, number_in, number_at}
+use Rattle.number.specs.Number.{largest, bytes_of, number_in, number_at, Read, no_numeral, numeral}
 use Rattle.number.specs.NumberList.{encode}
 use Rattle.number.specs.Range.{AtMost}
-use Rattle.number.specs.declared.Read.{Read}
-use Rattle.number.specs.declared.Read.TheVariants.{Number, Unreadable}
 use Rattle.number.proofs.Reading.{one_byte, two_bytes, three_bytes}
 use Rattle.number.proofs.RoundTrip.{reads}
 use Rattle.number.proofs.Writing.{some_bytes}
@@ -37,7 +35,7 @@ module _ (s s' : List ℕ) (e : ℕ) (agree : take e s ≡ take e s') where
       let z : min e (length s) ≡ min e (length s') = sym (length-take e s) ∙ ap length agree ∙ length-take e s' in
       omega arith
 
-  pub number_local : (at n next : ℕ) → number_at s at ≡ Number n next → next ≤ e → number_at s' at ≡ Number n next
+  pub number_local : (at n next : ℕ) → number_at s at ≡ numeral n next → next ≤ e → number_at s' at ≡ numeral n next
   unfolding number_in
   number_local at n next =
       cond_cases Q (r_le left 0) (λ _. unread)
@@ -75,9 +73,9 @@ module _ (s s' : List ℕ) (e : ℕ) (agree : take e s ≡ take e s') where
       c = get_or s (at + 2) 0
 
       Q : Read → Type 0
-      Q r = r ≡ Number n next → next ≤ e → number_at s' at ≡ Number n next
+      Q r = r ≡ numeral n next → next ≤ e → number_at s' at ≡ numeral n next
 
-      unread : Q (Unreadable at)
+      unread : Q (no_numeral at)
       unread r k = let z : ◌≡◌ {A = ℕ} 0 1 = cc in absurd (omega arith)
 
   pub reads_local : {at next : ℕ} {ns : List ℕ} → Reads s at ns next → next ≤ e → Reads s' at ns next
@@ -162,7 +160,7 @@ module _ (u o l : Reason) where
     pub earlier : List ℕ
     pub before : Reads b at earlier place
     pub faulty : Faulty (on b) (λ n. Unit {0}) why place
-    pub again : (n next : ℕ) → number_at b place ≡ Number n next → (b' : List ℕ) → take next b ≡ take next b' → p b' at ≡ fault why place
+    pub again : (n next : ℕ) → number_at b place ≡ numeral n next → (b' : List ℕ) → take next b ≡ take next b' → p b' at ≡ fault why place
     pub begun : GoesOn p b at place ⊎ C earlier
 
   -- p reads values x from numbers ns, where P x ns; it looks no further than it reads; it can read on where a buffer ends, and where it refuses,
@@ -216,7 +214,7 @@ module _ (u o l : Reason) where
     read_written b =
         let e : drop (length b) (b ++ bytes_of n) ≡ bytes_of n ++ [] = drop-append_seam b (bytes_of n) ∙ sym (append-nil (bytes_of n)) in
         read_complete (on (b ++ bytes_of n)) meaning (length b) n (length (b ++ bytes_of n)) x
-        (reads (b ++ bytes_of n) (length b) n [] small e ∙ ap (Number n) (sym (length-append b (bytes_of n)))) allowed
+        (reads (b ++ bytes_of n) (length b) n [] small e ∙ ap (numeral n) (sym (length-append b (bytes_of n)))) allowed
 
     -- a parser that begins with the number and is through with n as soon as it is read
     module _ {B : Type 0} (p : List ℕ → Parser B) (y : B)
@@ -254,7 +252,7 @@ module _ (u o l : Reason) where
           long : length (take at b) ≡ at
           long = length-take-le at b inside
 
-          again : Faulty (on b) (λ n. meaning n ≡ none) why at → (m next : ℕ) → number_at b at ≡ Number m next → (b' : List ℕ) → take next b ≡ take next b'
+          again : Faulty (on b) (λ n. meaning n ≡ none) why at → (m next : ℕ) → number_at b at ≡ numeral m next → (b' : List ℕ) → take next b ≡ take next b'
               → p b' at ≡ fault why at
           again (inl (_, g)) m next h b' agree = let q : ◌≡◌ {A = ℕ} 0 1 = cc in absurd (omega arith)
           again (inr (k, (m', next', g, outside))) m next h b' agree =
