@@ -14,7 +14,7 @@ use Rattle.lists.proofs.Reflect.{r_le, r_lt, r_eq, cond_cases}
 use Rattle.number.specs.Number.{largest, bytes_of, number_in, number_at, Read, no_numeral, numeral}
 use Rattle.number.specs.NumberList.{encode}
 use Rattle.number.specs.Range.{AtMost}
-use Rattle.number.proofs.Reading.{one_byte, two_bytes, three_bytes}
+use Rattle.number.proofs.Reading.{same_next, read_or_not, one_byte, two_bytes, three_bytes}
 use Rattle.number.proofs.RoundTrip.{reads}
 use Rattle.number.proofs.Writing.{some_bytes}
 use Rattle.format.specs.Parser.{Reason, parsed, fault, Parser, onward, ◌>>=◌, return, here, many, Buffer, read_as}
@@ -41,20 +41,20 @@ module _ (s s' : List ℕ) (e : ℕ) (agree : take e s ≡ take e s') where
       cond_cases Q (r_le left 0) (λ _. unread)
       (λ l₀. cond_cases Q (r_lt a 128)
       (λ h r k.
-      let z : at + 1 ≡ next = cc in
+      let z : at + 1 ≡ next = same_next r in
       sym (one_byte s' at a (same_byte at (omega arith)) (same_length (suc at) (omega arith) (omega arith)) h) ∙ r)
       (λ h. cond_cases Q (r_le left 1) (λ _. unread)
       (λ l₁. cond_cases Q (r_eq b 0) (λ _. unread)
       (λ b₀. cond_cases Q (r_lt b 128)
       (λ h' r k.
-      let z : at + 2 ≡ next = cc in
+      let z : at + 2 ≡ next = same_next r in
       let long = same_length (at + 2) (omega arith) (omega arith) in
       sym (two_bytes s' at a (same_byte at (omega arith)) (omega arith) b (same_byte (at + 1) (omega arith)) (omega arith) b₀ h') ∙ r)
       (λ h'. cond_cases Q (r_le left 2) (λ _. unread)
       (λ l₂. cond_cases Q (r_eq c 0) (λ _. unread)
       (λ c₀. cond_cases Q (r_lt c 4)
       (λ h'' r k.
-      let z : at + 3 ≡ next = cc in
+      let z : at + 3 ≡ next = same_next r in
       let long = same_length (at + 3) (omega arith) (omega arith) in
       sym (three_bytes s' at a (same_byte at (omega arith)) (omega arith) b (same_byte (at + 1) (omega arith)) (omega arith) b₀ (omega arith) c
       (same_byte (at + 2) (omega arith)) (omega arith) c₀ h'') ∙ r)
@@ -76,7 +76,7 @@ module _ (s s' : List ℕ) (e : ℕ) (agree : take e s ≡ take e s') where
       Q r = r ≡ numeral n next → next ≤ e → number_at s' at ≡ numeral n next
 
       unread : Q (no_numeral at)
-      unread r k = let z : ◌≡◌ {A = ℕ} 0 1 = cc in absurd (omega arith)
+      unread r k = absurd (read_or_not r)
 
   pub reads_local : {at next : ℕ} {ns : List ℕ} → Reads s at ns next → next ≤ e → Reads s' at ns next
   reads_local done k = done
@@ -254,9 +254,9 @@ module _ (u o l : Reason) where
 
           again : Faulty (on b) (λ n. meaning n ≡ none) why at → (m next : ℕ) → number_at b at ≡ numeral m next → (b' : List ℕ) → take next b ≡ take next b'
               → p b' at ≡ fault why at
-          again (inl (_, g)) m next h b' agree = let q : ◌≡◌ {A = ℕ} 0 1 = cc in absurd (omega arith)
+          again (inl (_, g)) m next h b' agree = absurd (read_or_not (sym g ∙ h))
           again (inr (k, (m', next', g, outside))) m next h b' agree =
-              let next_is : next' ≡ next = cc in
+              let next_is : next' ≡ next = same_next (sym g ∙ h) in
               stops b' at why at (rw k (read_outside (on b') meaning at m' next' (number_local b b' next agree at m' next' g (omega arith)) outside))
 
     pub completes_read : {C : List ℕ → Type 0} → Completes (λ x ns. (n : ℕ) × (ns ≡ n ∷ []) × (meaning n ≡ some x)) C (λ b. read_as (on b) meaning)

@@ -12,6 +12,7 @@ use lib.ListN.{length}
 use Rattle.lists.specs.List.{Every, concat_map}
 use Rattle.lists.proofs.List.{every_cons}
 use Rattle.lists.proofs.Reflect.{Reflect, r_le, r_lt, r_and, cond_true}
+use Rattle.std.specs.Prelude.{Ok, Err}
 use Rattle.number.specs.Number.{number_at, Read, no_numeral, numeral}
 use Rattle.number.proofs.Reading.{unreadable_at}
 use Rattle.shape.specs.Shape.{AllBelow}
@@ -80,7 +81,7 @@ module _ (s : Buffer) where
 
       by_read : (r : Read) → number_at s.bytes at ≡ r → meant s meaning at r ≡ parsed x next
           → (n : ℕ) × (number_at s.bytes at ≡ numeral n next) × (meaning n ≡ some x)
-      by_read (numeral n k) g e = by_meaning n k g (meaning n) refl e
+      by_read (Ok r) g e = by_meaning r.value r.next g (meaning r.value) refl e
       by_read (Err p) g e = absurd (not_fault _ _ _ _ e)
 
   -- the number at a place can't be read, or reads as one for which P holds
@@ -106,8 +107,8 @@ module _ (s : Buffer) where
       by_meaning n k g (some y) h e = absurd (not_fault y k why place (sym e))
 
       by_read : (r : Read) → number_at s.bytes at ≡ r → meant s meaning at r ≡ fault why place → Result
-      by_read (numeral n k) g e = by_meaning n k g (meaning n) refl e
-      by_read (Err p) g e = (cc, inl (cc, g ∙ ap no_numeral (sym (unreadable_at at _ _ _ _ p g))))
+      by_read (Ok r) g e = by_meaning r.value r.next g (meaning r.value) refl e
+      by_read (Err p) g e = (cc, inl (cc, g ∙ ap no_numeral (sym (unreadable_at at _ _ _ _ p.at g))))
 
   pub read_outside : {A : Type 0} (meaning : ℕ → Option A) (at n next : ℕ) → number_at s.bytes at ≡ numeral n next → meaning n ≡ none
       → read_as s meaning at ≡ fault s.outside at

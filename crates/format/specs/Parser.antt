@@ -1,5 +1,5 @@
 -- Reading a buffer from a place on.
-use Rattle.std.specs.Prelude.{Bool, ◌&&◌, cond, List, [], ◌∷◌, ℕ, zero, suc, leb, ltb, length}
+use Rattle.std.specs.Prelude.{Bool, ◌&&◌, cond, List, [], ◌∷◌, ℕ, zero, suc, leb, ltb, length, Ok, Err}
 use Rattle.std.proofs.Math.Option.{Option, none, some}
 use Rattle.number.specs.Number.{number_at, Read, no_numeral, numeral}
 
@@ -96,8 +96,8 @@ module _ (s : Buffer) where
 
   -- the same, once it is read
   abbrev pub meant : {A : Type 0} → (ℕ → Option A) → ℕ → Read → Parsed A
-  meant meaning at (Ok r) = judged at next (meaning n)
-  meant meaning at (Err place) = fault s.unreadable at
+  meant meaning at (Ok r) = judged at r.next (meaning r.value)
+  meant meaning at (Err e) = fault s.unreadable at
 
   -- a number, as what it means: nothing if it breaks its range. "(place: its first byte)"
   unfoldable pub read_as : {A : Type 0} → (ℕ → Option A) → Parser A
