@@ -88,16 +88,17 @@ module _ (n : ℕ) (written : List ℕ) (first left : ℕ) (w : Writing n writte
       ∙ drop_at (take first written) (v ∷ drop (suc first) written) first (length-take-le first written (omega (arith, w.all, w.upto)))
       ∙ ap (λ (k : ℕ). v ∷ drop k written) (sym (add-one first))
 
-  -- there is room for what is left
-  pub digits_left : n < 18446744073709551616 → length (digits left) ≤ first + 1
-  digits_left h =
+  -- where more than one digit is left, there is room before
+  pub more_room : n < 18446744073709551616 → 10 ≤ left → 1 ≤ first
+  more_room h s =
       omega (
         arith,
         w.all,
-        w.upto,
         twenty_digits n h,
         ap length w.so_far ∙ length-append (digits left) (drop (first + 1) written),
         length-drop (first + 1) written,
+        length_more left s,
+        some_digits (left / 10),
       )
 
   pub writing_more : 1 ≤ first → 10 ≤ left → Writing n (set written first (48 + left % 10)) (first - 1) (left / 10)
