@@ -1,6 +1,6 @@
 -- Decimal digits.
 use mathlib.Core.Bool.{cond}
-use mathlib.Core.List.{List, [], ◌∷◌, ◌++◌, append_assoc, append-nil}
+use mathlib.Core.List.{List, [], ◌∷◌, ◌++◌, append_assoc}
 use mathlib.Core.Path.{◌≡◌, refl, sym, ap, ◌∙◌}
 use Prim.Native.Nat.{ℕ, zero, suc, ◌+◌, ◌-◌, ◌*◌, ◌/◌, ◌%◌, ◌^◌, ◌<◌, ◌≤◌}
 use native.Mathlib.Decide.{dec_lt}
@@ -10,7 +10,7 @@ use native.Mathlib.Omega.{arith}
 use borrow.Author.Tests.{lt-ltb, le-ltb}
 use lib.Dec.{ltb}
 use lib.ListN.{length, get_or, set, take, drop, length-append, length-drop, length-set, get_or-append}
-use lib.Seq.{drop-length, set_split, drop_at, length-take-le, take-length}
+use lib.Seq.{set_split, drop_at, length-take-le, take-length}
 use Rattle.putting.specs.Digits.{digits_from, digits, value_from, value, Digits}
 
 -- more turns change nothing
@@ -71,14 +71,6 @@ pub record Writing (n : ℕ) (written : List ℕ) (first left : ℕ) : Type 0 wh
   pub all : length written ≡ 20
   pub upto : first < 20
   pub so_far : digits n ≡ digits left ++ drop (first + 1) written
-
-pub writing_none : (n : ℕ) (written : List ℕ) → length written ≡ 20 → Writing n written 19 n
-writing_none n written e =
-    record {
-      all = e;
-      upto = omega arith;
-      so_far = sym (ap (λ (l : List ℕ). digits n ++ l) (ap (λ (k : ℕ). drop k written) (sym e) ∙ drop-length written) ∙ append-nil (digits n));
-    }
 
 module _ (n : ℕ) (written : List ℕ) (first left : ℕ) (w : Writing n written first left) where
   -- a digit stored stands before those that were there
