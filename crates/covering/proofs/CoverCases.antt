@@ -4,8 +4,7 @@ use mathlib.Core.List.{List}
 use mathlib.Core.Path.{◌≡◌, refl, sym, ap, ap₂, ◌∙◌}
 use Prim.Native.Nat.{ℕ, ◌+◌, ◌<◌}
 use lib.ListN.{length, get_or}
-use Rattle.number.specs.Number.{number_at}
-use Rattle.number.specs.declared.Read.TheVariants.{Number}
+use Rattle.number.specs.Number.{number_at, numeral}
 use Rattle.shape.specs.Shape.{Shape, size}
 use Rattle.run.specs.Run.{Located}
 use Rattle.cover.specs.Test.{Answer, holds, answer_by, links_followed}
@@ -62,7 +61,7 @@ module _ (cert : List ℕ) (variables : ℕ) (starts : List ℕ) (at state : ℕ
 
 -- the quick test accepts
 pub quick_embedding : (cert : List ℕ) (variables : ℕ) (starts : List ℕ) (at state : ℕ) → state < 256 → (s : List ℕ) (m first : ℕ)
-    → number_at cert at ≡ Number m first → m < length starts → Whole cert variables (get_or starts m 0) → get_or cert (get_or starts m 0) 0 ≡ state
+    → number_at cert at ≡ numeral m first → m < length starts → Whole cert variables (get_or starts m 0) → get_or cert (get_or starts m 0) 0 ≡ state
     → (count : ℕ) → count ≡ cells_at cert variables starts m → (links : ℕ) → ImagesEmbed cert (get_or starts m 0) variables first count s links
     → (among : ℕ → ℕ → ℕ → Bool)
     → read_cover_by (certificate_buffer cert) among (members_from cert variables starts) (record { state = state; shape = shape_in variables s }) at

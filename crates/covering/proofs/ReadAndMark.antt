@@ -6,8 +6,7 @@ use mathlib.Core.Path.{◌≡◌, refl, sym, ap, ◌∙◌}
 use Prim.Native.Nat.{ℕ, ◌+◌, ◌≤◌, ◌<◌}
 use native.Mathlib.Omega.{arith}
 use lib.ListN.{length, get_or, set}
-use Rattle.number.specs.declared.Read.TheVariants.{Number}
-use Rattle.number.specs.Number.{number_at}
+use Rattle.number.specs.Number.{number_at, numeral}
 use Rattle.number.proofs.Reading.{one_byte}
 use Rattle.lists.specs.Test.{lowest}
 use Rattle.heap.specs.Place.{cell}
@@ -46,7 +45,7 @@ module _ (cert : List ℕ) (first n count : ℕ) where
         let free : get_or marks p 0 ≡ 0 = was_free marks p room was in
         let next : first + (i + 1) ≡ first + i + 1 = omega arith in
         let coded : p ≡ cell x = omega arith in
-        let number : number_at cert (first + i) ≡ Number x (first + i + 1) = sym (one_byte cert (first + i) x e (omega arith) (omega arith)) in
+        let number : number_at cert (first + i) ≡ numeral x (first + i + 1) = sym (one_byte cert (first + i) x e (omega arith) (omega arith)) in
         record {
           reading = rw next (reading_more cert first n count codes (first + i) i t.reading b x (first + i + 1) few number below);
           marking =

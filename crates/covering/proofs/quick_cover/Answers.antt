@@ -6,8 +6,7 @@ use native.Mathlib.Omega.{arith}
 use lib.ListN.{get_or}
 use borrow.Author.Rules.{rules}
 use borrow.Author.Tests.{not-false}
-use Rattle.number.specs.Number.{number_at}
-use Rattle.number.specs.declared.Read.TheVariants.{Number}
+use Rattle.number.specs.Number.{number_at, numeral}
 use Rattle.number.proofs.Reading.{one_byte, two_bytes}
 use Rattle.layout.specs.Entries.{version_of, links_end, Whole}
 use Rattle.covering.proofs.CoverCases.{quick_embedding}
@@ -57,7 +56,7 @@ abbrev numbered : Else-not-is_bare → Joined-m-ge128
 numbered c = (named (sized c)).before
 
 -- the member's number, of one byte or two, and the place after it
-number_read : (c : Joined-m-ge128) → let a = (begun c.before).args in number_at a.cert.now a.at ≡ Number c.if-m-ge128.m c.if-m-ge128.first
+number_read : (c : Joined-m-ge128) → let a = (begun c.before).args in number_at a.cert.now a.at ≡ numeral c.if-m-ge128.m c.if-m-ge128.first
 number_read c =
     let a = (begun c.before).args in
     let w = c.wide-m in
