@@ -53,7 +53,7 @@ fn read_fact_list(
     // a loop, for the least rank that is due goes from each fact to the next
     let mut at = first;
     let mut least = 0;
-    for i in 0..count {
+    for _i in 0..count {
         let fact = read_fact(input, bytes, at, n, least)?;
         least = fact.value + 1;
         at = fact.next;
@@ -71,12 +71,7 @@ fn read_counted(input: Input, bytes: &[u8], at: usize, n: usize) -> Result<usize
 }
 
 // The same, and nothing in version 1. It is short, so that it costs the reading of members of version 1 no call.
-pub(crate) fn read_facts(
-    input: Input,
-    bytes: &[u8],
-    at: usize,
-    n: usize,
-) -> Result<usize, Refused>
+pub(crate) fn read_facts(input: Input, bytes: &[u8], at: usize, n: usize) -> Result<usize, Refused>
     requires { n ≤ 12 }
     ensures { reached_of result ≡ without_value (read_facts (buffer_of input bytes.now) n (version_of bytes.now) at) }
 {

@@ -1,7 +1,7 @@
 // Reads the numbers of a job and of the members of a certificate, each held to its range.
 #![tactic(auto)]
 
-ghost use Rattle.std.specs.Prelude.{List, [], ◌≡◌, ℕ, ◌+◌, ◌≤◌, ◌<◌, ◌↔◌, IsTrue, IfSome, length, get_or};
+ghost use Rattle.std.specs.Prelude.{[], ◌≡◌, ℕ, ◌+◌, ◌≤◌, ◌<◌, ◌↔◌, EachIndex, IsTrue, IfSome, length, get_or};
 ghost use Rattle.format.specs.Certificate.{read_member};
 ghost use Rattle.format.specs.Job.{read_facts, read_located, read_transition};
 ghost use Rattle.format.specs.JobBytes.{last_kind};
@@ -113,7 +113,7 @@ fn read_many<F: Fn(usize) -> Result<usize, Refused>>(
     ensures { (p : Parser (Unit {0})) → ((at : ℕ) (r : _) → F.post each at r → reached_of r ≡ p at) → reached_of result ≡ without_value (many count p first) }
 {
     let mut at = first;
-    for i in 0..count {
+    for _i in 0..count {
         at = each(at)?;
     }
     Ok(at)
@@ -251,12 +251,11 @@ pub fn read_job(job: &[u8]) -> Result<Header, Refused>
     read_rest(job, preamble, at)
 }
 
-// Whether all bytes from a place up to another are below a limit.
-fn all_below(bytes: &[u8], first: usize, end: usize, limit: u8) -> bool
-    requires { (first ≤ end) × (end ≤ length bytes.now) }
-    ensures { IsTrue result ↔ ((i : ℕ) → first ≤ i → i < end → get_or bytes.now i 0 < limit) }
+// Whether all bytes are below a limit.
+fn all_below(bytes: &[u8], limit: u8) -> bool
+    ensures { IsTrue result ↔ EachIndex bytes.now (λ i. get_or bytes.now i 0 < limit) }
 {
-    bytes[first..end].iter().all(|byte| *byte < limit)
+    bytes.iter().all(|byte| *byte < limit)
 }
 
 // The place after the links of a member's entry, if each of its numbers up to there is one byte and in range; else the exact reader decides.
@@ -283,19 +282,14 @@ fn quick_entry(cert: &[u8], at: usize, variables: usize, states: usize) -> Optio
         return None;
     }
     let end = at + 2 + variables + cells;
-    if all_below(cert, at + 2, end, 3 + n) {
-        return Some(end);
+    if !all_below(&cert[at + 2..end], 3 + n) {
+        return None;
     }
-    None
+    Some(end)
 }
 
 // A member's entry.
-fn read_member(
-    cert: &[u8],
-    at: usize,
-    variables: usize,
-    states: usize,
-) -> Result<usize, Refused>
+fn read_member(cert: &[u8], at: usize, variables: usize, states: usize) -> Result<usize, Refused>
     ensures { reached_of result ≡ without_value (read_located (version_of cert.now) (certificate_buffer cert.now) variables states at) }
 {
     let Some(links_end) = quick_entry(cert, at, variables, states) else {

@@ -44,7 +44,13 @@ pub(crate) fn may_refuse(cert: &[u8], at: usize, variables: usize, start: usize)
 }
 
 // Tests the member at a place, which was read: refused if it is at the start state and the empty heap satisfies it.
-fn test_member(cert: &[u8], at: usize, variables: usize, states: usize, start: usize) -> Result<usize, Refused>
+fn test_member(
+    cert: &[u8],
+    at: usize,
+    variables: usize,
+    states: usize,
+    start: usize,
+) -> Result<usize, Refused>
     requires { (l : Located) × (next : ℕ) × (read_located (version_of cert.now) (certificate_buffer cert.now) variables states at ≡ parsed l next) }
     ensures { (l : Located) (next : ℕ) → read_located (version_of cert.now) (certificate_buffer cert.now) variables states at ≡ parsed l next → reached_of result ≡ test_start start (record { first = at; located = l }) next }
 {
@@ -79,7 +85,7 @@ pub(crate) fn test_members(
 {
     // a loop, for what is asked of the reader of a member is that it was read before, which goes from each to the next
     let mut at = first;
-    for i in 0..count {
+    for _i in 0..count {
         at = test_member(cert, at, variables, states, start)?;
     }
     Ok(at)
