@@ -1,5 +1,5 @@
 -- The exact test of one cover: what is tested, and the answer of the code as that of the definitions.
-use Rattle.std.specs.Prelude.{List, ◌≡◌, ℕ, ◌+◌, get_or}
+use Rattle.std.specs.Prelude.{List, ℕ, ◌+◌, get_or, Result, Ok, Err}
 use Rattle.std.proofs.Math.Option.{Option}
 use Rattle.lists.specs.Test.{lowest}
 use Rattle.shape.specs.Shape.{Shape, size}
@@ -15,20 +15,13 @@ use Rattle.verdict.specs.Verdict.{reason_of}
 use Rattle.coverreader.specs.Images.{ImageCodes}
 use Rattle.covering.specs.declared.CoverAnswer.{CoverAnswer}
 use Rattle.covering.specs.declared.CoverAnswer.TheVariants.{Holds as CoverHolds, Refused}
-use Rattle.covering.specs.declared.rules.Answer.{Answer as Told}
-use Rattle.covering.specs.declared.rules.Answer.TheVariants.{Holds, Breaks}
 
 abbrev pub broken_of : Broken → Answer
 broken_of b = broken b.rule b.name
 
-abbrev pub answer_of : Told → Answer
-answer_of (Holds links) = holds
-answer_of (Breaks b) = broken_of b
-
--- the links that are told where it holds
-abbrev pub LinksTold : Told → ℕ → Type 0
-LinksTold (Holds links) n = links ≡ n
-LinksTold (Breaks b) n = Unit {0}
+abbrev pub answer_of : Result ℕ Broken → Answer
+answer_of (Ok links) = holds
+answer_of (Err b) = broken_of b
 
 -- the answer on a cover, as that of a parser
 abbrev pub cover_answer_of : CoverAnswer → Parsed ℕ

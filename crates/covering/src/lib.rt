@@ -1,7 +1,7 @@
 // One cover, read and tested.
 #![tactic(auto)]
 
-ghost use Rattle.std.specs.Prelude.{Bool, true, ◌≢◌, ◌≡◌, ℕ, ◌+◌, ◌≤◌, length, get_or};
+ghost use Rattle.std.specs.Prelude.{Bool, true, ◌≡◌, ℕ, ◌+◌, ◌≤◌, length, get_or, IfSome};
 ghost use Rattle.factrows.specs.Rows.{rows_test};
 ghost use Rattle.format.specs.Certificate.{read_cover_by};
 ghost use Rattle.format.specs.Parser.{parsed, certificate_buffer};
@@ -12,7 +12,7 @@ ghost use Rattle.coverreader.specs.Reading.{read_alone};
 ghost use Rattle.covering.specs.Answer.{without_member, cover_answer_of};
 
 use crate::quick::images_embed;
-use crate::rules::{Answer, cover_answer};
+use crate::rules::cover_answer;
 use coverreader::{CoverRead, read_cover};
 use layout::version_of;
 use number::wide;
@@ -21,6 +21,13 @@ use verdict::Refusal;
 mod fitting;
 mod quick;
 mod rules;
+
+// A cover that holds: the place after it, and the number of links followed.
+#[derive(Clone, Copy)]
+pub struct Cover {
+    pub next: usize,
+    pub links: u16,
+}
 
 // The answer on one cover: it holds, with the place after it and the number of links followed, or it is refused.
 #[derive(Clone, Copy)]
@@ -60,8 +67,8 @@ pub fn exact_cover(
     let images = reading.images;
     let answer = cover_answer(cert, start, variables, state, &images, s, facts);
     match answer {
-        Answer::Holds(links) => CoverAnswer::Holds(next, links),
-        Answer::Breaks(broken) => CoverAnswer::Refused(Refusal::CoverFails(broken), at),
+        Ok(links) => CoverAnswer::Holds(next, links),
+        Err(broken) => CoverAnswer::Refused(Refusal::CoverFails(broken), at),
     }
 }
 
@@ -83,16 +90,6 @@ pub fn read_alone(
     }
 }
 
-// What the quick test of a cover gives: the place after it, 0 where it is left to `exact_cover`, and the number of links followed.
-#[derive(Clone, Copy)]
-pub struct QuickCover {
-    pub next: usize,
-    pub links: u16,
-}
-
-// The cover is left to `exact_cover`.
-const LEFT: QuickCover = QuickCover { next: 0, links: 0 };
-
 // Whether the member at a place, of so many cells, lists no fact: version 1 has none, in version 2 their number is behind the links.
 fn is_bare(cert: &[u8], start: usize, variables: usize, count: usize) -> bool
     requires { (variables ≤ 9) × (count ≡ get_or cert.now (start + 1) 0) × (count ≤ 12) × (start + 24 ≤ length cert.now) }
@@ -107,7 +104,8 @@ fn is_bare(cert: &[u8], start: usize, variables: usize, count: usize) -> bool
 // A quick test of the cover at a place by a member that lists no fact. Such a cover, its number of one byte or two and at most 12 images, has at most 14 bytes:
 // where fewer are left it goes to the exact test, so that images need no test for the end. An entry of 9 variables and 12 cells has 23 bytes, and one for the number
 // of facts. The member's number is read here: a call would cost each cover.
-// Which covers it leaves is the program's choice. Of one that is left it tells nothing, 0 and 0; of any other what `exact_cover` tells, whatever the facts.
+// Which covers it leaves to `exact_cover` is the program's choice. Of one that is left it tells nothing; of any other what `exact_cover` tells, whatever the
+// facts.
 pub fn quick_cover(
     cert: &[u8],
     starts: &[u16],
@@ -115,55 +113,51 @@ pub fn quick_cover(
     at: usize,
     state: u8,
     s: &[u8; 28],
-) -> QuickCover
-    ensures given { (among : ℕ → ℕ → ℕ → Bool) → result.next ≢ 0 → read_cover_by (certificate_buffer cert.now) among (members_from cert.now variables starts.now) (record { state = state; shape = shape_in variables s.now }) at ≡ parsed result.links result.next }
-    ensures left { result.next ≡ 0 → result.links ≡ 0 }
+) -> Option<Cover>
+    ensures { IfSome result (λ c. (among : ℕ → ℕ → ℕ → Bool) → read_cover_by (certificate_buffer cert.now) among (members_from cert.now variables starts.now) (record { state = state; shape = shape_in variables s.now }) at ≡ parsed c.links c.next) }
 {
     if cert.len() < 14 {
-        return LEFT;
+        return None;
     }
     if cert.len() - 14 < at {
-        return LEFT;
+        return None;
     }
     let mut m = wide(cert[at]);
     let mut first = at + 1;
     if 128 <= m {
         let high = wide(cert[at + 1]);
         if high == 0 {
-            return LEFT;
+            return None;
         }
         if 128 <= high {
-            return LEFT;
+            return None;
         }
         m = m - 128 + high * 128;
         first = at + 2;
     }
     if starts.len() <= m {
-        return LEFT;
+        return None;
     }
     let start = starts[m] as usize;
     if 9 < variables {
-        return LEFT;
+        return None;
     }
     if cert.len() < start + 24 {
-        return LEFT;
+        return None;
     }
     if state != cert[start] {
-        return LEFT;
+        return None;
     }
     let count = wide(cert[start + 1]);
     if 12 < count {
-        return LEFT;
+        return None;
     }
     if !is_bare(cert, start, variables, count) {
-        return LEFT;
+        return None;
     }
-    let quick = images_embed(cert, start, variables, first, count, s);
-    if !quick.accepts {
-        return LEFT;
-    }
-    QuickCover {
+    let links = images_embed(cert, start, variables, first, count, s)?;
+    Some(Cover {
         next: first + count,
-        links: quick.links,
-    }
+        links,
+    })
 }
