@@ -1,5 +1,5 @@
 -- What reading a job answers.
-use Rattle.std.specs.Prelude.{true, List, map, ◌≡◌, ℕ, ◌+◌, ◌*◌, ◌≤◌, ◌<◌, length, get_or}
+use Rattle.std.specs.Prelude.{true, List, map, ◌≡◌, ℕ, ◌+◌, ◌*◌, ◌≤◌, ◌<◌, length, get_or, Result, Ok, Err}
 use Rattle.lists.specs.Range.{range}
 use Rattle.format.specs.JobBytes.{Between}
 use Rattle.format.specs.Job.{read_located, read_whole_job}
@@ -11,10 +11,9 @@ use Rattle.layout.specs.Transitions.{transition_at}
 use Rattle.number.specs.Number.{number_at}
 use Rattle.number.specs.declared.Read.TheVariants.{Number}
 use Rattle.verdict.specs.Verdict.{reason_of}
+use Rattle.verdict.specs.declared.Refused.{Refused}
 use Rattle.jobreader.specs.declared.Preamble.{Preamble}
 use Rattle.reader.specs.declared.Header.{Header}
-use Rattle.reader.specs.declared.JobAnswer.{JobAnswer}
-use Rattle.reader.specs.declared.JobAnswer.TheVariants.{Job, Refused}
 
 -- the transition at a place is whole and in range
 pub record TransitionIn (bytes : List ℕ) (variables states at : ℕ) : Type 0 where
@@ -64,10 +63,10 @@ read_rest job f = do
         bads_at = bads-at;
       })
 
-abbrev pub RestAnswered : List ℕ → Preamble → ℕ → JobAnswer → Type 0
-RestAnswered job f at (Job h) = (next : ℕ) × (read_rest job f at ≡ parsed h next)
-RestAnswered job f at (Refused r place) = read_rest job f at ≡ fault (reason_of r) place
+abbrev pub RestAnswered : List ℕ → Preamble → ℕ → Result Header Refused → Type 0
+RestAnswered job f at (Ok h) = (next : ℕ) × (read_rest job f at ≡ parsed h next)
+RestAnswered job f at (Err r) = read_rest job f at ≡ fault (reason_of r.refusal) r.place
 
-abbrev pub JobAnswered : List ℕ → JobAnswer → Type 0
-JobAnswered job (Job h) = JobRead job h
-JobAnswered job (Refused r place) = read_whole_job (job_buffer job) 0 ≡ fault (reason_of r) place
+abbrev pub JobAnswered : List ℕ → Result Header Refused → Type 0
+JobAnswered job (Ok h) = JobRead job h
+JobAnswered job (Err r) = read_whole_job (job_buffer job) 0 ≡ fault (reason_of r.refusal) r.place
