@@ -13,8 +13,8 @@ use Rattle.verdict.specs.declared.Refusal.TheVariants.{CertificateLeft}
 use Rattle.format.specs.Parser.{Parsed, parsed, fault}
 use Rattle.verdict.specs.Verdict.{reason_of}
 use Rattle.coverreader.specs.Images.{ImageCodes}
-use Rattle.covering.specs.declared.CoverAnswer.{CoverAnswer}
-use Rattle.covering.specs.declared.CoverAnswer.TheVariants.{Holds as CoverHolds, Refused}
+use Rattle.covering.specs.declared.Cover.{Cover}
+use Rattle.verdict.specs.declared.Refused.{Refused}
 
 abbrev pub broken_of : Broken → Answer
 broken_of b = broken b.rule b.name
@@ -24,14 +24,14 @@ answer_of (Ok links) = holds
 answer_of (Err b) = broken_of b
 
 -- the answer on a cover, as that of a parser
-abbrev pub cover_answer_of : CoverAnswer → Parsed ℕ
-cover_answer_of (CoverHolds next links) = parsed links next
-cover_answer_of (Refused r place) = fault (reason_of r) place
+abbrev pub cover_answer_of : Result Cover Refused → Parsed ℕ
+cover_answer_of (Ok c) = parsed c.links c.next
+cover_answer_of (Err r) = fault (reason_of r.refusal) r.place
 
--- the answer on a cover that is not read
-abbrev pub without_member : CoverRead → CoverAnswer
-without_member (Taken m next) = Refused CertificateLeft next
-without_member (NotRead r place) = Refused r place
+-- the refusal of a cover that is not read
+abbrev pub without_member : CoverRead → Refused
+without_member (Taken m next) = record { refusal = CertificateLeft; place = next }
+without_member (NotRead r place) = record { refusal = r; place = place }
 
 -- a member stands whole at a place, and its cells have images in the shape in an array
 pub record Tested (cert : List ℕ) (variables start : ℕ) (codes s : List ℕ) : Type 0 where

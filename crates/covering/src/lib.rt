@@ -16,7 +16,7 @@ use crate::rules::cover_answer;
 use coverreader::{CoverRead, read_cover};
 use layout::version_of;
 use number::wide;
-use verdict::Refusal;
+use verdict::{Refusal, Refused};
 
 mod fitting;
 mod quick;
@@ -29,20 +29,16 @@ pub struct Cover {
     pub links: u16,
 }
 
-// The answer on one cover: it holds, with the place after it and the number of links followed, or it is refused.
-#[derive(Clone, Copy)]
-pub enum CoverAnswer {
-    Holds(usize, u16),
-    Refused(Refusal, usize),
-}
-
 // The refusal of a cover that is not read. It is not asked of one that is read, and would refuse what follows it.
-fn refused(read: CoverRead) -> CoverAnswer
+fn refused(read: CoverRead) -> Refused
     ensures { result ≡ without_member read }
 {
     match read {
-        CoverRead::Taken(_, next) => CoverAnswer::Refused(Refusal::CertificateLeft, next),
-        CoverRead::Refused(refusal, place) => CoverAnswer::Refused(refusal, place),
+        CoverRead::Taken(_, next) => Refused {
+            refusal: Refusal::CertificateLeft,
+            place: next,
+        },
+        CoverRead::Refused(refusal, place) => Refused { refusal, place },
     }
 }
 
@@ -55,20 +51,22 @@ pub fn exact_cover(
     state: u8,
     s: &[u8; 28],
     facts: &[u16; 28],
-) -> CoverAnswer
+) -> Result<Cover, Refused>
     ensures { cover_answer_of result ≡ read_cover_by (certificate_buffer cert.now) (rows_test facts.now) (members_from cert.now variables starts.now) (record { state = state; shape = shape_in variables s.now }) at }
 {
     let reading = read_cover(cert, starts, variables, at, s);
     let r = reading.answer;
     let CoverRead::Taken(m, next) = r else {
-        return refused(r);
+        return Err(refused(r));
     };
     let start = starts[m] as usize;
     let images = reading.images;
-    let answer = cover_answer(cert, start, variables, state, &images, s, facts);
-    match answer {
-        Ok(links) => CoverAnswer::Holds(next, links),
-        Err(broken) => CoverAnswer::Refused(Refusal::CoverFails(broken), at),
+    match cover_answer(cert, start, variables, state, &images, s, facts) {
+        Ok(links) => Ok(Cover { next, links }),
+        Err(broken) => Err(Refused {
+            refusal: Refusal::CoverFails(broken),
+            place: at,
+        }),
     }
 }
 
@@ -79,14 +77,14 @@ pub fn read_alone(
     variables: usize,
     at: usize,
     s: &[u8; 28],
-) -> CoverAnswer
+) -> Result<Cover, Refused>
     ensures { cover_answer_of result ≡ read_alone (certificate_buffer cert.now) (members_from cert.now variables starts.now) (length (links_in s.now)) at }
 {
     let reading = read_cover(cert, starts, variables, at, s);
     let r = reading.answer;
     match r {
-        CoverRead::Taken(_, next) => CoverAnswer::Holds(next, 0),
-        CoverRead::Refused(refusal, place) => CoverAnswer::Refused(refusal, place),
+        CoverRead::Taken(_, next) => Ok(Cover { next, links: 0 }),
+        CoverRead::Refused(refusal, place) => Err(Refused { refusal, place }),
     }
 }
 

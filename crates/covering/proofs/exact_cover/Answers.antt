@@ -18,8 +18,8 @@ offset_bounds-starts-m c = let b = c.read_cover-reading.ensures.member _ _ c.in-
 pub bounds-starts-m : goal.bounds-starts-m
 bounds-starts-m c = c.read_cover-reading.ensures.member _ _ c.in-Taken.is
 
-pub cover_answer-answer-requires : goal.cover_answer-answer-requires
-cover_answer-answer-requires c =
+pub cover_answer-requires : goal.cover_answer-requires
+cover_answer-requires c =
     let k = c.read_cover-reading.ensures in
     let e = c.in-Taken.is in
     record { whole = k.whole _ _ e; images = k.images _ _ e }
