@@ -2,23 +2,29 @@
 use mathlib.Core.Bool.{Bool, true, false, ◌&&◌, cond}
 use mathlib.Core.List.{List, [], ◌∷◌, ◌++◌, append-nil, append_assoc}
 use mathlib.Core.Path.{◌≡◌, refl, sym, ap, ap₂, ◌∙◌, subst}
-use Prim.Native.Nat.{ℕ, zero, suc, ◌+◌, ◌-◌, ◌*◌, ◌/◌, ◌%◌, ◌≤◌, ◌<◌, min}
+use Prim.Native.Nat.{ℕ, zero, suc, ◌+◌, ◌-◌, ◌*◌, ◌/◌, ◌%◌, ◌≤◌, ◌<◌}
 use native.Mathlib.Omega.{arith}
 use borrow.Author.Tests.{leb-true, eqb-true, ne_eqb, lt-ltb, le-ltb, le-leb}
 use lib.Dec.{eqb, leb, ltb}
-use lib.ListN.{length, get_or, drop, drop_of_length-le}
+use lib.ListN.{length, drop, drop_of_length-le}
+use Rattle.std.specs.Prelude.{Option, None, Some, IfSome}
+use Rattle.std.specs.Option.{option_map, option_and_then, option_map_or}
 use Rattle.lists.specs.List.{absent}
 use Rattle.lists.proofs.Test.{and_left, and_right}
 use Rattle.kinds.specs.Kinds.{allowed}
 use Rattle.lists.proofs.List.{end as no_row, ◌&◌}
 use Rattle.heap.proofs.Rows.{by_kind}
 use Rattle.lines.specs.Words.{null, any, end, while, if, mark, equals, differs, gets, next, next_gets, new, delete, close, starts, is_word}
-use Rattle.lines.specs.Line.{operand_text, operation_text, decimal, line_text, is_operation, is_test, is_line, letter_of, operand_of, checked, enclosed_of, second_of, between_of, operation_of, opens, opens_line, test_line, digit_of, mark_for, mark_of, line_of}
-use Rattle.lines.specs.declared.Operand.{Operand}
+use Rattle.lines.specs.Line.{operand_text, operation_text, decimal, line_text, is_operation, is_test, is_line, letter_of, letter_first, operand_of, checked, before_close, enclosed_of, before_end, second_of, between_of, operation_of, opens, kept_test, test_of, test_line, digit_of, mark_for, mark_of_two, mark_of, line_of}
 use Rattle.lines.specs.declared.Operation.{Operation}
 use Rattle.lines.specs.declared.Line.{Line}
 use Rattle.lines.specs.declared.Line.TheVariants.{Perform, While, If, End, Mark, Other}
-use Rattle.lines.proofs.TextReads.{operands, operation_operands}
+use Rattle.lines.proofs.TextReads.{operation_operands}
+
+-- an operation that is read has this text, and is of the grammar
+abbrev Reads : (Operation → Bool) → List ℕ → Option Operation → Type 0
+Reads ok s None = Unit {0}
+Reads ok s (Some o) = (operation_text o ≡ s) × (ok o ≡ true)
 
 -- the line, unless it is outside the grammar, is of the grammar and has this text
 abbrev Told : List ℕ → Line → Type 0
@@ -55,165 +61,193 @@ letter_text x h =
     let m : 97 + (x - 97) ≡ x = omega arith in
     ap operand_text n ∙ ap (λ y. y ∷ []) m
 
-letter_told : (x : ℕ) → letter_of x ≤ 26 → operand_text (letter_of x) ≡ x ∷ []
+letter_told : (x : ℕ) → IfSome (letter_of x) (λ a. operand_text a ≡ x ∷ [])
 unfolding letter_of
 letter_told x =
-    by_test (λ n. n ≤ 26 → operand_text n ≡ x ∷ []) (leb 97 x && leb x 122)
-    (λ e h. letter_text x (leb-true 97 x (and_left (leb 97 x) (leb x 122) e))) (λ e h. absurd (omega arith))
-
-no_letter : letter_of 0 ≤ 26 → ⊥
-unfolding letter_of
-no_letter h = omega arith
-
-letter_first : (s : List ℕ) → letter_of (get_or s 0 0) ≤ 26 → operand_text (letter_of (get_or s 0 0)) ++ drop (min 1 (length s)) s ≡ s
-letter_first [] h = absurd (no_letter h)
-letter_first (x ∷ s) h = let one : min 1 (suc (length s)) ≡ 1 = omega arith in rw (one, letter_told x h) refl
+    by_test (λ r. IfSome r (λ a. operand_text a ≡ x ∷ [])) (leb 97 x && leb x 122)
+    (λ e. letter_text x (leb-true 97 x (and_left (leb 97 x) (leb x 122) e))) (λ e. tt)
 
 -- an operand that is read stands at the front
-operand_told : (s : List ℕ) → (operand_of s).value ≤ 26 → operand_text (operand_of s).value ++ drop (operand_of s).length s ≡ s
+abbrev Stands : List ℕ → Option (ℕ × List ℕ) → Type 0
+Stands s None = Unit {0}
+Stands s (Some p) = operand_text p.0 ++ p.1 ≡ s
+
+letter_first_told : (s : List ℕ) → Stands s (letter_first s)
+letter_first_told [] = tt
+letter_first_told (x ∷ s) = go (letter_of x) (letter_told x)
+  where
+    go : (r : Option ℕ) → IfSome r (λ a. operand_text a ≡ x ∷ []) → Stands (x ∷ s) (option_map (λ a. (a, s)) r)
+    go None t = tt
+    go (Some a) t = ap (λ l. l ++ s) t
+
+operand_told : (s : List ℕ) → Stands s (operand_of s)
 unfolding operand_of
-operand_told s =
-    by_test (λ (o : Operand). o.value ≤ 26 → operand_text o.value ++ drop o.length s ≡ s) (starts s null) (λ e h. front s null e)
-    (λ e h. letter_first s h)
+operand_told s = by_test (Stands s) (starts s null) (front s null) (λ e. letter_first_told s)
+
+-- what is read after an operand
+after_operand : (t s : List ℕ) (f : ℕ → List ℕ → Option Operation)
+    → ((a : ℕ) (rest : List ℕ) → operand_text a ++ rest ≡ s → Reads is_operation t (f a rest))
+    → Reads is_operation t (option_and_then (λ p. f p.0 p.1) (operand_of s))
+after_operand t s f g = go (operand_of s) (operand_told s)
+  where
+    go : (r : Option (ℕ × List ℕ)) → Stands s r → Reads is_operation t (option_and_then (λ p. f p.0 p.1) r)
+    go None e = tt
+    go (Some p) e = g p.0 p.1 e
 
 -- ---- operations
 
-checked_told : (s : List ℕ) (kind a b : ℕ) → kind ≤ 7 → (allowed 26 kind a b ≡ true → operation_text (record { kind = kind; a = a; b = b }) ≡ s)
-    → Told s (checked kind a b)
+checked_told : (s : List ℕ) (kind a b : ℕ) → kind ≤ 7 → operation_text (record { kind = kind; a = a; b = b }) ≡ s
+    → Reads is_operation s (checked kind a b)
 unfolding checked
-checked_told s kind a b early text = by_test (Told s) (allowed 26 kind a b) (λ ok n. (text ok, ap₂ ◌&&◌ (le-leb kind 7 early) ok)) (λ e. told_other s)
+checked_told s kind a b early text = by_test (Reads is_operation s) (allowed 26 kind a b) (λ ok. (text, ap₂ ◌&&◌ (le-leb kind 7 early) ok)) (λ e. tt)
 
 enclosed_told : (kind : ℕ) (before s : List ℕ) → kind ≤ 7
-    → ((a : ℕ) → operation_text (record { kind = kind; a = a; b = 0 }) ≡ before ++ (operand_text a ++ close)) → Told (before ++ s) (enclosed_of kind s)
+    → ((a : ℕ) → operation_text (record { kind = kind; a = a; b = 0 }) ≡ before ++ (operand_text a ++ close))
+    → Reads is_operation (before ++ s) (enclosed_of kind s)
 unfolding enclosed_of
 enclosed_told kind before s early form =
-    let a = operand_of s in
-    by_test (Told (before ++ s)) (is_word (drop a.length s) close)
-    (λ e. checked_told (before ++ s) kind a.value 0 early
-    (λ ok. form a.value ∙ ap (λ r. before ++ (operand_text a.value ++ r)) (whole (drop a.length s) close e)
-    ∙ ap (λ r. before ++ r) (operand_told s (operands kind a.value 0 early ok).a_most)))
-    (λ e. told_other (before ++ s))
+    after_operand (before ++ s) s (before_close kind)
+    (λ a rest is. by_test (Reads is_operation (before ++ s)) (is_word rest close)
+    (λ e. checked_told (before ++ s) kind a 0 early
+    (form a ∙ ap (λ r. before ++ (operand_text a ++ r)) (whole rest close e) ∙ ap (λ r. before ++ r) is)) (λ e. tt))
 
 -- after the first operand and what stands between, `before`, in a text t
-second_told : (kind a : ℕ) (before s t : List ℕ) → kind ≤ 7 → (a ≤ 26 → before ++ s ≡ t)
+second_told : (kind a : ℕ) (before s t : List ℕ) → kind ≤ 7 → before ++ s ≡ t
     → ((b : ℕ) → operation_text (record { kind = kind; a = a; b = b }) ≡ before ++ operand_text b)
-    → (kind ≡ 3 → (b : ℕ) → operation_text (record { kind = 4; a = a; b = b }) ≡ before ++ (operand_text b ++ next)) → Told t (second_of kind a s)
+    → (kind ≡ 3 → (b : ℕ) → operation_text (record { kind = 4; a = a; b = b }) ≡ before ++ (operand_text b ++ next))
+    → Reads is_operation t (second_of kind a s)
 unfolding second_of
 second_told kind a before s t early same form form-next =
-    let b = operand_of s in
-    let rest = drop b.length s in
-    by_test (Told t) (is_word rest [])
-    (λ e. checked_told t kind a b.value early
-    (λ ok. form b.value ∙ ap (λ r. before ++ r) (sym (append-nil (operand_text b.value)) ∙ ap (λ r. operand_text b.value ++ r) (whole rest [] e)
-    ∙ operand_told s (operands kind a b.value early ok).b_letter) ∙ same (operands kind a b.value early ok).a_most))
-    (λ e. by_test (Told t) (eqb kind 3 && is_word rest next)
-    (λ f. checked_told t 4 a b.value (omega arith)
-    (λ ok. form-next (eqb-true kind 3 (and_left (eqb kind 3) (is_word rest next) f)) b.value
-    ∙ ap (λ r. before ++ r) (ap (λ r. operand_text b.value ++ r) (whole rest next (and_right (eqb kind 3) (is_word rest next) f))
-    ∙ operand_told s (operands 4 a b.value (omega arith) ok).b_letter) ∙ same (operands 4 a b.value (omega arith) ok).a_most))
-    (λ f. told_other t))
+    after_operand t s (before_end kind a)
+    (λ b rest is. by_test (Reads is_operation t) (is_word rest [])
+    (λ e. checked_told t kind a b early
+    (form b ∙ ap (λ r. before ++ r) (sym (append-nil (operand_text b)) ∙ ap (λ r. operand_text b ++ r) (whole rest [] e) ∙ is) ∙ same))
+    (λ e. by_test (Reads is_operation t) (eqb kind 3 && is_word rest next)
+    (λ f. checked_told t 4 a b (omega arith)
+    (form-next (eqb-true kind 3 (and_left (eqb kind 3) (is_word rest next) f)) b
+    ∙ ap (λ r. before ++ r) (ap (λ r. operand_text b ++ r) (whole rest next (and_right (eqb kind 3) (is_word rest next) f)) ∙ is) ∙ same)) (λ f. tt)))
 
 -- one of the words that may stand between
-module _ (a : ℕ) (s t : List ℕ) (same : a ≤ 26 → operand_text a ++ s ≡ t) where
+module _ (a : ℕ) (s t : List ℕ) (same : operand_text a ++ s ≡ t) where
   one_between : (kind : ℕ) (w : List ℕ) → kind ≤ 7 → starts s w ≡ true
       → ((b : ℕ) → operation_text (record { kind = kind; a = a; b = b }) ≡ operand_text a ++ (w ++ operand_text b))
       → (kind ≡ 3 → (b : ℕ) → operation_text (record { kind = 4; a = a; b = b }) ≡ operand_text a ++ (w ++ (operand_text b ++ next)))
-      → Told t (second_of kind a (drop (length w) s))
+      → Reads is_operation t (second_of kind a (drop (length w) s))
   one_between kind w early e form form-next =
       second_told kind a (operand_text a ++ w) (drop (length w) s) t early
-      (λ h. append_assoc (operand_text a) w (drop (length w) s) ∙ ap (λ r. operand_text a ++ r) (front s w e) ∙ same h)
+      (append_assoc (operand_text a) w (drop (length w) s) ∙ ap (λ r. operand_text a ++ r) (front s w e) ∙ same)
       (λ b. form b ∙ sym (append_assoc (operand_text a) w (operand_text b)))
       (λ z b. form-next z b ∙ sym (append_assoc (operand_text a) w (operand_text b ++ next)))
 
-  between_told : Told t (between_of a s)
+  between_told : Reads is_operation t (between_of a s)
   unfolding between_of
   between_told =
-      by_test (Told t) (starts s equals) (λ e. one_between 1 equals (omega arith) e (λ b. refl) (λ z. absurd (omega arith)))
-      (λ e₁. by_test (Told t) (starts s differs) (λ e. one_between 2 differs (omega arith) e (λ b. refl) (λ z. absurd (omega arith)))
-      (λ e₂. by_test (Told t) (starts s gets) (λ e. one_between 3 gets (omega arith) e (λ b. refl) (λ z b. refl))
-      (λ e₃. by_test (Told t) (starts s next_gets) (λ e. one_between 5 next_gets (omega arith) e (λ b. refl) (λ z. absurd (omega arith))) (λ e₄. told_other t))))
+      by_test (Reads is_operation t) (starts s equals) (λ e. one_between 1 equals (omega arith) e (λ b. refl) (λ z. absurd (omega arith)))
+      (λ e₁. by_test (Reads is_operation t) (starts s differs) (λ e. one_between 2 differs (omega arith) e (λ b. refl) (λ z. absurd (omega arith)))
+      (λ e₂. by_test (Reads is_operation t) (starts s gets) (λ e. one_between 3 gets (omega arith) e (λ b. refl) (λ z b. refl))
+      (λ e₃. by_test (Reads is_operation t) (starts s next_gets) (λ e. one_between 5 next_gets (omega arith) e (λ b. refl) (λ z. absurd (omega arith)))
+      (λ e₄. tt))))
 
-operation_told : (s : List ℕ) → Told s (operation_of s)
+operation_told : (s : List ℕ) → Reads is_operation s (operation_of s)
 unfolding operation_of
 operation_told s =
-    by_test (Told s) (starts s new)
-    (λ e. subst (λ t. Told t (enclosed_of 6 (drop 4 s))) (front s new e) (enclosed_told 6 new (drop 4 s) (omega arith) (λ a. refl)))
-    (λ e₁. by_test (Told s) (starts s delete)
-    (λ e. subst (λ t. Told t (enclosed_of 7 (drop 7 s))) (front s delete e) (enclosed_told 7 delete (drop 7 s) (omega arith) (λ a. refl)))
-    (λ e₂. between_told (operand_of s).value (drop (operand_of s).length s) s (operand_told s)))
+    by_test (Reads is_operation s) (starts s new)
+    (λ e. subst (λ t. Reads is_operation t (enclosed_of 6 (drop 4 s))) (front s new e) (enclosed_told 6 new (drop 4 s) (omega arith) (λ a. refl)))
+    (λ e₁. by_test (Reads is_operation s) (starts s delete)
+    (λ e. subst (λ t. Reads is_operation t (enclosed_of 7 (drop 7 s))) (front s delete e) (enclosed_told 7 delete (drop 7 s) (omega arith) (λ a. refl)))
+    (λ e₂. after_operand s s between_of (λ a rest is. between_told a rest s is)))
 
 -- ---- T, marks and lines
 
+test_told : (s : List ℕ) → Reads is_test s (test_of s)
+unfolding test_of
+test_told s = by_test (Reads is_test s) (is_word s any) (λ e. (whole s any e, refl)) (λ e. kept (operation_of s) (operation_told s))
+  where
+    kept : (r : Option Operation) → Reads is_operation s r → Reads is_test s (option_and_then kept_test r)
+    kept None t = tt
+    kept (Some o) (text, ok) =
+        by_test (Reads is_test s) (leb o.kind 2)
+        (λ e. let some = (operation_operands o ok).kind_some in (text, rw (ne_eqb o.kind 0 (λ z. omega arith), e, ok) refl)) (λ e. tt)
+
 -- `while T` and `if T`, whose text is a word before that of T
-module _ (loops : Bool) (word : List ℕ) (opens-text : (o : Operation) → line_text (opens loops o) ≡ word ++ operation_text o)
-    (opens_line_lem : (o : Operation) → is_line (opens loops o) ≡ is_test o) where
-  opens_told : (s : List ℕ) (l : Line) → Told s l → Told (word ++ s) (opens_line loops l)
-  opens_told s (Perform o) told =
-      by_test (Told (word ++ s)) (leb o.kind 2)
-      (λ e n.
-      let (text, ok) = told (λ z. let y : ◌≡◌ {A = ℕ} 0 1 = cc in omega arith) in
-      let some = (operation_operands o ok).kind_some in
-      (opens-text o ∙ ap (λ r. word ++ r) text, opens_line_lem o ∙ rw (ne_eqb o.kind 0 (λ z. omega arith), e, ok) refl))
-      (λ e. told_other (word ++ s))
-  opens_told s (While t) told = told_other (word ++ s)
-  opens_told s (If t) told = told_other (word ++ s)
-  opens_told s End told = told_other (word ++ s)
-  opens_told s (Mark k) told = told_other (word ++ s)
-  opens_told s Other told = told_other (word ++ s)
+opens_told : (loops : Bool) (word s : List ℕ) → ((o : Operation) → line_text (opens loops o) ≡ word ++ operation_text o)
+    → ((o : Operation) → is_line (opens loops o) ≡ is_test o) → Told (word ++ s) (test_line loops s)
+unfolding test_line
+opens_told loops word s text line = go (test_of s) (test_told s)
+  where
+    go : (r : Option Operation) → Reads is_test s r → Told (word ++ s) (option_map_or (opens loops) r Other)
+    go None t = told_other (word ++ s)
+    go (Some o) (is, ok) = λ n. (text o ∙ ap (λ r. word ++ r) is, line o ∙ ok)
 
-  test_told : (s : List ℕ) → Told (word ++ s) (test_line loops s)
-  unfolding test_line
-  test_told s =
-      by_test (Told (word ++ s)) (is_word s any)
-      (λ e n. (opens-text _ ∙ ap (λ r. word ++ r) (whole s any e), opens_line_lem _))
-      (λ e. opens_told s (operation_of s) (operation_told s))
-
-digit_told : (x : ℕ) → digit_of x < 64 → (48 + digit_of x ≡ x) × (digit_of x < 10)
+digit_told : (x : ℕ) → IfSome (digit_of x) (λ d. (48 + d ≡ x) × (d < 10))
 unfolding digit_of
 digit_told x =
-    by_test (λ n. n < 64 → (48 + n ≡ x) × (n < 10)) (leb 48 x && leb x 57)
-    (λ e h.
+    by_test (λ r. IfSome r (λ d. (48 + d ≡ x) × (d < 10))) (leb 48 x && leb x 57)
+    (λ e.
     let l = leb-true 48 x (and_left (leb 48 x) (leb x 57) e) in
     let m = leb-true x 57 (and_right (leb 48 x) (leb x 57) e) in
-    (omega arith, omega arith)) (λ e h. absurd (omega arith))
+    (omega arith, omega arith)) (λ e. tt)
 
-mark_for_told : (t : List ℕ) (k : ℕ) → (k ≤ 63 → mark ++ decimal k ≡ t) → Told t (mark_for k)
+-- the number of a mark that is read is written so
+abbrev ReadsMark : List ℕ → Option ℕ → Type 0
+ReadsMark s None = Unit {0}
+ReadsMark s (Some k) = (decimal k ≡ s) × (leb k 63 ≡ true)
+
+mark_for_told : (s : List ℕ) (k : ℕ) → decimal k ≡ s → ReadsMark s (mark_for k)
 unfolding mark_for
-mark_for_told t k text = by_test (Told t) (leb k 63) (λ e n. (text (leb-true k 63 e), e)) (λ e. told_other t)
+mark_for_told s k text = by_test (ReadsMark s) (leb k 63) (λ e. (text, e)) (λ e. tt)
 
-decimal_one : (x : ℕ) → digit_of x ≤ 63 → decimal (digit_of x) ≡ x ∷ []
-decimal_one x h = let (is, small) = digit_told x (omega arith) in rw (lt-ltb (digit_of x) 10 small, is) refl
-
-decimal_two : (x y : ℕ) → 1 ≤ digit_of x → digit_of x * 10 + digit_of y ≤ 63 → decimal (digit_of x * 10 + digit_of y) ≡ x ∷ y ∷ []
-decimal_two x y l h =
-    let (is_x, small-x) = digit_told x (omega arith) in
-    let (is_y, small-y) = digit_told y (omega arith) in
-    let k = digit_of x * 10 + digit_of y in
-    let high : k / 10 ≡ digit_of x = omega arith in
-    let low : k % 10 ≡ digit_of y = omega arith in
+decimal_two : (d e x y : ℕ) → 48 + d ≡ x → d < 10 → 48 + e ≡ y → e < 10 → 1 ≤ d → decimal (d * 10 + e) ≡ x ∷ y ∷ []
+decimal_two d e x y is_x small-x is_y small-y some =
+    let k = d * 10 + e in
+    let high : k / 10 ≡ d = omega arith in
+    let low : k % 10 ≡ e = omega arith in
     rw (le-ltb k 10 (omega arith), high, low, is_x, is_y) refl
 
-mark_told : (s : List ℕ) → Told (mark ++ s) (mark_of s)
+mark_told : (s : List ℕ) → ReadsMark s (mark_of s)
 unfolding mark_of
-mark_told [] = told_other _
-mark_told (x ∷ []) = mark_for_told _ (digit_of x) (λ h. ap (λ r. mark ++ r) (decimal_one x h))
-mark_told (x ∷ y ∷ []) =
-    by_test (Told (mark ++ (x ∷ y ∷ []))) (leb 1 (digit_of x))
-    (λ e. mark_for_told _ (digit_of x * 10 + digit_of y) (λ h. ap (λ r. mark ++ r) (decimal_two x y (leb-true 1 (digit_of x) e) h))) (λ e. told_other _)
-mark_told (x ∷ y ∷ z ∷ s) =
-    let n = suc (suc (suc (length s))) in
-    rw (ne_eqb n 1 (λ e. omega arith), ne_eqb n 2 (λ e. omega arith)) (told_other _)
+mark_told [] = tt
+mark_told (y ∷ []) = one (digit_of y) (digit_told y)
+  where
+    one : (r : Option ℕ) → IfSome r (λ d. (48 + d ≡ y) × (d < 10)) → ReadsMark (y ∷ []) (option_and_then mark_for r)
+    one None t = tt
+    one (Some d) (is, small) = mark_for_told (y ∷ []) d (rw (lt-ltb d 10 small, is) refl)
+mark_told (x ∷ y ∷ []) = two (digit_of x) (digit_told x) (digit_of y) (digit_told y)
+  where
+    two : (r : Option ℕ) → IfSome r (λ d. (48 + d ≡ x) × (d < 10)) → (q : Option ℕ) → IfSome q (λ d. (48 + d ≡ y) × (d < 10))
+        → ReadsMark (x ∷ y ∷ []) (mark_of_two r q)
+    two None t q u = tt
+    two (Some d) t None u = by_test (ReadsMark (x ∷ y ∷ [])) (leb 1 d) (λ e. tt) (λ e. tt)
+    two (Some d) (is_x, small-x) (Some f) (is_y, small-y) =
+        by_test (ReadsMark (x ∷ y ∷ [])) (leb 1 d)
+        (λ e. mark_for_told (x ∷ y ∷ []) (d * 10 + f) (decimal_two d f x y is_x small-x is_y small-y (leb-true 1 d e))) (λ e. tt)
+mark_told (x ∷ y ∷ z ∷ s) = tt
+
+marks_told : (s : List ℕ) → Told (mark ++ s) (option_map_or Mark (mark_of s) Other)
+marks_told s = go (mark_of s) (mark_told s)
+  where
+    go : (r : Option ℕ) → ReadsMark s r → Told (mark ++ s) (option_map_or Mark r Other)
+    go None t = told_other (mark ++ s)
+    go (Some k) (text, ok) = λ n. (ap (λ r. mark ++ r) text, ok)
+
+performs_told : (s : List ℕ) → Told s (option_map_or Perform (operation_of s) Other)
+performs_told s = go (operation_of s) (operation_told s)
+  where
+    go : (r : Option Operation) → Reads is_operation s r → Told s (option_map_or Perform r Other)
+    go None t = told_other s
+    go (Some o) t = λ n. t
 
 line_told : (s : List ℕ) → Told s (line_of s)
 unfolding line_of
 line_told s =
     by_test (Told s) (is_word s end) (λ e n. (whole s end e, refl))
-    (λ e₁. by_test (Told s) (starts s mark) (λ e. subst (λ t. Told t (mark_of (drop 5 s))) (front s mark e) (mark_told (drop 5 s)))
+    (λ e₁. by_test (Told s) (starts s mark)
+    (λ e. subst (λ t. Told t (option_map_or Mark (mark_of (drop 5 s)) Other)) (front s mark e) (marks_told (drop 5 s)))
     (λ e₂. by_test (Told s) (starts s while)
-    (λ e. subst (λ t. Told t (test_line true (drop 6 s))) (front s while e) (test_told true while (λ o. refl) (λ o. refl) (drop 6 s)))
+    (λ e. subst (λ t. Told t (test_line true (drop 6 s))) (front s while e) (opens_told true while (drop 6 s) (λ o. refl) (λ o. refl)))
     (λ e₃. by_test (Told s) (starts s if)
-    (λ e. subst (λ t. Told t (test_line false (drop 3 s))) (front s if e) (test_told false if (λ o. refl) (λ o. refl) (drop 3 s)))
-    (λ e₄. operation_told s))))
+    (λ e. subst (λ t. Told t (test_line false (drop 3 s))) (front s if e) (opens_told false if (drop 3 s) (λ o. refl) (λ o. refl)))
+    (λ e₄. performs_told s))))
 
 -- bytes that read as a line are its text, and it is a line of the grammar
 pub reads_text : (s : List ℕ) (l : Line) → line_of s ≡ l → (l ≡ Other → ⊥) → (line_text l ≡ s) × (is_line l ≡ true)

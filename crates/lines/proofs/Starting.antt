@@ -1,77 +1,80 @@
--- What a word at the front of bytes says of the bytes, and the test of it byte by byte.
+-- The library's tests of bytes are the definitions' words: a prefix that is stripped stands at the front, and equal bytes are the word.
 use mathlib.Core.Bool.{Bool, true, false, ◌&&◌}
 use mathlib.Core.List.{List, [], ◌∷◌}
-use mathlib.Core.Path.{◌≡◌, refl, ap₂}
-use Prim.Native.Nat.{ℕ, suc, ◌+◌, ◌-◌, ◌≤◌, ◌<◌, min}
-use native.Mathlib.Numerals.{add-one}
+use mathlib.Core.Path.{◌≡◌, refl, ap, ◌∙◌}
+use Prim.Native.Nat.{ℕ, suc, ◌-◌, ◌≤◌}
 use native.Mathlib.Omega.{arith}
-use borrow.Author.Tests.{le-leb, lt-leb}
-use lib.Dec.{eqb}
-use lib.ListN.{length, get_or, take, drop, length-drop, drop_of_length-le}
-use lib.Seq.{drop-cons, take_all}
-use Rattle.lists.proofs.Test.{and_right}
-use Rattle.lines.specs.Words.{starts}
-use Rattle.lines.specs.Line.{letter_of, opens, opens_line}
-use Rattle.lines.specs.declared.Line.{Line}
-use Rattle.lines.specs.declared.Line.TheVariants.{Perform, While, If, End, Mark, Other}
-use Rattle.lines.specs.declared.Operation.{Operation}
-use Rattle.lines.specs.declared.Operand.{Operand}
+use borrow.Author.Tests.{ne_eqb}
+use lib.Dec.{eqb, eqb-suc-suc}
+use lib.ListN.{length, get_or, take, drop}
+use lib.Seq.{take_all}
+use Rattle.std.specs.Prelude.{Some}
+use Rattle.lines.specs.Line.{letter_of, operand_of}
+use Rattle.std.specs.Cmp.Lexicographic.{pointwise}
+use Rattle.lines.specs.Words.{null, while, if, mark, equals, differs, gets, next_gets, new, delete, starts, is_word}
 
--- a word that stands at the front is no longer than the bytes
-pub starts_length : (s w : List ℕ) → starts s w ≡ true → length w ≤ length s
+pub starts_stripped : (s w : List ℕ) → pointwise eqb (take (length w) s) w ≡ starts s w
 unfolding starts
-starts_length s [] e = omega arith
-starts_length [] (c ∷ w) e = let z : false ≡ true = e in absurd_of z
+starts_stripped [] [] = refl
+starts_stripped (b ∷ s) [] = refl
+starts_stripped [] (c ∷ w) = refl
+starts_stripped (b ∷ s) (c ∷ w) = ap (λ r. eqb b c && r) (starts_stripped s w)
+
+-- each word at the front
+pub front_null : (s : List ℕ) → pointwise eqb (take 4 s) null ≡ starts s null
+front_null s = starts_stripped s null
+
+pub front_mark : (s : List ℕ) → pointwise eqb (take 5 s) mark ≡ starts s mark
+front_mark s = starts_stripped s mark
+
+pub front_while : (s : List ℕ) → pointwise eqb (take 6 s) while ≡ starts s while
+front_while s = starts_stripped s while
+
+pub front_if : (s : List ℕ) → pointwise eqb (take 3 s) if ≡ starts s if
+front_if s = starts_stripped s if
+
+pub front_equals : (s : List ℕ) → pointwise eqb (take 3 s) equals ≡ starts s equals
+front_equals s = starts_stripped s equals
+
+pub front_differs : (s : List ℕ) → pointwise eqb (take 4 s) differs ≡ starts s differs
+front_differs s = starts_stripped s differs
+
+pub front_gets : (s : List ℕ) → pointwise eqb (take 4 s) gets ≡ starts s gets
+front_gets s = starts_stripped s gets
+
+pub front_next_gets : (s : List ℕ) → pointwise eqb (take 9 s) next_gets ≡ starts s next_gets
+front_next_gets s = starts_stripped s next_gets
+
+pub front_new : (s : List ℕ) → pointwise eqb (take 4 s) new ≡ starts s new
+front_new s = starts_stripped s new
+
+pub front_delete : (s : List ℕ) → pointwise eqb (take 7 s) delete ≡ starts s delete
+front_delete s = starts_stripped s delete
+
+pub ruleset fronts = (front_null, front_mark, front_while, front_if, front_equals, front_differs, front_gets, front_next_gets, front_new, front_delete)
+
+pub is_word_equal : (s w : List ℕ) → pointwise eqb s w ≡ is_word s w
+unfolding is_word starts
+is_word_equal [] [] = refl
+is_word_equal (b ∷ s) [] = simp (ne_eqb (suc (length s)) 0 (λ e. omega arith))
+is_word_equal [] (c ∷ w) = simp (ne_eqb 0 (suc (length w)) (λ e. omega arith))
+is_word_equal (b ∷ s) (c ∷ w) = rw eqb-suc-suc (ap (λ r. eqb b c && r) (is_word_equal s w) ∙ swap (eqb b c) (eqb (length s) (length w)) (starts s w))
   where
-    absurd_of : false ≡ true → suc (length w) ≤ 0
-    absurd_of z = let y : ◌≡◌ {A = ℕ} 0 1 = cc in absurd (omega arith)
-starts_length (b ∷ s) (c ∷ w) e = let l = starts_length s w (and_right (eqb b c) (starts s w) e) in omega arith
+    swap : (x y z : Bool) → x && (y && z) ≡ y && (x && z)
+    swap true y z = refl
+    swap false true z = refl
+    swap false false z = refl
 
-pub starts_short : (s w : List ℕ) → length s < length w → starts s w ≡ false
-starts_short s w h = by_test (starts s w) refl
-  where
-    by_test : (b : Bool) → starts s w ≡ b → b ≡ false
-    by_test true e = absurd (omega (arith, starts_length s w e))
-    by_test false e = refl
+pub is_word_none : (s : List ℕ) → is_word s [] ≡ eqb (length s) 0
+unfolding is_word starts
+is_word_none [] = refl
+is_word_none (b ∷ s) = simp (ne_eqb (suc (length s)) 0 (λ e. omega arith))
 
-module _ (s w : List ℕ) (i : ℕ) where
-  pub starts_here : i < length s → i < length w → starts (drop i s) (drop i w) ≡ eqb (get_or s i 0) (get_or w i 0) && starts (drop (i + 1) s) (drop (i + 1) w)
-  unfolding starts
-  starts_here h k = rw (drop-cons s i 0 h, drop-cons w i 0 k, add-one i) refl
+pub ruleset wholes = (is_word_equal, is_word_none)
 
-  pub starts_end : length w ≤ i → starts (drop i s) (drop i w) ≡ true
-  unfolding starts
-  starts_end h = rw (drop_of_length-le w h) refl
-
--- the part of a slice from a place on
-pub rest : (s : List ℕ) (k : ℕ) → take (length s - k) (drop k s) ≡ drop k s
-rest s k = take_all (length s - k) (drop k s) (omega (arith, length-drop k s))
-
--- no operand where no byte is left, and else what the first byte is
-pub operand_none : (s : List ℕ) → length s ≡ 0
-    → ◌≡◌ {A = Operand} (record { value = 27; length = 0 }) (record { value = letter_of (get_or s 0 0); length = min 1 (length s) })
-unfolding letter_of
-operand_none [] e = refl
-operand_none (x ∷ s) e = absurd (omega arith)
-
-pub operand_letter : (s : List ℕ) {n : ℕ} → n ≡ letter_of (get_or s 0 0) → (length s ≡ 0 → ⊥)
-    → ◌≡◌ {A = Operand} (record { value = n; length = 1 }) (record { value = letter_of (get_or s 0 0); length = min 1 (length s) })
-operand_letter [] e some = absurd (some refl)
-operand_letter (x ∷ s) e some = let one : 1 ≡ min 1 (suc (length s)) = omega arith in ap₂ (λ v k. record { value = v; length = k }) e one
-
--- ---- T read as an operation
-
-module _ (loops : Bool) where
-  pub test_taken : (o : Operation) → o.kind ≤ 2 → opens loops o ≡ opens_line loops (Perform o)
-  test_taken o h = simp (le-leb o.kind 2 h)
-
-  pub test_left : (o : Operation) → 2 < o.kind → Other ≡ opens_line loops (Perform o)
-  test_left o h = simp (lt-leb o.kind 2 h)
-
-  pub no_operation : (l : Line) → ((o : Operation) → l ≡ Perform o → ⊥) → Other ≡ opens_line loops l
-  no_operation (Perform o) k = absurd (k o refl)
-  no_operation (While t) k = refl
-  no_operation (If t) k = refl
-  no_operation End k = refl
-  no_operation (Mark n) k = refl
-  no_operation Other k = refl
+-- an operand that is a letter, and what a slice pattern leaves behind it
+pub letter_operand : (s : List ℕ) (a : ℕ) → starts s null ≡ false → 1 ≤ length s → Some a ≡ letter_of (get_or s 0 0)
+    → operand_of s ≡ Some (a, take (length s - 1) (drop 1 s))
+unfolding operand_of
+letter_operand [] a n h e = absurd (omega arith)
+letter_operand (x ∷ s) a n h e = rw (n, ← e, take_all (suc (length s) - 1) s (omega arith)) refl

@@ -1,22 +1,23 @@
 -- The text of a line of the grammar reads as that line.
-use mathlib.Core.Bool.{Bool, true, false, ◌&&◌, cond}
+use mathlib.Core.Bool.{Bool, true, false, ◌&&◌}
 use mathlib.Core.List.{List, [], ◌∷◌, ◌++◌, append-nil}
 use mathlib.Core.Path.{◌≡◌, refl, sym, ap, ap₂, ◌∙◌}
-use Prim.Native.Nat.{ℕ, zero, suc, ◌+◌, ◌-◌, ◌/◌, ◌%◌, ◌≤◌, ◌<◌, min}
+use Prim.Native.Nat.{ℕ, zero, suc, ◌+◌, ◌-◌, ◌/◌, ◌%◌, ◌≤◌, ◌<◌}
 use native.Mathlib.Decide.{dec_lt}
 use native.Mathlib.Nat.{mod-lt, div-add-mod'}
 use native.Mathlib.Omega.{arith}
 use borrow.Author.Tests.{leb-true, eqb-true, ne_eqb, lt-ltb, le-ltb, le-leb}
 use lib.Dec.{eqb, leb}
 use lib.ListN.{length, drop}
-use lib.Seq.{drop-append_seam}
+use Rattle.std.specs.Prelude.{Some}
+use Rattle.std.specs.Option.{option_map_or}
 use Rattle.lists.proofs.Test.{and_left, and_right}
 use Rattle.kinds.specs.Kinds.{least_a_of, least_b_of, most_b_of, allowed}
 use Rattle.lists.proofs.List.{end as no_row, ◌&◌}
 use Rattle.heap.proofs.Rows.{by_kind}
 use Rattle.kinds.proofs.Rows.{known, allowed_row, most_bound}
 use Rattle.lines.specs.Words.{null, any, end, while, if, mark, equals, differs, gets, next, next_gets, new, delete, close, starts, is_word}
-use Rattle.lines.specs.Line.{operand_text, operation_text, decimal, line_text, is_operation, is_test, is_line, letter_of, operand_of, checked, enclosed_of, second_of, between_of, operation_of, opens, test_line, digit_of, mark_for, mark_of, line_of}
+use Rattle.lines.specs.Line.{operand_text, operation_text, decimal, line_text, is_operation, is_test, is_line, letter_of, operand_of, checked, enclosed_of, before_end, second_of, between_of, operation_of, opens, test_of, test_line, digit_of, mark_for, mark_of, line_of}
 use Rattle.lines.specs.declared.Operation.{Operation}
 use Rattle.lines.specs.declared.Line.{Line}
 use Rattle.lines.specs.declared.Line.TheVariants.{Perform, While, If, End, Mark, Other}
@@ -60,18 +61,17 @@ no_word zero t c w p q = p
 no_word (suc n) t c w p q = rw q (and_false (eqb (97 + n) c))
 
 -- an operand reads as itself
-operand_reads : (x : ℕ) (t : List ℕ) → x ≤ 26 → Apart t → operand_of (operand_text x ++ t) ≡ record { value = x; length = length (operand_text x) }
+operand_reads : (x : ℕ) (t : List ℕ) → x ≤ 26 → Apart t → operand_of (operand_text x ++ t) ≡ Some (x, t)
 unfolding operand_of letter_of starts
 operand_reads zero t h apart = refl
 operand_reads (suc n) t h apart =
-    let one : min 1 (suc (length t)) ≡ 1 = omega arith in
     let is : 97 + n - 96 ≡ suc n = omega arith in
     rw (apart.null_not, and_false (eqb (97 + n) 110))
-    (simp (le-leb 97 (97 + n) (omega arith), le-leb (97 + n) 122 (omega arith)) (ap₂ (λ v k. record { value = v; length = k }) is one))
+    (simp (le-leb 97 (97 + n) (omega arith), le-leb (97 + n) 122 (omega arith)) (ap (λ v. Some (v, t)) is))
 
 -- ---- operations
 
-checked_reads : (kind a b : ℕ) → allowed 26 kind a b ≡ true → checked kind a b ≡ Perform (record { kind = kind; a = a; b = b })
+checked_reads : (kind a b : ℕ) → allowed 26 kind a b ≡ true → checked kind a b ≡ Some (record { kind = kind; a = a; b = b })
 unfolding checked
 checked_reads kind a b ok = rw ok refl
 
@@ -106,9 +106,9 @@ operation_operands o ok =
 
 -- the second operand, and what comes after it
 second_reads : (kind a b : ℕ) (t : List ℕ) → b ≤ 26 → Apart t
-    → second_of kind a (operand_text b ++ t) ≡ cond (is_word t []) (checked kind a b) (cond (eqb kind 3 && is_word t next) (checked 4 a b) Other)
+    → second_of kind a (operand_text b ++ t) ≡ before_end kind a b t
 unfolding second_of
-second_reads kind a b t h apart = rw (operand_reads b t h apart, drop-append_seam (operand_text b) t) refl
+second_reads kind a b t h apart = rw (operand_reads b t h apart) refl
 
 second_last : (kind a b : ℕ) → b ≤ 26 → second_of kind a (operand_text b) ≡ checked kind a b
 unfolding is_word starts
@@ -120,7 +120,7 @@ second_next a b h = second_reads 3 a b next h (point_apart _)
 
 enclosed_reads : (kind a : ℕ) → a ≤ 26 → enclosed_of kind (operand_text a ++ close) ≡ checked kind a 0
 unfolding enclosed_of is_word starts
-enclosed_reads kind a h = rw (operand_reads a close h close_apart, drop-append_seam (operand_text a) close) refl
+enclosed_reads kind a h = rw (operand_reads a close h close_apart) refl
 
 -- an operand first
 null_new : (t : List ℕ) → starts (null ++ t) new ≡ false
@@ -138,7 +138,6 @@ first_reads a t h apart =
       no_word a t 110 (drop 1 new) (null_new t) apart.new_not,
       no_word a t 100 (drop 1 delete) (null_delete t) apart.delete_not,
       operand_reads a t h apart,
-      drop-append_seam (operand_text a) t,
     ) refl
 
 -- what stands between decides the kind
@@ -170,12 +169,12 @@ operation_delete t = refl
 -- The text of an operation reads as it.
 abbrev Reading : ℕ → ℕ → ℕ → Type 0
 Reading a b k = Operands k a b → allowed 26 k a b ≡ true
-    → operation_of (operation_text (record { kind = k; a = a; b = b })) ≡ Perform (record { kind = k; a = a; b = b })
+    → operation_of (operation_text (record { kind = k; a = a; b = b })) ≡ Some (record { kind = k; a = a; b = b })
 
 no_b : (kind a b : ℕ) → most_b_of kind 26 ≡ 0 → Operands kind a b → b ≡ 0
 no_b kind a b e h = omega (arith, h.b_most)
 
-pub operation_reads : (o : Operation) → is_operation o ≡ true → operation_of (operation_text o) ≡ Perform o
+pub operation_reads : (o : Operation) → is_operation o ≡ true → operation_of (operation_text o) ≡ Some o
 unfolding most_b_of
 operation_reads o ok =
     let a = o.a in
@@ -198,22 +197,25 @@ no_line_word : (s w : List ℕ) → starts s w ≡ false → is_word s w ≡ fal
 unfolding is_word
 no_line_word s w e = rw e (and_false (eqb (length s) (length w)))
 
+abbrev performed : List ℕ → Line
+performed s = option_map_or Perform (operation_of s) Other
+
 -- what begins with none of the other lines' words is read as an operation
-line_operation : (s : List ℕ) → starts s end ≡ false → starts s mark ≡ false → starts s while ≡ false → starts s if ≡ false → line_of s ≡ operation_of s
+line_operation : (s : List ℕ) → starts s end ≡ false → starts s mark ≡ false → starts s while ≡ false → starts s if ≡ false → line_of s ≡ performed s
 unfolding line_of
 line_operation s e m w i = rw (no_line_word s end e, m, w, i) refl
 
-plain_line : (a : ℕ) (t : List ℕ) → Apart t → line_of (operand_text a ++ t) ≡ operation_of (operand_text a ++ t)
+plain_line : (a : ℕ) (t : List ℕ) → Apart t → line_of (operand_text a ++ t) ≡ performed (operand_text a ++ t)
 unfolding starts
 plain_line a t apart =
     line_operation (operand_text a ++ t) (no_word a t 101 (drop 1 end) refl apart.end_not) (no_word a t 109 (drop 1 mark) refl apart.mark_not)
     (no_word a t 119 (drop 1 while) refl apart.while_not) (no_word a t 105 (drop 1 if) refl apart.if_not)
 
-new_line : (t : List ℕ) → line_of (new ++ t) ≡ operation_of (new ++ t)
+new_line : (t : List ℕ) → line_of (new ++ t) ≡ performed (new ++ t)
 unfolding starts
 new_line t = line_operation (new ++ t) refl refl refl refl
 
-delete_line : (t : List ℕ) → line_of (delete ++ t) ≡ operation_of (delete ++ t)
+delete_line : (t : List ℕ) → line_of (delete ++ t) ≡ performed (delete ++ t)
 unfolding starts
 delete_line t = line_operation (delete ++ t) refl refl refl refl
 
@@ -222,7 +224,7 @@ operation_line o ok =
     let a = o.a in
     let b = o.b in
     let all = operation_operands o ok in
-    by_kind 7 (λ k. line_of (operation_text (record { kind = k; a = a; b = b })) ≡ operation_of (operation_text (record { kind = k; a = a; b = b })))
+    by_kind 7 (λ k. line_of (operation_text (record { kind = k; a = a; b = b })) ≡ performed (operation_text (record { kind = k; a = a; b = b })))
     (plain_line a (equals ++ operand_text b) (blank_apart _)
     & plain_line a (differs ++ operand_text b) (blank_apart _)
     & plain_line a (gets ++ operand_text b) (blank_apart _)
@@ -232,12 +234,12 @@ operation_line o ok =
     & delete_line (operand_text a ++ close)
     & no_row)
     o.kind all.kind_some all.kind_most
-    ∙ operation_reads o ok
+    ∙ ap (λ r. option_map_or Perform r Other) (operation_reads o ok)
 
 -- ---- T
 
 any_reads : (loops : Bool) → test_line loops any ≡ opens loops (record { kind = 0; a = 0; b = 0 })
-unfolding test_line is_word starts
+unfolding test_line test_of is_word starts
 any_reads loops = refl
 
 -- no operation is the word `any`
@@ -247,7 +249,7 @@ any_not a t e = no_word a t 97 (drop 1 any) refl e
 
 test_operation : (loops : Bool) (o : Operation) → is_operation o ≡ true → o.kind ≤ 2 → starts (operation_text o) any ≡ false
     → test_line loops (operation_text o) ≡ opens loops o
-unfolding test_line
+unfolding test_line test_of
 test_operation loops o ok h e = rw (no_line_word (operation_text o) any e, operation_reads o ok, le-leb o.kind 2 h) refl
 
 test_any : (a b : ℕ) (k : ℕ) → 1 ≤ k → k ≤ 2 → starts (operation_text (record { kind = k; a = a; b = b })) any ≡ false
@@ -271,15 +273,15 @@ test_reads loops (suc k) a b ok =
 
 -- ---- marks
 
-digit_reads : (k : ℕ) → k < 10 → digit_of (48 + k) ≡ k
+digit_reads : (k : ℕ) → k < 10 → digit_of (48 + k) ≡ Some k
 unfolding digit_of
-digit_reads k h = let is : 48 + k - 48 ≡ k = omega arith in simp (le-leb 48 (48 + k) (omega arith), le-leb (48 + k) 57 (omega arith)) is
+digit_reads k h = let is : 48 + k - 48 ≡ k = omega arith in simp (le-leb 48 (48 + k) (omega arith), le-leb (48 + k) 57 (omega arith)) (ap Some is)
 
-mark_one : (k : ℕ) → k < 10 → mark_of (decimal k) ≡ Mark k
+mark_one : (k : ℕ) → k < 10 → mark_of (decimal k) ≡ Some k
 unfolding mark_of mark_for
 mark_one k h = rw (lt-ltb k 10 h, digit_reads k h, le-leb k 63 (omega arith)) refl
 
-mark_two : (k : ℕ) → 10 ≤ k → k ≤ 63 → mark_of (decimal k) ≡ Mark k
+mark_two : (k : ℕ) → 10 ≤ k → k ≤ 63 → mark_of (decimal k) ≡ Some k
 unfolding mark_of mark_for
 mark_two k l h =
     let parts = div-add-mod' k 10 in
@@ -288,10 +290,10 @@ mark_two k l h =
     let few : k / 10 < 10 = omega arith in
     rw (le-ltb k 10 l, digit_reads (k / 10) few, digit_reads (k % 10) small, le-leb 1 (k / 10) some, parts, le-leb k 63 h) refl
 
-mark_reads : (k : ℕ) → k ≤ 63 → mark_of (decimal k) ≡ Mark k
+mark_reads : (k : ℕ) → k ≤ 63 → mark_of (decimal k) ≡ Some k
 mark_reads k h = by_size (dec_lt k 10)
   where
-    by_size : Dec (k < 10) → mark_of (decimal k) ≡ Mark k
+    by_size : Dec (k < 10) → mark_of (decimal k) ≡ Some k
     by_size (yes s) = mark_one k s
     by_size (no s) = mark_two k (omega arith) h
 
@@ -301,7 +303,7 @@ end_line : line_of end ≡ End
 unfolding line_of is_word starts
 end_line = refl
 
-mark_line : (t : List ℕ) → line_of (mark ++ t) ≡ mark_of t
+mark_line : (t : List ℕ) → line_of (mark ++ t) ≡ option_map_or Mark (mark_of t) Other
 unfolding line_of starts
 mark_line t = rw (no_line_word (mark ++ t) end refl) refl
 
@@ -319,5 +321,5 @@ text_reads (Perform o) ok = operation_line o ok
 text_reads (While t) ok = while_line (operation_text t) ∙ test_reads true t.kind t.a t.b ok
 text_reads (If t) ok = if_line (operation_text t) ∙ test_reads false t.kind t.a t.b ok
 text_reads End ok = end_line
-text_reads (Mark k) ok = mark_line (decimal k) ∙ mark_reads k (leb-true k 63 ok)
+text_reads (Mark k) ok = mark_line (decimal k) ∙ ap (λ r. option_map_or Mark r Other) (mark_reads k (leb-true k 63 ok))
 text_reads Other ok = let z : false ≡ true = ok in cc

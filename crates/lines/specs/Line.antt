@@ -1,11 +1,12 @@
 -- One line of a listing, without its byte 10. Document 01, "Listings": "Each line ends with byte 10 and has the table's single blanks and no
 -- others: an operation (`!=` for ≠, `null` for operand 0 where it may stand), `while T` or `if T` where T is an operation of kind 1 or 2 or the
 -- word `any`, `end`, or `mark k`, k from 0 to 63 in shortest decimal". Operands are 0 for null and 1 to 26 for the letters a to z.
-use Rattle.std.specs.Prelude.{Bool, true, false, ◌&&◌, cond, List, [], ◌∷◌, ◌++◌, ℕ, zero, suc, ◌+◌, ◌-◌, ◌*◌, ◌/◌, ◌%◌, min, eqb, leb, ltb, length, get_or, drop}
+use Rattle.std.specs.Prelude.{Bool, true, false, ◌&&◌, cond, List, [], ◌∷◌, ◌++◌, ℕ, zero, suc, ◌+◌, ◌-◌, ◌*◌, ◌/◌, ◌%◌, eqb, leb, ltb, get_or, drop}
+use Rattle.std.specs.Prelude.{Option, None, Some}
+use Rattle.std.specs.Option.{option_map, option_and_then, option_map_or}
 use Rattle.kinds.specs.Kinds.{allowed}
 use Rattle.lines.specs.Words.{null, any, end, while, if, mark, equals, differs, gets, next, next_gets, new, delete, close, starts, is_word}
 use Rattle.lines.specs.declared.Operation.{Operation}
-use Rattle.lines.specs.declared.Operand.{Operand}
 use Rattle.lines.specs.declared.Line.{Line}
 use Rattle.lines.specs.declared.Line.TheVariants.{Perform, While, If, End, Mark, Other}
 
@@ -63,75 +64,82 @@ is_line Other = false
 
 -- ---- which line bytes are, `Other` where they are none
 
--- a letter's number; 27, which the table refuses, for any other byte
-unfoldable pub letter_of : ℕ → ℕ
-letter_of x = cond (leb 97 x && leb x 122) (x - 96) 27
+-- a letter's number
+unfoldable pub letter_of : ℕ → Option ℕ
+letter_of x = cond (leb 97 x && leb x 122) (Some (x - 96)) None
 
--- the operand that bytes begin with and how many bytes it has
-unfoldable pub operand_of : List ℕ → Operand
-operand_of bytes =
-    cond (starts bytes null) (record { value = 0; length = 4 }) (record { value = letter_of (get_or bytes 0 0); length = min 1 (length bytes) })
+-- the operand that bytes begin with, and the bytes behind it
+abbrev pub letter_first : List ℕ → Option (ℕ × List ℕ)
+letter_first [] = None
+letter_first (x ∷ rest) = option_map (λ a. (a, rest)) (letter_of x)
 
-unfoldable pub checked : ℕ → ℕ → ℕ → Line
-checked kind a b = cond (allowed 26 kind a b) (Perform (record { kind = kind; a = a; b = b })) Other
+unfoldable pub operand_of : List ℕ → Option (ℕ × List ℕ)
+operand_of bytes = cond (starts bytes null) (Some (0, drop 4 bytes)) (letter_first bytes)
+
+unfoldable pub checked : ℕ → ℕ → ℕ → Option Operation
+checked kind a b = cond (allowed 26 kind a b) (Some (record { kind = kind; a = a; b = b })) None
 
 -- after `new(` or `delete(`
-unfoldable pub enclosed_of : ℕ → List ℕ → Line
-enclosed_of kind bytes = let a = operand_of bytes in cond (is_word (drop a.length bytes) close) (checked kind a.value 0) Other
+abbrev pub before_close : ℕ → ℕ → List ℕ → Option Operation
+before_close kind a rest = cond (is_word rest close) (checked kind a 0) None
+
+unfoldable pub enclosed_of : ℕ → List ℕ → Option Operation
+enclosed_of kind bytes = option_and_then (λ p. before_close kind p.0 p.1) (operand_of bytes)
 
 -- after the first operand and what stands between: the kind so far, and a. A `.next` at the end makes kind 3 a kind 4.
-unfoldable pub second_of : ℕ → ℕ → List ℕ → Line
-second_of kind a bytes =
-    let b = operand_of bytes in
-    let rest = drop b.length bytes in
-    cond (is_word rest []) (checked kind a b.value) (cond (eqb kind 3 && is_word rest next) (checked 4 a b.value) Other)
+abbrev pub before_end : ℕ → ℕ → ℕ → List ℕ → Option Operation
+before_end kind a b rest = cond (is_word rest []) (checked kind a b) (cond (eqb kind 3 && is_word rest next) (checked 4 a b) None)
+
+unfoldable pub second_of : ℕ → ℕ → List ℕ → Option Operation
+second_of kind a bytes = option_and_then (λ p. before_end kind a p.0 p.1) (operand_of bytes)
 
 -- after the first operand
-unfoldable pub between_of : ℕ → List ℕ → Line
+unfoldable pub between_of : ℕ → List ℕ → Option Operation
 between_of a bytes =
     cond (starts bytes equals) (second_of 1 a (drop 3 bytes))
     (cond (starts bytes differs) (second_of 2 a (drop 4 bytes))
-    (cond (starts bytes gets) (second_of 3 a (drop 4 bytes)) (cond (starts bytes next_gets) (second_of 5 a (drop 9 bytes)) Other)))
+    (cond (starts bytes gets) (second_of 3 a (drop 4 bytes)) (cond (starts bytes next_gets) (second_of 5 a (drop 9 bytes)) None)))
 
-unfoldable pub operation_of : List ℕ → Line
+unfoldable pub operation_of : List ℕ → Option Operation
 operation_of bytes =
-    let a = operand_of bytes in
     cond (starts bytes new) (enclosed_of 6 (drop 4 bytes))
-    (cond (starts bytes delete) (enclosed_of 7 (drop 7 bytes)) (between_of a.value (drop a.length bytes)))
+    (cond (starts bytes delete) (enclosed_of 7 (drop 7 bytes)) (option_and_then (λ p. between_of p.0 p.1) (operand_of bytes)))
 
--- `while` or `if` with T, where a line that is an operation has been read for T
+-- `while` or `if` with T
 abbrev pub opens : Bool → Operation → Line
 opens true t = While t
 opens false t = If t
 
-abbrev pub opens_line : Bool → Line → Line
-opens_line loops (Perform o) = cond (leb o.kind 2) (opens loops o) Other
-opens_line loops (While t) = Other
-opens_line loops (If t) = Other
-opens_line loops End = Other
-opens_line loops (Mark k) = Other
-opens_line loops Other = Other
+-- T, after `while ` or `if `
+abbrev pub kept_test : Operation → Option Operation
+kept_test o = cond (leb o.kind 2) (Some o) None
 
--- after `while ` or `if `
+unfoldable pub test_of : List ℕ → Option Operation
+test_of bytes = cond (is_word bytes any) (Some (record { kind = 0; a = 0; b = 0 })) (option_and_then kept_test (operation_of bytes))
+
 unfoldable pub test_line : Bool → List ℕ → Line
-test_line loops bytes = cond (is_word bytes any) (opens loops (record { kind = 0; a = 0; b = 0 })) (opens_line loops (operation_of bytes))
+test_line loops bytes = option_map_or (opens loops) (test_of bytes) Other
 
--- a digit's number; 64, which is no mark, for any other byte
-unfoldable pub digit_of : ℕ → ℕ
-digit_of x = cond (leb 48 x && leb x 57) (x - 48) 64
+-- a digit's number
+unfoldable pub digit_of : ℕ → Option ℕ
+digit_of x = cond (leb 48 x && leb x 57) (Some (x - 48)) None
 
-unfoldable pub mark_for : ℕ → Line
-mark_for k = cond (leb k 63) (Mark k) Other
+unfoldable pub mark_for : ℕ → Option ℕ
+mark_for k = cond (leb k 63) (Some k) None
 
 -- after `mark `: one digit, or two of which the first is not 0
-unfoldable pub mark_of : List ℕ → Line
-mark_of bytes =
-    let x = digit_of (get_or bytes 0 0) in
-    let y = digit_of (get_or bytes 1 0) in
-    cond (eqb (length bytes) 1) (mark_for x) (cond (eqb (length bytes) 2 && leb 1 x) (mark_for (x * 10 + y)) Other)
+abbrev pub mark_of_two : Option ℕ → Option ℕ → Option ℕ
+mark_of_two x y = option_and_then (λ d. cond (leb 1 d) (option_and_then (λ e. mark_for (d * 10 + e)) y) None) x
+
+unfoldable pub mark_of : List ℕ → Option ℕ
+mark_of [] = None
+mark_of (y ∷ []) = option_and_then mark_for (digit_of y)
+mark_of (x ∷ y ∷ []) = mark_of_two (digit_of x) (digit_of y)
+mark_of (x ∷ y ∷ z ∷ bytes) = None
 
 unfoldable pub line_of : List ℕ → Line
 line_of bytes =
     cond (is_word bytes end) End
-    (cond (starts bytes mark) (mark_of (drop 5 bytes))
-    (cond (starts bytes while) (test_line true (drop 6 bytes)) (cond (starts bytes if) (test_line false (drop 3 bytes)) (operation_of bytes))))
+    (cond (starts bytes mark) (option_map_or Mark (mark_of (drop 5 bytes)) Other)
+    (cond (starts bytes while) (test_line true (drop 6 bytes))
+    (cond (starts bytes if) (test_line false (drop 3 bytes)) (option_map_or Perform (operation_of bytes) Other))))

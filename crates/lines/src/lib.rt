@@ -1,9 +1,8 @@
 // One line of a listing, read from its bytes.
 #![tactic(auto)]
 
-ghost use Rattle.std.specs.Prelude.{true, ◌≡◌, ◌≤◌, length};
-ghost use Rattle.lines.specs.Words.{starts, is_word};
-ghost use Rattle.lines.specs.Line.{letter_of, operand_of, checked, enclosed_of, second_of, between_of, operation_of, opens, test_line, digit_of, mark_for, mark_of, line_of};
+ghost use Rattle.std.specs.Prelude.{Some, None, MatchOption, IfSome, ◌≡◌, ◌<◌};
+ghost use Rattle.lines.specs.Line.{letter_of, operand_of, checked, enclosed_of, second_of, between_of, operation_of, test_of, digit_of, mark_for, mark_of, line_of};
 
 use kinds::{ASSIGN, DELETE, DIFFERENT, EQUAL, LOAD, NEW, STORE, allows};
 
@@ -18,13 +17,6 @@ pub struct Operation {
     pub b: u8,
 }
 
-// The operand that bytes begin with and how many bytes it has.
-#[derive(Clone, Copy)]
-pub(crate) struct Operand {
-    pub value: u8,
-    pub length: usize,
-}
-
 // What a line is: an operation; `while T` and `if T`; `end`; `mark k`; or outside the grammar.
 #[derive(Clone, Copy)]
 pub enum Line {
@@ -36,231 +28,170 @@ pub enum Line {
     Other,
 }
 
-// Whether bytes begin with a word.
-fn has_front(bytes: &[u8], word: &[u8]) -> bool
-    ensures { (result ≡ starts bytes.now word.now) × (result ≡ true → length word.now ≤ length bytes.now) }
-{
-    if bytes.len() < word.len() {
-        return false;
-    }
-    let mut i = 0;
-    while i < word.len() {
-        if bytes[i] != word[i] {
-            return false;
-        }
-        i += 1;
-    }
-    true
-}
-
-// Whether bytes are a word.
-fn is_word(bytes: &[u8], word: &[u8]) -> bool
-    ensures { result ≡ is_word bytes.now word.now }
-{
-    if bytes.len() != word.len() {
-        return false;
-    }
-    has_front(bytes, word)
-}
-
-// A letter's number; 27 for any other byte.
-fn letter(byte: u8) -> u8
+// A letter's number, from 1.
+#[tactic(auto, using(std::proofs::lemmas::Bool::Decides::nat_tests), unfolding(crate::specs::Line::letter_of))]
+fn letter(byte: u8) -> Option<u8>
     ensures { result ≡ letter_of byte }
 {
-    if byte < 97 {
-        return 27;
+    match byte {
+        b'a'..=b'z' => Some(byte - b'a' + 1),
+        _ => None,
     }
-    if 122 < byte {
-        return 27;
-    }
-    byte - 96
 }
 
-// The operand that bytes begin with.
-fn read_operand(bytes: &[u8]) -> Operand
-    ensures { (result ≡ operand_of bytes.now) × (result.length ≤ length bytes.now) }
+// The operand that bytes begin with, and the bytes behind it.
+#[tactic(auto, using(crate::proofs::Starting::fronts, crate::proofs::Starting::letter_operand), unfolding(crate::specs::Line::operand_of))]
+fn read_operand(bytes: &[u8]) -> Option<(u8, &[u8])>
+    ensures { MatchOption result (operand_of bytes.now ≡ None) (λ p. operand_of bytes.now ≡ Some (p.0, p.1.now)) }
 {
-    if has_front(bytes, b"null") {
-        return Operand {
-            value: 0,
-            length: 4,
-        };
+    if let Some(rest) = bytes.strip_prefix(b"null") {
+        return Some((0, rest));
     }
-    if bytes.len() == 0 {
-        return Operand {
-            value: 27,
-            length: 0,
-        };
-    }
-    Operand {
-        value: letter(bytes[0]),
-        length: 1,
+    match bytes {
+        [first, rest @ ..] => Some((letter(*first)?, rest)),
+        [] => None,
     }
 }
 
 // The operation of a kind and operands that the table of kinds allows, with the letters as 26 variables.
-fn check_table(kind: u8, a: u8, b: u8) -> Line
+#[tactic(auto, unfolding(crate::specs::Line::checked))]
+fn check_table(kind: u8, a: u8, b: u8) -> Option<Operation>
     ensures { result ≡ checked kind a b }
 {
     if allows(26, kind as usize, a as usize, b as usize) {
-        return Line::Perform(Operation { kind, a, b });
+        Some(Operation { kind, a, b })
+    } else {
+        None
     }
-    Line::Other
 }
 
 // After `new(` or `delete(`.
-fn read_enclosed(kind: u8, bytes: &[u8]) -> Line
+#[tactic(auto, using(crate::proofs::Starting::wholes), unfolding(crate::specs::Line::enclosed_of))]
+fn read_enclosed(kind: u8, bytes: &[u8]) -> Option<Operation>
     ensures { result ≡ enclosed_of kind bytes.now }
 {
-    let a = read_operand(bytes);
-    let length = a.length;
-    if is_word(&bytes[length..], b")") {
-        return check_table(kind, a.value, 0);
+    let (a, rest) = read_operand(bytes)?;
+    if rest == b")".as_slice() {
+        check_table(kind, a, 0)
+    } else {
+        None
     }
-    Line::Other
 }
 
 // After the first operand and what stands between.
-fn read_second(kind: u8, a: u8, bytes: &[u8]) -> Line
+#[tactic(auto, using(crate::proofs::Starting::wholes, std::proofs::lemmas::Bool::Decides::nat_tests), unfolding(crate::specs::Line::second_of))]
+fn read_second(kind: u8, a: u8, bytes: &[u8]) -> Option<Operation>
     ensures { result ≡ second_of kind a bytes.now }
 {
-    let b = read_operand(bytes);
-    let length = b.length;
-    if is_word(&bytes[length..], b"") {
-        return check_table(kind, a, b.value);
+    let (b, rest) = read_operand(bytes)?;
+    if rest.is_empty() {
+        check_table(kind, a, b)
+    } else if kind == ASSIGN && rest == b".next".as_slice() {
+        check_table(LOAD, a, b)
+    } else {
+        None
     }
-    if kind != ASSIGN {
-        return Line::Other;
-    }
-    if is_word(&bytes[length..], b".next") {
-        return check_table(LOAD, a, b.value);
-    }
-    Line::Other
 }
 
 // After the first operand.
-fn read_between(a: u8, bytes: &[u8]) -> Line
+#[tactic(auto, using(crate::proofs::Starting::fronts), unfolding(crate::specs::Line::between_of))]
+fn read_between(a: u8, bytes: &[u8]) -> Option<Operation>
     ensures { result ≡ between_of a bytes.now }
 {
-    if has_front(bytes, b" = ") {
-        return read_second(EQUAL, a, &bytes[3..]);
+    if let Some(rest) = bytes.strip_prefix(b" = ") {
+        read_second(EQUAL, a, rest)
+    } else if let Some(rest) = bytes.strip_prefix(b" != ") {
+        read_second(DIFFERENT, a, rest)
+    } else if let Some(rest) = bytes.strip_prefix(b" := ") {
+        read_second(ASSIGN, a, rest)
+    } else if let Some(rest) = bytes.strip_prefix(b".next := ") {
+        read_second(STORE, a, rest)
+    } else {
+        None
     }
-    if has_front(bytes, b" != ") {
-        return read_second(DIFFERENT, a, &bytes[4..]);
-    }
-    if has_front(bytes, b" := ") {
-        return read_second(ASSIGN, a, &bytes[4..]);
-    }
-    if has_front(bytes, b".next := ") {
-        return read_second(STORE, a, &bytes[9..]);
-    }
-    Line::Other
 }
 
 // An operation.
-fn read_operation(bytes: &[u8]) -> Line
+#[tactic(auto, using(crate::proofs::Starting::fronts), unfolding(crate::specs::Line::operation_of))]
+fn read_operation(bytes: &[u8]) -> Option<Operation>
     ensures { result ≡ operation_of bytes.now }
 {
-    if has_front(bytes, b"new(") {
-        return read_enclosed(NEW, &bytes[4..]);
+    if let Some(rest) = bytes.strip_prefix(b"new(") {
+        return read_enclosed(NEW, rest);
     }
-    if has_front(bytes, b"delete(") {
-        return read_enclosed(DELETE, &bytes[7..]);
+    if let Some(rest) = bytes.strip_prefix(b"delete(") {
+        return read_enclosed(DELETE, rest);
     }
-    let a = read_operand(bytes);
-    let length = a.length;
-    read_between(a.value, &bytes[length..])
+    let (a, rest) = read_operand(bytes)?;
+    read_between(a, rest)
 }
 
-// `while` or `if` with T.
-fn open(loops: bool, test: Operation) -> Line
-    ensures { result ≡ opens loops test }
+// T, after `while ` or `if `.
+#[tactic(auto, using(crate::proofs::Starting::wholes, std::proofs::lemmas::Bool::Decides::nat_tests), unfolding(crate::specs::Line::test_of))]
+fn read_test(bytes: &[u8]) -> Option<Operation>
+    ensures { result ≡ test_of bytes.now }
 {
-    if loops {
-        return Line::While(test);
+    if bytes == b"any".as_slice() {
+        return Some(Operation {
+            kind: ANY,
+            a: 0,
+            b: 0,
+        });
     }
-    Line::If(test)
-}
-
-// After `while ` or `if `.
-fn read_test(loops: bool, bytes: &[u8]) -> Line
-    ensures { result ≡ test_line loops bytes.now }
-{
-    if is_word(bytes, b"any") {
-        return open(
-            loops,
-            Operation {
-                kind: ANY,
-                a: 0,
-                b: 0,
-            },
-        );
-    }
-    let line = read_operation(bytes);
-    let Line::Perform(test) = line else {
-        return Line::Other;
-    };
+    let test = read_operation(bytes)?;
     if test.kind <= DIFFERENT {
-        return open(loops, test);
+        Some(test)
+    } else {
+        None
     }
-    Line::Other
 }
 
-// A digit's number; 64 for any other byte.
-fn digit(byte: u8) -> usize
-    ensures { (result ≡ digit_of byte) × (result ≤ 64) }
+// A digit's number.
+#[tactic(auto, using(std::proofs::lemmas::Bool::Decides::nat_tests), unfolding(crate::specs::Line::digit_of))]
+fn digit(byte: u8) -> Option<usize>
+    ensures value { result ≡ digit_of byte }
+    ensures small { IfSome result (λ d. d < 10) }
 {
-    if byte < 48 {
-        return 64;
+    match byte {
+        b'0'..=b'9' => Some((byte - b'0') as usize),
+        _ => None,
     }
-    if 57 < byte {
-        return 64;
-    }
-    (byte - 48) as usize
 }
 
-// The mark of a number.
-fn mark_for(k: usize) -> Line
+// A number that a mark may have.
+#[tactic(auto, using(std::proofs::lemmas::Bool::Decides::nat_tests), unfolding(crate::specs::Line::mark_for))]
+fn mark_for(k: usize) -> Option<usize>
     ensures { result ≡ mark_for k }
 {
-    if k <= 63 {
-        return Line::Mark(k);
-    }
-    Line::Other
+    if k <= 63 { Some(k) } else { None }
 }
 
 // After `mark `: one digit, or two of which the first is not 0.
-fn read_mark(bytes: &[u8]) -> Line
+#[tactic(auto, using(std::proofs::lemmas::Bool::Decides::nat_tests), unfolding(crate::specs::Line::mark_of, crate::specs::Line::digit_of, crate::specs::Line::mark_for))]
+fn read_mark(bytes: &[u8]) -> Option<usize>
     ensures { result ≡ mark_of bytes.now }
 {
-    if bytes.len() == 1 {
-        return mark_for(digit(bytes[0]));
+    match bytes {
+        [y] => mark_for(digit(*y)?),
+        [x, y] if *x != b'0' => mark_for(digit(*x)? * 10 + digit(*y)?),
+        _ => None,
     }
-    if bytes.len() != 2 {
-        return Line::Other;
-    }
-    let x = digit(bytes[0]);
-    if x < 1 {
-        return Line::Other;
-    }
-    mark_for(x * 10 + digit(bytes[1]))
 }
 
 // The line that bytes are.
+#[tactic(auto, using(crate::proofs::Starting::fronts, crate::proofs::Starting::wholes), unfolding(crate::specs::Line::line_of, crate::specs::Line::test_line))]
 pub fn read_line(bytes: &[u8]) -> Line
     ensures { result ≡ line_of bytes.now }
 {
-    if is_word(bytes, b"end") {
-        return Line::End;
+    if bytes == b"end".as_slice() {
+        Line::End
+    } else if let Some(rest) = bytes.strip_prefix(b"mark ") {
+        read_mark(rest).map_or(Line::Other, Line::Mark)
+    } else if let Some(rest) = bytes.strip_prefix(b"while ") {
+        read_test(rest).map_or(Line::Other, Line::While)
+    } else if let Some(rest) = bytes.strip_prefix(b"if ") {
+        read_test(rest).map_or(Line::Other, Line::If)
+    } else {
+        read_operation(bytes).map_or(Line::Other, Line::Perform)
     }
-    if has_front(bytes, b"mark ") {
-        return read_mark(&bytes[5..]);
-    }
-    if has_front(bytes, b"while ") {
-        return read_test(true, &bytes[6..]);
-    }
-    if has_front(bytes, b"if ") {
-        return read_test(false, &bytes[3..]);
-    }
-    read_operation(bytes)
 }

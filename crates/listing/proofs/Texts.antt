@@ -8,7 +8,7 @@ use Rattle.lists.specs.List.{concat_map}
 use Rattle.number.specs.Number.{bytes_of}
 use Rattle.number.specs.NumberList.{encode}
 use Rattle.kinds.specs.Kinds.{allowed}
-use Rattle.lines.specs.Line.{line_of, operation_of, between_of, second_of, checked, enclosed_of, test_line, mark_of, operand_of, letter_of, mark_for, digit_of}
+use Rattle.lines.specs.Line.{line_of, operation_of, between_of, second_of, checked, enclosed_of, test_of, test_line, mark_of, operand_of, letter_of, mark_for, digit_of}
 use Rattle.lines.specs.Words.{starts, is_word}
 use Rattle.listing.specs.Reading.{first_fault, blocks}
 use Rattle.listing.specs.Text.{lines_from}
@@ -120,6 +120,6 @@ rows =
 
 -- what the call gives of each is what is given there
 all_rows : map (λ r. translate r.text r.room) rows ≡ map (λ r. r.given) rows
-unfolding translate first_fault blocks lines_from line_of operation_of between_of second_of checked enclosed_of test_line mark_of operand_of letter_of mark_for digit_of starts is_word allowed encode bytes_of
+unfolding translate first_fault blocks lines_from line_of operation_of between_of second_of checked enclosed_of test_of test_line mark_of operand_of letter_of mark_for digit_of starts is_word allowed encode bytes_of
     ℕ_discrete
 all_rows = refl
