@@ -16,7 +16,6 @@ use Rattle.format.specs.Parser.{certificate_buffer, many}
 use Rattle.format.proofs.Parsing.{read_outside, read_complete}
 use Rattle.verdict.specs.declared.Refused.{Refused}
 use Rattle.std.specs.Prelude.{Result, Ok, Err}
-use Rattle.verdict.specs.declared.Refusal.{Refusal}
 use Rattle.verdict.specs.declared.Refusal.TheVariants.{CertificateUnreadable, CertificateRange, CoverFails}
 use Rattle.layout.specs.Entries.{located_at, is_whole}
 use Rattle.coverreader.proofs.ReadImages.{read_unreadable}

@@ -1,16 +1,13 @@
 -- Reading a job, part after part.
-use mathlib.Core.Bool.{cond}
 use mathlib.Core.List.{List}
-use mathlib.Core.Logic.{◌⊎◌, inl, inr}
-use mathlib.Core.Path.{◌≡◌, refl, sym, ap, ◌∙◌}
-use Prim.Native.Nat.{ℕ, zero, suc, ◌+◌, ◌≤◌, ◌<◌}
+use mathlib.Core.Path.{◌≡◌, refl}
+use Prim.Native.Nat.{ℕ, ◌+◌, ◌≤◌, ◌<◌}
 use native.Mathlib.Omega.{arith}
 use borrow.Author.Tests.{le-leb, lt-leb}
-use lib.Dec.{eqb}
 use lib.ListN.{length}
 use Rattle.format.specs.Job.{read_located}
-use Rattle.format.specs.Parser.{Reason, refusal, Parsed, parsed, fault, many, Buffer, job_buffer, ranged, end}
-use Rattle.format.proofs.Parsing.{then, then_fault, ranged_exact}
+use Rattle.format.specs.Parser.{Reason, refusal, parsed, fault, many, Buffer, job_buffer, ranged, end}
+use Rattle.format.proofs.Parsing.{then, ranged_exact}
 use Rattle.format.proofs.Sequence.{reads_one}
 use Rattle.layout.specs.Entries.{version_of}
 use Rattle.number.specs.Number.{number_at, numeral}

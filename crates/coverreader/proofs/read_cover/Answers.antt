@@ -1,6 +1,5 @@
 -- Each return is the case of `read_cover_by` that the reading so far leaves.
-use Rattle.std.proofs.Common.{◌≡◌, ◌∙◌, refl, sym, arith, ◌+◌, get_or, true}
-use Rattle.layout.specs.Entries.{is_whole}
+use Rattle.std.proofs.Common.{◌∙◌, refl, sym, arith, get_or}
 use Rattle.layout.proofs.Whole.{whole}
 use Rattle.coverreader.proofs.Covers.{cover_unreadable, cover_outside, cover_absent, cover_refused, cover_taken}
 use Rattle.coverreader.proofs.Images.{images_none}
