@@ -8,8 +8,7 @@ use native.Mathlib.Omega.{arith}
 use borrow.Author.Tests.{ne_eqb, lt-ltb}
 use lib.ListN.{length, get_or, get_elem?, drop, length-drop}
 use lib.Seq.{length-take-le}
-use Rattle.number.specs.Number.{number_at}
-use Rattle.number.specs.declared.Read.TheVariants.{Number, Unreadable}
+use Rattle.number.specs.Number.{number_at, numeral, no_numeral}
 use Rattle.lists.specs.Test.{lowest}
 use Rattle.shape.specs.Shape.{size}
 use Rattle.format.specs.Certificate.{read_cover_by}
@@ -17,7 +16,6 @@ use Rattle.format.specs.Parser.{certificate_buffer, many}
 use Rattle.format.proofs.Parsing.{read_outside, read_complete}
 use Rattle.verdict.specs.declared.Refused.{Refused}
 use Rattle.std.specs.Prelude.{Result, Ok, Err}
-use Rattle.verdict.specs.declared.Refusal.{Refusal}
 use Rattle.verdict.specs.declared.Refusal.TheVariants.{CertificateUnreadable, CertificateRange, CoverFails}
 use Rattle.layout.specs.Entries.{located_at, is_whole}
 use Rattle.coverreader.proofs.ReadImages.{read_unreadable}
@@ -33,7 +31,7 @@ module _ (cert : List ℕ) (variables : ℕ) (starts : List ℕ) (at n : ℕ) wh
   abbrev Is : CoverRead → List ℕ → Type 0
   Is r codes = CoverIs cert variables starts at n r codes
 
-  pub cover_unreadable : (place : ℕ) → number_at cert at ≡ Unreadable place → Is (NotRead CertificateUnreadable at) no_images
+  pub cover_unreadable : (place : ℕ) → number_at cert at ≡ no_numeral place → Is (NotRead CertificateUnreadable at) no_images
   unfolding read_cover_by read_alone
   cover_unreadable place e =
       record {
@@ -46,7 +44,7 @@ module _ (cert : List ℕ) (variables : ℕ) (starts : List ℕ) (at n : ℕ) wh
         none = λ _ _ _. refl;
       }
 
-  module _ (m next : ℕ) (e : number_at cert at ≡ Number m next) where
+  module _ (m next : ℕ) (e : number_at cert at ≡ numeral m next) where
     pub cover_outside : length starts ≤ m → Is (NotRead CertificateRange at) no_images
     unfolding read_cover_by read_alone
     cover_outside b =

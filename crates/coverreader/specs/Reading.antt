@@ -2,8 +2,7 @@
 -- shape."
 use Rattle.std.specs.Prelude.{Bool, List, ◌≡◌, ℕ, ◌+◌, ◌<◌, ltb, length, get_or, Result, Ok, Err}
 use Rattle.std.proofs.Math.ListN.{get_elem?}
-use Rattle.number.specs.Number.{number_at}
-use Rattle.number.specs.declared.Read.TheVariants.{Number}
+use Rattle.number.specs.Number.{number_at, numeral}
 use Rattle.shape.specs.Shape.{size}
 use Rattle.run.specs.Run.{Located}
 use Rattle.cover.specs.Test.{answer_by, links_followed}
@@ -62,7 +61,7 @@ module _ (cert : List ℕ) (variables : ℕ) (starts : List ℕ) where
         → cover_of among at covered r codes ≡ read_cover_by (certificate_buffer cert) among (members_from cert variables starts) covered at
     pub alone : alone_of r ≡ read_alone (certificate_buffer cert) (members_from cert variables starts) n at
     pub numbers : (m next : ℕ) → r ≡ Taken m next
-        → (mid : ℕ) × (number_at cert at ≡ Number m mid) × (many (cells_at m) (ranged (certificate_buffer cert) 0 n) mid ≡ parsed (images_in (cells_at m) codes) next)
+        → (mid : ℕ) × (number_at cert at ≡ numeral m mid) × (many (cells_at m) (ranged (certificate_buffer cert) 0 n) mid ≡ parsed (images_in (cells_at m) codes) next)
     pub member : (m next : ℕ) → r ≡ Taken m next → m < length starts
     pub whole : (m next : ℕ) → r ≡ Taken m next → Whole cert variables (get_or starts m 0)
     pub images : (m next : ℕ) → r ≡ Taken m next → ImageCodes (cells_at m) n codes

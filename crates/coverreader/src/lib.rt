@@ -8,7 +8,7 @@ ghost use Rattle.coverreader.specs.Reading.{ImagesRead, CoverIs};
 ghost use Rattle.coverreader.specs.declared.CoverRead.TheVariants.{Refused as NotRead};
 
 use layout::{cells_held, is_whole};
-use number::{Read, read_number};
+use number::read_number;
 use verdict::{Broken, Refusal, Refused, WRONG_STATE};
 
 // A cover as read: its member's number and the next place; or a refusal and its place.
@@ -41,20 +41,20 @@ fn read_images(
 {
     let mut at = first;
     for i in 0..count {
-        let Read::Number(c, next) = read_number(cert, at) else {
+        let Ok(c) = read_number(cert, at) else {
             return Err(Refused {
                 refusal: Refusal::CertificateUnreadable,
                 place: at,
             });
         };
-        if n <= c {
+        if n <= c.value {
             return Err(Refused {
                 refusal: Refusal::CertificateRange,
                 place: at,
             });
         }
-        images[i + 3] = c as u8 + 3;
-        at = next;
+        images[i + 3] = c.value as u8 + 3;
+        at = c.next;
     }
     Ok(at)
 }
@@ -79,9 +79,10 @@ pub fn read_cover(
 ) -> CoverReading
     ensures { CoverIs cert.now variables starts.now at (length (links_in s.now)) result.answer result.images }
 {
-    let Read::Number(m, next) = read_number(cert, at) else {
+    let Ok(number) = read_number(cert, at) else {
         return not_read(Refusal::CertificateUnreadable, at);
     };
+    let m = number.value;
     if starts.len() <= m {
         return not_read(Refusal::CertificateRange, at);
     }
@@ -96,7 +97,7 @@ pub fn read_cover(
     }
     let mut images = NO_IMAGES;
     let cells = cert[start + 1] as usize;
-    match read_images(cert, next, cells_held(s), cells, &mut images) {
+    match read_images(cert, number.next, cells_held(s), cells, &mut images) {
         Ok(end) => CoverReading {
             answer: CoverRead::Taken(m, end),
             images,

@@ -5,7 +5,7 @@ ghost use Rattle.std.specs.Prelude.{◌≡◌, OnErr};
 ghost use Rattle.format.specs.Parser.{job_buffer, ranged};
 ghost use Rattle.jobreader.specs.Reader.{last_read_of, preamble_of, preamble_read};
 
-use number::Read;
+use number::read_number;
 use verdict::{Refusal, Refused};
 
 // A job and the place reached in it.
@@ -39,20 +39,20 @@ impl<'a> Reader<'a> {
         ensures number { last_read_of result self.new.at ≡ ranged (job_buffer self.old.src.now) low limit self.old.at }
         ensures refused { OnErr result (self.new.at ≡ self.old.at) }
     {
-        let Read::Number(n, next) = number::read_number(self.src, self.at) else {
+        let Ok(n) = read_number(self.src, self.at) else {
             return Err(Refused {
                 refusal: Refusal::JobUnreadable,
                 place: self.at,
             });
         };
-        if n < low || limit <= n {
+        if n.value < low || limit <= n.value {
             return Err(Refused {
                 refusal: Refusal::JobRange,
                 place: self.at,
             });
         }
-        self.at = next;
-        Ok(n)
+        self.at = n.next;
+        Ok(n.value)
     }
 }
 

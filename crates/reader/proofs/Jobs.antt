@@ -1,20 +1,16 @@
 -- Reading a job, part after part.
-use mathlib.Core.Bool.{cond}
 use mathlib.Core.List.{List}
-use mathlib.Core.Logic.{◌⊎◌, inl, inr}
-use mathlib.Core.Path.{◌≡◌, refl, sym, ap, ◌∙◌}
-use Prim.Native.Nat.{ℕ, zero, suc, ◌+◌, ◌≤◌, ◌<◌}
+use mathlib.Core.Path.{◌≡◌, refl}
+use Prim.Native.Nat.{ℕ, ◌+◌, ◌≤◌, ◌<◌}
 use native.Mathlib.Omega.{arith}
 use borrow.Author.Tests.{le-leb, lt-leb}
-use lib.Dec.{eqb}
 use lib.ListN.{length}
 use Rattle.format.specs.Job.{read_located}
-use Rattle.format.specs.Parser.{Reason, refusal, Parsed, parsed, fault, many, Buffer, job_buffer, ranged, end}
-use Rattle.format.proofs.Parsing.{then, then_fault, ranged_exact}
+use Rattle.format.specs.Parser.{Reason, refusal, parsed, fault, many, Buffer, job_buffer, ranged, end}
+use Rattle.format.proofs.Parsing.{then, ranged_exact}
 use Rattle.format.proofs.Sequence.{reads_one}
 use Rattle.layout.specs.Entries.{version_of}
-use Rattle.number.specs.Number.{number_at}
-use Rattle.number.specs.declared.Read.TheVariants.{Number}
+use Rattle.number.specs.Number.{number_at, numeral}
 use Rattle.reader.specs.Job.{read_rest}
 use Rattle.jobreader.specs.Reader.{preamble_read}
 use Rattle.jobreader.specs.declared.Preamble.{Preamble}
@@ -46,7 +42,7 @@ module _ (s : Buffer) (at : ℕ) where
       omega arith)))))
 
   -- the numbers before that of the transitions are one byte each
-  pub preamble_place : (f : Preamble) (next : ℕ) → preamble_read s at ≡ parsed f next → number_at s.bytes (at + 4) ≡ Number f.transitions f.at
+  pub preamble_place : (f : Preamble) (next : ℕ) → preamble_read s at ≡ parsed f next → number_at s.bytes (at + 4) ≡ numeral f.transitions f.at
   unfolding preamble_read
   preamble_place f next =
       then (ranged s 1 3 at) _

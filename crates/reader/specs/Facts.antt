@@ -5,7 +5,7 @@ use Rattle.facts.specs.Facts.{Fact, FactOf}
 use Rattle.format.specs.Job.{read_fact}
 use Rattle.format.specs.Parser.{Parsed, parsed, fault, Buffer}
 use Rattle.verdict.specs.declared.Refused.{Refused}
-use Rattle.reader.specs.declared.Numeral.{Numeral}
+use Rattle.number.specs.declared.Numeral.{Numeral}
 use Rattle.reader.specs.Number.{ranged_of}
 
 -- the rank of a fact, by which facts rise

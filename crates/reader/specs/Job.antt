@@ -8,8 +8,7 @@ use Rattle.format.specs.Parser.{parsed, fault, Parser, ◌>>=◌, ◌>>◌, retu
 use Rattle.kinds.specs.Kinds.{allowed}
 use Rattle.layout.specs.Entries.{version_of, entries_at, EntriesIn}
 use Rattle.layout.specs.Transitions.{transition_at}
-use Rattle.number.specs.Number.{number_at}
-use Rattle.number.specs.declared.Read.TheVariants.{Number}
+use Rattle.number.specs.Number.{number_at, numeral}
 use Rattle.verdict.specs.Verdict.{reason_of}
 use Rattle.verdict.specs.declared.Refused.{Refused}
 use Rattle.jobreader.specs.declared.Preamble.{Preamble}
@@ -39,10 +38,10 @@ pub record JobRead (job : List ℕ) (h : Header) : Type 0 where
   pub start : h.start < h.states
   pub transitions_number : h.transitions ≤ 256
   -- version, V, S and the start state are one byte each, so the number of transitions stands at place 4, and they follow it
-  pub transitions_place : number_at job 4 ≡ Number h.transitions h.transitions_at
+  pub transitions_place : number_at job 4 ≡ numeral h.transitions h.transitions_at
   pub transitions : (i : ℕ) → i < h.transitions → TransitionIn job h.variables h.states (h.transitions_at + 5 * i)
   pub bads_number : Between 1 64 h.bads
-  pub bads_place : number_at job (h.transitions_at + 5 * h.transitions) ≡ Number h.bads h.bads_at
+  pub bads_place : number_at job (h.transitions_at + 5 * h.transitions) ≡ numeral h.bads h.bads_at
   pub bads : EntriesIn job h.variables h.bads_at h.bads
 
 -- what follows the transitions: the forbidden shapes, and nothing after them; with the numbers before, it makes a header

@@ -3,7 +3,7 @@ use Rattle.std.specs.Prelude.{List, ℕ, Result, Ok, Err}
 use Rattle.format.specs.Parser.{Parsed, parsed, fault, Buffer, job_buffer, certificate_buffer}
 use Rattle.verdict.specs.Verdict.{reason_of}
 use Rattle.verdict.specs.declared.Refused.{Refused}
-use Rattle.reader.specs.declared.Numeral.{Numeral}
+use Rattle.number.specs.declared.Numeral.{Numeral}
 use Rattle.reader.specs.declared.Input.{Input}
 use Rattle.reader.specs.declared.Input.TheVariants.{Job, Certificate}
 

@@ -7,8 +7,9 @@ ghost use Rattle.verdict.specs.Verdict.{reached_of};
 ghost use Rattle.reader.specs.Facts.{FactAnswered};
 ghost use Rattle.reader.specs.Number.{buffer_of, without_value};
 
-use crate::{Input, Numeral, read_ranged};
+use crate::{Input, read_ranged};
 use layout::version_of;
+use number::Numeral;
 use verdict::Refused;
 
 // A fact about n cells at a place, as its rank and the place after it. Facts rise by their ranks, 256 for the kind, 16 for the first cell, 1 for

@@ -17,7 +17,7 @@ use crate::start::{may_refuse, test_members};
 use jobreader::{Preamble, Reader, read_preamble};
 use kinds::{least_a, least_b, most_b};
 use layout::version_of;
-use number::Read;
+use number::{Numeral, read_number};
 use verdict::{Refusal, Refused};
 
 mod factlist;
@@ -28,13 +28,6 @@ mod start;
 pub(crate) enum Input {
     Job,
     Certificate,
-}
-
-// A number and the place after it.
-#[derive(Clone, Copy)]
-pub(crate) struct Numeral {
-    pub(crate) value: usize,
-    pub(crate) next: usize,
 }
 
 // The numbers of a job, and where its transitions and its forbidden shapes start.
@@ -88,19 +81,19 @@ pub(crate) fn read_ranged(
 ) -> Result<Numeral, Refused>
     ensures { ranged_of result ≡ ranged (buffer_of input bytes.now) low limit at }
 {
-    let Read::Number(value, next) = number::read_number(bytes, at) else {
+    let Ok(n) = read_number(bytes, at) else {
         return Err(Refused {
             refusal: input.unreadable(),
             place: at,
         });
     };
-    if value < low || limit <= value {
+    if n.value < low || limit <= n.value {
         return Err(Refused {
             refusal: input.outside(),
             place: at,
         });
     }
-    Ok(Numeral { value, next })
+    Ok(n)
 }
 
 // So many values, one after the other: `each` reads the one at a place and gives the place after it.

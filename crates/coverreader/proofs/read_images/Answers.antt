@@ -16,12 +16,12 @@ returns-in_default c =
 pub returns-then-n-c : goal.returns-then-n-c
 returns-then-n-c c =
     record {
-      reads = reading_outside _ _ _ _ _ _ _ c.loop-i.invariant (omega arith) _ _ (sym c.in-Number.ensures) c.if-n-c.true;
+      reads = reading_outside _ _ _ _ _ _ _ c.loop-i.invariant (omega arith) _ _ (sym c.in-Ok.ensures) c.if-n-c.true;
       images = λ _ e. let z : ◌≡◌ {A = ℕ} 0 1 = cc in absurd (omega arith);
     }
 
 pub loop-i-preserved : goal.loop-i-preserved
-loop-i-preserved c = reading_more _ _ _ _ _ _ _ c.loop-i.invariant (omega arith) _ _ c.requires.1 (sym c.in-Number.ensures) (omega arith)
+loop-i-preserved c = reading_more _ _ _ _ _ _ _ c.loop-i.invariant (omega arith) _ _ c.requires.1 (sym c.in-Ok.ensures) (omega arith)
 
 pub returns : goal.returns
 returns c = let (a, b) = reading_all _ _ _ _ _ _ _ c.loop-i.invariant (omega arith) in record { reads = a; images = λ _ _. b }

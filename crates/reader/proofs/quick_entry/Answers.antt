@@ -1,5 +1,5 @@
 -- Where all tests pass, the parser of an entry goes on with its facts.
-use Rattle.std.proofs.Common.{◌≡◌, ◌+◌, ◌-◌, ◌<◌, ◌≤◌, ℕ, get_or, length, refl, subst, arith}
+use Rattle.std.proofs.Common.{◌≡◌, ◌+◌, ◌-◌, get_or, refl, arith}
 use Rattle.format.specs.Parser.{certificate_buffer}
 use Rattle.layout.specs.Entries.{version_of}
 use Rattle.reader.proofs.Quick.{each_from, entry_quick}

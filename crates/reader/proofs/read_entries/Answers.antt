@@ -1,6 +1,6 @@
 -- The loop reads the members one after the other, and has put down the place of each before it reads it. Where none was seen that may be refused,
 -- all that were read pass the test (`Passing`).
-use Rattle.std.proofs.Common.{◌≡◌, ◌∙◌, ap, sym, arith}
+use Rattle.std.proofs.Common.{◌∙◌, ap, sym, arith}
 use Rattle.format.specs.Certificate.{read_member}
 use Rattle.format.specs.Parser.{many, certificate_buffer}
 use Rattle.layout.specs.Entries.{version_of}

@@ -1,5 +1,5 @@
 -- Number after number as the parser of an entry reads them; each refusal is the parser's.
-use Rattle.std.proofs.Common.{◌≡◌, ◌≤◌, ◌∙◌, sym, arith}
+use Rattle.std.proofs.Common.{◌∙◌, sym, arith}
 use Rattle.layout.specs.Entries.{version_of}
 use Rattle.reader.specs.Number.{buffer_of}
 use Rattle.reader.proofs.Answers.{handed, in_range}

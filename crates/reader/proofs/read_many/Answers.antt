@@ -1,5 +1,5 @@
 -- The loop: the values before the i-th are read, and what is left of the parser goes on at the place.
-use Rattle.std.proofs.Common.{◌≡◌, ◌∙◌, sym, ap, arith}
+use Rattle.std.proofs.Common.{sym, ap, arith}
 use Rattle.reader.specs.Number.{without_value}
 use Rattle.reader.proofs.Answers.{handed}
 use Rattle.reader.proofs.Many.{left_none, left_more, left_lost, left_all}

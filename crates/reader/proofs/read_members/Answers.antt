@@ -1,6 +1,6 @@
 -- A return for each number that is refused, for another version, for a member that is refused as it is read or by the test, and for success; with
 -- each, what the table holds.
-use Rattle.std.proofs.Common.{◌≡◌, ◌∙◌, sym, ap, refl, arith}
+use Rattle.std.proofs.Common.{◌∙◌, sym, ap, refl, arith}
 use Rattle.std.proofs.lemmas.Result.{err_from_is_err_and}
 use Rattle.format.specs.Parser.{certificate_buffer}
 use Rattle.reader.specs.Members.{with_places}

@@ -1,5 +1,5 @@
 -- B is refused, or a forbidden shape, or bytes are left, or the header is made.
-use Rattle.std.proofs.Common.{◌≡◌, sym, arith}
+use Rattle.std.proofs.Common.{sym, arith}
 use Rattle.std.proofs.lemmas.Result.{err_from_is_err_and}
 use Rattle.reader.proofs.Jobs.{lost_bads, lost_forbidden, left_over, rest_made}
 use Rattle.reader.proofs.read_rest.Goals as goal

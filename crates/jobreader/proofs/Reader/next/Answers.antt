@@ -10,11 +10,11 @@ returns-in_default-clause-number c = unread (job_buffer c.args.self.now.src.now)
 
 pub returns-then-n-low-clause-number : goal.returns-then-n-low-clause-number
 returns-then-n-low-clause-number c =
-    outside (job_buffer c.args.self.now.src.now) _ _ _ (sym c.in-Number.ensures)
+    outside (job_buffer c.args.self.now.src.now) _ _ _ (sym c.in-Ok.ensures)
     (λ (l, h). elim c.then-n-low.branch [
       | then-n-low-via-then-n-low w ↦ omega arith
       | then-n-low-via-else-n-low+then-limit-n w ↦ omega arith
     ])
 
 pub returns-clause-number : goal.returns-clause-number
-returns-clause-number c = value (job_buffer c.args.self.now.src.now) _ _ _ (sym c.in-Number.ensures) (omega arith) (omega arith)
+returns-clause-number c = value (job_buffer c.args.self.now.src.now) _ _ _ (sym c.in-Ok.ensures) (omega arith) (omega arith)

@@ -1,5 +1,5 @@
 -- Number after number as the parser of a fact reads them; the test of its second cell is one of its rank.
-use Rattle.std.proofs.Common.{◌≡◌, ◌∙◌, sym, arith}
+use Rattle.std.proofs.Common.{◌∙◌, sym, arith}
 use Rattle.std.proofs.lemmas.Result.{err_from_is_err_and}
 use Rattle.reader.specs.Number.{buffer_of}
 use Rattle.reader.proofs.Answers.{outside_of}

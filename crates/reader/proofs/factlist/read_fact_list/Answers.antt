@@ -1,5 +1,5 @@
 -- The loop: i of the facts are read, and what is left of the parser goes on at the place, after a fact that the least rank is due after.
-use Rattle.std.proofs.Common.{◌≡◌, ◌∙◌, sym, arith}
+use Rattle.std.proofs.Common.{sym, arith}
 use Rattle.reader.specs.Number.{buffer_of}
 use Rattle.reader.proofs.Answers.{handed}
 use Rattle.reader.proofs.Facts.{rise_none, rise_all, rise_lost, rank_small, rise_more}

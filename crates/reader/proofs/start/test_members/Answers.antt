@@ -1,7 +1,7 @@
 -- The loop: the members before the i-th pass the test.
 use Rattle.std.proofs.Common.{sym, arith}
 use Rattle.reader.proofs.Answers.{handed}
-use Rattle.reader.proofs.Testing.{Next, test_none, next_member, test_lost, test_more, test_all}
+use Rattle.reader.proofs.Testing.{test_none, next_member, test_lost, test_more, test_all}
 use Rattle.reader.proofs.start.test_members.Goals as goal
 
 pub loop-i-init : goal.loop-i-init
