@@ -10,11 +10,3 @@ returns-then-not-is_well_formed c =
     let w = c.is_well_formed in
     steps a.self w.ensures.1 a.kind a.a a.b a.value (omega arith) _
     (ill_formed a.self a.kind a.a a.b a.value (sym w.ensures.0 ∙ c.if-not-is_well_formed.true))
-
-pub step_formed-requires : goal.step_formed-requires
-step_formed-requires c =
-    let w = c.is_well_formed in
-    record { sized = w.ensures.1; formed = sym w.ensures.0 ∙ c.if-not-is_well_formed.false }
-
-pub returns : goal.returns
-returns c = c.step_formed.ensures
