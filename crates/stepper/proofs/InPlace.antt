@@ -8,7 +8,7 @@ use Prim.Native.Nat.{ℕ, suc, ◌-◌, ◌≤◌, ◌<◌}
 use native.Mathlib.Omega.{arith}
 use borrow.Author.Tests.{le-leb}
 use lib.ListN.{get_or, set}
-use Rattle.std.specs.Prelude.{Option, Some, None, SomeIff}
+use Rattle.std.specs.Prelude.{Option, Some, None, SomeIff, MatchOption, IfSome}
 use Rattle.heap.specs.Codes.{var_in, link_in}
 use Rattle.heap.specs.Operation.{Kind, kind_of, assign, load, store, new, delete, read, operation}
 use Rattle.heap.specs.Place.{nowhere, dangling}
@@ -19,8 +19,8 @@ use Rattle.kinds.specs.declared.Kind as number
 use Rattle.kinds.proofs.Rows.{row_of}
 use Rattle.place.specs.Place.{place_of, cell_place, codes}
 use Rattle.place.specs.declared.Place.{Place}
-use Rattle.stepper.specs.InPlace.{with_var, with_link, CellAt, FirstUnused}
-use Rattle.stepper.specs.Step.{stays, lowest_unused, perform, perform_named}
+use Rattle.stepper.specs.InPlace.{perform_kind, with_var, with_link, CellAt, FirstUnused}
+use Rattle.stepper.specs.Step.{stays, lowest_unused, perform, perform_named, step_of, Steps}
 use Rattle.stepper.specs.Table.{Sized, FormedTable, dangle_place}
 use Rattle.stepper.specs.declared.Heap64.{Heap64}
 use Rattle.stepper.specs.declared.Outcome.TheVariants.{Moved, Refused}
@@ -29,6 +29,7 @@ use Rattle.stepper.specs.declared.Stepped.{Stepped}
 use Rattle.stepper.proofs.Change.{with_value, with_cell}
 use Rattle.stepper.proofs.Formed.{Formed, formed}
 use Rattle.stepper.proofs.Perform.{moved, full, put, stored, written, taken, freed, without_place, operand_stands, linked_stands, has_link, UsedCell, at_cell}
+use Rattle.stepper.proofs.Steps.{steps, not_allowed, by_table}
 use Rattle.stepper.proofs.Places.{code_at, lowest_first, lowest_none}
 
 module _ (t : Heap64) (ready : FormedTable t) where
@@ -130,3 +131,21 @@ module _ (t : Heap64) (kind : number.Kind) (a b : ℕ) (h : allowed t.variables 
 
   pub done : (value : ℕ) (r : Stepped) → r ≡ perform t value (row.op a b) → r ≡ perform_named t value (operation t.variables (number_of kind) a b)
   done value r does = does ∙ sym (ap (perform_named t value) at_row.1)
+
+-- ---- a step by the kind that the table of kinds gives for its number
+
+-- what is so of the kind that is named
+abbrev pub IsNamed : ℕ → ℕ → ℕ → ℕ → Option number.Kind → Type 0
+IsNamed n kind a b r = MatchOption r (allowed n kind a b ≡ false) (λ k. (number_of k ≡ kind) × (allowed n kind a b ≡ true))
+
+pub named_allowed : (n kind a b : ℕ) (r : Option number.Kind) → IsNamed n kind a b r → IfSome r (λ k. allowed n (number_of k) a b ≡ true)
+named_allowed n kind a b None h = tt
+named_allowed n kind a b (Some k) (e, h) = rw e h
+
+pub named_steps : (t : Heap64) (ready : FormedTable t) (kind a b value : ℕ) → value ≤ 65535 → (r : Option number.Kind) → IsNamed t.variables kind a b r
+    → (s : Stepped) → s ≡ perform_kind t value r a b → Steps t kind a b value s
+named_steps t ready kind a b value lent r h s e = steps t ready.sized kind a b value lent s (e ∙ go r h)
+  where
+    go : (r : Option number.Kind) → IsNamed t.variables kind a b r → perform_kind t value r a b ≡ step_of t kind a b value
+    go None h = not_allowed t kind a b value ready.formed h
+    go (Some k) (e, h) = ap (λ (i : ℕ). perform_named t value (operation t.variables i a b)) e ∙ by_table t kind a b value ready.formed

@@ -1,8 +1,20 @@
--- Steps that are done in place: a table with one place changed, and what a function says of a cell that it looks up.
-use Rattle.std.specs.Prelude.{Bool, true, false, List, ◌≡◌, ℕ, ◌<◌, length, get_or, set, Option, MatchOption}
+-- Operations that are done in place, by their kinds: a table with one place changed, and what a function says of a cell that it looks up.
+use Rattle.std.specs.Prelude.{Bool, true, false, List, ◌≡◌, ℕ, ◌<◌, length, get_or, set, Option, Some, None, MatchOption}
 use Rattle.heap.specs.Place.{cell}
+use Rattle.heap.specs.Operation.{operation}
+use Rattle.kinds.specs.Kinds.{number_of}
+use Rattle.kinds.specs.declared.Kind.{Kind}
 use Rattle.place.specs.declared.Place.{Place}
+use Rattle.stepper.specs.Step.{stays, perform_named}
 use Rattle.stepper.specs.declared.Heap64.{Heap64}
+use Rattle.stepper.specs.declared.Outcome.TheVariants.{Refused}
+use Rattle.stepper.specs.declared.StepRefusal.TheVariants.{BadOperation}
+use Rattle.stepper.specs.declared.Stepped.{Stepped}
+
+-- an operation by its kind in the code, refused where there is none
+abbrev pub perform_kind : Heap64 → ℕ → Option Kind → ℕ → ℕ → Stepped
+perform_kind t value None a b = stays t (Refused BadOperation)
+perform_kind t value (Some k) a b = perform_named t value (operation t.variables (number_of k) a b)
 
 -- variable v, from 0, at a place
 abbrev pub with_var : Heap64 → ℕ → Place → Heap64

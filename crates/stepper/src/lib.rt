@@ -1,7 +1,7 @@
 // The stepper: one operation on a heap of up to 64 cells, which may have values.
 #![tactic(auto)]
 
-ghost use Rattle.std.specs.Prelude.{true, ◌≡◌, ◌≤◌, map};
+ghost use Rattle.std.specs.Prelude.{true, ◌≡◌, ◌≤◌, map, IfSome};
 ghost use Rattle.heap.specs.Codes.{var_in};
 ghost use Rattle.heap.specs.Operation.{assign, load, store, new, delete, copy, read, operation};
 ghost use Rattle.kinds.specs.Kinds.{number_of, allowed};
@@ -9,7 +9,7 @@ ghost use Rattle.lists.specs.Test.{all_from};
 ghost use Rattle.place.specs.Place.{codes};
 ghost use Rattle.stepper.specs.Step.{outcome_code, stays, comparison, value_test, codes_meet, other_value, codes_differ, perform, perform_named, Performs, Steps};
 ghost use Rattle.stepper.specs.Turns.{InTurn, StepsInTurn};
-ghost use Rattle.stepper.specs.InPlace.{CellAt, FirstUnused};
+ghost use Rattle.stepper.specs.InPlace.{perform_kind, CellAt, FirstUnused};
 ghost use Rattle.stepper.specs.Table.{place_fits, slot_fits, cell_fits, value_fits, well_formed, Sized, FormedTable, code_in, most_code, dangle_place};
 
 use kinds::Kind;
@@ -384,12 +384,13 @@ impl Heap64 {
         }
     }
 
-    // One operation on a well formed heap.
-    fn step_formed(&mut self, kind: usize, a: usize, b: usize, value: u16) -> Outcome
-        requires { FormedTable self.old }
-        ensures { Steps self.old kind a b value (stays self.new result) }
+    // One operation on a well formed heap, refused where there is no kind: `kinds::named` gives none where the kind or the operands don't keep to the table.
+    fn perform_named(&mut self, kind: Option<Kind>, a: usize, b: usize, value: u16) -> Outcome
+        requires table { FormedTable self.old }
+        requires is_allowed { IfSome kind (λ k. allowed self.old.variables (number_of k) a b ≡ true) }
+        ensures { stays self.new result ≡ perform_kind self.old value kind a b }
     {
-        match kinds::named(self.variables as usize, kind, a, b) {
+        match kind {
             Some(kind) => self.perform(kind, a, b, value),
             None => Outcome::Refused(StepRefusal::BadOperation),
         }
@@ -405,7 +406,8 @@ impl Heap64 {
                 outcome: Outcome::Refused(StepRefusal::IllFormed),
             };
         }
-        let outcome = self.step_formed(kind as usize, a as usize, b as usize, value);
+        let kind = kinds::named(self.variables as usize, kind as usize, a as usize, b as usize);
+        let outcome = self.perform_named(kind, a as usize, b as usize, value);
         Stepped {
             heap: self,
             outcome,
@@ -418,12 +420,12 @@ impl Heap64 {
         ensures { InTurn turns.now self.old (stays self.new result) }
     {
         for turn in turns {
-            let kind = (*turn / 256 % 16) as usize;
             let a = (*turn / 16 % 16) as usize;
             let b = (*turn % 16) as usize;
+            let kind = kinds::named(self.variables as usize, (*turn / 256 % 16) as usize, a, b);
             let times = *turn / 4096;
             for _ in 0..times {
-                let outcome = self.step_formed(kind, a, b, 0);
+                let outcome = self.perform_named(kind, a, b, 0);
                 let Outcome::Moved = outcome else {
                     return outcome;
                 };
