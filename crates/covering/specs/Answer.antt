@@ -6,10 +6,7 @@ use Rattle.shape.specs.Shape.{Shape, size}
 use Rattle.cover.specs.Test.{link_meets, path_unshared, Answer, holds, broken, or_else}
 use Rattle.layout.specs.Entries.{Whole}
 use Rattle.layout.specs.ShapeArray.{shape_in}
-use Rattle.coverreader.specs.declared.CoverRead.{CoverRead}
-use Rattle.coverreader.specs.declared.CoverRead.TheVariants.{Taken, Refused as NotRead}
 use Rattle.verdict.specs.declared.Broken.{Broken}
-use Rattle.verdict.specs.declared.Refusal.TheVariants.{CertificateLeft}
 use Rattle.format.specs.Parser.{Parsed, parsed, fault}
 use Rattle.verdict.specs.Verdict.{reason_of}
 use Rattle.coverreader.specs.Images.{ImageCodes}
@@ -27,11 +24,6 @@ answer_of (Err b) = broken_of b
 abbrev pub cover_answer_of : Result Cover Refused → Parsed ℕ
 cover_answer_of (Ok c) = parsed c.links c.next
 cover_answer_of (Err r) = fault (reason_of r.refusal) r.place
-
--- the refusal of a cover that is not read
-abbrev pub without_member : CoverRead → Refused
-without_member (Taken m next) = record { refusal = CertificateLeft; place = next }
-without_member (NotRead r place) = record { refusal = r; place = place }
 
 -- a member stands whole at a place, and its cells have images in the shape in an array
 pub record Tested (cert : List ℕ) (variables start : ℕ) (codes s : List ℕ) : Type 0 where

@@ -9,11 +9,11 @@ ghost use Rattle.layout.specs.Entries.{version_of, links_end};
 ghost use Rattle.layout.specs.ShapeArray.{links_in, shape_in};
 ghost use Rattle.layout.specs.Members.{members_from};
 ghost use Rattle.coverreader.specs.Reading.{read_alone};
-ghost use Rattle.covering.specs.Answer.{without_member, cover_answer_of};
+ghost use Rattle.covering.specs.Answer.{cover_answer_of};
 
 use crate::quick::images_embed;
 use crate::rules::cover_answer;
-use coverreader::{CoverRead, read_cover};
+use coverreader::read_cover;
 use layout::version_of;
 use number::wide;
 use verdict::{Refusal, Refused};
@@ -29,19 +29,6 @@ pub struct Cover {
     pub links: u16,
 }
 
-// The refusal of a cover that is not read. It is not asked of one that is read, and would refuse what follows it.
-fn refused(read: CoverRead) -> Refused
-    ensures { result ≡ without_member read }
-{
-    match read {
-        CoverRead::Taken(_, next) => Refused {
-            refusal: Refusal::CertificateLeft,
-            place: next,
-        },
-        CoverRead::Refused(refusal, place) => Refused { refusal, place },
-    }
-}
-
 // Checks the cover at a place by the exact test, of a shape at a state, with the rows of its facts: the place after it and the links followed, or a refusal.
 pub fn exact_cover(
     cert: &[u8],
@@ -54,15 +41,13 @@ pub fn exact_cover(
 ) -> Result<Cover, Refused>
     ensures { cover_answer_of result ≡ read_cover_by (certificate_buffer cert.now) (rows_test facts.now) (members_from cert.now variables starts.now) (record { state = state; shape = shape_in variables s.now }) at }
 {
-    let reading = read_cover(cert, starts, variables, at, s);
-    let r = reading.answer;
-    let CoverRead::Taken(m, next) = r else {
-        return Err(refused(r));
-    };
-    let start = starts[m] as usize;
-    let images = reading.images;
-    match cover_answer(cert, start, variables, state, &images, s, facts) {
-        Ok(links) => Ok(Cover { next, links }),
+    let read = read_cover(cert, starts, variables, at, s)?;
+    let start = starts[read.member] as usize;
+    match cover_answer(cert, start, variables, state, &read.images, s, facts) {
+        Ok(links) => Ok(Cover {
+            next: read.next,
+            links,
+        }),
         Err(broken) => Err(Refused {
             refusal: Refusal::CoverFails(broken),
             place: at,
@@ -80,12 +65,11 @@ pub fn read_alone(
 ) -> Result<Cover, Refused>
     ensures { cover_answer_of result ≡ read_alone (certificate_buffer cert.now) (members_from cert.now variables starts.now) (length (links_in s.now)) at }
 {
-    let reading = read_cover(cert, starts, variables, at, s);
-    let r = reading.answer;
-    match r {
-        CoverRead::Taken(_, next) => Ok(Cover { next, links: 0 }),
-        CoverRead::Refused(refusal, place) => Err(Refused { refusal, place }),
-    }
+    let read = read_cover(cert, starts, variables, at, s)?;
+    Ok(Cover {
+        next: read.next,
+        links: 0,
+    })
 }
 
 // Whether the member at a place, of so many cells, lists no fact: version 1 has none, in version 2 their number is behind the links.

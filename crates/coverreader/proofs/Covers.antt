@@ -16,36 +16,38 @@ use Rattle.format.specs.Parser.{certificate_buffer, many}
 use Rattle.format.proofs.Parsing.{read_outside, read_complete}
 use Rattle.verdict.specs.declared.Refused.{Refused}
 use Rattle.std.specs.Prelude.{Result, Ok, Err}
+use Rattle.verdict.specs.declared.Refusal.{Refusal}
 use Rattle.verdict.specs.declared.Refusal.TheVariants.{CertificateUnreadable, CertificateRange, CoverFails}
 use Rattle.layout.specs.Entries.{located_at, is_whole}
 use Rattle.coverreader.proofs.ReadImages.{read_unreadable}
-use Rattle.coverreader.specs.Images.{images_in, no_images}
+use Rattle.coverreader.specs.Images.{images_in}
 use Rattle.layout.specs.Members.{member_at, members_from}
 use Rattle.coverreader.specs.Reading.{images_of, ImagesRead, read_alone, CoverIs}
 use Rattle.coverreader.specs.declared.CoverRead.{CoverRead}
-use Rattle.coverreader.specs.declared.CoverRead.TheVariants.{Taken, Refused as NotRead}
 use Rattle.layout.proofs.Whole.{whole}
 use Rattle.coverreader.proofs.Elements.{element, no_element}
 
 module _ (cert : List ℕ) (variables : ℕ) (starts : List ℕ) (at n : ℕ) where
-  abbrev Is : CoverRead → List ℕ → Type 0
-  Is r codes = CoverIs cert variables starts at n r codes
+  abbrev Is : Result CoverRead Refused → Type 0
+  Is r = CoverIs cert variables starts at n r
 
-  pub cover_unreadable : (place : ℕ) → number_at cert at ≡ no_numeral place → Is (NotRead CertificateUnreadable at) no_images
+  abbrev refused : Refusal → Result CoverRead Refused
+  refused r = Err (record { refusal = r; place = at })
+
+  pub cover_unreadable : (place : ℕ) → number_at cert at ≡ no_numeral place → Is (refused CertificateUnreadable)
   unfolding read_cover_by read_alone
   cover_unreadable place e =
       record {
         reads = λ among covered s z. rw (read_unreadable cert (get_elem? (members_from cert variables starts)) at place e) refl;
         alone = rw (read_unreadable cert (get_elem? (members_from cert variables starts)) at place e) refl;
-        numbers = λ m next y. let x : ◌≡◌ {A = ℕ} 0 1 = cc in absurd (omega arith);
-        member = λ m next y. let x : ◌≡◌ {A = ℕ} 0 1 = cc in absurd (omega arith);
-        whole = λ m next y. let x : ◌≡◌ {A = ℕ} 0 1 = cc in absurd (omega arith);
-        images = λ m next y. let x : ◌≡◌ {A = ℕ} 0 1 = cc in absurd (omega arith);
-        none = λ _ _ _. refl;
+        numbers = tt;
+        member = tt;
+        whole = tt;
+        images = tt;
       }
 
   module _ (m next : ℕ) (e : number_at cert at ≡ numeral m next) where
-    pub cover_outside : length starts ≤ m → Is (NotRead CertificateRange at) no_images
+    pub cover_outside : length starts ≤ m → Is (refused CertificateRange)
     unfolding read_cover_by read_alone
     cover_outside b =
         record {
@@ -55,11 +57,10 @@ module _ (cert : List ℕ) (variables : ℕ) (starts : List ℕ) (at n : ℕ) wh
           alone =
               rw (read_outside (certificate_buffer cert) (get_elem? (members_from cert variables starts)) at m next e
               (no_element (member_at cert variables) starts m b)) refl;
-          numbers = λ m next y. let x : ◌≡◌ {A = ℕ} 0 1 = cc in absurd (omega arith);
-          member = λ m next y. let x : ◌≡◌ {A = ℕ} 0 1 = cc in absurd (omega arith);
-          whole = λ m next y. let x : ◌≡◌ {A = ℕ} 0 1 = cc in absurd (omega arith);
-          images = λ m next y. let x : ◌≡◌ {A = ℕ} 0 1 = cc in absurd (omega arith);
-          none = λ _ _ _. refl;
+          numbers = tt;
+          member = tt;
+          whole = tt;
+          images = tt;
         }
 
     module _ (b : m < length starts) where
@@ -69,7 +70,7 @@ module _ (cert : List ℕ) (variables : ℕ) (starts : List ℕ) (at n : ℕ) wh
       member_some : get_elem? (members_from cert variables starts) m ≡ some (member_at cert variables start)
       member_some = element (member_at cert variables) starts m b
 
-      pub cover_absent : is_whole cert variables start ≡ false → Is (NotRead (CoverFails (record { rule = 1; name = 0 })) at) no_images
+      pub cover_absent : is_whole cert variables start ≡ false → Is (refused (CoverFails (record { rule = 1; name = 0 })))
       unfolding read_cover_by read_alone many lowest
       cover_absent o =
           record {
@@ -81,11 +82,10 @@ module _ (cert : List ℕ) (variables : ℕ) (starts : List ℕ) (at n : ℕ) wh
                   ne_eqb 256 covered.state other,
                 ) refl;
             alone = rw (read_complete (certificate_buffer cert) (get_elem? (members_from cert variables starts)) at m next _ e member_some, o) refl;
-            numbers = λ m next y. let x : ◌≡◌ {A = ℕ} 0 1 = cc in absurd (omega arith);
-            member = λ m next y. let x : ◌≡◌ {A = ℕ} 0 1 = cc in absurd (omega arith);
-            whole = λ m next y. let x : ◌≡◌ {A = ℕ} 0 1 = cc in absurd (omega arith);
-            images = λ m next y. let x : ◌≡◌ {A = ℕ} 0 1 = cc in absurd (omega arith);
-            none = λ _ _ _. refl;
+            numbers = tt;
+            member = tt;
+            whole = tt;
+            images = tt;
           }
 
       module _ (w : is_whole cert variables start ≡ true) (count : ℕ) (size_is : count ≡ get_or cert (start + 1) 0) (q : Result ℕ Refused) (codes : List ℕ)
@@ -99,7 +99,7 @@ module _ (cert : List ℕ) (variables : ℕ) (starts : List ℕ) (at n : ℕ) wh
             (length-take-le (get_or cert (start + 1) 0) (drop (start + 2 + variables) cert)
             (omega (arith, length-drop (start + 2 + variables) cert, (whole cert variables start w).inside)))
 
-        pub cover_refused : (r : Refused) → q ≡ Err r → Is (NotRead r.refusal r.place) no_images
+        pub cover_refused : (r : Refused) → q ≡ Err r → Is (Err r)
         unfolding read_cover_by read_alone
         cover_refused r y =
             record {
@@ -118,14 +118,13 @@ module _ (cert : List ℕ) (variables : ℕ) (starts : List ℕ) (at n : ℕ) wh
                     ← i.reads,
                     y,
                   ) refl;
-              numbers = λ m next y. let x : ◌≡◌ {A = ℕ} 0 1 = cc in absurd (omega arith);
-              member = λ m next y. let x : ◌≡◌ {A = ℕ} 0 1 = cc in absurd (omega arith);
-              whole = λ m next y. let x : ◌≡◌ {A = ℕ} 0 1 = cc in absurd (omega arith);
-              images = λ m next y. let x : ◌≡◌ {A = ℕ} 0 1 = cc in absurd (omega arith);
-              none = λ _ _ _. refl;
+              numbers = tt;
+              member = tt;
+              whole = tt;
+              images = tt;
             }
 
-        pub cover_taken : get_or cert start 0 < 256 → (end : ℕ) → q ≡ Ok end → Is (Taken m end) codes
+        pub cover_taken : get_or cert start 0 < 256 → (end : ℕ) → q ≡ Ok end → Is (Ok (record { member = m; images = codes; next = end }))
         unfolding read_cover_by read_alone
         cover_taken byte end y =
             record {
@@ -146,12 +145,8 @@ module _ (cert : List ℕ) (variables : ℕ) (starts : List ℕ) (at n : ℕ) wh
                     y,
                     lt-ltb (get_or cert start 0) 256 byte,
                   ) refl;
-              numbers = λ m' next' z.
-                  let m_is : m ≡ m' = cc in
-                  let end_is : end ≡ next' = cc in
-                  rw (← m_is, ← end_is) (next, e, rw (← size_is) (sym i.reads ∙ ap (λ q. images_of q (images_in count codes)) y));
-              member = λ m' next' y. let x : m ≡ m' = cc in omega arith;
-              whole = λ m' next' y. let x : m ≡ m' = cc in rw (← x) (whole cert variables start w);
-              images = λ m' next' z. let x : m ≡ m' = cc in rw (← x, ← size_is) (i.images end y);
-              none = λ _ _ z. let x : ◌≡◌ {A = ℕ} 0 1 = cc in absurd (omega arith);
+              numbers = (next, e, rw (← size_is) (sym i.reads ∙ ap (λ q. images_of q (images_in count codes)) y));
+              member = b;
+              whole = whole cert variables start w;
+              images = rw (← size_is) (i.images end y);
             }

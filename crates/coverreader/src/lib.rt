@@ -1,28 +1,21 @@
 // One cover as it is read, whatever the bytes are.
 #![tactic(auto)]
 
-ghost use Rattle.std.specs.Prelude.{◌≡◌, ◌≤◌, length};
+ghost use Rattle.std.specs.Prelude.{◌≤◌, length};
 ghost use Rattle.layout.specs.ShapeArray.{links_in};
-ghost use Rattle.coverreader.specs.Images.{ImageCodes, no_images};
+ghost use Rattle.coverreader.specs.Images.{ImageCodes};
 ghost use Rattle.coverreader.specs.Reading.{ImagesRead, CoverIs};
-ghost use Rattle.coverreader.specs.declared.CoverRead.TheVariants.{Refused as NotRead};
 
 use layout::{cells_held, is_whole};
 use number::read_number;
 use verdict::{Broken, Refusal, Refused, WRONG_STATE};
 
-// A cover as read: its member's number and the next place; or a refusal and its place.
+// A cover as read: its member's number, the images, from the code of a place to the code of its image, and the next place.
 #[derive(Clone, Copy)]
-pub enum CoverRead {
-    Taken(usize, usize),
-    Refused(Refusal, usize),
-}
-
-// The same with the images in an array beside, from the code of a place to the code of its image. There are none where it is refused.
-#[derive(Clone, Copy)]
-pub struct CoverReading {
-    pub answer: CoverRead,
+pub struct CoverRead {
+    pub member: usize,
     pub images: [u8; 15],
+    pub next: usize,
 }
 
 // No image is read: nowhere, # and * are their own images, and every cell's is cell 0.
@@ -59,16 +52,6 @@ fn read_images(
     Ok(at)
 }
 
-// A cover that is not read.
-fn not_read(refusal: Refusal, place: usize) -> CoverReading
-    ensures { result ≡ record { answer = NotRead refusal place; images = no_images } }
-{
-    CoverReading {
-        answer: CoverRead::Refused(refusal, place),
-        images: NO_IMAGES,
-    }
-}
-
 // Reads the cover at a place, of the shape in an array.
 pub fn read_cover(
     cert: &[u8],
@@ -76,32 +59,40 @@ pub fn read_cover(
     variables: usize,
     at: usize,
     s: &[u8; 28],
-) -> CoverReading
-    ensures { CoverIs cert.now variables starts.now at (length (links_in s.now)) result.answer result.images }
+) -> Result<CoverRead, Refused>
+    ensures { CoverIs cert.now variables starts.now at (length (links_in s.now)) result }
 {
     let Ok(number) = read_number(cert, at) else {
-        return not_read(Refusal::CertificateUnreadable, at);
+        return Err(Refused {
+            refusal: Refusal::CertificateUnreadable,
+            place: at,
+        });
     };
-    let m = number.value;
-    if starts.len() <= m {
-        return not_read(Refusal::CertificateRange, at);
+    let member = number.value;
+    if starts.len() <= member {
+        return Err(Refused {
+            refusal: Refusal::CertificateRange,
+            place: at,
+        });
     }
-    let start = starts[m] as usize;
+    let start = starts[member] as usize;
     if !is_whole(cert, start, variables) {
         // no member is there: whatever its state would be, it is another
         let other = Broken {
             rule: WRONG_STATE,
             name: 0,
         };
-        return not_read(Refusal::CoverFails(other), at);
+        return Err(Refused {
+            refusal: Refusal::CoverFails(other),
+            place: at,
+        });
     }
     let mut images = NO_IMAGES;
     let cells = cert[start + 1] as usize;
-    match read_images(cert, number.next, cells_held(s), cells, &mut images) {
-        Ok(end) => CoverReading {
-            answer: CoverRead::Taken(m, end),
-            images,
-        },
-        Err(r) => not_read(r.refusal, r.place),
-    }
+    let next = read_images(cert, number.next, cells_held(s), cells, &mut images)?;
+    Ok(CoverRead {
+        member,
+        images,
+        next,
+    })
 }
