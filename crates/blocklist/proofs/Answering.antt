@@ -9,6 +9,7 @@ use native.Mathlib.Omega.{arith}
 use borrow.Author.Tests.{leb-true, le-leb, le-ltb, lt-ltb}
 use lib.Dec.{leb, ltb}
 use lib.ListN.{length}
+use Rattle.std.specs.Prelude.{Result, Ok, Err}
 use Rattle.lists.proofs.Test.{and_left, and_right}
 use Rattle.heap.specs.Heap.{Heap, update}
 use Rattle.heap.specs.Operation.{equal, new, Enabled, enabled?, operation}
@@ -22,14 +23,9 @@ use Rattle.stepper.specs.declared.Outcome.TheVariants.{Moved, Blocked, Refused}
 use Rattle.stepper.specs.declared.StepRefusal.TheVariants as step-refusal
 use Rattle.stepper.specs.declared.Stepped.{Stepped}
 use Rattle.blocklist.specs.BlockList.{Lists, cell_at, counted, inserted, removed}
-use Rattle.blocklist.specs.Answers.{ready, blocks, with_list, length_told, count_of, hands_back, done, insert_of, remove_nth, remove_of, MetFromHead, Counts, Inserts, Removes}
+use Rattle.blocklist.specs.Answers.{ready, blocks, with_list, length_told, Counted, Edited, count_of, hands_back, done, insert_of, remove_nth, remove_of, MetFromHead, Counts, Inserts, Removes}
 use Rattle.blocklist.specs.Parts.{refused_as, edit_of, edited_as, EditedBy, times, once, rest_turns, insert_turns, first_turns, after_turns}
 use Rattle.blocklist.specs.Sentences.{OnlyRests, PutsIn, TakesOut}
-use Rattle.blocklist.specs.declared.Counted.{Counted}
-use Rattle.blocklist.specs.declared.Edit.{Edit}
-use Rattle.blocklist.specs.declared.Edit.TheVariants as edit
-use Rattle.blocklist.specs.declared.Edited.{Edited}
-use Rattle.blocklist.specs.declared.Length.TheVariants as length_is
 use Rattle.blocklist.specs.declared.ListRefusal.{ListRefusal}
 use Rattle.blocklist.specs.declared.ListRefusal.TheVariants.{IllFormed, NoList, PastList, Full}
 use Rattle.blocklist.proofs.Chains.{cells_lists, cells_length}
@@ -39,7 +35,7 @@ use Rattle.blocklist.proofs.Walking.{rested}
 use Rattle.blocklist.proofs.Inserting as inserting
 use Rattle.blocklist.proofs.Removing as removing
 
-not_done : (r : ListRefusal) → ◌≡◌ {A = Edit} (edit.Refused r) edit.Done → ⊥
+not_done : (r : ListRefusal) → ◌≡◌ {A = Result (Unit {0}) ListRefusal} (Err r) (Ok tt) → ⊥
 not_done r e = let z : ◌≡◌ {A = ℕ} 0 1 = cc in omega arith
 
 -- ---- ready, or not
@@ -62,7 +58,7 @@ module _ (t : Heap64) (turns : List ℕ) (s : Stepped) where
 
 -- where it is not ready, a first turn of variable 3 is refused
 module _ (t : Heap64) (kind b : ℕ) (turns : List ℕ) (s : Stepped) (few : leb 3 t.variables ≡ false → operation t.variables kind 3 b ≡ none) where
-  unready : kind < 16 → b < 16 → ready t ≡ false → StepsInTurn t (once kind 3 b ∷ turns) s → edit_of s.outcome ≡ edit.Refused IllFormed
+  unready : kind < 16 → b < 16 → ready t ≡ false → StepsInTurn t (once kind 3 b ∷ turns) s → edit_of s.outcome ≡ Err IllFormed
   unfolding step_of
   unready k l e p = go (well_formed t) refl (leb 3 t.variables) refl
     where
@@ -72,7 +68,7 @@ module _ (t : Heap64) (kind b : ℕ) (turns : List ℕ) (s : Stepped) (few : leb
       stuck : (u : Stepped) (P : Type 0) → u.outcome ≡ Refused step-refusal.BadOperation → on_moved u.outcome P (s ≡ u) → s ≡ u
       stuck u P z w = subst (λ (o : Outcome). on_moved o P (s ≡ u)) z w
 
-      go : (w : Bool) → well_formed t ≡ w → (f : Bool) → leb 3 t.variables ≡ f → edit_of s.outcome ≡ edit.Refused IllFormed
+      go : (w : Bool) → well_formed t ≡ w → (f : Bool) → leb 3 t.variables ≡ f → edit_of s.outcome ≡ Err IllFormed
       go false w f z = ap (λ (q : Stepped). edit_of q.outcome) (p.ill_formed w)
       go true w true z = absurd (true≢false (sym (rw (w, z) refl) ∙ e))
       go true w false z =
@@ -91,20 +87,20 @@ pub record Found (t : Heap64) (n : ℕ) : Type 0 where
   pub count : length cells ≡ n
   pub most : n ≤ 64
 
-pub found_list : (t : Heap64) (n : ℕ) → length_is.Cells n ≡ length_told (blocks t) → Found t n
+pub found_list : (t : Heap64) (n : ℕ) → Ok n ≡ length_told (blocks t) → Found t n
 found_list t n e = go (blocks t) refl e
   where
-    go : (o : Option (List ℕ)) → blocks t ≡ o → length_is.Cells n ≡ length_told o → Found t n
+    go : (o : Option (List ℕ)) → blocks t ≡ o → Ok n ≡ length_told o → Found t n
     go none k z = let q : ◌≡◌ {A = ℕ} 0 1 = cc in absurd (omega arith)
     go (some xs) k z =
         let same : length xs ≡ n = cc in
         let b = cells_length (heap_of t).link 64 ((heap_of t).var 1) xs k in
         record { cells = xs; found = k; lists = cells_lists (heap_of t).link 64 ((heap_of t).var 1) xs k; count = same; most = omega arith }
 
-none_found : (t : Heap64) (r : ListRefusal) → length_is.Refused r ≡ length_told (blocks t) → (blocks t ≡ none) × (r ≡ NoList)
+none_found : (t : Heap64) (r : ListRefusal) → Err r ≡ length_told (blocks t) → (blocks t ≡ none) × (r ≡ NoList)
 none_found t r e = go (blocks t) refl e
   where
-    go : (o : Option (List ℕ)) → blocks t ≡ o → length_is.Refused r ≡ length_told o → (blocks t ≡ none) × (r ≡ NoList)
+    go : (o : Option (List ℕ)) → blocks t ≡ o → Err r ≡ length_told o → (blocks t ≡ none) × (r ≡ NoList)
     go none k z = let same : r ≡ NoList = cc in (k, same)
     go (some xs) k z = let q : ◌≡◌ {A = ℕ} 0 1 = cc in absurd (omega arith)
 
@@ -123,54 +119,87 @@ module _ (t : Heap64) (m : MetFromHead t) where
   abbrev h : Heap
   h = heap_of t
 
+  -- a refusal after 13, by a case for each readiness
+  refused_by : {A : Type 0} (P : Result A ListRefusal × Heap64 → Type 0) (r : ListRefusal) → (ready t ≡ false → P (hands_back t IllFormed)) → (ready t ≡ true → P (hands_back t r)) → P (hands_back t (refused_as t r))
+  refused_by P r back done = go (ready t) refl
+    where
+      go : (b : Bool) → ready t ≡ b → P (hands_back t (cond b r IllFormed))
+      go true e = done e
+      go false e = back e
+
+  -- ---- an edit by turns, by its answer
+
+  edited_ok : (s : Stepped) (after : Heap64) → ◌≡◌ {A = Edited} (Ok tt, after) (edited_as t s.heap (edit_of s.outcome))
+      → (Ok tt ≡ edit_of s.outcome) × (after ≡ s.heap)
+  edited_ok s after e = go (edit_of s.outcome) e
+    where
+      go : (o : Result (Unit {0}) ListRefusal) → ◌≡◌ {A = Edited} (Ok tt, after) (edited_as t s.heap o) → (Ok tt ≡ o) × (after ≡ s.heap)
+      go (Ok u) z = (refl, ap (λ (r : Edited). r.1) z)
+      go (Err f) z = absurd (not_done f (sym (ap (λ (r : Edited). r.0) z)))
+
+  edited_err : (s : Stepped) (after : Heap64) (r : ListRefusal) → ◌≡◌ {A = Edited} (Err r, after) (edited_as t s.heap (edit_of s.outcome))
+      → (Err r ≡ edit_of s.outcome) × (after ≡ t)
+  edited_err s after r e = go (edit_of s.outcome) e
+    where
+      go : (o : Result (Unit {0}) ListRefusal) → ◌≡◌ {A = Edited} (Err r, after) (edited_as t s.heap o) → (Err r ≡ o) × (after ≡ t)
+      go (Ok u) z = absurd (not_done r (ap (λ (r : Edited). r.0) z))
+      go (Err f) z = (ap (λ (r : Edited). r.0) z, ap (λ (r : Edited). r.1) z)
+
   -- ---- count
 
   abbrev not_counted : ListRefusal → Counted
-  not_counted r = record { heap = t; length = length_is.Refused r }
+  not_counted = hands_back t
 
   count_back : (r : ListRefusal) → not_counted r ≡ count_of t → Counts t (not_counted r)
   count_back r e =
       record { result = e; formed = λ f. f; met = m; counts = λ n z. let q : ◌≡◌ {A = ℕ} 0 1 = cc in absurd (omega arith) }
 
-  module _ (s : Stepped) (p : StepsInTurn t rest_turns s) where
+  pub count_none : (r : ListRefusal) → Err r ≡ length_told (blocks t) → Counts t (hands_back t (refused_as t NoList))
+  unfolding count_of
+  count_none r e =
+      refused_by (Counts t) NoList (λ z. count_back IllFormed (not_ready t not_counted _ z))
+      (λ a. count_back NoList (no_list t not_counted _ a (none_found t r e).0))
+
+  module _ (after : Heap64) where
     few : leb 3 t.variables ≡ false → operation t.variables 3 3 0 ≡ none
     few e = rw e refl
 
-    is_done : ready t ≡ true → Done t.variables s (counted h)
-    is_done e = rested (is_ready t e).enough (begun t rest_turns s (is_ready t e) p) refl
-
-    by_outcome : (b : Bool) → ready t ≡ b → edit.Done ≡ edit_of s.outcome → ready t ≡ true
-    by_outcome true e z = e
-    by_outcome false e z = absurd (not_done IllFormed (sym (z ∙ unready t 3 0 (once 3 2 0 ∷ []) s few (omega arith) (omega arith) e p)))
-
-    pub count_unready : (r : ListRefusal) → edit.Refused r ≡ edit_of s.outcome → Counts t (not_counted IllFormed)
+    -- where the turns are refused
+    pub count_unready : (r : ListRefusal) → EditedBy t rest_turns (Err r, after) → Counts t (Err r, after)
     unfolding count_of
-    count_unready r o = go (ready t) refl
+    count_unready r (s, p, is) =
+        let (o, same) = edited_err s after r is in
+        subst (λ (u : Heap64). Counts t (Err r, u)) (sym same) (go s p o (ready t) refl)
       where
-        go : (b : Bool) → ready t ≡ b → Counts t (not_counted IllFormed)
-        go true e = absurd (not_done r (o ∙ ap edit_of (is_done e).moved))
-        go false e = count_back IllFormed (not_ready t not_counted _ e)
+        go : (s : Stepped) → StepsInTurn t rest_turns s → Err r ≡ edit_of s.outcome → (b : Bool) → ready t ≡ b → Counts t (not_counted r)
+        go s p o true a = absurd (not_done r (o ∙ ap edit_of (rested (is_ready t a).enough (begun t rest_turns s (is_ready t a) p) refl).moved))
+        go s p o false a =
+            let none_done : Err r ≡ Err IllFormed = o ∙ unready t 3 0 (once 3 2 0 ∷ []) s few (omega arith) (omega arith) a p in
+            let r_is : r ≡ IllFormed = cc in
+            count_back r (ap not_counted r_is ∙ not_ready t not_counted _ a)
 
-    pub count_refused : edit.Done ≡ edit_of s.outcome → (r : ListRefusal) → length_is.Refused r ≡ length_told (blocks t) → Counts t (not_counted r)
+    -- and where they are done
+    pub count_done : EditedBy t rest_turns (Ok tt, after) → (n : ℕ) → Ok n ≡ length_told (blocks t) → Counts t (Ok n, after)
     unfolding count_of
-    count_refused z r e =
-        let n = none_found t r e in
-        count_back r (ap not_counted n.1 ∙ no_list t not_counted _ (by_outcome (ready t) refl z) n.0)
+    count_done (s, p, is) n e =
+        let (o, same) = edited_ok s after is in
+        subst (λ (u : Heap64). Counts t (Ok n, u)) (sym same) (go s p o (ready t) refl)
+      where
+        l : Found t n
+        l = found_list t n e
 
-    pub count_done : edit.Done ≡ edit_of s.outcome → (n : ℕ) → length_is.Cells n ≡ length_told (blocks t) → Counts t (record { heap = s.heap; length = length_is.Cells n })
-    unfolding count_of
-    count_done z n e =
-        let a = by_outcome (ready t) refl z in
-        let l = found_list t n e in
-        let d = is_done a in
-        let table_is = d.table in
-        let length-is-n = sym l.count in
-        record {
-          result = (λ i. record { heap = table_is i; length = length_is.Cells (length-is-n i) }) ∙ by_list t not_counted _ a l.cells l.found;
-          formed = λ f. d.stands.formed;
-          met = m;
-          counts = λ k w. (l.cells, l.found, (let same : n ≡ k = cc in l.count ∙ same), d.stands.heap, subst (OnlyRests h) (sym d.stands.heap) (only_rests h));
-        }
+        go : (s : Stepped) → StepsInTurn t rest_turns s → Ok tt ≡ edit_of s.outcome → (b : Bool) → ready t ≡ b → Counts t (Ok n, s.heap)
+        go s p o false a = absurd (not_done IllFormed (sym (o ∙ unready t 3 0 (once 3 2 0 ∷ []) s few (omega arith) (omega arith) a p)))
+        go s p o true a =
+            let d : Done t.variables s (counted h) = rested (is_ready t a).enough (begun t rest_turns s (is_ready t a) p) refl in
+            let table_is = d.table in
+            let length-is-n = sym l.count in
+            record {
+              result = (λ i. (Ok (length-is-n i), table_is i)) ∙ by_list t not_counted _ a l.cells l.found;
+              formed = λ f. d.stands.formed;
+              met = m;
+              counts = λ k w. (l.cells, l.found, (let same : n ≡ k = cc in l.count ∙ same), d.stands.heap, subst (OnlyRests h) (sym d.stands.heap) (only_rests h));
+            }
 
   -- ---- insert and remove
 
@@ -180,19 +209,11 @@ module _ (t : Heap64) (m : MetFromHead t) where
   remove_back : (n : ℕ) (r : ListRefusal) → hands_back t r ≡ remove_of t n → Removes t n (hands_back t r)
   remove_back n r e = record { result = e; formed = λ f. f; met = m; removes = λ z. absurd (not_done r z) }
 
-  -- a refusal after 13, by a case for each readiness
-  refused_by : (P : Edited → Type 0) (r : ListRefusal) → (ready t ≡ false → P (hands_back t IllFormed)) → (ready t ≡ true → P (hands_back t r)) → P (refused_as t r)
-  refused_by P r back done = go (ready t) refl
-    where
-      go : (b : Bool) → ready t ≡ b → P (hands_back t (cond b r IllFormed))
-      go true e = done e
-      go false e = back e
-
   insert_unready : (n : ℕ) → ready t ≡ false → Inserts t n (hands_back t IllFormed)
   unfolding insert_of
   insert_unready n e = insert_back n IllFormed (not_ready t (hands_back t) _ e)
 
-  pub insert_none : (n : ℕ) (r : ListRefusal) → length_is.Refused r ≡ length_told (blocks t) → Inserts t n (refused_as t NoList)
+  pub insert_none : (n : ℕ) (r : ListRefusal) → Err r ≡ length_told (blocks t) → Inserts t n (hands_back t (refused_as t NoList))
   unfolding insert_of
   insert_none n r e =
       refused_by (Inserts t n) NoList (insert_unready n) (λ a. insert_back n NoList (no_list t (hands_back t) _ a (none_found t r e).0))
@@ -201,7 +222,7 @@ module _ (t : Heap64) (m : MetFromHead t) where
   unfolding remove_of
   remove_unready n e = remove_back n IllFormed (not_ready t (hands_back t) _ e)
 
-  pub remove_none : (n : ℕ) (r : ListRefusal) → length_is.Refused r ≡ length_told (blocks t) → Removes t n (refused_as t NoList)
+  pub remove_none : (n : ℕ) (r : ListRefusal) → Err r ≡ length_told (blocks t) → Removes t n (hands_back t (refused_as t NoList))
   unfolding remove_of
   remove_none n r e =
       refused_by (Removes t n) NoList (remove_unready n) (λ a. remove_back n NoList (no_list t (hands_back t) _ a (none_found t r e).0))
@@ -209,21 +230,21 @@ module _ (t : Heap64) (m : MetFromHead t) where
   -- an edit whose steps are all done
   record MadeOf (r : Edited) (k : Heap) : Type 0 where
     is : r ≡ done t k
-    heap : heap_of r.heap ≡ k
-    formed : well_formed r.heap ≡ true
+    heap : heap_of r.1 ≡ k
+    formed : well_formed r.1 ≡ true
 
   made : (r : Edited) (k : Heap) (s : Stepped) → r ≡ edited_as t s.heap (edit_of s.outcome) → Done t.variables s k → MadeOf r k
   made r k s e d =
-      let after : r ≡ record { heap = s.heap; edit = edit.Done } = e ∙ ap (λ (o : Outcome). edited_as t s.heap (edit_of o)) d.moved in
+      let after : r ≡ (Ok tt, s.heap) = e ∙ ap (λ (o : Outcome). edited_as t s.heap (edit_of o)) d.moved in
       let table_is = d.table in
       record {
-        is = after ∙ (λ i. record { heap = table_is i; edit = edit.Done });
-        heap = ap (λ (q : Edited). heap_of q.heap) after ∙ d.stands.heap;
-        formed = subst (λ (q : Edited). well_formed q.heap ≡ true) (sym after) d.stands.formed;
+        is = after ∙ (λ i. (Ok tt, table_is i));
+        heap = ap (λ (q : Edited). heap_of q.1) after ∙ d.stands.heap;
+        formed = subst (λ (q : Edited). well_formed q.1 ≡ true) (sym after) d.stands.formed;
       }
 
   -- and one that is refused
-  edited_back : (r : Edited) (s : Stepped) (f : ListRefusal) → r ≡ edited_as t s.heap (edit_of s.outcome) → edit_of s.outcome ≡ edit.Refused f → r ≡ hands_back t f
+  edited_back : (r : Edited) (s : Stepped) (f : ListRefusal) → r ≡ edited_as t s.heap (edit_of s.outcome) → edit_of s.outcome ≡ Err f → r ≡ hands_back t f
   edited_back r s f e z = e ∙ ap (edited_as t s.heap) z
 
   module _ (c : ℕ) (l : Found t c) (n : ℕ) where
@@ -243,7 +264,7 @@ module _ (t : Heap64) (m : MetFromHead t) where
     unfolding insert_of
     inserted_in_lem a = by_list t (hands_back t) inserted_in a xs l.found
 
-    pub insert_past : c < n → Inserts t n (refused_as t PastList)
+    pub insert_past : c < n → Inserts t n (hands_back t (refused_as t PastList))
     insert_past b =
         let past : ltb (length xs) n ≡ true = let k = l.count in lt-ltb (length xs) n (omega arith) in
         refused_by (Inserts t n) PastList (insert_unready n) (λ a. insert_back n PastList
@@ -264,7 +285,7 @@ module _ (t : Heap64) (m : MetFromHead t) where
     unfolding remove_of
     removed_in a = by_list t (hands_back t) (remove_nth t n) a xs l.found
 
-    pub remove_zero : n ≡ 0 → Removes t n (refused_as t PastList)
+    pub remove_zero : n ≡ 0 → Removes t n (hands_back t (refused_as t PastList))
     remove_zero z =
         refused_by (Removes t n) PastList (remove_unready n) (λ a. remove_back n PastList (ap (λ (k : ℕ). remove_nth t k xs) (sym z) ∙ removed_in a))
 
@@ -274,7 +295,7 @@ module _ (t : Heap64) (m : MetFromHead t) where
         let over : ltb i (length xs) ≡ false = let k = l.count in le-ltb i (length xs) (omega arith) in
         ap (λ (o : Bool). cond o (done t (removed i xs h)) (hands_back t PastList)) (sym over)
 
-    pub remove_past : c < n → Removes t n (refused_as t PastList)
+    pub remove_past : c < n → Removes t n (hands_back t (refused_as t PastList))
     remove_past b = refused_by (Removes t n) PastList (remove_unready n) (λ a. remove_back n PastList (past_out n b ∙ removed_in a))
 
     -- the cell numbered i from 0 is taken out, by turns that do so on a table that is ready
@@ -351,7 +372,7 @@ module _ (t : Heap64) (m : MetFromHead t) where
         is_new : first.0 ≡ perform t 0 (new 3)
         is_new = first.1.result ∙ by_name t.variables t (heap_at (spot_of h)) start.stands 6 3 0 (new 3) named
 
-        full : leb 64 x ≡ true → edit_of s.outcome ≡ edit.Refused Full
+        full : leb 64 x ≡ true → edit_of s.outcome ≡ Err Full
         unfolding perform
         full z =
             let is : first.0 ≡ stays t (Refused step-refusal.Full) = is_new ∙ rw z refl in

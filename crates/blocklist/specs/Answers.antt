@@ -1,5 +1,5 @@
 -- What insert, remove and count answer, for every table and number.
-use Rattle.std.specs.Prelude.{Bool, true, ◌&&◌, cond, List, ◌≢◌, ◌↔◌, ◌≡◌, ℕ, zero, suc, leb, ltb, length}
+use Rattle.std.specs.Prelude.{Bool, true, ◌&&◌, cond, Result, Ok, Err, List, ◌≢◌, ◌↔◌, ◌≡◌, ℕ, zero, suc, leb, ltb, length}
 use Rattle.std.proofs.Math.Option.{Option, none, some}
 use Rattle.heap.specs.Follow.{follow}
 use Rattle.heap.specs.Heap.{Heap}
@@ -9,11 +9,6 @@ use Rattle.stepper.specs.Table.{heap_of, table_of, well_formed}
 use Rattle.stepper.specs.declared.Heap64.{Heap64}
 use Rattle.blocklist.specs.BlockList.{Lists, cells_from, cell_at, counted, inserted, removed}
 use Rattle.blocklist.specs.Sentences.{OnlyRests, PutsIn, TakesOut}
-use Rattle.blocklist.specs.declared.Counted.{Counted}
-use Rattle.blocklist.specs.declared.Edit.TheVariants as edit
-use Rattle.blocklist.specs.declared.Edited.{Edited}
-use Rattle.blocklist.specs.declared.Length.{Length}
-use Rattle.blocklist.specs.declared.Length.TheVariants as length_is
 use Rattle.blocklist.specs.declared.ListRefusal.{ListRefusal}
 use Rattle.blocklist.specs.declared.ListRefusal.TheVariants.{IllFormed, NoList, PastList, Full}
 
@@ -41,21 +36,27 @@ abbrev pub with_list : {A : Type 0} → Heap64 → (ListRefusal → A) → (List
 with_list t refused f = cond (ready t) (on_blocks refused f (blocks t)) (refused IllFormed)
 
 -- what is told of the cells met
-abbrev pub length_told : Option (List ℕ) → Length
-length_told = on_blocks length_is.Refused (λ xs. length_is.Cells (length xs))
+abbrev pub length_told : Option (List ℕ) → Result ℕ ListRefusal
+length_told = on_blocks Err (λ xs. Ok (length xs))
+
+-- what a count or an edit answers, and the heap after it
+abbrev pub Counted : Type 0
+Counted = Result ℕ ListRefusal × Heap64
+
+abbrev pub Edited : Type 0
+Edited = Result (Unit {0}) ListRefusal × Heap64
+
+-- "A refusal hands back the heap it got."
+abbrev pub hands_back : {A : Type 0} → Heap64 → ListRefusal → Result A ListRefusal × Heap64
+hands_back t r = (Err r, t)
 
 -- "Count gives how many cells are met from the head and changes nothing but variables 2 and 3"
 unfoldable pub count_of : Heap64 → Counted
 count_of t =
-    with_list t (λ r. record { heap = t; length = length_is.Refused r })
-    (λ xs. record { heap = table_of t.variables (counted (heap_of t)); length = length_is.Cells (length xs) })
-
--- "A refusal hands back the heap it got."
-abbrev pub hands_back : Heap64 → ListRefusal → Edited
-hands_back t r = record { heap = t; edit = edit.Refused r }
+    with_list t (hands_back t) (λ xs. (Ok (length xs), table_of t.variables (counted (heap_of t))))
 
 abbrev pub done : Heap64 → Heap → Edited
-done t h = record { heap = table_of t.variables h; edit = edit.Done }
+done t h = (Ok tt, table_of t.variables h)
 
 -- "insert after the n-th (0 is the front)"; "28 for n past the list .. then 15"; new takes the lowest unused cell
 unfoldable pub insert_of : Heap64 → ℕ → Edited
@@ -83,23 +84,23 @@ pub record MetFromHead (t : Heap64) : Type 0 where
 -- names, of which the sentences of document 02 hold.
 pub record Counts (t : Heap64) (r : Counted) : Type 0 where
   pub result : r ≡ count_of t
-  pub formed : well_formed t ≡ true → well_formed r.heap ≡ true
+  pub formed : well_formed t ≡ true → well_formed r.1 ≡ true
   pub met : MetFromHead t
-  pub counts : (n : ℕ) → r.length ≡ length_is.Cells n
-      → (xs : List ℕ) × (blocks t ≡ some xs) × (length xs ≡ n) × (heap_of r.heap ≡ counted (heap_of t)) × OnlyRests (heap_of t) (heap_of r.heap)
+  pub counts : (n : ℕ) → r.0 ≡ Ok n
+      → (xs : List ℕ) × (blocks t ≡ some xs) × (length xs ≡ n) × (heap_of r.1 ≡ counted (heap_of t)) × OnlyRests (heap_of t) (heap_of r.1)
 
 pub record Inserts (t : Heap64) (n : ℕ) (r : Edited) : Type 0 where
   pub result : r ≡ insert_of t n
-  pub formed : well_formed t ≡ true → well_formed r.heap ≡ true
+  pub formed : well_formed t ≡ true → well_formed r.1 ≡ true
   pub met : MetFromHead t
   pub inserts : let x = cell (lowest_unused t.used) in
-      r.edit ≡ edit.Done
-      → (xs : List ℕ) × (blocks t ≡ some xs) × (heap_of r.heap ≡ inserted n x xs (heap_of t)) × PutsIn n x xs (heap_of t) (heap_of r.heap)
+      r.0 ≡ Ok tt
+      → (xs : List ℕ) × (blocks t ≡ some xs) × (heap_of r.1 ≡ inserted n x xs (heap_of t)) × PutsIn n x xs (heap_of t) (heap_of r.1)
 
 pub record Removes (t : Heap64) (n : ℕ) (r : Edited) : Type 0 where
   pub result : r ≡ remove_of t n
-  pub formed : well_formed t ≡ true → well_formed r.heap ≡ true
+  pub formed : well_formed t ≡ true → well_formed r.1 ≡ true
   pub met : MetFromHead t
-  pub removes : r.edit ≡ edit.Done
-      → (xs : List ℕ) × (i : ℕ) × (n ≡ suc i) × (blocks t ≡ some xs) × (heap_of r.heap ≡ removed i xs (heap_of t))
-      × TakesOut i (cell_at i xs) xs (heap_of t) (heap_of r.heap)
+  pub removes : r.0 ≡ Ok tt
+      → (xs : List ℕ) × (i : ℕ) × (n ≡ suc i) × (blocks t ≡ some xs) × (heap_of r.1 ≡ removed i xs (heap_of t))
+      × TakesOut i (cell_at i xs) xs (heap_of t) (heap_of r.1)

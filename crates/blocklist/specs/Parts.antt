@@ -1,32 +1,29 @@
 -- What the parts of the code promise: a refusal after 13, and an edit by its steps in turn.
-use Rattle.std.specs.Prelude.{cond, List, [], ◌∷◌, ◌≡◌, ℕ, ◌+◌, ◌*◌}
+use Rattle.std.specs.Prelude.{cond, Result, Ok, Err, List, [], ◌∷◌, ◌≡◌, ℕ, ◌+◌, ◌*◌}
 use Rattle.stepper.specs.Turns.{StepsInTurn}
 use Rattle.stepper.specs.declared.Heap64.{Heap64}
 use Rattle.stepper.specs.declared.Outcome.{Outcome}
 use Rattle.stepper.specs.declared.Outcome.TheVariants.{Moved, Blocked, Refused}
 use Rattle.stepper.specs.declared.StepRefusal.TheVariants as step-refusal
 use Rattle.stepper.specs.declared.Stepped.{Stepped}
-use Rattle.blocklist.specs.Answers.{ready, hands_back}
-use Rattle.blocklist.specs.declared.Edit.{Edit}
-use Rattle.blocklist.specs.declared.Edit.TheVariants as edit
-use Rattle.blocklist.specs.declared.Edited.{Edited}
+use Rattle.blocklist.specs.Answers.{ready, Edited, hands_back}
 use Rattle.blocklist.specs.declared.ListRefusal.{ListRefusal}
 use Rattle.blocklist.specs.declared.ListRefusal.TheVariants.{IllFormed, Full}
 
-abbrev pub refused_as : Heap64 → ListRefusal → Edited
-refused_as t r = hands_back t (cond (ready t) r IllFormed)
+abbrev pub refused_as : Heap64 → ListRefusal → ListRefusal
+refused_as t r = cond (ready t) r IllFormed
 
 -- what becomes of an edit by the outcome of its steps, none of which is blocked
-abbrev pub edit_of : Outcome → Edit
-edit_of Moved = edit.Done
-edit_of Blocked = edit.Refused IllFormed
-edit_of (Refused step-refusal.IllFormed) = edit.Refused IllFormed
-edit_of (Refused step-refusal.BadOperation) = edit.Refused IllFormed
-edit_of (Refused step-refusal.Full) = edit.Refused Full
+abbrev pub edit_of : Outcome → Result (Unit {0}) ListRefusal
+edit_of Moved = Ok tt
+edit_of Blocked = Err IllFormed
+edit_of (Refused step-refusal.IllFormed) = Err IllFormed
+edit_of (Refused step-refusal.BadOperation) = Err IllFormed
+edit_of (Refused step-refusal.Full) = Err Full
 
-abbrev pub edited_as : Heap64 → Heap64 → Edit → Edited
-edited_as t after edit.Done = record { heap = after; edit = edit.Done }
-edited_as t after (edit.Refused r) = hands_back t r
+abbrev pub edited_as : Heap64 → Heap64 → Result (Unit {0}) ListRefusal → Edited
+edited_as t after (Ok e) = (Ok e, after)
+edited_as t after (Err r) = hands_back t r
 
 -- r is the answer to an edit whose steps are these turns
 abbrev pub EditedBy : Heap64 → List ℕ → Edited → Type 0

@@ -1,16 +1,19 @@
 // A list of blocks in a stepper's heap: cells from variable 1, the head. The heap is read here, and changed by the stepper's steps alone, which walk
-// with variables 2 and 3.
+// with variables 2 and 3. A refusal leaves the heap as it was.
 #![tactic(auto)]
 
 ghost use Rattle.std.specs.Prelude.{◌≡◌, ◌≤◌};
-ghost use Rattle.blocklist.specs.Answers.{refusal_number, blocks, length_told, Counts, Inserts, Removes};
+ghost use Rattle.blocklist.specs.Answers.{refusal_number, blocks, length_told, MetFromHead, Counts, Inserts, Removes};
 ghost use Rattle.blocklist.specs.Parts.{refused_as, edit_of, EditedBy, insert_turns, first_turns, after_turns};
 
 use place::{FIRST_CELL, NULL};
 use stepper::{Heap64, Outcome, StepRefusal};
 
+// The code of the last cell's place.
+const LAST_CELL: u8 = 66;
+
 // Why a list is not worked on: 13, 29, 28 and 15.
-#[derive(Clone, Copy)]
+#[derive(Clone, Copy, PartialEq, Eq)]
 pub enum ListRefusal {
     IllFormed,
     NoList,
@@ -18,168 +21,92 @@ pub enum ListRefusal {
     Full,
 }
 
-// How many cells are met from the head.
-#[derive(Clone, Copy)]
-pub enum Length {
-    Cells(u32),
-    Refused(ListRefusal),
-}
-
-// What became of an insert or a remove.
-#[derive(Clone, Copy)]
-pub enum Edit {
-    Done,
-    Refused(ListRefusal),
-}
-
-// The heap after a count: the heap before it, where it is refused.
-#[derive(Clone, Copy)]
-pub struct Counted {
-    pub heap: Heap64,
-    pub length: Length,
-}
-
-// The heap after an insert or a remove: the heap before it, where it is refused.
-#[derive(Clone, Copy)]
-pub struct Edited {
-    pub heap: Heap64,
-    pub edit: Edit,
-}
-
 // What a host is told.
-pub fn refusal_number(refusal: ListRefusal) -> u32
-    ensures { result ≡ refusal_number refusal }
-{
-    match refusal {
-        ListRefusal::IllFormed => 13,
-        ListRefusal::NoList => 29,
-        ListRefusal::PastList => 28,
-        ListRefusal::Full => 15,
+impl From<ListRefusal> for u32 {
+    ghost from_gives = { λ refusal number. number ≡ refusal_number refusal };
+
+    fn from(refusal: ListRefusal) -> u32 {
+        match refusal {
+            ListRefusal::IllFormed => 13,
+            ListRefusal::NoList => 29,
+            ListRefusal::PastList => 28,
+            ListRefusal::Full => 15,
+        }
     }
 }
 
 // How many cells are met from the head, in any heap: links are followed up to #, at most 64.
-fn length_of(heap: Heap64) -> Length
-    ensures { result ≡ length_told (blocks heap) }
+#[tactic(auto, using(crate::proofs::Bound::met))]
+fn length_of(heap: &Heap64) -> Result<u32, ListRefusal>
+    ensures told { result ≡ length_told (blocks heap.now) }
+    ensures met { MetFromHead heap.now }
 {
     let mut code = heap.vars[0].code;
-    let mut n: u32 = 0;
-    while n < 64 {
-        if code == NULL {
-            return Length::Cells(n);
-        }
-        if code < FIRST_CELL {
-            return Length::Refused(ListRefusal::NoList);
-        }
-        if 66 < code {
-            return Length::Refused(ListRefusal::NoList);
-        }
-        let i = (code - FIRST_CELL) as usize;
-        code = heap.links[i].code;
-        n += 1;
+    for n in 0..64 {
+        code = match code {
+            NULL => return Ok(n),
+            FIRST_CELL..=LAST_CELL => heap.links[(code - FIRST_CELL) as usize].code,
+            _ => return Err(ListRefusal::NoList),
+        };
     }
     if code == NULL {
-        return Length::Cells(n);
+        Ok(64)
+    } else {
+        Err(ListRefusal::NoList)
     }
-    Length::Refused(ListRefusal::NoList)
 }
 
-// The heap handed back with a refusal, or with 13 where that comes first: 3 = 3 is refused just where the heap is ill formed or has no third variable.
-fn refused(heap: Heap64, refusal: ListRefusal) -> Edited
-    ensures { result ≡ refused_as heap refusal }
+// The refusal, or 13 where that comes first: 3 = 3 is refused just where the heap is ill formed or has no third variable.
+fn refused(heap: &Heap64, refusal: ListRefusal) -> ListRefusal
+    ensures { result ≡ refused_as heap.now refusal }
 {
     let tested = heap.step(1, 3, 3, 0);
-    let outcome = tested.outcome;
-    match outcome {
-        Outcome::Moved => Edited {
-            heap,
-            edit: Edit::Refused(refusal),
-        },
-        Outcome::Blocked => Edited {
-            heap,
-            edit: Edit::Refused(refusal),
-        },
-        Outcome::Refused(_) => Edited {
-            heap,
-            edit: Edit::Refused(ListRefusal::IllFormed),
-        },
+    match tested.outcome {
+        Outcome::Refused(_) => ListRefusal::IllFormed,
+        _ => refusal,
     }
 }
 
 // What became of an edit by the outcome of its steps. None of them is blocked.
-fn edit_of(outcome: Outcome) -> Edit
+fn edit_of(outcome: Outcome) -> Result<(), ListRefusal>
     ensures { result ≡ edit_of outcome }
 {
     match outcome {
-        Outcome::Moved => Edit::Done,
-        Outcome::Blocked => Edit::Refused(ListRefusal::IllFormed),
-        Outcome::Refused(refusal) => match refusal {
-            StepRefusal::IllFormed => Edit::Refused(ListRefusal::IllFormed),
-            StepRefusal::BadOperation => Edit::Refused(ListRefusal::IllFormed),
-            StepRefusal::Full => Edit::Refused(ListRefusal::Full),
-        },
+        Outcome::Moved => Ok(()),
+        Outcome::Refused(StepRefusal::Full) => Err(ListRefusal::Full),
+        _ => Err(ListRefusal::IllFormed),
     }
 }
 
-// The answer to an edit whose steps are these turns.
-fn edit_by(heap: Heap64, turns: &[u32]) -> Edited
-    ensures { EditedBy heap turns.now result }
+// An edit whose steps are these turns.
+fn edit_by(heap: &mut Heap64, turns: &[u32]) -> Result<(), ListRefusal>
+    ensures { EditedBy heap.old turns.now (result, heap.new) }
 {
     let stepped = heap.steps(turns);
-    let outcome = stepped.outcome;
-    let edit = edit_of(outcome);
-    match edit {
-        Edit::Done => {
-            let after = stepped.heap;
-            Edited {
-                heap: after,
-                edit: Edit::Done,
-            }
-        }
-        Edit::Refused(refusal) => Edited {
-            heap,
-            edit: Edit::Refused(refusal),
-        },
-    }
+    edit_of(stepped.outcome)?;
+    *heap = stepped.heap;
+    Ok(())
 }
 
 // How many cells are met from the head; variables 2 and 3 end at #.
-pub fn count(heap: Heap64) -> Counted
-    ensures { Counts heap result }
+pub fn count(heap: &mut Heap64) -> Result<u32, ListRefusal>
+    ensures { Counts heap.old (result, heap.new) }
 {
+    let Ok(cells) = length_of(heap) else {
+        return Err(refused(heap, ListRefusal::NoList));
+    };
     let turns = [
         0x1330, // 3 := null
         0x1320, // 2 := null
     ];
-    let rested = heap.steps(&turns);
-    let outcome = rested.outcome;
-    let edit = edit_of(outcome);
-    let Edit::Done = edit else {
-        return Counted {
-            heap,
-            length: Length::Refused(ListRefusal::IllFormed),
-        };
-    };
-    let length = length_of(heap);
-    match length {
-        Length::Cells(cells) => {
-            let after = rested.heap;
-            Counted {
-                heap: after,
-                length: Length::Cells(cells),
-            }
-        }
-        Length::Refused(refusal) => Counted {
-            heap,
-            length: Length::Refused(refusal),
-        },
-    }
+    edit_by(heap, &turns)?;
+    Ok(cells)
 }
 
 // A cell is put in after the n-th.
-fn put_in(heap: Heap64, n: u32) -> Edited
+fn put_in(heap: &mut Heap64, n: u32) -> Result<(), ListRefusal>
     requires { n ≤ 64 }
-    ensures { EditedBy heap (insert_turns n) result }
+    ensures { EditedBy heap.old (insert_turns n) (result, heap.new) }
 {
     let turns = [
         0x1630, // new(3)
@@ -198,22 +125,21 @@ fn put_in(heap: Heap64, n: u32) -> Edited
 }
 
 // A block is inserted after the n-th, in front for 0.
-pub fn insert(heap: Heap64, n: u32) -> Edited
-    ensures { Inserts heap n result }
+pub fn insert(heap: &mut Heap64, n: u32) -> Result<(), ListRefusal>
+    ensures { Inserts heap.old n (result, heap.new) }
 {
-    let length = length_of(heap);
-    let Length::Cells(cells) = length else {
-        return refused(heap, ListRefusal::NoList);
+    let Ok(cells) = length_of(heap) else {
+        return Err(refused(heap, ListRefusal::NoList));
     };
     if cells < n {
-        return refused(heap, ListRefusal::PastList);
+        return Err(refused(heap, ListRefusal::PastList));
     }
     put_in(heap, n)
 }
 
 // The first cell goes.
-fn take_first(heap: Heap64) -> Edited
-    ensures { EditedBy heap first_turns result }
+fn take_first(heap: &mut Heap64) -> Result<(), ListRefusal>
+    ensures { EditedBy heap.old first_turns (result, heap.new) }
 {
     let turns = [
         0x1331, // 3 := 1
@@ -226,9 +152,9 @@ fn take_first(heap: Heap64) -> Edited
 }
 
 // The cell after the one i links from the first goes.
-fn take_after(heap: Heap64, i: u32) -> Edited
+fn take_after(heap: &mut Heap64, i: u32) -> Result<(), ListRefusal>
     requires { i ≤ 64 }
-    ensures { EditedBy heap (after_turns i) result }
+    ensures { EditedBy heap.old (after_turns i) (result, heap.new) }
 {
     let turns = [
         0x1331, // 3 := 1
@@ -247,21 +173,18 @@ fn take_after(heap: Heap64, i: u32) -> Edited
 }
 
 // The n-th block is removed, from 1.
-pub fn remove(heap: Heap64, n: u32) -> Edited
-    ensures { Removes heap n result }
+pub fn remove(heap: &mut Heap64, n: u32) -> Result<(), ListRefusal>
+    ensures { Removes heap.old n (result, heap.new) }
 {
-    let length = length_of(heap);
-    let Length::Cells(cells) = length else {
-        return refused(heap, ListRefusal::NoList);
+    let Ok(cells) = length_of(heap) else {
+        return Err(refused(heap, ListRefusal::NoList));
     };
-    if n == 0 {
-        return refused(heap, ListRefusal::PastList);
-    }
-    if cells < n {
-        return refused(heap, ListRefusal::PastList);
+    if n == 0 || cells < n {
+        return Err(refused(heap, ListRefusal::PastList));
     }
     if n == 1 {
-        return take_first(heap);
+        take_first(heap)
+    } else {
+        take_after(heap, n - 2)
     }
-    take_after(heap, n - 2)
 }

@@ -7,7 +7,7 @@ ghost use Rattle.number.specs.NumberList.{answer, output, write_result};
 ghost use Rattle.number.specs.CallResult.{lent};
 
 use lending::lend;
-use number::{Read, Written};
+use number::WriteRefusal;
 
 // One number at any place: 0, with the number and the next place, or 3, with the place.
 #[unsafe(no_mangle)]
@@ -16,14 +16,12 @@ pub extern "C" fn vorruda_read_number(bytes: &[u8], at: usize, out: &mut [u64]) 
     ensures values { out.new ≡ lent (read_result (number_at bytes.now at)).values out.old }
 {
     match number::read_number(bytes, at) {
-        Read::Number(n, next) => {
-            let values = [n as u64, next as u64];
-            lend(&values, out);
+        Ok(numeral) => {
+            lend(&[numeral.value as u64, numeral.next as u64], out);
             0
         }
-        Read::Unreadable(place) => {
-            let values = [place as u64, 0];
-            lend(&values, out);
+        Err(unreadable) => {
+            lend(&[unreadable.at as u64, 0], out);
             3
         }
     }
@@ -37,19 +35,16 @@ pub extern "C" fn vorruda_write_numbers(numbers: &[u64], bytes: &mut [u8], out: 
     ensures values { out.new ≡ lent (write_result (answer numbers.now (length bytes.old))).values out.old }
 {
     match number::write_numbers(numbers, bytes) {
-        Written::Filled(k) => {
-            let values = [k as u64];
-            lend(&values, out);
+        Ok(filled) => {
+            lend(&[filled as u64], out);
             0
         }
-        Written::TooLarge(i) => {
-            let values = [i as u64];
-            lend(&values, out);
+        Err(WriteRefusal::TooLarge(index)) => {
+            lend(&[index as u64], out);
             11
         }
-        Written::TooShort(k) => {
-            let values = [k as u64];
-            lend(&values, out);
+        Err(WriteRefusal::TooShort(needed)) => {
+            lend(&[needed as u64], out);
             12
         }
     }

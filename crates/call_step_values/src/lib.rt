@@ -3,8 +3,8 @@
 
 ghost use Rattle.heapbytes.specs.HeapBytes.{StepsBytes};
 
-use heapcodec::{read_values, write_values};
 use stepbytes::step_bytes;
+use stepper::outcome_code;
 
 // One operation on a heap of 137 bytes and 64 codes of values: 0 for moved, 100 for blocked, or 13, 14, 15. Kinds 11 to 13 write `value`.
 #[unsafe(no_mangle)]
@@ -18,14 +18,8 @@ pub extern "C" fn vorruda_step_values(
 ) -> u32
     ensures { StepsBytes heap.old values.old kind a b value result heap.new values.new }
 {
-    if values.len() != 64 {
+    let Some(codes) = values.as_mut_array() else {
         return 13;
-    }
-    let stepped = step_bytes(heap, read_values(values), kind, a, b, value);
-    let number = stepped.number;
-    let codes = stepped.values;
-    if number == 0 {
-        write_values(codes, values);
-    }
-    number
+    };
+    outcome_code(step_bytes(heap, codes, kind, a, b, value))
 }

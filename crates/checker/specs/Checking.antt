@@ -1,5 +1,5 @@
 -- Checking covers in turn: "In turn, each cover is taken as read or refused on the spot."
-use Rattle.std.specs.Prelude.{List, [], ◌∷◌, map, ◌≡◌, ℕ, suc, ◌+◌, ◌*◌, ◌/◌, ◌%◌, ◌≤◌, length}
+use Rattle.std.specs.Prelude.{List, [], ◌∷◌, map, ◌≡◌, ℕ, suc, ◌+◌, ◌*◌, ◌/◌, ◌%◌, ◌≤◌, length, Result, Ok, Err}
 use Rattle.shape.specs.Shape.{Shape}
 use Rattle.run.specs.Run.{Located}
 use Rattle.factrows.specs.Rows.{no_facts, rows_test}
@@ -8,8 +8,7 @@ use Rattle.undoing.specs.Rowed.{Rowed}
 use Rattle.format.specs.Certificate.{read_cover, read_cover_by}
 use Rattle.format.specs.Parser.{Parsed, parsed, fault, Parser, ◌>>=◌, return, certificate_buffer}
 use Rattle.verdict.specs.Verdict.{reason_of}
-use Rattle.checker.specs.declared.checked.Checked.{Checked}
-use Rattle.checker.specs.declared.checked.Checked.TheVariants.{Upto, Refused}
+use Rattle.verdict.specs.declared.Refused.{Refused}
 use Rattle.checker.specs.declared.checked.Position.{Position}
 
 -- how many covers were checked, and how many links were followed for them
@@ -35,10 +34,14 @@ take_all (p ∷ ps) n = do
 abbrev pub tally_of : Position → Tally
 tally_of t = record { covers = t.counted / 4294967296; links = t.counted % 4294967296 }
 
--- how far the covers are checked, as the answer of a parser
+-- how far the covers are checked: they are right up to a position, or one is refused
+abbrev pub Checked : Type 0
+Checked = Result Position Refused
+
+-- that, as the answer of a parser
 abbrev pub checked_of : Checked → Parsed Tally
-checked_of (Upto t) = parsed (tally_of t) t.at
-checked_of (Refused r place) = fault (reason_of r) place
+checked_of (Ok t) = parsed (tally_of t) t.at
+checked_of (Err r) = fault (reason_of r.refusal) r.place
 
 -- a cover has at least one byte, and its links are a number of 16 bits
 pub record Within (cert : List ℕ) (t : Position) : Type 0 where
@@ -49,8 +52,8 @@ pub record Within (cert : List ℕ) (t : Position) : Type 0 where
 
 -- what goes on is within the certificate
 abbrev pub StaysWithin : List ℕ → Checked → Type 0
-StaysWithin cert (Upto t) = Within cert t
-StaysWithin cert (Refused r place) = Unit {0}
+StaysWithin cert (Ok t) = Within cert t
+StaysWithin cert (Err r) = Unit {0}
 
 -- g is how far these covers are taken, from t on
 abbrev pub Takes : List ℕ → List (Parser ℕ) → Position → Checked → Type 0

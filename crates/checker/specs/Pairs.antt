@@ -1,5 +1,5 @@
 -- A pair that is judged with what was read of it kept: the job's header, and the places of the members in a table.
-use Rattle.std.specs.Prelude.{Bool, true, false, ◌&&◌, cond, List, ℕ}
+use Rattle.std.specs.Prelude.{Bool, true, false, ◌&&◌, cond, List, ℕ, Result, Ok, Err}
 use Rattle.format.specs.Job.{read_whole_job}
 use Rattle.format.specs.JobNumbers.{JobFile}
 use Rattle.format.specs.Parser.{Parsed, parsed, fault, job_buffer, certificate_buffer}
@@ -8,8 +8,8 @@ use Rattle.layout.specs.Entries.{version_of}
 use Rattle.reader.specs.Members.{member_places, with_places, MembersRead}
 use Rattle.reader.specs.declared.Header.{Header}
 use Rattle.verdict.specs.Verdict.{reason_of, counts_told}
-use Rattle.checker.specs.declared.PairVerdict.{PairVerdict}
-use Rattle.checker.specs.declared.PairVerdict.TheVariants.{Accepted, Refused}
+use Rattle.verdict.specs.declared.Refused.{Refused}
+use Rattle.checker.specs.declared.AcceptedPair.{AcceptedPair}
 
 -- where 8 is judged: at the job's start, or at no state
 abbrev pub tested_if : Bool → JobFile → ℕ
@@ -17,9 +17,9 @@ tested_if true = start_of
 tested_if false = no_state
 
 -- the verdict of the definitions that it is
-abbrev pub pair_of : PairVerdict → Verdict
-pair_of (Accepted c h) = accepted (counts_told c)
-pair_of (Refused r place) = refused (reason_of r) place
+abbrev pub pair_of : Result AcceptedPair Refused → Verdict
+pair_of (Ok p) = accepted (counts_told p.counts)
+pair_of (Err r) = refused (reason_of r.refusal) r.place
 
 -- as many members are read, and the table has their places
 abbrev pub MembersKept : List ℕ → List ℕ → Header → ℕ → ℕ → List ℕ → Type 0

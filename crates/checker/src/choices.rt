@@ -13,7 +13,7 @@ ghost use Rattle.checker.specs.Placing.{second_operand, with_helper};
 ghost use Rattle.undoing.specs.Before.{choices_rowed, valued_before};
 
 use crate::change::{place_operand, undo};
-use crate::checked::{Checked, Position};
+use crate::checked::Position;
 use crate::single::check_cover;
 use crate::wanted::{is_wanted_in, last_operand, place_of, wanted_of_first, wanted_of_last};
 use kinds::{LOAD, READ};
@@ -21,6 +21,7 @@ use place::{FIRST_CELL, both_nowhere};
 use placing::choices_of;
 use transitions::Transition;
 use undoing::undo_values;
+use verdict::Refused;
 
 // The predecessor by choice k of the operand that is placed last, which is wanted, in place.
 pub(crate) fn undo_choice(variables: usize, by: Transition, operand: u8, s: &mut [u8; 28], k: u8)
@@ -52,13 +53,13 @@ fn check_valued(
     s: &[u8; 28],
     facts: &[u16; 28],
     t: Position,
-) -> Checked
+) -> Result<Position, Refused>
     requires { (by.a ≤ 9) × (by.b ≤ 9) × (Within cert.now t) }
     ensures { Checks cert.now (members_from cert.now variables starts.now) by.from (valued_before variables by.kind by.a by.b s.now facts.now) t result }
 {
     let mut rows = *facts;
     if !undo_values(&mut rows, by.kind, cell_of(s, by.a), cell_of(s, by.b)) {
-        return Checked::Upto(t);
+        return Ok(t);
     }
     check_cover(cert, starts, variables, by.from, s, &rows, t)
 }
@@ -72,7 +73,7 @@ pub(crate) fn check_last_choices(
     s: &[u8; 28],
     facts: &[u16; 28],
     from: Position,
-) -> Checked
+) -> Result<Position, Refused>
     requires { (OneToPlace variables by.kind by.a by.b s.now) × (5 < by.kind) × (Within cert.now from) }
     ensures { Checks cert.now (members_from cert.now variables starts.now) by.from (choices_rowed variables by.kind by.a by.b s.now facts.now) from result }
 {
@@ -87,14 +88,10 @@ pub(crate) fn check_last_choices(
         if is_wanted_in(s, wanted, j) {
             let mut v = *s;
             undo_choice(variables, by, operand, &mut v, j);
-            let g = check_valued(cert, starts, variables, by, &v, facts, t);
-            let Checked::Upto(u) = g else {
-                return g;
-            };
-            t = u;
+            t = check_valued(cert, starts, variables, by, &v, facts, t)?;
         }
     }
-    Checked::Upto(t)
+    Ok(t)
 }
 
 // Places a by choice k, where both operands are nowhere.
@@ -118,7 +115,7 @@ pub(crate) fn check_first_choices(
     s: &[u8; 28],
     facts: &[u16; 28],
     from: Position,
-) -> Checked
+) -> Result<Position, Refused>
     requires { (Working 12 variables by.kind by.a by.b s.now) × (5 < by.kind) × (Within cert.now from) }
     ensures { Checks cert.now (members_from cert.now variables starts.now) by.from (choices_rowed variables by.kind by.a by.b s.now facts.now) from result }
 {
@@ -132,14 +129,10 @@ pub(crate) fn check_first_choices(
         if is_wanted_in(s, wanted, j) {
             let mut v = *s;
             place_first(by.a, by.b, &mut v, j);
-            let g = check_last_choices(cert, starts, variables, by, &v, facts, t);
-            let Checked::Upto(u) = g else {
-                return g;
-            };
-            t = u;
+            t = check_last_choices(cert, starts, variables, by, &v, facts, t)?;
         }
     }
-    Checked::Upto(t)
+    Ok(t)
 }
 
 // The second operand as it is placed: b; the helper where kind 4 has one variable, and a for kind 13.

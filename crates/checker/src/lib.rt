@@ -1,26 +1,24 @@
 // The checker: one verdict for the bytes of a job and of a certificate.
 #![tactic(auto)]
 
-ghost use Rattle.std.specs.Prelude.{List, ◌↔◌, ◌≡◌, ℕ, ◌≤◌, length};
+ghost use Rattle.std.specs.Prelude.{List, ◌↔◌, ◌≡◌, ℕ, ◌≤◌, length, IfOk};
 ghost use Rattle.checker.specs.Jobs.{file_in, read_covers};
 ghost use Rattle.checker.specs.Pairs.{tested_if, pair_of, MembersKept, placed, places_after};
-ghost use Rattle.checker.specs.declared.PairVerdict.TheVariants.{Accepted as PairAccepted};
 ghost use Rattle.format.specs.Conditions.{Conditions, ConditionsAt};
 ghost use Rattle.format.specs.JobBytes.{SafeBytes};
 ghost use Rattle.format.specs.Parser.{certificate_buffer, within};
 ghost use Rattle.format.specs.Verdict.{Counts as CountsDue, accepted, conclude, read_certificate, verdict_at, verdict};
 ghost use Rattle.layout.specs.Entries.{members_at, Table};
 ghost use Rattle.reader.specs.Job.{JobRead};
-ghost use Rattle.reader.specs.declared.Header.{Header as HeaderRead};
 ghost use Rattle.verdict.specs.Verdict.{verdict_of};
 ghost use Rattle.verdict.specs.declared.Counts.{Counts as CountsAnswer};
 ghost use Rattle.verdict.specs.declared.Verdict.TheVariants.{Accepted};
 
-use crate::checked::{COVER, Checked};
+use crate::checked::COVER;
 use crate::owed::check_owed;
 use layout::version_of;
 use reader::{Header, JobAnswer, MembersAnswer, read_job, read_members};
-use verdict::{Counts, Refusal, Verdict};
+use verdict::{Counts, Refusal, Refused, Verdict};
 
 mod change;
 mod checked;
@@ -31,11 +29,11 @@ mod removal;
 mod single;
 mod wanted;
 
-// The verdict on a pair, with what its job is where it is accepted.
+// An accepted pair: its counts, and where each part of its job stands.
 #[derive(Clone, Copy)]
-pub enum PairVerdict {
-    Accepted(Counts, Header),
-    Refused(Refusal, usize),
+pub struct AcceptedPair {
+    pub counts: Counts,
+    pub header: Header,
 }
 
 // Whether a buffer of this length is judged at all.
@@ -53,10 +51,9 @@ fn check_covers(job: &[u8], h: Header, cert: &[u8], starts: &[u16], at: usize) -
     requires { (JobRead job.now h) × (Table cert.now h.variables starts.now) × (at ≤ length cert.now) × (length cert.now ≤ 65536) }
     ensures { verdict_of result ≡ conclude (read_covers cert.now (file_in job.now h).job (members_at cert.now h.variables starts.now) at) }
 {
-    let g = check_owed(job, h, cert, starts, at);
-    match g {
-        Checked::Refused(why, place) => Verdict::Refused(why, place),
-        Checked::Upto(t) => {
+    match check_owed(job, h, cert, starts, at) {
+        Err(refused) => Verdict::Refused(refused.refusal, refused.place),
+        Ok(t) => {
             if t.at < cert.len() {
                 return Verdict::Refused(Refusal::CertificateLeft, t.at);
             }
@@ -128,31 +125,43 @@ fn tested_state(h: Header, judged: bool) -> usize
 }
 
 // A verdict, with the job where it is accepted.
-fn with_job(v: Verdict, h: Header) -> PairVerdict
-    ensures { (pair_of result ≡ verdict_of v) × ((c : CountsAnswer) (g : HeaderRead) → result ≡ PairAccepted c g → (v ≡ Accepted c) × (g ≡ h)) }
+fn with_job(v: Verdict, header: Header) -> Result<AcceptedPair, Refused>
+    ensures verdict { pair_of result ≡ verdict_of v }
+    ensures accepted { IfOk result (λ p. (v ≡ Accepted p.counts) × (p.header ≡ header)) }
 {
     match v {
-        Verdict::Accepted(counts) => PairVerdict::Accepted(counts, h),
-        Verdict::Refused(why, place) => PairVerdict::Refused(why, place),
+        Verdict::Accepted(counts) => Ok(AcceptedPair { counts, header }),
+        Verdict::Refused(refusal, place) => Err(Refused { refusal, place }),
     }
 }
 
 // The verdict with 8 judged or not, and what was read of an accepted pair: where each part of the job stands, and the places of the members.
-pub fn check_pair(job: &[u8], cert: &[u8], judged: bool, starts: &mut [u16; 512]) -> PairVerdict
+pub fn check_pair(
+    job: &[u8],
+    cert: &[u8],
+    judged: bool,
+    starts: &mut [u16; 512],
+) -> Result<AcceptedPair, Refused>
     ensures exact { pair_of result ≡ verdict_at (tested_if judged) job.now cert.now }
     ensures accepted { (c : CountsDue) → (pair_of result ≡ accepted c) ↔ ConditionsAt (tested_if judged) job.now cert.now c }
-    ensures kept { (c : CountsAnswer) (h : HeaderRead) → result ≡ PairAccepted c h → JobRead job.now h × MembersKept job.now cert.now h (tested_if judged (file_in job.now h)) c.members starts.new }
+    ensures kept { IfOk result (λ p. JobRead job.now p.header × MembersKept job.now cert.now p.header (tested_if judged (file_in job.now p.header)) p.counts.members starts.new) }
     ensures starts { starts.new ≡ places_after job.now cert.now starts.old }
 {
     if !fits(job.len()) {
-        return PairVerdict::Refused(Refusal::JobLength, 0);
+        return Err(Refused {
+            refusal: Refusal::JobLength,
+            place: 0,
+        });
     }
     if !fits(cert.len()) {
-        return PairVerdict::Refused(Refusal::CertificateLength, 0);
+        return Err(Refused {
+            refusal: Refusal::CertificateLength,
+            place: 0,
+        });
     }
     let r = read_job(job);
     match r {
-        JobAnswer::Refused(why, place) => PairVerdict::Refused(why, place),
+        JobAnswer::Refused(refusal, place) => Err(Refused { refusal, place }),
         JobAnswer::Job(h) => {
             let tested = tested_state(h, judged);
             with_job(check_certificate(job, h, tested, cert, starts), h)

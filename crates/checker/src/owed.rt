@@ -18,7 +18,7 @@ ghost use Rattle.layout.specs.Transitions.{op_of};
 ghost use Rattle.transitions.specs.Index.{IndexedFrom};
 ghost use Rattle.reader.specs.Job.{JobRead};
 
-use crate::checked::{Checked, Position};
+use crate::checked::Position;
 use crate::choices::{check_first_choices, with_helper};
 use crate::quickly::check_first_quickly;
 use crate::removal::check_cases;
@@ -28,7 +28,7 @@ use kinds::{BELOW_VALUE, DELETE, NEW, STORE};
 use layout::{entry_end, load_facts, load_shape, version_of};
 use reader::Header;
 use transitions::{Transition, index_transitions, transition_named};
-use verdict::Refusal;
+use verdict::{Refusal, Refused};
 
 // Loads the facts of the forbidden shape at a place, and all that follows from them, into empty rows. A job of version 1 has none, and makes no call.
 fn load_rows(job: &[u8], at: usize, variables: usize, facts: &mut [u16; 28])
@@ -49,27 +49,21 @@ pub(crate) fn check_forbidden(
     starts: &[u16],
     variables: usize,
     from: Position,
-) -> Checked
+) -> Result<Position, Refused>
     requires { (EntriesIn job.now variables first bads) × (variables ≤ 8) × (Within cert.now from) }
     ensures { ChecksAll cert.now (members_from cert.now variables starts.now) (entries_at job.now variables first bads) from result }
 {
     let mut at = first;
     let mut t = from;
-    let mut i = 0;
-    while i < bads {
+    for _i in 0..bads {
         let mut s = [0u8; 28];
         load_shape(job, at, variables, &mut s);
         let mut facts = [0u16; 28];
         load_rows(job, at, variables, &mut facts);
-        let g = check_cover(cert, starts, variables, job[at], &s, &facts, t);
-        let Checked::Upto(u) = g else {
-            return g;
-        };
-        t = u;
+        t = check_cover(cert, starts, variables, job[at], &s, &facts, t)?;
         at = entry_end(job, at, variables);
-        i += 1;
     }
-    Checked::Upto(t)
+    Ok(t)
 }
 
 // Whether a kind is 6 (new) or 7 (delete).
@@ -95,7 +89,7 @@ fn check_transition(
     s: &[u8; 28],
     facts: &[u16; 28],
     t: Position,
-) -> Checked
+) -> Result<Position, Refused>
     requires { (allowed variables by.kind by.a by.b ≡ true) × (variables ≤ 8) × (ShapeArray variables s.now) × (cell_count s.now ≤ 12) × (OwnVersion cert.now facts.now) × (Within cert.now t) × ((whole : Shape) × Settled (rowed facts.now (shape_in variables s.now)) whole) }
     ensures { (whole : Shape) → Settled (rowed facts.now (shape_in variables s.now)) whole → ChecksAll cert.now (members_from cert.now variables starts.now) (map (located by.from) (before (op_of (kind_of by.kind) by.a by.b) whole)) t result }
 {
@@ -107,7 +101,7 @@ fn check_transition(
         return check_cases(cert, starts, variables, by, s, facts, t);
     }
     if is_below_itself(by.kind, by.a, by.b) {
-        return Checked::Upto(t);
+        return Ok(t);
     }
     let placed = with_helper(variables, by);
     check_first_choices(cert, starts, variables, placed, s, facts, t)
@@ -135,32 +129,28 @@ fn check_member(
     starts: &[u16],
     m: usize,
     from: Position,
-) -> Checked
+) -> Result<Position, Refused>
     requires { (JobRead job.now h) × (IndexedFrom (to_state job.now h) h.transitions 0 index.now) × (Table cert.now h.variables starts.now) × (m < length starts.now) × (Within cert.now from) }
     ensures { ChecksAll cert.now (members_from cert.now h.variables starts.now) (owed_by job.now h (located_at cert.now h.variables (get_or starts.now m 0))) from result }
 {
     let at = starts[m] as usize;
     let mut k = index[cert[at] as usize];
     if k == 0 {
-        return Checked::Upto(from);
+        return Ok(from);
     }
     let mut s = [0u8; 28];
     load_shape(cert, at, h.variables, &mut s);
     let mut facts = [0u16; 28];
     if !settle_facts(cert, at, h.variables, &mut facts) {
-        return Checked::Upto(from);
+        return Ok(from);
     }
     let mut t = from;
     while 0 < k {
         let by = transition_named(job, h.transitions_at, k);
-        let g = check_transition(cert, starts, h.variables, by, &s, &facts, t);
-        let Checked::Upto(u) = g else {
-            return g;
-        };
-        t = u;
+        t = check_transition(cert, starts, h.variables, by, &s, &facts, t)?;
         k = index[63 + k as usize];
     }
-    Checked::Upto(t)
+    Ok(t)
 }
 
 // Covers of the predecessors of every member.
@@ -171,41 +161,38 @@ pub(crate) fn check_members(
     cert: &[u8],
     starts: &[u16],
     from: Position,
-) -> Checked
+) -> Result<Position, Refused>
     requires { (JobRead job.now h) × (IndexedFrom (to_state job.now h) h.transitions 0 index.now) × (Table cert.now h.variables starts.now) × (Within cert.now from) }
     ensures { ChecksAll cert.now (members_from cert.now h.variables starts.now) (concat_map (owed_by job.now h) (members_at cert.now h.variables starts.now)) from result }
 {
     let mut t = from;
-    let mut m = 0;
-    while m < starts.len() {
-        let g = check_member(job, h, index, cert, starts, m, t);
-        let Checked::Upto(u) = g else {
-            return g;
-        };
-        t = u;
-        m += 1;
+    for m in 0..starts.len() {
+        t = check_member(job, h, index, cert, starts, m, t)?;
     }
-    Checked::Upto(t)
+    Ok(t)
 }
 
 // Covers of all that is owed, from a place of the certificate on.
-pub(crate) fn check_owed(job: &[u8], h: Header, cert: &[u8], starts: &[u16], at: usize) -> Checked
+pub(crate) fn check_owed(
+    job: &[u8],
+    h: Header,
+    cert: &[u8],
+    starts: &[u16],
+    at: usize,
+) -> Result<Position, Refused>
     requires { (JobRead job.now h) × (Table cert.now h.variables starts.now) × (at ≤ length cert.now) × (length cert.now ≤ 65536) }
     ensures { checked_of result ≡ take_all (covers_of cert.now (members_at cert.now h.variables starts.now) (owed (file_in job.now h).job (members_at cert.now h.variables starts.now))) no_covers at }
 {
     // neither is ever so: said for the compiler, so that tests of it in the loops go
-    if 8 < h.variables {
-        return Checked::Refused(Refusal::JobRange, 0);
-    }
-    if h.variables == 0 {
-        return Checked::Refused(Refusal::JobRange, 0);
+    if h.variables == 0 || 8 < h.variables {
+        return Err(Refused {
+            refusal: Refusal::JobRange,
+            place: 0,
+        });
     }
     let mut index = [0u16; 320];
     index_transitions(job, h.transitions_at, h.transitions, &mut index);
     let from = Position { at, counted: 0 };
-    let g = check_forbidden(job, h.bads_at, h.bads, cert, starts, h.variables, from);
-    let Checked::Upto(t) = g else {
-        return g;
-    };
+    let t = check_forbidden(job, h.bads_at, h.bads, cert, starts, h.variables, from)?;
     check_members(job, h, &index, cert, starts, t)
 }

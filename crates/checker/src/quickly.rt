@@ -6,13 +6,14 @@ ghost use Rattle.shapes.specs.Operands.{Working, OneToPlace};
 ghost use Rattle.checker.specs.Checking.{Within, Checks};
 ghost use Rattle.undoing.specs.Before.{choices_rowed};
 
-use crate::checked::{COVER, Checked, Position};
+use crate::checked::{COVER, Position};
 use crate::choices::{place_first, undo_choice};
 use crate::single::check_cover;
 use crate::wanted::{is_wanted_in, last_operand, wanted_of_first, wanted_of_last};
 use covering::quick_cover;
 use placing::choices_of;
 use transitions::Transition;
+use verdict::Refused;
 
 // Covers of the predecessors where at most one variable is still to be placed.
 pub(crate) fn check_last_quickly(
@@ -23,7 +24,7 @@ pub(crate) fn check_last_quickly(
     s: &[u8; 28],
     facts: &[u16; 28],
     from: Position,
-) -> Checked
+) -> Result<Position, Refused>
     requires { (OneToPlace variables by.kind by.a by.b s.now) × (by.kind ≤ 5) × (Within cert.now from) }
     ensures { Checks cert.now (members_from cert.now variables starts.now) by.from (choices_rowed variables by.kind by.a by.b s.now facts.now) from result }
 {
@@ -38,22 +39,16 @@ pub(crate) fn check_last_quickly(
         if is_wanted_in(s, wanted, j) {
             let mut v = *s;
             undo_choice(variables, by, operand, &mut v, j);
-            let quick = quick_cover(cert, starts, variables, t.at, by.from, &v);
-            if quick.next == 0 {
-                let g = check_cover(cert, starts, variables, by.from, &v, facts, t);
-                let Checked::Upto(u) = g else {
-                    return g;
-                };
-                t = u;
-            } else {
-                t = Position {
-                    at: quick.next,
-                    counted: t.counted + COVER + quick.links as u64,
-                };
-            }
+            t = match quick_cover(cert, starts, variables, t.at, by.from, &v) {
+                Some(cover) => Position {
+                    at: cover.next,
+                    counted: t.counted + COVER + cover.links as u64,
+                },
+                None => check_cover(cert, starts, variables, by.from, &v, facts, t)?,
+            };
         }
     }
-    Checked::Upto(t)
+    Ok(t)
 }
 
 // Covers of the predecessors by all choices of a and b.
@@ -65,7 +60,7 @@ pub(crate) fn check_first_quickly(
     s: &[u8; 28],
     facts: &[u16; 28],
     from: Position,
-) -> Checked
+) -> Result<Position, Refused>
     requires { (Working 12 variables by.kind by.a by.b s.now) × (by.kind ≤ 5) × (Within cert.now from) }
     ensures { Checks cert.now (members_from cert.now variables starts.now) by.from (choices_rowed variables by.kind by.a by.b s.now facts.now) from result }
 {
@@ -79,12 +74,8 @@ pub(crate) fn check_first_quickly(
         if is_wanted_in(s, wanted, j) {
             let mut v = *s;
             place_first(by.a, by.b, &mut v, j);
-            let g = check_last_quickly(cert, starts, variables, by, &v, facts, t);
-            let Checked::Upto(u) = g else {
-                return g;
-            };
-            t = u;
+            t = check_last_quickly(cert, starts, variables, by, &v, facts, t)?;
         }
     }
-    Checked::Upto(t)
+    Ok(t)
 }

@@ -6,7 +6,7 @@ ghost use Rattle.undoing.specs.Before.{is_taken_out, rows_before, cases_rowed};
 ghost use Rattle.layout.specs.Members.{members_from};
 ghost use Rattle.layout.specs.ShapeArray.{cell_count, ShapeArray};
 
-use crate::checked::{Checked, Position};
+use crate::checked::Position;
 use crate::single::check_cover;
 use kinds::NEW;
 use layout::version_of;
@@ -14,6 +14,7 @@ use number::wide;
 use shapes::{prepare_cases, undo_case};
 use transitions::Transition;
 use undoing::take_out;
+use verdict::Refused;
 
 // Makes the rows those before, by case k of a prepared array: the cell that was new goes, if it is in no fact. Whether it is in none. There are no facts
 // where the certificate is of version 1.
@@ -43,28 +44,21 @@ pub(crate) fn check_cases(
     s: &[u8; 28],
     facts: &[u16; 28],
     from: Position,
-) -> Checked
+) -> Result<Position, Refused>
     requires { (ShapeArray variables s.now) × (cell_count s.now ≤ 12) × (1 ≤ by.a) × (by.a ≤ variables) × (5 < by.kind) × (by.kind ≤ 7) × (OwnVersion cert.now facts.now) × (Within cert.now from) }
     ensures { Checks cert.now (members_from cert.now variables starts.now) by.from (cases_rowed variables by.kind by.a s.now facts.now) from result }
 {
     let mut prepared = *s;
     let cases = prepare_cases(variables, by.kind, by.a, &mut prepared);
     let mut t = from;
-    let mut k = cases.first;
-    while k < cases.end {
+    for case in cases.first..cases.end {
         let mut v = prepared;
-        let case = k;
-        k += 1;
         if undo_case(variables, by.kind, cases.end, case, &mut v) {
             let mut rows = *facts;
             if undo_rows(cert, by.kind, &prepared, case, &mut rows) {
-                let g = check_cover(cert, starts, variables, by.from, &v, &rows, t);
-                let Checked::Upto(u) = g else {
-                    return g;
-                };
-                t = u;
+                t = check_cover(cert, starts, variables, by.from, &v, &rows, t)?;
             }
         }
     }
-    Checked::Upto(t)
+    Ok(t)
 }

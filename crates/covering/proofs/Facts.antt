@@ -39,10 +39,8 @@ module _ (cert : List ℕ) (variables start : ℕ) (w : Whole cert variables sta
         e ∙ ap (number_or count)
         (missing_rows rows s codes member covered (images_in count codes) are (image_coded count n codes m) (image_beyond count n codes m) count)
 
-    pub missing_none : holds_all rows s codes ≡ true → count ≡ number_or count (lowest count 0 rule)
-    missing_none h =
-        sym (ap (number_or count)
-        (none_missing rows s codes member covered (images_in count codes) are (image_coded count n codes m) (image_beyond count n codes m) h count))
+    pub missing_none : holds_all rows s codes ≡ true → lowest count 0 rule ≡ none
+    missing_none h = none_missing rows s codes member covered (images_in count codes) are (image_coded count n codes m) (image_beyond count n codes m) h count
 
 -- ---- no facts
 

@@ -9,6 +9,7 @@ pub mod Twice
 pub mod Paths
 pub mod Links
 pub mod Variables
+pub mod Found
 pub mod Whole
 pub mod CoverCases
 pub mod ReadAndMark

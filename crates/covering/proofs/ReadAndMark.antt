@@ -5,9 +5,9 @@ use mathlib.Core.Option.{none}
 use mathlib.Core.Path.{◌≡◌, refl, sym, ap, ◌∙◌}
 use Prim.Native.Nat.{ℕ, ◌+◌, ◌≤◌, ◌<◌}
 use native.Mathlib.Omega.{arith}
+use Rattle.std.specs.Prelude.{Option, None, Some, IfSome}
 use lib.ListN.{length, get_or, set}
-use Rattle.number.specs.declared.Read.TheVariants.{Number}
-use Rattle.number.specs.Number.{number_at}
+use Rattle.number.specs.Number.{number_at, numeral}
 use Rattle.number.proofs.Reading.{one_byte}
 use Rattle.lists.specs.Test.{lowest}
 use Rattle.heap.specs.Place.{cell}
@@ -46,7 +46,7 @@ module _ (cert : List ℕ) (first n count : ℕ) where
         let free : get_or marks p 0 ≡ 0 = was_free marks p room was in
         let next : first + (i + 1) ≡ first + i + 1 = omega arith in
         let coded : p ≡ cell x = omega arith in
-        let number : number_at cert (first + i) ≡ Number x (first + i + 1) = sym (one_byte cert (first + i) x e (omega arith) (omega arith)) in
+        let number : number_at cert (first + i) ≡ numeral x (first + i + 1) = sym (one_byte cert (first + i) x e (omega arith) (omega arith)) in
         record {
           reading = rw next (reading_more cert first n count codes (first + i) i t.reading b x (first + i + 1) few number below);
           marking =
@@ -93,7 +93,7 @@ module _ (cert : List ℕ) (variables start n : ℕ) (s : List ℕ) (whole : Who
   pub taken_linking : Linking member (shape_in variables s) cert (start + 2 + variables) count codes marks s
   taken_linking = linking_read cert variables start codes s tested count read marks t.marked
 
-  pub taken_embed : member.facts ≡ [] → lowest variables 0 (var_fits_in cert (start + 2) codes s) ≡ none
+  taken_embed : member.facts ≡ [] → lowest variables 0 (var_fits_in cert (start + 2) codes s) ≡ none
       → (links : ℕ) → PathsFit member (shape_in variables s) (images_in count codes) count links → ImagesEmbed cert start variables first count s links
   taken_embed bare vars links paths =
       let cells = get_or cert (start + 1) 0 in
@@ -107,3 +107,9 @@ module _ (cert : List ℕ) (variables start n : ℕ) (s : List ℕ) (whole : Who
             ∙ sym (answer_whole cert variables start codes s tested among (get_or cert start 0) refl (rw read at t.apart) vars (rw read at paths.fit)
             (bare_holds member (shape_in variables s) (images_in cells codes) among bare cells)));
       }
+
+  -- the same of what the code tells of the links
+  pub taken_embeds : member.facts ≡ [] → lowest variables 0 (var_fits_in cert (start + 2) codes s) ≡ none
+      → (r : Option ℕ) → IfSome r (PathsFit member (shape_in variables s) (images_in count codes) count) → IfSome r (ImagesEmbed cert start variables first count s)
+  taken_embeds bare vars None paths = tt
+  taken_embeds bare vars (Some links) paths = taken_embed bare vars links paths

@@ -4,7 +4,7 @@ use mathlib.Core.List.{List, []}
 use mathlib.Core.Logic.{◌≢◌}
 use mathlib.Core.Option.{Option, some, none}
 use mathlib.Core.Path.{◌≡◌, refl, sym, ap, ap₂, ◌∙◌}
-use Prim.Native.Nat.{ℕ, suc, ◌+◌, ◌≤◌, ◌<◌}
+use Prim.Native.Nat.{ℕ, suc, ◌+◌, ◌<◌}
 use native.Mathlib.Decide.{dec_lt}
 use native.Mathlib.Numerals.{add-one}
 use native.Mathlib.Omega.{arith}
@@ -223,42 +223,33 @@ module _ (cert : List ℕ) (variables start : ℕ) (codes s : List ℕ) (t : Tes
       image_found i a e = answer_image among state same i (rw read at a) (rw read at e)
 
       module _ (a : once (images_in count codes) ≡ true) where
-        pub variable_found : (v : ℕ) → v ≡ number_or variables (lowest variables 0 (var_fits_in cert (start + 2) codes s)) → v < variables
-            → broken 3 (v + 1) ≡ answer among state
-        variable_found v e b = answer_variable among state same (rw read at a) v (found_at (var_fits_in cert (start + 2) codes s) variables v e b)
+        pub variable_found : (v : ℕ) → lowest variables 0 (var_fits_in cert (start + 2) codes s) ≡ some v → broken 3 (v + 1) ≡ answer among state
+        variable_found v e = answer_variable among state same (rw read at a) v e
 
-        module _ (v : ℕ) (e : v ≡ number_or variables (lowest variables 0 (var_fits_in cert (start + 2) codes s))) (b : variables ≤ v) where
-          no_variable : lowest variables 0 (var_fits_in cert (start + 2) codes s) ≡ none
-          no_variable = found_none (var_fits_in cert (start + 2) codes s) variables v e b
-
+        module _ (e : lowest variables 0 (var_fits_in cert (start + 2) codes s) ≡ none) where
           pub path_found : (r : Answer) → ((missing : Option ℕ) → r ≡ last_answer member covered images cells missing) → r ≡ answer among state
-          path_found r h = h (missing among state) ∙ answer_paths among state same (rw read at a) no_variable
+          path_found r h = h (missing among state) ∙ answer_paths among state same (rw read at a) e
 
-          module _ (links : ℕ) (paths : PathsFit member covered (images_in count codes) count links) (i : ℕ)
-              (h : i ≡ number_or count (lowest count 0 (facts_in member covered (images_in count codes) among))) where
-            pub fact_found : i < count → broken 6 i ≡ answer among state
-            fact_found c =
-                answer_fact among state same (rw read at a) no_variable (rw read at paths.fit) i
-                (found_at (facts_in member covered images among) cells i (rw read at h) (omega arith))
+          module _ (links : ℕ) (paths : PathsFit member covered (images_in count codes) count links) where
+            pub fact_found : (i : ℕ) → lowest count 0 (facts_in member covered (images_in count codes) among) ≡ some i → broken 6 i ≡ answer among state
+            fact_found i h = answer_fact among state same (rw read at a) e (rw read at paths.fit) i (rw read at h)
 
-            pub nothing_found : count ≤ i → holds ≡ answer among state
-            nothing_found c =
-                answer_whole among state same (rw read at a) no_variable (rw read at paths.fit)
-                (found_none (facts_in member covered images among) cells i (rw read at h) (omega arith))
+            pub nothing_found : lowest count 0 (facts_in member covered (images_in count codes) among) ≡ none → holds ≡ answer among state
+            nothing_found h = answer_whole among state same (rw read at a) e (rw read at paths.fit) (rw read at h)
 
     -- the links followed where every path fits
     pub links_told : (links : ℕ) → PathsFit member covered (images_in count codes) count links → links ≡ links_followed member covered images
     links_told links paths = rw read at paths.counted
 
     -- the path of a cell fails
-    pub first_failing : (i : ℕ) → i ≡ number_or count (lowest count 0 (path_fits member covered (images_in count codes))) → i < count
+    pub first_failing : (i : ℕ) → lowest count 0 (path_fits member covered (images_in count codes)) ≡ some i
         → lowest cells 0 (path_fits member covered images) ≡ some i
-    first_failing i h c = found_at (path_fits member covered images) cells i (rw read at h) (omega arith)
+    first_failing i h = rw read at h
 
-    module _ (j : ℕ) (e : j ≡ number_or count (lowest count 0 (link_meets member covered (images_in count codes)))) where
-      pub miss_found : (missing : Option ℕ) → j < count → broken 4 j ≡ last_answer member covered images cells missing
-      miss_found missing b = paths_miss missing j (found_at (link_meets member covered images) cells j (rw read at e) (omega arith))
+    pub miss_found : (missing : Option ℕ) (j : ℕ) → lowest count 0 (link_meets member covered (images_in count codes)) ≡ some j
+        → broken 4 j ≡ last_answer member covered images cells missing
+    miss_found missing j e = paths_miss missing j (rw read at e)
 
-      pub share_found : (missing : Option ℕ) (i : ℕ) → lowest cells 0 (path_fits member covered images) ≡ some i → count ≤ j
-          → broken 5 i ≡ last_answer member covered images cells missing
-      share_found missing i h b = paths_share missing i h (found_none (link_meets member covered images) cells j (rw read at e) (omega arith))
+    pub share_found : (missing : Option ℕ) (i : ℕ) → lowest cells 0 (path_fits member covered images) ≡ some i
+        → lowest count 0 (link_meets member covered (images_in count codes)) ≡ none → broken 5 i ≡ last_answer member covered images cells missing
+    share_found missing i h e = paths_share missing i h (rw read at e)

@@ -1,5 +1,5 @@
 -- The exact test of one cover: what is tested, and the answer of the code as that of the definitions.
-use Rattle.std.specs.Prelude.{List, ◌≡◌, ℕ, ◌+◌, get_or}
+use Rattle.std.specs.Prelude.{List, ℕ, ◌+◌, get_or, Result, Ok, Err}
 use Rattle.std.proofs.Math.Option.{Option}
 use Rattle.lists.specs.Test.{lowest}
 use Rattle.shape.specs.Shape.{Shape, size}
@@ -13,32 +13,25 @@ use Rattle.verdict.specs.declared.Refusal.TheVariants.{CertificateLeft}
 use Rattle.format.specs.Parser.{Parsed, parsed, fault}
 use Rattle.verdict.specs.Verdict.{reason_of}
 use Rattle.coverreader.specs.Images.{ImageCodes}
-use Rattle.covering.specs.declared.CoverAnswer.{CoverAnswer}
-use Rattle.covering.specs.declared.CoverAnswer.TheVariants.{Holds as CoverHolds, Refused}
-use Rattle.covering.specs.declared.rules.Answer.{Answer as Told}
-use Rattle.covering.specs.declared.rules.Answer.TheVariants.{Holds, Breaks}
+use Rattle.covering.specs.declared.Cover.{Cover}
+use Rattle.verdict.specs.declared.Refused.{Refused}
 
 abbrev pub broken_of : Broken → Answer
 broken_of b = broken b.rule b.name
 
-abbrev pub answer_of : Told → Answer
-answer_of (Holds links) = holds
-answer_of (Breaks b) = broken_of b
-
--- the links that are told where it holds
-abbrev pub LinksTold : Told → ℕ → Type 0
-LinksTold (Holds links) n = links ≡ n
-LinksTold (Breaks b) n = Unit {0}
+abbrev pub answer_of : Result ℕ Broken → Answer
+answer_of (Ok links) = holds
+answer_of (Err b) = broken_of b
 
 -- the answer on a cover, as that of a parser
-abbrev pub cover_answer_of : CoverAnswer → Parsed ℕ
-cover_answer_of (CoverHolds next links) = parsed links next
-cover_answer_of (Refused r place) = fault (reason_of r) place
+abbrev pub cover_answer_of : Result Cover Refused → Parsed ℕ
+cover_answer_of (Ok c) = parsed c.links c.next
+cover_answer_of (Err r) = fault (reason_of r.refusal) r.place
 
--- the answer on a cover that is not read
-abbrev pub without_member : CoverRead → CoverAnswer
-without_member (Taken m next) = Refused CertificateLeft next
-without_member (NotRead r place) = Refused r place
+-- the refusal of a cover that is not read
+abbrev pub without_member : CoverRead → Refused
+without_member (Taken m next) = record { refusal = CertificateLeft; place = next }
+without_member (NotRead r place) = record { refusal = r; place = place }
 
 -- a member stands whole at a place, and its cells have images in the shape in an array
 pub record Tested (cert : List ℕ) (variables start : ℕ) (codes s : List ℕ) : Type 0 where

@@ -1,6 +1,6 @@
 -- What is tested of images in an array.
-use Rattle.std.specs.Prelude.{Bool, ◌&&◌, ◌||◌, not, cond, List, ◌≡◌, ℕ, ◌+◌, eqb, ltb, length, get_or}
-use Rattle.std.proofs.Math.Option.{none}
+use Rattle.std.specs.Prelude.{Bool, ◌&&◌, ◌||◌, not, cond, List, ◌≡◌, ℕ, ◌+◌, eqb, ltb, length, get_or, Option, None, Some}
+use Rattle.std.proofs.Math.Option.{none, some, Option as OptionDue}
 use Rattle.lists.specs.Test.{all_from, lowest}
 use Rattle.heap.specs.Place.{nowhere, cell}
 use Rattle.shape.specs.Shape.{Shape}
@@ -9,6 +9,11 @@ use Rattle.cover.specs.Test.{link_meets, path_unshared, links_followed}
 -- the image of a place by the array
 unfoldable pub image_in : List ℕ → ℕ → ℕ
 image_in codes p = cond (ltb p 15) (get_or codes p 0) (cell 0)
+
+-- the number that the code finds, as that of the definitions
+abbrev pub found : Option ℕ → OptionDue ℕ
+found None = none
+found (Some i) = some i
 
 -- "no two cells have the same image": cell i and any other
 abbrev pub once_at : List ℕ → ℕ → Bool

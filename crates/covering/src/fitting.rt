@@ -1,12 +1,13 @@
 // Whether images embed a member in a shape: the tests of images, variables, paths and facts, exact whatever the bytes are.
-ghost use Rattle.std.specs.Prelude.{[], ◌≡◌, ℕ, ◌+◌, ◌≤◌, ◌<◌, length};
-ghost use Rattle.lists.specs.Test.{lowest, number_or};
+ghost use Rattle.std.specs.Prelude.{[], ◌≡◌, ℕ, ◌+◌, ◌≤◌, length, MatchResult};
+ghost use Rattle.std.proofs.Math.Option.{some};
+ghost use Rattle.lists.specs.Test.{lowest};
 ghost use Rattle.shape.specs.Shape.{Shape};
 ghost use Rattle.cover.specs.Test.{facts_in};
 ghost use Rattle.factrows.specs.Rows.{rows_test};
 ghost use Rattle.layout.specs.Entries.{located_at, Whole};
 ghost use Rattle.coverreader.specs.Images.{images_in, ImageCodes};
-ghost use Rattle.covering.specs.Images.{image_in, once, var_fits_in, path_fits, PathsFit};
+ghost use Rattle.covering.specs.Images.{image_in, once, found, var_fits_in, path_fits, PathsFit};
 ghost use Rattle.covering.specs.Marks.{Marks, Linking};
 
 use factrows::{first_missing, holds_all};
@@ -31,50 +32,38 @@ pub(crate) fn mark_images(images: &[u8; 15], count: usize, marks: &mut [u8; 28])
 {
     clear(marks);
     let mut apart = true;
-    let mut i = 0;
-    while i < count {
+    for i in 0..count {
         if !mark_image(marks, wide(images[i + 3])) {
             apart = false;
         }
-        i += 1;
     }
     apart
 }
 
-// The lowest variable, from 0, that the member places and that does not stand at the image of that place; as many as there are where each does.
+// The lowest variable, from 0, that the member places and that does not stand at the image of that place.
 pub(crate) fn variable_elsewhere(
     cert: &[u8],
     first: usize,
     count: usize,
     images: &[u8; 15],
     s: &[u8; 28],
-) -> usize
+) -> Option<usize>
     requires { (first + count ≤ length cert.now) × (count ≤ 9) }
-    ensures { result ≡ number_or count (lowest count 0 (var_fits_in cert.now first images.now s.now)) }
+    ensures { found result ≡ lowest count 0 (var_fits_in cert.now first images.now s.now) }
 {
-    let mut i = 0;
-    while i < count {
+    for i in 0..count {
         let p = wide(cert[first + i]);
         if p != 0 {
             if image_of(images, p) != s[i + 18] {
-                return i;
+                return Some(i);
             }
         }
-        i += 1;
     }
-    count
+    None
 }
 
-// What following the paths of a member's links came to: the lowest cell whose path fails, as many as there are cells where none does, and how many
-// links were followed before it.
-#[derive(Clone, Copy)]
-pub(crate) struct PathsTest {
-    pub fails: usize,
-    pub links: u16,
-}
-
-// Follows the paths of the links up to the lowest cell whose path does not end where it should, or shares a cell with that of a lower one. What stands
-// for a cell that the member lacks may be met and yet be no end.
+// Follows the paths of the links: how many links were followed, or the lowest cell whose path does not end where it should, or shares a cell with that
+// of a lower one. What stands for a cell that the member lacks may be met and yet be no end.
 pub(crate) fn follow_paths(
     cert: &[u8],
     first: usize,
@@ -82,36 +71,30 @@ pub(crate) fn follow_paths(
     images: &[u8; 15],
     marks: &mut [u8; 28],
     s: &[u8; 28],
-) -> PathsTest
+) -> Result<u16, usize>
     requires { (member : Shape) × (covered : Shape) × Linking member covered cert.now first count images.now marks.old s.now }
-    ensures { (member covered : Shape) → Linking member covered cert.now first count images.now marks.old s.now → (result.fails ≡ number_or count (lowest count 0 (path_fits member covered (images_in count images.now)))) × (count ≤ result.fails → PathsFit member covered (images_in count images.now) count result.links) }
+    ensures { (member covered : Shape) → Linking member covered cert.now first count images.now marks.old s.now → MatchResult result (PathsFit member covered (images_in count images.now) count) (λ i. lowest count 0 (path_fits member covered (images_in count images.now)) ≡ some i) }
 {
     let mut links = 0;
-    let mut i = 0;
-    while i < count {
+    for i in 0..count {
         let p = wide(cert[first + i]);
         if p != 0 {
             let from = wide(images[i + 3]);
             let end = wide(image_of(images, p));
             let met = walk(s, marks, wide(s[from]));
             if met.place != end {
-                return PathsTest { fails: i, links };
+                return Err(i);
             }
             if !is_stop(s, marks, met.place) {
-                return PathsTest { fails: i, links };
+                return Err(i);
             }
             links += met.links;
         }
-        i += 1;
     }
-    PathsTest {
-        fails: count,
-        links,
-    }
+    Ok(links)
 }
 
-// The lowest cell, of so many, that is the first of a fact listed for the member which the rows do not have of the images; as many as there are where they
-// have each. Version 1 has none.
+// The lowest cell, of so many, that is the first of a fact listed for the member which the rows do not have of the images. Version 1 has none.
 pub(crate) fn fact_missing(
     cert: &[u8],
     start: usize,
@@ -119,19 +102,18 @@ pub(crate) fn fact_missing(
     cells: usize,
     images: &[u8; 15],
     facts: &[u16; 28],
-) -> usize
+) -> Option<usize>
     requires { (Whole cert.now variables start) × ((n : ℕ) × ImageCodes cells n images.now) }
-    ensures { (covered : Shape) → result ≡ number_or cells (lowest cells 0 (facts_in (located_at cert.now variables start).shape covered (images_in cells images.now) (rows_test facts.now))) }
+    ensures { (covered : Shape) → found result ≡ lowest cells 0 (facts_in (located_at cert.now variables start).shape covered (images_in cells images.now) (rows_test facts.now)) }
 {
     if version_of(cert) != 2 {
-        return cells;
+        return None;
     }
     let span = fact_span(cert, start, variables);
-    let first = span.first;
-    let end = span.end;
-    let listed = &cert[first..end];
+    let listed = &cert[span.first..span.end];
     if holds_all(facts, listed, images) {
-        return cells;
+        return None;
     }
-    first_missing(facts, listed, images, cells)
+    let missing = first_missing(facts, listed, images, cells);
+    if missing < cells { Some(missing) } else { None }
 }

@@ -1,7 +1,7 @@
 // One cover, read and tested.
 #![tactic(auto)]
 
-ghost use Rattle.std.specs.Prelude.{Bool, true, ◌≢◌, ◌≡◌, ℕ, ◌+◌, ◌≤◌, length, get_or};
+ghost use Rattle.std.specs.Prelude.{Bool, true, ◌≡◌, ℕ, ◌+◌, ◌≤◌, length, get_or, IfSome};
 ghost use Rattle.factrows.specs.Rows.{rows_test};
 ghost use Rattle.format.specs.Certificate.{read_cover_by};
 ghost use Rattle.format.specs.Parser.{parsed, certificate_buffer};
@@ -12,30 +12,33 @@ ghost use Rattle.coverreader.specs.Reading.{read_alone};
 ghost use Rattle.covering.specs.Answer.{without_member, cover_answer_of};
 
 use crate::quick::images_embed;
-use crate::rules::{Answer, cover_answer};
+use crate::rules::cover_answer;
 use coverreader::{CoverRead, read_cover};
 use layout::version_of;
 use number::wide;
-use verdict::Refusal;
+use verdict::{Refusal, Refused};
 
 mod fitting;
 mod quick;
 mod rules;
 
-// The answer on one cover: it holds, with the place after it and the number of links followed, or it is refused.
+// A cover that holds: the place after it, and the number of links followed.
 #[derive(Clone, Copy)]
-pub enum CoverAnswer {
-    Holds(usize, u16),
-    Refused(Refusal, usize),
+pub struct Cover {
+    pub next: usize,
+    pub links: u16,
 }
 
 // The refusal of a cover that is not read. It is not asked of one that is read, and would refuse what follows it.
-fn refused(read: CoverRead) -> CoverAnswer
+fn refused(read: CoverRead) -> Refused
     ensures { result ≡ without_member read }
 {
     match read {
-        CoverRead::Taken(_, next) => CoverAnswer::Refused(Refusal::CertificateLeft, next),
-        CoverRead::Refused(refusal, place) => CoverAnswer::Refused(refusal, place),
+        CoverRead::Taken(_, next) => Refused {
+            refusal: Refusal::CertificateLeft,
+            place: next,
+        },
+        CoverRead::Refused(refusal, place) => Refused { refusal, place },
     }
 }
 
@@ -48,20 +51,22 @@ pub fn exact_cover(
     state: u8,
     s: &[u8; 28],
     facts: &[u16; 28],
-) -> CoverAnswer
+) -> Result<Cover, Refused>
     ensures { cover_answer_of result ≡ read_cover_by (certificate_buffer cert.now) (rows_test facts.now) (members_from cert.now variables starts.now) (record { state = state; shape = shape_in variables s.now }) at }
 {
     let reading = read_cover(cert, starts, variables, at, s);
     let r = reading.answer;
     let CoverRead::Taken(m, next) = r else {
-        return refused(r);
+        return Err(refused(r));
     };
     let start = starts[m] as usize;
     let images = reading.images;
-    let answer = cover_answer(cert, start, variables, state, &images, s, facts);
-    match answer {
-        Answer::Holds(links) => CoverAnswer::Holds(next, links),
-        Answer::Breaks(broken) => CoverAnswer::Refused(Refusal::CoverFails(broken), at),
+    match cover_answer(cert, start, variables, state, &images, s, facts) {
+        Ok(links) => Ok(Cover { next, links }),
+        Err(broken) => Err(Refused {
+            refusal: Refusal::CoverFails(broken),
+            place: at,
+        }),
     }
 }
 
@@ -72,26 +77,16 @@ pub fn read_alone(
     variables: usize,
     at: usize,
     s: &[u8; 28],
-) -> CoverAnswer
+) -> Result<Cover, Refused>
     ensures { cover_answer_of result ≡ read_alone (certificate_buffer cert.now) (members_from cert.now variables starts.now) (length (links_in s.now)) at }
 {
     let reading = read_cover(cert, starts, variables, at, s);
     let r = reading.answer;
     match r {
-        CoverRead::Taken(_, next) => CoverAnswer::Holds(next, 0),
-        CoverRead::Refused(refusal, place) => CoverAnswer::Refused(refusal, place),
+        CoverRead::Taken(_, next) => Ok(Cover { next, links: 0 }),
+        CoverRead::Refused(refusal, place) => Err(Refused { refusal, place }),
     }
 }
-
-// What the quick test of a cover gives: the place after it, 0 where it is left to `exact_cover`, and the number of links followed.
-#[derive(Clone, Copy)]
-pub struct QuickCover {
-    pub next: usize,
-    pub links: u16,
-}
-
-// The cover is left to `exact_cover`.
-const LEFT: QuickCover = QuickCover { next: 0, links: 0 };
 
 // Whether the member at a place, of so many cells, lists no fact: version 1 has none, in version 2 their number is behind the links.
 fn is_bare(cert: &[u8], start: usize, variables: usize, count: usize) -> bool
@@ -107,7 +102,8 @@ fn is_bare(cert: &[u8], start: usize, variables: usize, count: usize) -> bool
 // A quick test of the cover at a place by a member that lists no fact. Such a cover, its number of one byte or two and at most 12 images, has at most 14 bytes:
 // where fewer are left it goes to the exact test, so that images need no test for the end. An entry of 9 variables and 12 cells has 23 bytes, and one for the number
 // of facts. The member's number is read here: a call would cost each cover.
-// Which covers it leaves is the program's choice. Of one that is left it tells nothing, 0 and 0; of any other what `exact_cover` tells, whatever the facts.
+// Which covers it leaves to `exact_cover` is the program's choice. Of one that is left it tells nothing; of any other what `exact_cover` tells, whatever the
+// facts.
 pub fn quick_cover(
     cert: &[u8],
     starts: &[u16],
@@ -115,55 +111,51 @@ pub fn quick_cover(
     at: usize,
     state: u8,
     s: &[u8; 28],
-) -> QuickCover
-    ensures given { (among : ℕ → ℕ → ℕ → Bool) → result.next ≢ 0 → read_cover_by (certificate_buffer cert.now) among (members_from cert.now variables starts.now) (record { state = state; shape = shape_in variables s.now }) at ≡ parsed result.links result.next }
-    ensures left { result.next ≡ 0 → result.links ≡ 0 }
+) -> Option<Cover>
+    ensures { IfSome result (λ c. (among : ℕ → ℕ → ℕ → Bool) → read_cover_by (certificate_buffer cert.now) among (members_from cert.now variables starts.now) (record { state = state; shape = shape_in variables s.now }) at ≡ parsed c.links c.next) }
 {
     if cert.len() < 14 {
-        return LEFT;
+        return None;
     }
     if cert.len() - 14 < at {
-        return LEFT;
+        return None;
     }
     let mut m = wide(cert[at]);
     let mut first = at + 1;
     if 128 <= m {
         let high = wide(cert[at + 1]);
         if high == 0 {
-            return LEFT;
+            return None;
         }
         if 128 <= high {
-            return LEFT;
+            return None;
         }
         m = m - 128 + high * 128;
         first = at + 2;
     }
     if starts.len() <= m {
-        return LEFT;
+        return None;
     }
     let start = starts[m] as usize;
     if 9 < variables {
-        return LEFT;
+        return None;
     }
     if cert.len() < start + 24 {
-        return LEFT;
+        return None;
     }
     if state != cert[start] {
-        return LEFT;
+        return None;
     }
     let count = wide(cert[start + 1]);
     if 12 < count {
-        return LEFT;
+        return None;
     }
     if !is_bare(cert, start, variables, count) {
-        return LEFT;
+        return None;
     }
-    let quick = images_embed(cert, start, variables, first, count, s);
-    if !quick.accepts {
-        return LEFT;
-    }
-    QuickCover {
+    let links = images_embed(cert, start, variables, first, count, s)?;
+    Some(Cover {
         next: first + count,
-        links: quick.links,
-    }
+        links,
+    })
 }

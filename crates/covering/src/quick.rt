@@ -1,5 +1,5 @@
 // A quick test that images embed a member in a shape. It takes images of one byte only, and marks each of them as it is read.
-ghost use Rattle.std.specs.Prelude.{true, [], ◌≡◌, ◌+◌, ◌≤◌, length, get_or};
+ghost use Rattle.std.specs.Prelude.{true, [], ◌≡◌, ◌+◌, ◌≤◌, length, get_or, IfSome};
 ghost use Rattle.std.proofs.Math.Option.{none};
 ghost use Rattle.lists.specs.Test.{lowest};
 ghost use Rattle.shape.specs.Shape.{Shape};
@@ -27,8 +27,7 @@ fn read_and_mark(
     ensures { ReadAndMarked cert.now first n count result images.new marks.new }
 {
     clear(marks);
-    let mut i = 0;
-    while i < count {
+    for i in 0..count {
         let c = cert[first + i];
         if n <= wide(c) {
             return false;
@@ -37,7 +36,6 @@ fn read_and_mark(
             return false;
         }
         images[i + 3] = c + 3;
-        i += 1;
     }
     true
 }
@@ -47,8 +45,7 @@ fn quick_vars(cert: &[u8], first: usize, count: usize, images: &[u8; 15], s: &[u
     requires { (first + count ≤ length cert.now) × (count ≤ 9) }
     ensures { result ≡ true → lowest count 0 (var_fits_in cert.now first images.now s.now) ≡ none }
 {
-    let mut i = 0;
-    while i < count {
+    for i in 0..count {
         let p = wide(cert[first + i]);
         if p != 0 {
             if 15 <= p {
@@ -58,26 +55,12 @@ fn quick_vars(cert: &[u8], first: usize, count: usize, images: &[u8; 15], s: &[u
                 return false;
             }
         }
-        i += 1;
     }
     true
 }
 
-// What the quick test came to: whether it accepts, and how many links were followed.
-#[derive(Clone, Copy)]
-pub(crate) struct QuickTest {
-    pub accepts: bool,
-    pub links: u16,
-}
-
-// The test is left open.
-const OPEN: QuickTest = QuickTest {
-    accepts: false,
-    links: 0,
-};
-
-// Whether the paths of the member's links end where they should and share no cell: a path that meets a used cell ends there, which is no image.
-// Left open also where a link is to a cell that the member lacks.
+// How many links were followed, where the paths of the member's links end where they should and share no cell: a path that meets a used cell ends there,
+// which is no image. Left open also where a link is to a cell that the member lacks.
 fn quick_links(
     cert: &[u8],
     first: usize,
@@ -85,17 +68,16 @@ fn quick_links(
     images: &[u8; 15],
     marks: &mut [u8; 28],
     s: &[u8; 28],
-) -> QuickTest
+) -> Option<u16>
     requires { (member : Shape) × (covered : Shape) × Linking member covered cert.now first count images.now marks.old s.now }
-    ensures { (member covered : Shape) → Linking member covered cert.now first count images.now marks.old s.now → result.accepts ≡ true → PathsFit member covered (images_in count images.now) count result.links }
+    ensures { (member covered : Shape) → Linking member covered cert.now first count images.now marks.old s.now → IfSome result (PathsFit member covered (images_in count images.now) count) }
 {
     let mut links = 0;
-    let mut i = 0;
-    while i < count {
+    for i in 0..count {
         let p = wide(cert[first + i]);
         if p != 0 {
             if count + 3 <= p {
-                return OPEN;
+                return None;
             }
             let from = wide(images[i + 3]);
             // no walk where the link is to the image itself
@@ -104,21 +86,17 @@ fn quick_links(
             } else {
                 let met = walk(s, marks, wide(s[from]));
                 if met.place != wide(images[p]) {
-                    return OPEN;
+                    return None;
                 }
                 links += met.links;
             }
         }
-        i += 1;
     }
-    QuickTest {
-        accepts: true,
-        links,
-    }
+    Some(links)
 }
 
-// Whether so many images from a place on embed the member that starts at a place in a shape, and the links followed. Left open where the test does not
-// tell.
+// How many links were followed, where so many images from a place on embed the member that starts at a place in a shape. Left open where the test does
+// not tell.
 pub(crate) fn images_embed(
     cert: &[u8],
     start: usize,
@@ -126,22 +104,22 @@ pub(crate) fn images_embed(
     first: usize,
     count: usize,
     s: &[u8; 28],
-) -> QuickTest
+) -> Option<u16>
     requires { (Whole cert.now variables start) × ((located_at cert.now variables start).shape.facts ≡ []) × (count ≡ get_or cert.now (start + 1) 0) × (first + count ≤ length cert.now) }
-    ensures { result.accepts ≡ true → ImagesEmbed cert.now start variables first count s.now result.links }
+    ensures { IfSome result (ImagesEmbed cert.now start variables first count s.now) }
 {
     let all = &s[..];
     let n = wide(all[0]);
     if all.len() - 3 < n {
-        return OPEN;
+        return None;
     }
     let mut images = NO_IMAGES;
     let mut marks = [0u8; 28];
     if !read_and_mark(cert, first, count, n, &mut images, &mut marks) {
-        return OPEN;
+        return None;
     }
     if !quick_vars(cert, start + 2, variables, &images, s) {
-        return OPEN;
+        return None;
     }
     quick_links(cert, start + 2 + variables, count, &images, &mut marks, s)
 }

@@ -1,5 +1,5 @@
 // The exact test of one cover, rule by rule in document 02's order, and what it names where a rule is broken.
-ghost use Rattle.std.specs.Prelude.{[], ◌≡◌, ℕ, ◌+◌, ◌<◌, get_or};
+ghost use Rattle.std.specs.Prelude.{[], ◌≡◌, ℕ, ◌+◌, ◌<◌, get_or, IfOk};
 ghost use Rattle.std.proofs.Math.Option.{Option, some};
 ghost use Rattle.lists.specs.Test.{lowest, number_or};
 ghost use Rattle.shape.specs.Shape.{Shape};
@@ -7,9 +7,9 @@ ghost use Rattle.cover.specs.Test.{link_meets, answer_by, links_followed};
 ghost use Rattle.factrows.specs.Rows.{rows_test};
 ghost use Rattle.layout.specs.Entries.{located_at};
 ghost use Rattle.layout.specs.ShapeArray.{shape_in};
-ghost use Rattle.covering.specs.Answer.{broken_of, answer_of, LinksTold, Tested, last_answer};
+ghost use Rattle.covering.specs.Answer.{broken_of, answer_of, Tested, last_answer};
 ghost use Rattle.coverreader.specs.Images.{images_in, ImageCodes};
-ghost use Rattle.covering.specs.Images.{once_at, path_fits};
+ghost use Rattle.covering.specs.Images.{once_at, found, path_fits};
 ghost use Rattle.covering.specs.Marks.{Marks, Linking};
 
 use crate::fitting::{fact_missing, follow_paths, image_of, mark_images, variable_elsewhere};
@@ -19,46 +19,35 @@ use verdict::{
     Broken, FACT_MISSING, IMAGE_TWICE, LINK_MISSES, SHARED_PATH, VARIABLE_ELSEWHERE, WRONG_STATE,
 };
 
-// What the test of a cover says: it holds, with the number of links followed, or which rule is broken first.
-#[derive(Clone, Copy)]
-pub(crate) enum Answer {
-    Holds(u16),
-    Breaks(Broken),
-}
-
 // Whether no other cell has the image of cell i.
 fn image_once(images: &[u8; 15], count: usize, i: usize) -> bool
     requires { ImageCodes count 25 images.now × (i < count) }
     ensures { result ≡ once_at (images_in count images.now) i }
 {
-    let mut j = 0;
-    while j < count {
+    for j in 0..count {
         if i != j {
             if images[i + 3] == images[j + 3] {
                 return false;
             }
         }
-        j += 1;
     }
     true
 }
 
-// The lowest cell whose image another cell has too; as many as there are where none is so.
+// The lowest cell whose image another cell has too; as many as there are where none is so, which need be no `Option`: it is asked only where there is one.
 fn image_twice(images: &[u8; 15], count: usize) -> usize
     requires { ImageCodes count 25 images.now }
     ensures { result ≡ number_or count (lowest count 0 (once_at (images_in count images.now))) }
 {
-    let mut i = 0;
-    while i < count {
+    for i in 0..count {
         if !image_once(images, count, i) {
             return i;
         }
-        i += 1;
     }
     count
 }
 
-// The lowest cell whose link misses; as many as there are where none does.
+// The lowest cell whose link misses.
 fn link_misses(
     cert: &[u8],
     first: usize,
@@ -66,23 +55,21 @@ fn link_misses(
     images: &[u8; 15],
     marks: &[u8; 28],
     s: &[u8; 28],
-) -> usize
+) -> Option<usize>
     requires { (member : Shape) × (covered : Shape) × Linking member covered cert.now first count images.now marks.now s.now }
-    ensures { (member covered : Shape) → Linking member covered cert.now first count images.now marks.now s.now → result ≡ number_or count (lowest count 0 (link_meets member covered (images_in count images.now))) }
+    ensures { (member covered : Shape) → Linking member covered cert.now first count images.now marks.now s.now → found result ≡ lowest count 0 (link_meets member covered (images_in count images.now)) }
 {
-    let mut i = 0;
-    while i < count {
+    for i in 0..count {
         let p = wide(cert[first + i]);
         if p != 0 {
             let from = wide(images[i + 3]);
             let end = wide(image_of(images, p));
             if stop_from(s, marks, wide(s[from])) != end {
-                return i;
+                return Some(i);
             }
         }
-        i += 1;
     }
-    count
+    None
 }
 
 // What rules 4 and 5 say, where the path of cell i is the first that fails: a link that misses, of any cell, comes before a shared path. No path has
@@ -100,20 +87,20 @@ fn broken_path(
     ensures { (missing : Option ℕ) → broken_of result ≡ last_answer (located_at cert.now variables start).shape (shape_in variables s.now) (images_in (get_or cert.now (start + 1) 0) images.now) (get_or cert.now (start + 1) 0) missing }
 {
     let cells = wide(cert[start + 1]);
-    let missed = link_misses(cert, start + 2 + variables, cells, images, marks, s);
-    if missed < cells {
-        return Broken {
+    match link_misses(cert, start + 2 + variables, cells, images, marks, s) {
+        Some(missed) => Broken {
             rule: LINK_MISSES,
             name: missed as u8,
-        };
-    }
-    Broken {
-        rule: SHARED_PATH,
-        name: i as u8,
+        },
+        None => Broken {
+            rule: SHARED_PATH,
+            name: i as u8,
+        },
     }
 }
 
-// What the test of a cover says: of a shape at a state, with the rows of its facts, by the member that starts at a place.
+// What the test of a cover says, of a shape at a state, with the rows of its facts, by the member that starts at a place: it holds, with the number of
+// links followed, or which rule is broken first.
 pub(crate) fn cover_answer(
     cert: &[u8],
     start: usize,
@@ -122,13 +109,13 @@ pub(crate) fn cover_answer(
     images: &[u8; 15],
     s: &[u8; 28],
     facts: &[u16; 28],
-) -> Answer
+) -> Result<u16, Broken>
     requires { Tested cert.now variables start images.now s.now }
     ensures answer { answer_of result ≡ answer_by (rows_test facts.now) (located_at cert.now variables start) (images_in (get_or cert.now (start + 1) 0) images.now) (record { state = state; shape = shape_in variables s.now }) }
-    ensures links { LinksTold result (links_followed (located_at cert.now variables start).shape (shape_in variables s.now) (images_in (get_or cert.now (start + 1) 0) images.now)) }
+    ensures links { IfOk result (λ links. links ≡ links_followed (located_at cert.now variables start).shape (shape_in variables s.now) (images_in (get_or cert.now (start + 1) 0) images.now)) }
 {
     if cert[start] != state {
-        return Answer::Breaks(Broken {
+        return Err(Broken {
             rule: WRONG_STATE,
             name: 0,
         });
@@ -137,30 +124,26 @@ pub(crate) fn cover_answer(
     let mut marks = [0u8; 28];
     if !mark_images(images, cells, &mut marks) {
         let twice = image_twice(images, cells);
-        return Answer::Breaks(Broken {
+        return Err(Broken {
             rule: IMAGE_TWICE,
             name: twice as u8,
         });
     }
-    let elsewhere = variable_elsewhere(cert, start + 2, variables, images, s);
-    if elsewhere < variables {
-        return Answer::Breaks(Broken {
+    if let Some(elsewhere) = variable_elsewhere(cert, start + 2, variables, images, s) {
+        return Err(Broken {
             rule: VARIABLE_ELSEWHERE,
             name: (elsewhere + 1) as u8,
         });
     }
     let mut used = marks;
-    let paths = follow_paths(cert, start + 2 + variables, cells, images, &mut used, s);
-    let i = paths.fails;
-    if i < cells {
-        return Answer::Breaks(broken_path(cert, start, variables, images, &marks, s, i));
+    match follow_paths(cert, start + 2 + variables, cells, images, &mut used, s) {
+        Err(i) => Err(broken_path(cert, start, variables, images, &marks, s, i)),
+        Ok(links) => match fact_missing(cert, start, variables, cells, images, facts) {
+            Some(missing) => Err(Broken {
+                rule: FACT_MISSING,
+                name: missing as u8,
+            }),
+            None => Ok(links),
+        },
     }
-    let missing = fact_missing(cert, start, variables, cells, images, facts);
-    if missing < cells {
-        return Answer::Breaks(Broken {
-            rule: FACT_MISSING,
-            name: missing as u8,
-        });
-    }
-    Answer::Holds(paths.links)
 }

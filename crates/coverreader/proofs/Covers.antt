@@ -8,16 +8,14 @@ use native.Mathlib.Omega.{arith}
 use borrow.Author.Tests.{ne_eqb, lt-ltb}
 use lib.ListN.{length, get_or, get_elem?, drop, length-drop}
 use lib.Seq.{length-take-le}
-use Rattle.number.specs.Number.{number_at}
-use Rattle.number.specs.declared.Read.TheVariants.{Number, Unreadable}
+use Rattle.number.specs.Number.{number_at, numeral, no_numeral}
 use Rattle.lists.specs.Test.{lowest}
 use Rattle.shape.specs.Shape.{size}
 use Rattle.format.specs.Certificate.{read_cover_by}
 use Rattle.format.specs.Parser.{certificate_buffer, many}
 use Rattle.format.proofs.Parsing.{read_outside, read_complete}
-use Rattle.verdict.specs.declared.Reached.{Reached}
-use Rattle.verdict.specs.declared.Reached.TheVariants.{At, Refused}
-use Rattle.verdict.specs.declared.Refusal.{Refusal}
+use Rattle.verdict.specs.declared.Refused.{Refused}
+use Rattle.std.specs.Prelude.{Result, Ok, Err}
 use Rattle.verdict.specs.declared.Refusal.TheVariants.{CertificateUnreadable, CertificateRange, CoverFails}
 use Rattle.layout.specs.Entries.{located_at, is_whole}
 use Rattle.coverreader.proofs.ReadImages.{read_unreadable}
@@ -33,7 +31,7 @@ module _ (cert : List ℕ) (variables : ℕ) (starts : List ℕ) (at n : ℕ) wh
   abbrev Is : CoverRead → List ℕ → Type 0
   Is r codes = CoverIs cert variables starts at n r codes
 
-  pub cover_unreadable : (place : ℕ) → number_at cert at ≡ Unreadable place → Is (NotRead CertificateUnreadable at) no_images
+  pub cover_unreadable : (place : ℕ) → number_at cert at ≡ no_numeral place → Is (NotRead CertificateUnreadable at) no_images
   unfolding read_cover_by read_alone
   cover_unreadable place e =
       record {
@@ -46,7 +44,7 @@ module _ (cert : List ℕ) (variables : ℕ) (starts : List ℕ) (at n : ℕ) wh
         none = λ _ _ _. refl;
       }
 
-  module _ (m next : ℕ) (e : number_at cert at ≡ Number m next) where
+  module _ (m next : ℕ) (e : number_at cert at ≡ numeral m next) where
     pub cover_outside : length starts ≤ m → Is (NotRead CertificateRange at) no_images
     unfolding read_cover_by read_alone
     cover_outside b =
@@ -90,7 +88,7 @@ module _ (cert : List ℕ) (variables : ℕ) (starts : List ℕ) (at n : ℕ) wh
             none = λ _ _ _. refl;
           }
 
-      module _ (w : is_whole cert variables start ≡ true) (count : ℕ) (size_is : count ≡ get_or cert (start + 1) 0) (q : Reached) (codes : List ℕ)
+      module _ (w : is_whole cert variables start ≡ true) (count : ℕ) (size_is : count ≡ get_or cert (start + 1) 0) (q : Result ℕ Refused) (codes : List ℕ)
           (i : ImagesRead cert next n count q codes) where
         member_is : get_elem? (members_from cert variables starts) m ≡ some (located_at cert variables start)
         member_is = rw w at member_some
@@ -101,9 +99,9 @@ module _ (cert : List ℕ) (variables : ℕ) (starts : List ℕ) (at n : ℕ) wh
             (length-take-le (get_or cert (start + 1) 0) (drop (start + 2 + variables) cert)
             (omega (arith, length-drop (start + 2 + variables) cert, (whole cert variables start w).inside)))
 
-        pub cover_refused : (r : Refusal) (place : ℕ) → q ≡ Refused r place → Is (NotRead r place) no_images
+        pub cover_refused : (r : Refused) → q ≡ Err r → Is (NotRead r.refusal r.place) no_images
         unfolding read_cover_by read_alone
-        cover_refused r place y =
+        cover_refused r y =
             record {
               reads = λ among covered s z.
                   rw (
@@ -127,7 +125,7 @@ module _ (cert : List ℕ) (variables : ℕ) (starts : List ℕ) (at n : ℕ) wh
               none = λ _ _ _. refl;
             }
 
-        pub cover_taken : get_or cert start 0 < 256 → (end : ℕ) → q ≡ At end → Is (Taken m end) codes
+        pub cover_taken : get_or cert start 0 < 256 → (end : ℕ) → q ≡ Ok end → Is (Taken m end) codes
         unfolding read_cover_by read_alone
         cover_taken byte end y =
             record {

@@ -10,8 +10,7 @@ use borrow.Author.Tests.{le-leb, lt-ltb, le-ltb}
 use lib.ListN.{length, get_or, take, drop, set, length-set, length-drop}
 use lib.Seq.{get_or-set_same, get_or-set_other, drop-set-add, take-suc-set}
 use Rattle.heap.specs.Place.{cell}
-use Rattle.number.specs.Number.{number_at}
-use Rattle.number.specs.declared.Read.TheVariants.{Number, Unreadable}
+use Rattle.number.specs.Number.{number_at, numeral, no_numeral}
 use Rattle.format.specs.Parser.{Reason, refusal, Parsed, parsed, fault, Parser, onward, return, many, certificate_buffer, within, such, meant, read_as, ranged}
 use Rattle.format.proofs.Parsing.{read_outside, read_complete}
 use Rattle.coverreader.specs.Images.{images_in, ImageCodes}
@@ -24,7 +23,7 @@ such_in n x h = simp (le-leb 0 x (omega arith), lt-ltb x n h)
 such_out : (n x : ℕ) → n ≤ x → such (within 0 n) x ≡ none
 such_out n x h = simp (le-leb 0 x (omega arith), le-ltb x n h)
 
-pub read_unreadable : {A : Type 0} (cert : List ℕ) (meaning : ℕ → Option A) (at place : ℕ) → number_at cert at ≡ Unreadable place
+pub read_unreadable : {A : Type 0} (cert : List ℕ) (meaning : ℕ → Option A) (at place : ℕ) → number_at cert at ≡ no_numeral place
     → read_as (certificate_buffer cert) meaning at ≡ fault (refusal 6) at
 unfolding read_as
 read_unreadable cert meaning at place e = ap (meant (certificate_buffer cert) meaning at) e
@@ -113,13 +112,13 @@ module _ (cert : List ℕ) (first n count : ℕ) where
       unfolding many
       stops_here why place e = rw (left, e) at r.whole
 
-      pub reading_unreadable : (place : ℕ) → number_at cert at ≡ Unreadable place → fault (refusal 6) at ≡ many count image first
+      pub reading_unreadable : (place : ℕ) → number_at cert at ≡ no_numeral place → fault (refusal 6) at ≡ many count image first
       reading_unreadable place e = stops_here (refusal 6) at (read_unreadable cert (such (within 0 n)) at place e)
 
-      pub reading_outside : (x next : ℕ) → number_at cert at ≡ Number x next → n ≤ x → fault (refusal 7) at ≡ many count image first
+      pub reading_outside : (x next : ℕ) → number_at cert at ≡ numeral x next → n ≤ x → fault (refusal 7) at ≡ many count image first
       reading_outside x next e h = stops_here (refusal 7) at (read_outside (certificate_buffer cert) (such (within 0 n)) at x next e (such_out n x h))
 
-      pub reading_more : (x next : ℕ) → count ≤ 12 → number_at cert at ≡ Number x next → x < n → Reading (set codes (i + 3) (x + 3)) next (i + 1)
+      pub reading_more : (x next : ℕ) → count ≤ 12 → number_at cert at ≡ numeral x next → x < n → Reading (set codes (i + 3) (x + 3)) next (i + 1)
       unfolding many
       reading_more x next few e h =
           record {

@@ -1,9 +1,8 @@
 -- One cover as it is read: "A cover is a member number below N and one image for each of its cells, below the number of cells of the covered
 -- shape."
-use Rattle.std.specs.Prelude.{Bool, List, ◌≡◌, ℕ, ◌+◌, ◌<◌, ltb, length, get_or}
+use Rattle.std.specs.Prelude.{Bool, List, ◌≡◌, ℕ, ◌+◌, ◌<◌, ltb, length, get_or, Result, Ok, Err}
 use Rattle.std.proofs.Math.ListN.{get_elem?}
-use Rattle.number.specs.Number.{number_at}
-use Rattle.number.specs.declared.Read.TheVariants.{Number}
+use Rattle.number.specs.Number.{number_at, numeral}
 use Rattle.shape.specs.Shape.{size}
 use Rattle.run.specs.Run.{Located}
 use Rattle.cover.specs.Test.{answer_by, links_followed}
@@ -11,8 +10,7 @@ use Rattle.format.specs.Certificate.{judge, read_cover_by}
 use Rattle.format.specs.Parser.{broken_rule, Parsed, parsed, fault, Parser, ◌>>=◌, ◌>>◌, return, here, require, many, Buffer, read_as, ranged, certificate_buffer}
 use Rattle.verdict.specs.Verdict.{reason_of}
 use Rattle.verdict.specs.declared.Refusal.{Refusal}
-use Rattle.verdict.specs.declared.Reached.{Reached}
-use Rattle.verdict.specs.declared.Reached.TheVariants.{At, Refused}
+use Rattle.verdict.specs.declared.Refused.{Refused}
 use Rattle.layout.specs.Entries.{located_at, Whole}
 use Rattle.layout.specs.Members.{members_from}
 use Rattle.coverreader.specs.Images.{images_in, ImageCodes, no_images}
@@ -35,14 +33,14 @@ alone_of (Taken m next) = parsed 0 next
 alone_of (NotRead r place) = fault (reason_of r) place
 
 -- a place reached with images beside, as the answer of a parser
-abbrev pub images_of : Reached → List ℕ → Parsed (List ℕ)
-images_of (At next) images = parsed images next
-images_of (Refused r place) images = fault (reason_of r) place
+abbrev pub images_of : Result ℕ Refused → List ℕ → Parsed (List ℕ)
+images_of (Ok next) images = parsed images next
+images_of (Err r) images = fault (reason_of r.refusal) r.place
 
 -- so many images below n are read from a place on, into an array
-pub record ImagesRead (cert : List ℕ) (first n count : ℕ) (r : Reached) (codes : List ℕ) : Type 0 where
+pub record ImagesRead (cert : List ℕ) (first n count : ℕ) (r : Result ℕ Refused) (codes : List ℕ) : Type 0 where
   pub reads : images_of r (images_in count codes) ≡ many count (ranged (certificate_buffer cert) 0 n) first
-  pub images : (next : ℕ) → r ≡ At next → ImageCodes count n codes
+  pub images : (next : ℕ) → r ≡ Ok next → ImageCodes count n codes
 
 module _ (cert : List ℕ) (variables : ℕ) (starts : List ℕ) where
   -- how many cells member m has
@@ -63,7 +61,7 @@ module _ (cert : List ℕ) (variables : ℕ) (starts : List ℕ) where
         → cover_of among at covered r codes ≡ read_cover_by (certificate_buffer cert) among (members_from cert variables starts) covered at
     pub alone : alone_of r ≡ read_alone (certificate_buffer cert) (members_from cert variables starts) n at
     pub numbers : (m next : ℕ) → r ≡ Taken m next
-        → (mid : ℕ) × (number_at cert at ≡ Number m mid) × (many (cells_at m) (ranged (certificate_buffer cert) 0 n) mid ≡ parsed (images_in (cells_at m) codes) next)
+        → (mid : ℕ) × (number_at cert at ≡ numeral m mid) × (many (cells_at m) (ranged (certificate_buffer cert) 0 n) mid ≡ parsed (images_in (cells_at m) codes) next)
     pub member : (m next : ℕ) → r ≡ Taken m next → m < length starts
     pub whole : (m next : ℕ) → r ≡ Taken m next → Whole cert variables (get_or starts m 0)
     pub images : (m next : ℕ) → r ≡ Taken m next → ImageCodes (cells_at m) n codes

@@ -8,8 +8,8 @@ ghost use Rattle.coverreader.specs.Reading.{ImagesRead, CoverIs};
 ghost use Rattle.coverreader.specs.declared.CoverRead.TheVariants.{Refused as NotRead};
 
 use layout::{cells_held, is_whole};
-use number::{Read, read_number};
-use verdict::{Broken, Reached, Refusal, WRONG_STATE};
+use number::read_number;
+use verdict::{Broken, Refusal, Refused, WRONG_STATE};
 
 // A cover as read: its member's number and the next place; or a refusal and its place.
 #[derive(Clone, Copy)]
@@ -29,25 +29,34 @@ pub struct CoverReading {
 pub const NO_IMAGES: [u8; 15] = [0, 1, 2, 3, 3, 3, 3, 3, 3, 3, 3, 3, 3, 3, 3];
 
 // Reads images, each below n.
-fn read_images(cert: &[u8], first: usize, n: usize, count: usize, images: &mut [u8; 15]) -> Reached
+fn read_images(
+    cert: &[u8],
+    first: usize,
+    n: usize,
+    count: usize,
+    images: &mut [u8; 15],
+) -> Result<usize, Refused>
     requires { ImageCodes 0 n images.old × (count ≤ 12) × (n ≤ 25) }
     ensures { ImagesRead cert.now first n count result images.new }
 {
     let mut at = first;
-    let mut i = 0;
-    while i < count {
-        let r = read_number(cert, at);
-        let Read::Number(c, next) = r else {
-            return Reached::Refused(Refusal::CertificateUnreadable, at);
+    for i in 0..count {
+        let Ok(c) = read_number(cert, at) else {
+            return Err(Refused {
+                refusal: Refusal::CertificateUnreadable,
+                place: at,
+            });
         };
-        if n <= c {
-            return Reached::Refused(Refusal::CertificateRange, at);
+        if n <= c.value {
+            return Err(Refused {
+                refusal: Refusal::CertificateRange,
+                place: at,
+            });
         }
-        images[i + 3] = c as u8 + 3;
-        at = next;
-        i += 1;
+        images[i + 3] = c.value as u8 + 3;
+        at = c.next;
     }
-    Reached::At(at)
+    Ok(at)
 }
 
 // A cover that is not read.
@@ -70,10 +79,10 @@ pub fn read_cover(
 ) -> CoverReading
     ensures { CoverIs cert.now variables starts.now at (length (links_in s.now)) result.answer result.images }
 {
-    let r = read_number(cert, at);
-    let Read::Number(m, next) = r else {
+    let Ok(number) = read_number(cert, at) else {
         return not_read(Refusal::CertificateUnreadable, at);
     };
+    let m = number.value;
     if starts.len() <= m {
         return not_read(Refusal::CertificateRange, at);
     }
@@ -87,18 +96,12 @@ pub fn read_cover(
         return not_read(Refusal::CoverFails(other), at);
     }
     let mut images = NO_IMAGES;
-    let r = read_images(
-        cert,
-        next,
-        cells_held(s),
-        cert[start + 1] as usize,
-        &mut images,
-    );
-    match r {
-        Reached::At(end) => CoverReading {
+    let cells = cert[start + 1] as usize;
+    match read_images(cert, number.next, cells_held(s), cells, &mut images) {
+        Ok(end) => CoverReading {
             answer: CoverRead::Taken(m, end),
             images,
         },
-        Reached::Refused(refusal, place) => not_read(refusal, place),
+        Err(r) => not_read(r.refusal, r.place),
     }
 }

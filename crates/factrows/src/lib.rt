@@ -1,8 +1,9 @@
 // Facts about the values of at most 14 cells as 28 rows of bits: bit q of row p is set where cell p is below cell q, bit q of row 14 + p where they are
 // equal. Cells go by their numbers, and a cell from 14 on is in no fact. Facts stay closed under the laws of order and equality.
+// A kind stays the number that the file's byte gives: an enum would be made of it by one test and taken apart by another at every fact.
 #![tactic(auto)]
 
-ghost use Rattle.std.specs.Prelude.{◌≡◌, ◌^◌, ◌≤◌, ◌<◌, length};
+ghost use Rattle.std.specs.Prelude.{◌≡◌, ℕ, ◌^◌, ◌≤◌, ◌<◌, length, get_or};
 ghost use Rattle.factrows.specs.Rows.{on, either_on, has_fact, no_facts, is_consistent, self_rows, up_of, below_row, below_rows, class_of, over_of, some_of, equal_row, equal_rows, class_row, class_rows, with_kind, with_fact, at_most, clashing, off_row, without_cell, shrink, shrunk_rows, moved_rows, lowered};
 ghost use Rattle.factrows.specs.Listed.{count, closed, image_cell, holds_at, holds_all, holds_for, cell_holds, first_missing};
 
@@ -32,28 +33,18 @@ fn bit(j: usize) -> u16
     1u16 << j
 }
 
-// Does nothing: it says that an array of 28 rows has 28 rows, which is known of an array by value alone.
-fn sized(rows: [u16; 28])
-    ensures { length rows ≡ 28 }
-{}
-
 // Whether a fact is there: of kind 0, cell p is below cell q; of kind 1, they are equal.
 pub fn has_fact(rows: &[u16; 28], kind: usize, p: usize, q: usize) -> bool
     ensures { result ≡ has_fact rows.now kind p q }
 {
-    if 14 <= p {
+    if 14 <= p || 14 <= q {
         return false;
     }
-    if 14 <= q {
-        return false;
+    match kind {
+        0 => is_on(rows[p], q),
+        1 => is_on(rows[14 + p], q),
+        _ => false,
     }
-    if kind == 0 {
-        return is_on(rows[p], q);
-    }
-    if kind == 1 {
-        return is_on(rows[14 + p], q);
-    }
-    false
 }
 
 // Drops all facts.
@@ -67,14 +58,17 @@ fn clear(rows: &mut [u16; 28])
 pub fn is_consistent(rows: &[u16; 28]) -> bool
     ensures { result ≡ is_consistent rows.now }
 {
-    let mut p: usize = 0;
-    while p < 14 {
-        if is_on(rows[p], p) {
-            return false;
-        }
-        p += 1;
+    (0..14).all(|p| !is_on(rows[p], p))
+}
+
+// Puts in place of each row what `next` makes of it, given its place among them.
+fn each_row<F: Fn(usize, u16) -> u16>(rows: &mut [u16], next: F)
+    requires { (j x : ℕ) → j < length rows.old → x < 65536 → F.pre next j x }
+    ensures made { (j : ℕ) → j < length rows.old → F.post next j (get_or rows.old j 0) (get_or rows.new j 0) }
+{
+    for (j, row) in rows.iter_mut().enumerate() {
+        *row = next(j, *row);
     }
-    true
 }
 
 // Adds that a cell equals itself.
@@ -82,7 +76,6 @@ fn put_self(rows: &mut [u16; 28], c: usize)
     requires { c < 14 }
     ensures { rows.new ≡ self_rows c rows.old }
 {
-    sized(*rows);
     rows[14 + c] = rows[14 + c] | bit(c);
 }
 
@@ -105,17 +98,14 @@ fn below_row(lt: u16, eq: u16, c: usize, up: u16) -> u16
     lt
 }
 
-// The rows of below, when c is put below d.
+// The rows of below, when c is put below d. By numbers, since each is made with the row of equal beside it.
 fn below_rows(rows: &mut [u16; 28], c: usize, d: usize)
     requires { (c < 14) × (d < 14) }
     ensures { rows.new ≡ below_rows c d rows.old }
 {
-    sized(*rows);
     let up = up_of(rows, d);
-    let mut p: usize = 0;
-    while p < 14 {
+    for p in 0..14 {
         rows[p] = below_row(rows[p], rows[14 + p], c, up);
-        p += 1;
     }
 }
 
@@ -175,16 +165,14 @@ fn equal_rows(rows: &mut [u16; 28], c: usize, d: usize)
     requires { (c < 14) × (d < 14) }
     ensures { rows.new ≡ equal_rows c d rows.old }
 {
-    sized(*rows);
     let class = class_of(rows, c, d);
     let over = over_of(rows, c, d);
     let all = over | class;
     let some = some_of(class, over, c, d);
-    let mut p: usize = 0;
-    while p < 14 {
-        rows[p] = equal_row(rows[p], p, c, d, class, all, some);
-        p += 1;
-    }
+    each_row(
+        &mut rows[..14],
+        |p, row| equal_row(row, p, c, d, class, all, some),
+    );
 }
 
 // The row of equal of cell p, when the cells of a class are put equal.
@@ -202,12 +190,7 @@ fn class_row(eq: u16, p: usize, class: u16) -> u16
 fn class_rows(rows: &mut [u16; 28], class: u16)
     ensures { rows.new ≡ class_rows class rows.old }
 {
-    sized(*rows);
-    let mut j: usize = 14;
-    while j < 28 {
-        rows[j] = class_row(rows[j], j - 14, class);
-        j += 1;
-    }
+    each_row(&mut rows[14..], |p, row| class_row(row, p, class));
 }
 
 // Adds that c equals d.
@@ -224,18 +207,13 @@ fn add_equal(rows: &mut [u16; 28], c: usize, d: usize)
 pub fn add_fact(rows: &mut [u16; 28], kind: usize, c: usize, d: usize)
     ensures { rows.new ≡ with_fact rows.old kind c d }
 {
-    if 14 <= c {
+    if 14 <= c || 14 <= d {
         return;
     }
-    if 14 <= d {
-        return;
-    }
-    if kind == 0 {
-        add_below(rows, c, d);
-        return;
-    }
-    if kind == 1 {
-        add_equal(rows, c, d);
+    match kind {
+        0 => add_below(rows, c, d),
+        1 => add_equal(rows, c, d),
+        _ => {}
     }
 }
 
@@ -251,19 +229,14 @@ fn at_most(rows: &[u16; 28], p: usize, q: usize) -> bool
 pub fn clashes(rows: &[u16; 28], kind: usize, c: usize, d: usize) -> bool
     ensures { result ≡ clashing rows.now kind c d }
 {
-    if 14 <= c {
+    if 14 <= c || 14 <= d {
         return false;
     }
-    if 14 <= d {
-        return false;
+    match kind {
+        0 => at_most(rows, d, c),
+        1 => is_either_on(over_of(rows, c, d), c, d),
+        _ => false,
     }
-    if kind == 0 {
-        return at_most(rows, d, c);
-    }
-    if kind == 1 {
-        return is_either_on(over_of(rows, c, d), c, d);
-    }
-    false
 }
 
 // A row without a bit.
@@ -282,12 +255,7 @@ pub fn drop_cell(rows: &mut [u16; 28], c: usize)
     if 14 <= c {
         return;
     }
-    sized(*rows);
-    let mut j: usize = 0;
-    while j < 28 {
-        rows[j] = off(rows[j], c);
-        j += 1;
-    }
+    each_row(rows, |_, row| off(row, c));
     rows[c] = 0;
     rows[14 + c] = 0;
 }
@@ -306,12 +274,7 @@ fn shrink_rows(rows: &mut [u16; 28], c: usize)
     requires { c < 14 }
     ensures { rows.new ≡ shrunk_rows c rows.old }
 {
-    sized(*rows);
-    let mut j: usize = 0;
-    while j < 28 {
-        rows[j] = shrunk(rows[j] % 16384, c);
-        j += 1;
-    }
+    each_row(rows, |_, row| shrunk(row % 16384, c));
 }
 
 // Rows from one on take the next, up to the last, which is then empty.
@@ -319,11 +282,8 @@ fn move_rows(rows: &mut [u16; 28], first: usize, last: usize)
     requires { (first ≤ last) × (last < 28) }
     ensures { rows.new ≡ moved_rows first last rows.old }
 {
-    sized(*rows);
-    let mut j = first;
-    while j < last {
+    for j in first..last {
         rows[j] = rows[j + 1];
-        j += 1;
     }
     rows[last] = 0;
 }
@@ -340,14 +300,13 @@ pub fn remove_cell(rows: &mut [u16; 28], c: usize)
     move_rows(rows, 14 + c, 27);
 }
 
-// Puts the facts listed in bytes, and all that follows from them, in place of those that are there.
+// Puts the facts listed in bytes, and all that follows from them, in place of those that are there. Here and below listed facts go by their numbers, as
+// the definitions that the contracts name have them, not by pieces of three bytes.
 pub fn close(rows: &mut [u16; 28], s: &[u8])
     ensures { rows.new ≡ closed s.now }
 {
     clear(rows);
-    let mut i = s.len() / 3;
-    while 0 < i {
-        i -= 1;
+    for i in (0..s.len() / 3).rev() {
         add_fact(rows, wide(s[3 * i]), wide(s[3 * i + 1]), wide(s[3 * i + 2]));
     }
 }
@@ -380,15 +339,7 @@ fn holds_at(rows: &[u16; 28], s: &[u8], images: &[u8; 15], i: usize) -> bool
 pub fn holds_all(rows: &[u16; 28], s: &[u8], images: &[u8; 15]) -> bool
     ensures { result ≡ holds_all rows.now s.now images.now }
 {
-    let n = s.len() / 3;
-    let mut i: usize = 0;
-    while i < n {
-        if !holds_at(rows, s, images, i) {
-            return false;
-        }
-        i += 1;
-    }
-    true
+    (0..s.len() / 3).all(|i| holds_at(rows, s, images, i))
 }
 
 // The same for fact i, if its first cell is cell p.
@@ -403,27 +354,17 @@ fn holds_for(rows: &[u16; 28], s: &[u8], images: &[u8; 15], p: usize, i: usize) 
 fn cell_holds(rows: &[u16; 28], s: &[u8], images: &[u8; 15], p: usize) -> bool
     ensures { result ≡ cell_holds rows.now s.now images.now p }
 {
-    let n = s.len() / 3;
-    let mut i: usize = 0;
-    while i < n {
-        if !holds_for(rows, s, images, p, i) {
-            return false;
-        }
-        i += 1;
-    }
-    true
+    (0..s.len() / 3).all(|i| holds_for(rows, s, images, p, i))
 }
 
 // The lowest first cell, of n, of a listed fact that is missing when each cell is taken for its image; n where none is.
 pub fn first_missing(rows: &[u16; 28], s: &[u8], images: &[u8; 15], n: usize) -> usize
     ensures { result ≡ first_missing rows.now s.now images.now n }
 {
-    let mut p: usize = 0;
-    while p < n {
+    for p in 0..n {
         if !cell_holds(rows, s, images, p) {
             return p;
         }
-        p += 1;
     }
     n
 }

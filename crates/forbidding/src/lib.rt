@@ -13,7 +13,7 @@ use crate::put::{Point, count_bytes, put_lost_block, put_not_list};
 use crate::steps::{count_steps, put_steps};
 use layout::version_of;
 use putting::put_all;
-use reader::{Header, JobAnswer, read_job};
+use reader::{Header, read_job};
 use verdict::Refusal;
 
 mod put;
@@ -172,7 +172,7 @@ pub fn rewrite_job(job: &[u8], asked: Asked, bytes: &mut [u8]) -> Rewritten
     }
     let answer = read_job(job);
     match answer {
-        JobAnswer::Refused(why, place) => Rewritten::Job(why, place),
-        JobAnswer::Job(h) => rewrite_read(job, h, asked, bytes),
+        Err(r) => Rewritten::Job(r.refusal, r.place),
+        Ok(h) => rewrite_read(job, h, asked, bytes),
     }
 }

@@ -12,8 +12,7 @@ use lib.ListN.{length, get_elem?}
 use Rattle.lists.specs.List.{◌∈◌, Every, concat_map, sum}
 use Rattle.lists.proofs.List.{concat_map_append}
 use Rattle.lists.proofs.Reflect.{r_eq, r_le, r_lt, r_and, cond_true, cond_false}
-use Rattle.number.specs.Number.{number_at}
-use Rattle.number.specs.declared.Read.TheVariants.{Number}
+use Rattle.number.specs.Number.{number_at, numeral}
 use Rattle.shape.specs.Shape.{size, InRange}
 use Rattle.run.specs.Run.{Located}
 use Rattle.lists.proofs.List.{element_mem}
@@ -219,7 +218,7 @@ module _ (tested : ℕ) (certificate : List ℕ) (f : JobFile) (ok : JobInRange 
       by_parser (inr e) = absurd (past e)
 
   -- the version number is refused, or not the job's
-  version_refused : (n next : ℕ) → number_at certificate 0 ≡ Number n next → ¬ Between 1 2 n
+  version_refused : (n next : ℕ) → number_at certificate 0 ≡ numeral n next → ¬ Between 1 2 n
       → read_members s f.version f.job.variables f.states 0 ≡ fault (refusal 7) 0
   unfolding read_members
   version_refused n next g out =
@@ -227,7 +226,7 @@ module _ (tested : ℕ) (certificate : List ℕ) (f : JobFile) (ok : JobInRange 
       cond_false (within 1 3 n) (some n) none (λ t. let (low, high) = (r_and (r_le 1 n) (r_lt n 3)).holds t in out (low, omega arith)) in
       rw (read_outside s (such (within 1 3)) 0 n next g none_is)
 
-  versions_refused : (n next : ℕ) → number_at certificate 0 ≡ Number n next → Between 1 2 n → n ≢ f.version
+  versions_refused : (n next : ℕ) → number_at certificate 0 ≡ numeral n next → Between 1 2 n → n ≢ f.version
       → read_members s f.version f.job.variables f.states 0 ≡ fault (refusal 20) 0
   unfolding read_members
   versions_refused n next g (low, high) other =

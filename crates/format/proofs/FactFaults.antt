@@ -4,7 +4,7 @@ use mathlib.Core.List.Memᴰ
 use mathlib.Core.List.{List, [], ◌∷◌, ◌++◌, append_assoc}
 use mathlib.Core.Logic.{inl, inr}
 use mathlib.Core.Option.{Option, none, some}
-use mathlib.Core.Path.{◌≡◌, refl, sym, ap, subst}
+use mathlib.Core.Path.{◌≡◌, refl, sym, ap, subst, ◌∙◌}
 use Prim.Native.Nat.{ℕ, zero, suc, ◌<◌}
 use native.Mathlib.Decide.{ℕ_discrete}
 use native.Mathlib.Omega.{arith}
@@ -13,10 +13,9 @@ use lib.Dec.{ltb}
 use lib.ListN.{length, take}
 use Rattle.lists.specs.List.{concat_map}
 use Rattle.lists.proofs.List.{every_none, every_cons}
-use Rattle.number.specs.Number.{number_at}
-use Rattle.number.specs.declared.Read.{Read}
-use Rattle.number.specs.declared.Read.TheVariants.{Number, Unreadable}
-use Rattle.number.proofs.Reading.{unreadable_at}
+use Rattle.std.specs.Prelude.{Ok, Err}
+use Rattle.number.specs.Number.{number_at, Read, no_numeral, numeral}
+use Rattle.number.proofs.Reading.{same_next, read_or_not, unreadable_at}
 use Rattle.facts.specs.Facts.{Fact, FactOf, FactsOf}
 use Rattle.format.specs.Parser.{Reason, parsed, fault, Buffer, within, such, read_as, ranged}
 use Rattle.format.specs.Job.{rises_after, fact_of, read_fact, facts_after, read_facts}
@@ -127,12 +126,12 @@ module _ (s : Buffer) (n : ℕ) where
       )
 
 -- past the end no number can be read
-past_end : (s : List ℕ) → number_at s (length s) ≡ Unreadable (length s)
+past_end : (s : List ℕ) → number_at s (length s) ≡ no_numeral (length s)
 past_end s = by_read (number_at s (length s)) refl
   where
-    by_read : (r : Read) → number_at s (length s) ≡ r → r ≡ Unreadable (length s)
-    by_read (Number n next) g = let (some_left, _, _) = number_in_lem (length s) _ _ _ _ n next g in absurd (omega arith)
-    by_read (Unreadable p) g = ap Unreadable (sym (unreadable_at (length s) _ _ _ _ p g))
+    by_read : (r : Read) → number_at s (length s) ≡ r → r ≡ no_numeral (length s)
+    by_read (Ok r) g = let (some_left, _, _) = number_in_lem (length s) _ _ _ _ r.value r.next g in absurd (omega arith)
+    by_read (Err p) g = ap no_numeral (sym (unreadable_at (length s) _ _ _ _ p.at g))
 
 module _ (u o l : Reason) (n : ℕ) where
   -- where facts have begun, the next number of them is due
@@ -147,7 +146,7 @@ module _ (u o l : Reason) (n : ℕ) where
 
   -- a number that is refused is so on every buffer with the same bytes up to its end
   facts_again : (b : List ℕ) (k : ℕ) (at : ℕ) (why : Reason) (place : ℕ) → FactRefused (on u o l b) n k none at why place → (m next : ℕ)
-      → number_at b place ≡ Number m next → (b' : List ℕ) → take next b ≡ take next b' → facts_after (on u o l b') n k none at ≡ fault why place
+      → number_at b place ≡ numeral m next → (b' : List ℕ) → take next b ≡ take next b' → facts_after (on u o l b') n k none at ≡ fault why place
   facts_again b k at why place f m next g b' agree =
       let (_, further, _) = number_in_lem place _ _ _ _ m next g in
       facts_refuses (on u o l b') n k none at why place f.facts f.fewer f.of f.rising f.next f.begun
@@ -157,9 +156,9 @@ module _ (u o l : Reason) (n : ℕ) where
       Not m = such (allowed n (last_of none f.facts) f.next) m ≡ none
 
       by_fault : Faulty (on u o l b) Not why place → Faulty (on u o l b') Not why place
-      by_fault (inl (_, h)) = let q : ◌≡◌ {A = ℕ} 0 1 = cc in absurd (omega arith)
+      by_fault (inl (_, h)) = absurd (read_or_not (sym h ∙ g))
       by_fault (inr (k, (m', next', h, out))) =
-          let next_is : next' ≡ next = cc in
+          let next_is : next' ≡ next = same_next (sym h ∙ g) in
           inr (k, (m', next', number_local b b' next agree place m' next' h (omega arith), out))
 
   counted_refused : (b : List ℕ) (at count mid : ℕ) (why : Reason) (place : ℕ) → Reads b at (count ∷ []) mid → count < 289

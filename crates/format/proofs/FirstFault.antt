@@ -7,10 +7,9 @@ use native.Mathlib.Decide.{dec_lt}
 use native.Mathlib.Omega.{arith}
 use lib.ListN.{length, take, length-append}
 use lib.Seq.{take-take, take-length, take_at, length-take-le}
-use Rattle.number.specs.Number.{largest, number_at}
+use Rattle.number.specs.Number.{largest, number_at, numeral}
 use Rattle.number.specs.NumberList.{encode}
 use Rattle.number.specs.Range.{AtMost}
-use Rattle.number.specs.declared.Read.TheVariants.{Number}
 use Rattle.run.specs.Run.{Located}
 use Rattle.format.specs.Parser.{Reason, Parsed, parsed, fault, Parser}
 use Rattle.format.specs.Meaning.{Whole, InFacts, Begun, NumberDue, Unread, OutOfRange}
@@ -151,7 +150,7 @@ module _ (L : ℕ → List Located → List ℕ → Type 0) where
         }
 
     -- numbers that may stand are not refused
-    outside : (b : List ℕ) (why : Reason) (place : ℕ) (f : NumberFault u o l (InFacts L) p b 0 why place) (n next : ℕ) → number_at b place ≡ Number n next
+    outside : (b : List ℕ) (why : Reason) (place : ℕ) (f : NumberFault u o l (InFacts L) p b 0 why place) (n next : ℕ) → number_at b place ≡ numeral n next
         → ¬ Begun L (f.earlier ++ (n ∷ []))
     unfolding Runs
     outside b why place f n next g begun =

@@ -11,12 +11,10 @@ use lib.Seq.{get_or-take, take-take, take-length, take_at, length-take-le, drop-
 use Rattle.lists.specs.List.{Every, concat_map}
 use Rattle.lists.proofs.List.{every_none, every_cons}
 use Rattle.lists.proofs.Reflect.{r_le, r_lt, r_eq, cond_cases}
-use Rattle.number.specs.Number.{largest, bytes_of, number_in, number_at}
+use Rattle.number.specs.Number.{largest, bytes_of, number_in, number_at, Read, no_numeral, numeral}
 use Rattle.number.specs.NumberList.{encode}
 use Rattle.number.specs.Range.{AtMost}
-use Rattle.number.specs.declared.Read.{Read}
-use Rattle.number.specs.declared.Read.TheVariants.{Number, Unreadable}
-use Rattle.number.proofs.Reading.{one_byte, two_bytes, three_bytes}
+use Rattle.number.proofs.Reading.{same_next, read_or_not, one_byte, two_bytes, three_bytes}
 use Rattle.number.proofs.RoundTrip.{reads}
 use Rattle.number.proofs.Writing.{some_bytes}
 use Rattle.format.specs.Parser.{Reason, parsed, fault, Parser, onward, ◌>>=◌, return, here, many, Buffer, read_as}
@@ -37,26 +35,26 @@ module _ (s s' : List ℕ) (e : ℕ) (agree : take e s ≡ take e s') where
       let z : min e (length s) ≡ min e (length s') = sym (length-take e s) ∙ ap length agree ∙ length-take e s' in
       omega arith
 
-  pub number_local : (at n next : ℕ) → number_at s at ≡ Number n next → next ≤ e → number_at s' at ≡ Number n next
+  pub number_local : (at n next : ℕ) → number_at s at ≡ numeral n next → next ≤ e → number_at s' at ≡ numeral n next
   unfolding number_in
   number_local at n next =
       cond_cases Q (r_le left 0) (λ _. unread)
       (λ l₀. cond_cases Q (r_lt a 128)
       (λ h r k.
-      let z : at + 1 ≡ next = cc in
+      let z : at + 1 ≡ next = same_next r in
       sym (one_byte s' at a (same_byte at (omega arith)) (same_length (suc at) (omega arith) (omega arith)) h) ∙ r)
       (λ h. cond_cases Q (r_le left 1) (λ _. unread)
       (λ l₁. cond_cases Q (r_eq b 0) (λ _. unread)
       (λ b₀. cond_cases Q (r_lt b 128)
       (λ h' r k.
-      let z : at + 2 ≡ next = cc in
+      let z : at + 2 ≡ next = same_next r in
       let long = same_length (at + 2) (omega arith) (omega arith) in
       sym (two_bytes s' at a (same_byte at (omega arith)) (omega arith) b (same_byte (at + 1) (omega arith)) (omega arith) b₀ h') ∙ r)
       (λ h'. cond_cases Q (r_le left 2) (λ _. unread)
       (λ l₂. cond_cases Q (r_eq c 0) (λ _. unread)
       (λ c₀. cond_cases Q (r_lt c 4)
       (λ h'' r k.
-      let z : at + 3 ≡ next = cc in
+      let z : at + 3 ≡ next = same_next r in
       let long = same_length (at + 3) (omega arith) (omega arith) in
       sym (three_bytes s' at a (same_byte at (omega arith)) (omega arith) b (same_byte (at + 1) (omega arith)) (omega arith) b₀ (omega arith) c
       (same_byte (at + 2) (omega arith)) (omega arith) c₀ h'') ∙ r)
@@ -75,10 +73,10 @@ module _ (s s' : List ℕ) (e : ℕ) (agree : take e s ≡ take e s') where
       c = get_or s (at + 2) 0
 
       Q : Read → Type 0
-      Q r = r ≡ Number n next → next ≤ e → number_at s' at ≡ Number n next
+      Q r = r ≡ numeral n next → next ≤ e → number_at s' at ≡ numeral n next
 
-      unread : Q (Unreadable at)
-      unread r k = let z : ◌≡◌ {A = ℕ} 0 1 = cc in absurd (omega arith)
+      unread : Q (no_numeral at)
+      unread r k = absurd (read_or_not r)
 
   pub reads_local : {at next : ℕ} {ns : List ℕ} → Reads s at ns next → next ≤ e → Reads s' at ns next
   reads_local done k = done
@@ -162,7 +160,7 @@ module _ (u o l : Reason) where
     pub earlier : List ℕ
     pub before : Reads b at earlier place
     pub faulty : Faulty (on b) (λ n. Unit {0}) why place
-    pub again : (n next : ℕ) → number_at b place ≡ Number n next → (b' : List ℕ) → take next b ≡ take next b' → p b' at ≡ fault why place
+    pub again : (n next : ℕ) → number_at b place ≡ numeral n next → (b' : List ℕ) → take next b ≡ take next b' → p b' at ≡ fault why place
     pub begun : GoesOn p b at place ⊎ C earlier
 
   -- p reads values x from numbers ns, where P x ns; it looks no further than it reads; it can read on where a buffer ends, and where it refuses,
@@ -216,7 +214,7 @@ module _ (u o l : Reason) where
     read_written b =
         let e : drop (length b) (b ++ bytes_of n) ≡ bytes_of n ++ [] = drop-append_seam b (bytes_of n) ∙ sym (append-nil (bytes_of n)) in
         read_complete (on (b ++ bytes_of n)) meaning (length b) n (length (b ++ bytes_of n)) x
-        (reads (b ++ bytes_of n) (length b) n [] small e ∙ ap (Number n) (sym (length-append b (bytes_of n)))) allowed
+        (reads (b ++ bytes_of n) (length b) n [] small e ∙ ap (numeral n) (sym (length-append b (bytes_of n)))) allowed
 
     -- a parser that begins with the number and is through with n as soon as it is read
     module _ {B : Type 0} (p : List ℕ → Parser B) (y : B)
@@ -254,11 +252,11 @@ module _ (u o l : Reason) where
           long : length (take at b) ≡ at
           long = length-take-le at b inside
 
-          again : Faulty (on b) (λ n. meaning n ≡ none) why at → (m next : ℕ) → number_at b at ≡ Number m next → (b' : List ℕ) → take next b ≡ take next b'
+          again : Faulty (on b) (λ n. meaning n ≡ none) why at → (m next : ℕ) → number_at b at ≡ numeral m next → (b' : List ℕ) → take next b ≡ take next b'
               → p b' at ≡ fault why at
-          again (inl (_, g)) m next h b' agree = let q : ◌≡◌ {A = ℕ} 0 1 = cc in absurd (omega arith)
+          again (inl (_, g)) m next h b' agree = absurd (read_or_not (sym g ∙ h))
           again (inr (k, (m', next', g, outside))) m next h b' agree =
-              let next_is : next' ≡ next = cc in
+              let next_is : next' ≡ next = same_next (sym g ∙ h) in
               stops b' at why at (rw k (read_outside (on b') meaning at m' next' (number_local b b' next agree at m' next' g (omega arith)) outside))
 
     pub completes_read : {C : List ℕ → Type 0} → Completes (λ x ns. (n : ℕ) × (ns ≡ n ∷ []) × (meaning n ≡ some x)) C (λ b. read_as (on b) meaning)

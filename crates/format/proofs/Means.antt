@@ -12,8 +12,7 @@ use lib.ListN.{length}
 use Rattle.lists.specs.List.{◌∈◌, Every, concat_map, sum}
 use Rattle.lists.proofs.List.{concat_map_append}
 use Rattle.lists.proofs.Reflect.{r_eq, r_le, r_lt, r_and}
-use Rattle.number.specs.Number.{number_at}
-use Rattle.number.specs.declared.Read.TheVariants.{Number, Unreadable}
+use Rattle.number.specs.Number.{number_at, no_numeral, numeral}
 use Rattle.shape.specs.Shape.{InRange}
 use Rattle.run.specs.Run.{Located}
 use Rattle.cover.specs.Cover.{Cover, owed, AllHold}
@@ -68,7 +67,7 @@ module _ (tested : ℕ) (certificate : List ℕ) (f : JobFile) (ok : JobInRange 
   by_fault why place later (inr (k, w)) = subst (λ (x : Reason). InCertificate tested f certificate x place) k (member_range place later w)
 
   -- the version number can't be read
-  version_unread : number_at certificate 0 ≡ Unreadable 0 → InCertificate tested f certificate (refusal 6) 0
+  version_unread : number_at certificate 0 ≡ no_numeral 0 → InCertificate tested f certificate (refusal 6) 0
   version_unread g =
       let h = read_refuses s (such (within f.version (suc f.version))) 0 (refusal 6) (inl (refl, g)) in
       by_kind ((members_faults f ok certificate (refusal 6) 0).0 (rw h))
@@ -86,7 +85,7 @@ module _ (tested : ℕ) (certificate : List ℕ) (f : JobFile) (ok : JobInRange 
       let (g, _) = (ranged_exact s 1 3).sound 0 own a h₁ in
       let (same, a_is) = require_sound (eqb own f.version) (refusal 20) 0 a h₂ in
       let own_is : own ≡ f.version = (r_eq own f.version).holds same in
-      let g' : number_at certificate 0 ≡ Number f.version b = subst₂ (λ (k e : ℕ). number_at certificate 0 ≡ Number k e) own_is a_is (reads_one g) in
+      let g' : number_at certificate 0 ≡ numeral f.version b = subst₂ (λ (k e : ℕ). number_at certificate 0 ≡ numeral k e) own_is a_is (reads_one g) in
       let (_, further, inside) = number_in_lem 0 _ _ _ _ f.version b g' in
       let on-it = after_version f ok (refusal 6) (refusal 7) (refusal 10) certificate b why place (omega arith) h₃ in
       by_fault why place (omega arith) ((members_faults f ok certificate why place).0 ((same_version f ok s 0 b g').1 ∙ h₃)))

@@ -9,9 +9,8 @@ use lib.Dec.{eqb}
 use lib.ListN.{length}
 use Rattle.lists.specs.List.{concat_map}
 use Rattle.lists.proofs.Reflect.{r_eq}
-use Rattle.number.specs.Number.{largest, number_at}
+use Rattle.number.specs.Number.{largest, number_at, numeral}
 use Rattle.number.specs.Range.{AtMost}
-use Rattle.number.specs.declared.Read.TheVariants.{Number}
 use Rattle.run.specs.Run.{Located}
 use Rattle.format.specs.Parser.{Reason, refusal, parsed, fault, Parser, ◌>>=◌, return, many, Buffer, certificate_buffer, within, such, ranged}
 use Rattle.format.specs.Job.{read_located}
@@ -48,7 +47,7 @@ module _ (f : JobFile) (ok : JobInRange f) where
   read_own s = ranged s version (suc version) >>= (λ own. read_listed s)
 
   -- where the job's version stands both parsers go on with the members
-  pub same_version : (s : Buffer) (at next : ℕ) → number_at s.bytes at ≡ Number version next
+  pub same_version : (s : Buffer) (at next : ℕ) → number_at s.bytes at ≡ numeral version next
       → (read_members s version variables states at ≡ read_listed s next) × (read_own s at ≡ read_listed s next)
   unfolding read_members
   same_version s at next g = (
@@ -59,11 +58,11 @@ module _ (f : JobFile) (ok : JobInRange f) where
     rw ((ranged_exact s version (suc version)).complete at version next (one g) (omega arith, omega arith)),
   )
 
-  own_number : (s : Buffer) (at own next : ℕ) → ranged s version (suc version) at ≡ parsed own next → number_at s.bytes at ≡ Number version next
+  own_number : (s : Buffer) (at own next : ℕ) → ranged s version (suc version) at ≡ parsed own next → number_at s.bytes at ≡ numeral version next
   own_number s at own next h =
       let (g, (low, high)) = (ranged_exact s version (suc version)).sound at own next h in
       let own_is : own ≡ version = omega arith in
-      subst (λ (k : ℕ). number_at s.bytes at ≡ Number k next) own_is (reads_one g)
+      subst (λ (k : ℕ). number_at s.bytes at ≡ numeral k next) own_is (reads_one g)
 
   own_parsed : (s : Buffer) (at : ℕ) (ms : List Member) (next : ℕ) → read_own s at ≡ parsed ms next → read_members s version variables states at ≡ parsed ms next
   own_parsed s at ms next = then (ranged s version (suc version) at) _ (λ own mid h₁ h₂. (same_version s at mid (own_number s at own mid h₁)).0 ∙ h₂)

@@ -12,9 +12,8 @@ use lib.ListN.{length}
 use Rattle.lists.specs.List.{Every, concat_map}
 use Rattle.lists.proofs.List.{every_cons}
 use Rattle.lists.proofs.Reflect.{Reflect, r_le, r_lt, r_and, cond_true}
-use Rattle.number.specs.Number.{number_at}
-use Rattle.number.specs.declared.Read.{Read}
-use Rattle.number.specs.declared.Read.TheVariants.{Number, Unreadable}
+use Rattle.std.specs.Prelude.{Ok, Err}
+use Rattle.number.specs.Number.{number_at, Read, no_numeral, numeral}
 use Rattle.number.proofs.Reading.{unreadable_at}
 use Rattle.shape.specs.Shape.{AllBelow}
 use Rattle.format.specs.Parser.{Reason, Parsed, parsed, fault, Parser, onward, require, many, Buffer, within, such, meant, judged, read_as, ranged}
@@ -68,12 +67,12 @@ module _ (s : Buffer) where
   -- ---- one number
 
   pub read_sound : {A : Type 0} (meaning : ℕ → Option A) (at : ℕ) (x : A) (next : ℕ) → read_as s meaning at ≡ parsed x next
-      → (n : ℕ) × (number_at s.bytes at ≡ Number n next) × (meaning n ≡ some x)
+      → (n : ℕ) × (number_at s.bytes at ≡ numeral n next) × (meaning n ≡ some x)
   unfolding read_as
   read_sound {A} meaning at x next = by_read (number_at s.bytes at) refl
     where
-      by_meaning : (n k : ℕ) → number_at s.bytes at ≡ Number n k → (o : Option A) → meaning n ≡ o → judged s at k o ≡ parsed x next
-          → (n : ℕ) × (number_at s.bytes at ≡ Number n next) × (meaning n ≡ some x)
+      by_meaning : (n k : ℕ) → number_at s.bytes at ≡ numeral n k → (o : Option A) → meaning n ≡ o → judged s at k o ≡ parsed x next
+          → (n : ℕ) × (number_at s.bytes at ≡ numeral n next) × (meaning n ≡ some x)
       by_meaning n k g none h e = absurd (not_fault _ _ _ _ e)
       by_meaning n k g (some y) h e =
           let y_is : y ≡ x = cc in
@@ -81,15 +80,15 @@ module _ (s : Buffer) where
           (n, rw k_is at g, rw y_is at h)
 
       by_read : (r : Read) → number_at s.bytes at ≡ r → meant s meaning at r ≡ parsed x next
-          → (n : ℕ) × (number_at s.bytes at ≡ Number n next) × (meaning n ≡ some x)
-      by_read (Number n k) g e = by_meaning n k g (meaning n) refl e
-      by_read (Unreadable p) g e = absurd (not_fault _ _ _ _ e)
+          → (n : ℕ) × (number_at s.bytes at ≡ numeral n next) × (meaning n ≡ some x)
+      by_read (Ok r) g e = by_meaning r.value r.next g (meaning r.value) refl e
+      by_read (Err p) g e = absurd (not_fault _ _ _ _ e)
 
   -- the number at a place can't be read, or reads as one for which P holds
   abbrev pub Faulty : (ℕ → Type 0) → Reason → ℕ → Type 0
   Faulty P why place =
-      ((why ≡ s.unreadable) × (number_at s.bytes place ≡ Unreadable place))
-      ⊎ ((why ≡ s.outside) × ((n : ℕ) × (next : ℕ) × (number_at s.bytes place ≡ Number n next) × P n))
+      ((why ≡ s.unreadable) × (number_at s.bytes place ≡ no_numeral place))
+      ⊎ ((why ≡ s.outside) × ((n : ℕ) × (next : ℕ) × (number_at s.bytes place ≡ numeral n next) × P n))
 
   pub faulty_map : {P Q : ℕ → Type 0} {why : Reason} {place : ℕ} → ((n : ℕ) → P n → Q n) → Faulty P why place → Faulty Q why place
   faulty_map to (inl f) = inl f
@@ -103,15 +102,15 @@ module _ (s : Buffer) where
       Result : Type 0
       Result = (at ≡ place) × Faulty (λ n. meaning n ≡ none) why at
 
-      by_meaning : (n k : ℕ) → number_at s.bytes at ≡ Number n k → (o : Option A) → meaning n ≡ o → judged s at k o ≡ fault why place → Result
+      by_meaning : (n k : ℕ) → number_at s.bytes at ≡ numeral n k → (o : Option A) → meaning n ≡ o → judged s at k o ≡ fault why place → Result
       by_meaning n k g none h e = (cc, inr (cc, (n, k, g, h)))
       by_meaning n k g (some y) h e = absurd (not_fault y k why place (sym e))
 
       by_read : (r : Read) → number_at s.bytes at ≡ r → meant s meaning at r ≡ fault why place → Result
-      by_read (Number n k) g e = by_meaning n k g (meaning n) refl e
-      by_read (Unreadable p) g e = (cc, inl (cc, g ∙ ap Unreadable (sym (unreadable_at at _ _ _ _ p g))))
+      by_read (Ok r) g e = by_meaning r.value r.next g (meaning r.value) refl e
+      by_read (Err p) g e = (cc, inl (cc, g ∙ ap no_numeral (sym (unreadable_at at _ _ _ _ p.at g))))
 
-  pub read_outside : {A : Type 0} (meaning : ℕ → Option A) (at n next : ℕ) → number_at s.bytes at ≡ Number n next → meaning n ≡ none
+  pub read_outside : {A : Type 0} (meaning : ℕ → Option A) (at n next : ℕ) → number_at s.bytes at ≡ numeral n next → meaning n ≡ none
       → read_as s meaning at ≡ fault s.outside at
   unfolding read_as
   read_outside meaning at n next g h = ap (meant s meaning at) g ∙ ap (judged s at next) h
@@ -121,7 +120,7 @@ module _ (s : Buffer) where
   read_refuses meaning at why (inl (k, g)) = rw (k, g)
   read_refuses meaning at why (inr (k, (n, next, g, h))) = rw k (read_outside meaning at n next g h)
 
-  pub read_complete : {A : Type 0} (meaning : ℕ → Option A) (at n next : ℕ) (x : A) → number_at s.bytes at ≡ Number n next → meaning n ≡ some x
+  pub read_complete : {A : Type 0} (meaning : ℕ → Option A) (at n next : ℕ) (x : A) → number_at s.bytes at ≡ numeral n next → meaning n ≡ some x
       → read_as s meaning at ≡ parsed x next
   unfolding read_as
   read_complete meaning at n next x g h = ap (meant s meaning at) g ∙ ap (judged s at next) h

@@ -4,9 +4,8 @@ use Rattle.std.specs.Prelude.{List, [], ◌∷◌, ◌++◌, ◌≢◌, ◌⊎�
 use Rattle.std.proofs.Math.Option.{some}
 use Rattle.std.proofs.Math.ListN.{get_elem?}
 use Rattle.lists.specs.List.{Every, concat_map}
-use Rattle.number.specs.Number.{number_at}
+use Rattle.number.specs.Number.{number_at, no_numeral, numeral}
 use Rattle.number.specs.NumberList.{numbers, decode}
-use Rattle.number.specs.declared.Read.TheVariants.{Number, Unreadable}
 use Rattle.heap.specs.Heap.{empty}
 use Rattle.facts.specs.Facts.{Fact, FactsOf}
 use Rattle.shape.specs.Shape.{size, Satisfies, AllBelow}
@@ -80,14 +79,14 @@ module _ (L : ℕ → List Located → List ℕ → Type 0) where
     -- the number that is due "can't be read"
     pub record Unread : Type 0 where
       pub due : NumberDue
-      pub unread : number_at s place ≡ Unreadable place
+      pub unread : number_at s place ≡ no_numeral place
 
     -- the number that is due "reads but breaks its range": with it they may not stand
     pub record OutOfRange : Type 0 where
       pub due : NumberDue
       pub number : ℕ
       pub next : ℕ
-      pub reads : number_at s place ≡ Number number next
+      pub reads : number_at s place ≡ numeral number next
       pub outside : ¬ Begun (due.earlier ++ (number ∷ []))
 
 -- ---- the job
@@ -172,15 +171,15 @@ module _ (tested : ℕ) where
   pub data InCertificate (f : JobFile) (certificate : List ℕ) : Reason → ℕ → Type 0 where
     -- "6. A number of the certificate can't be read, as in 3."
     member_unread : (place : ℕ) → Unread (OfMembers f) certificate place → InCertificate f certificate (refusal 6) place
-    cover_unread : (place limit : ℕ) → CoverDue f certificate place limit → number_at certificate place ≡ Unreadable place → InCertificate f certificate (refusal 6) place
+    cover_unread : (place limit : ℕ) → CoverDue f certificate place limit → number_at certificate place ≡ no_numeral place → InCertificate f certificate (refusal 6) place
     -- "7. A number of the certificate breaks its range (its first byte)." The version number, at place 0, may be the other version.
-    version_range : (n next : ℕ) → number_at certificate 0 ≡ Number n next → ¬ Between 1 2 n → InCertificate f certificate (refusal 7) 0
+    version_range : (n next : ℕ) → number_at certificate 0 ≡ numeral n next → ¬ Between 1 2 n → InCertificate f certificate (refusal 7) 0
     member_range : (place : ℕ) → 0 < place → OutOfRange (OfMembers f) certificate place → InCertificate f certificate (refusal 7) place
-    cover_range : (place limit : ℕ) → CoverDue f certificate place limit → (n next : ℕ) → number_at certificate place ≡ Number n next → limit ≤ n
+    cover_range : (place limit : ℕ) → CoverDue f certificate place limit → (n next : ℕ) → number_at certificate place ≡ numeral n next → limit ≤ n
         → InCertificate f certificate (refusal 7) place
     -- Document 02, Wish 6: "A job and a certificate of different versions get 20, after 5 and before anything in the certificate past its version
     -- number."
-    versions_differ : (n next : ℕ) → number_at certificate 0 ≡ Number n next → Between 1 2 n → n ≢ f.version → InCertificate f certificate (refusal 20) 0
+    versions_differ : (n next : ℕ) → number_at certificate 0 ≡ numeral n next → Between 1 2 n → n ≢ f.version → InCertificate f certificate (refusal 20) 0
     -- "8. A member at the start state is satisfied by the empty heap [..] (the member's first byte)."
     member_satisfied : (place : ℕ) → StartSatisfied f certificate place → InCertificate f certificate (refusal 8) place
     -- "9. A cover that reads doesn't hold (the cover's first byte)." Document 02: "say what broke".

@@ -1,9 +1,7 @@
 -- Reading a buffer from a place on.
-use Rattle.std.specs.Prelude.{Bool, ◌&&◌, cond, List, [], ◌∷◌, ℕ, zero, suc, leb, ltb, length}
+use Rattle.std.specs.Prelude.{Bool, ◌&&◌, cond, List, [], ◌∷◌, ℕ, zero, suc, leb, ltb, length, Ok, Err}
 use Rattle.std.proofs.Math.Option.{Option, none, some}
-use Rattle.number.specs.Number.{number_at}
-use Rattle.number.specs.declared.Read.{Read}
-use Rattle.number.specs.declared.Read.TheVariants.{Number, Unreadable}
+use Rattle.number.specs.Number.{number_at, Read, no_numeral, numeral}
 
 -- Why something is refused: by document 01's number of the refusal; or, which is 9, by the rule of a cover that broke and the cell or variable that
 -- is named (document 02, wish 2).
@@ -98,8 +96,8 @@ module _ (s : Buffer) where
 
   -- the same, once it is read
   abbrev pub meant : {A : Type 0} → (ℕ → Option A) → ℕ → Read → Parsed A
-  meant meaning at (Number n next) = judged at next (meaning n)
-  meant meaning at (Unreadable place) = fault s.unreadable at
+  meant meaning at (Ok r) = judged at r.next (meaning r.value)
+  meant meaning at (Err e) = fault s.unreadable at
 
   -- a number, as what it means: nothing if it breaks its range. "(place: its first byte)"
   unfoldable pub read_as : {A : Type 0} → (ℕ → Option A) → Parser A

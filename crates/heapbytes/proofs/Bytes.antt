@@ -1,8 +1,8 @@
 -- Bytes and numbers that are a heap's; the bytes of a heap, by their places.
-use mathlib.Core.Bool.{Bool, true, false}
+use mathlib.Core.Bool.{false, cond}
 use mathlib.Core.List.{List}
-use mathlib.Core.Path.{◌≡◌, refl}
-use Prim.Native.Nat.{ℕ, ◌-◌, ◌≤◌, ◌<◌}
+use mathlib.Core.Path.{◌≡◌}
+use Prim.Native.Nat.{ℕ, ◌+◌, ◌-◌, ◌<◌}
 use native.Mathlib.Omega.{arith}
 use borrow.Author.Tests.{lt-ltb, le-ltb, eq-eqb, ne_eqb}
 use lib.ListN.{length, get_or}
@@ -24,15 +24,18 @@ module _ (t : Heap64) (i : ℕ) where
   unfolding byte_of
   count_byte h = simp (lt-ltb i 1 h)
 
-  pub slot_byte : 1 ≤ i → i < 9 → (get_or t.vars (i - 1) (place_of 0)).code ≡ byte_of t i
+  pub slot_byte : i < 8 → (get_or t.vars i (place_of 0)).code ≡ byte_of t (1 + i)
   unfolding byte_of
-  slot_byte l h = simp (le-ltb i 1 l, lt-ltb i 9 h)
+  slot_byte h = let e : (1 + i) - 1 ≡ i = omega arith in simp (le-ltb (1 + i) 1 (omega arith), lt-ltb (1 + i) 9 (omega arith), e)
 
-  pub mark_byte : 9 ≤ i → i < 73 → (u : Bool) → get_or t.used (i - 9) false ≡ u → (n : ℕ) → (u ≡ true → n ≡ 1) → (u ≡ false → n ≡ 0) → n ≡ byte_of t i
+  pub mark_byte : i < 64 → cond (get_or t.used i false) 1 0 ≡ byte_of t (9 + i)
   unfolding byte_of
-  mark_byte l h true e n p q = simp (le-ltb i 1 (omega arith), le-ltb i 9 l, lt-ltb i 73 h, e) (p refl)
-  mark_byte l h false e n p q = simp (le-ltb i 1 (omega arith), le-ltb i 9 l, lt-ltb i 73 h, e) (q refl)
+  mark_byte h =
+      let e : (9 + i) - 9 ≡ i = omega arith in
+      simp (le-ltb (9 + i) 1 (omega arith), le-ltb (9 + i) 9 (omega arith), lt-ltb (9 + i) 73 (omega arith), e)
 
-  pub link_byte : 73 ≤ i → (get_or t.links (i - 73) (place_of 0)).code ≡ byte_of t i
+  pub link_byte : (get_or t.links i (place_of 0)).code ≡ byte_of t (73 + i)
   unfolding byte_of
-  link_byte l = simp (le-ltb i 1 (omega arith), le-ltb i 9 (omega arith), le-ltb i 73 l)
+  link_byte =
+      let e : (73 + i) - 73 ≡ i = omega arith in
+      simp (le-ltb (73 + i) 1 (omega arith), le-ltb (73 + i) 9 (omega arith), le-ltb (73 + i) 73 (omega arith), e)

@@ -1,6 +1,6 @@
 -- A heap of 64 cells written as bytes and numbers reads back as that heap.
 use mathlib.Core.Bool.{Bool, true, false, cond}
-use mathlib.Core.List.{List, map}
+use mathlib.Core.List.{List}
 use mathlib.Core.Path.{◌≡◌, refl, sym, ap, ◌∙◌}
 use Prim.Native.Nat.{ℕ, ◌+◌, ◌<◌}
 use native.Mathlib.Nat.{zero-add}
@@ -8,14 +8,13 @@ use native.Mathlib.Omega.{arith}
 use borrow.Author.Tests.{lt-ltb, eq-eqb}
 use lib.Dec.{eqb, ltb}
 use lib.ListN.{length, get_or}
-use Rattle.lists.specs.Range.{range}
 use Rattle.lists.proofs.Range.{length_from, get_or_from, tabled}
 use Rattle.lists.proofs.Test.{and_both, all_made}
 use Rattle.place.specs.Place.{place_of}
 use Rattle.place.specs.declared.Place.{Place}
 use Rattle.stepper.specs.Table.{Sized}
 use Rattle.stepper.specs.declared.Heap64.{Heap64}
-use Rattle.heapbytes.specs.HeapBytes.{bytes_readable, readable, slots_from, marks_from, links_from, codes_from, heap_from, byte_of, heap_bytes}
+use Rattle.heapbytes.specs.HeapBytes.{bytes_readable, readable, places_from, slots_from, marks_from, links_from, codes_from, heap_from, byte_of, heap_bytes}
 use Rattle.heapbytes.proofs.Bytes.{count_byte, slot_byte, mark_byte, link_byte}
 
 -- 64 codes are read as they are
@@ -31,13 +30,10 @@ module _ (t : Heap64) where
   mark u = cond u 1 0
 
   mark_at : (i : ℕ) → i < 64 → get_or (heap_bytes t) (9 + i) 0 ≡ mark (get_or t.used i false)
-  mark_at i h =
-      byte (9 + i) (omega arith)
-      ∙ sym (mark_byte t (9 + i) (omega arith) (omega arith) (get_or t.used i false) (ap (λ k. get_or t.used k false) (omega arith))
-      (mark (get_or t.used i false)) (λ e. rw e refl) (λ e. rw e refl))
+  mark_at i h = byte (9 + i) (omega arith) ∙ sym (mark_byte t i h)
 
   places_at : (from n : ℕ) (l : List Place) → length l ≡ n → ((i : ℕ) → i < n → get_or (heap_bytes t) (from + i) 0 ≡ (get_or l i (place_of 0)).code)
-      → map (λ i. place_of (get_or (heap_bytes t) (from + i) 0)) (range 0 n) ≡ l
+      → places_from from n (heap_bytes t) ≡ l
   places_at from n l e h =
       sym (tabled (λ i. place_of (get_or (heap_bytes t) (from + i) 0)) (place_of 0) n l e (λ i b. sym (ap place_of (h i b))))
 
@@ -62,17 +58,10 @@ module _ (t : Heap64) where
         variables = byte 0 (omega arith) ∙ sym (count_byte t 0 (omega arith))
 
         vars : slots_from (heap_bytes t) ≡ t.vars
-        vars =
-            places_at 1 8 t.vars s.vars
-            (λ i h.
-            byte (1 + i) (omega arith) ∙ sym (slot_byte t (1 + i) (omega arith) (omega arith))
-            ∙ ap (λ j. (get_or t.vars j (place_of 0)).code) (omega arith))
+        vars = places_at 1 8 t.vars s.vars (λ i h. byte (1 + i) (omega arith) ∙ sym (slot_byte t i h))
 
         links : links_from (heap_bytes t) ≡ t.links
-        links =
-            places_at 73 64 t.links s.links
-            (λ i h.
-            byte (73 + i) (omega arith) ∙ sym (link_byte t (73 + i) (omega arith)) ∙ ap (λ j. (get_or t.links j (place_of 0)).code) (omega arith))
+        links = places_at 73 64 t.links s.links (λ i h. byte (73 + i) (omega arith) ∙ sym (link_byte t i))
 
         is_used : (u : Bool) → u ≡ eqb (mark u) 1
         is_used true = refl

@@ -19,15 +19,18 @@ bytes_readable bytes = eqb (length bytes) 137 && all_from 64 0 (λ i. ltb (get_o
 unfoldable pub readable : List ℕ → List ℕ → Bool
 readable bytes values = eqb (length values) 64 && bytes_readable bytes
 
--- what they say, array by array
+-- what they say, array by array; the places of n variables or links are given from a byte on
+abbrev pub places_from : ℕ → ℕ → List ℕ → List Place
+places_from first n bytes = map (λ i. place_of (get_or bytes (first + i) 0)) (range 0 n)
+
 abbrev pub slots_from : List ℕ → List Place
-slots_from bytes = map (λ i. place_of (get_or bytes (1 + i) 0)) (range 0 8)
+slots_from = places_from 1 8
 
 abbrev pub marks_from : List ℕ → List Bool
 marks_from bytes = map (λ i. eqb (get_or bytes (9 + i) 0) 1) (range 0 64)
 
 abbrev pub links_from : List ℕ → List Place
-links_from bytes = map (λ i. place_of (get_or bytes (73 + i) 0)) (range 0 64)
+links_from = places_from 73 64
 
 abbrev pub codes_from : List ℕ → List ℕ
 codes_from values = map (λ i. get_or values i 0) (range 0 64)

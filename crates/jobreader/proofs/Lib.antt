@@ -1,2 +1,2 @@
-pub mod PreambleNumbers
 pub mod OneNumber
+pub mod PreambleNumbers

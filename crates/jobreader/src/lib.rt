@@ -1,32 +1,21 @@
-// A reader that keeps a job together with the place it has reached, and the numbers of a job that are read by it. The functions over a
-// `Reader` are thin: the work is `read_on`'s.
+// A reader that keeps a job together with the place it has reached, and the numbers of a job that are read by it.
 #![tactic(auto)]
 
-ghost use Rattle.std.specs.Prelude.{◌≡◌};
+ghost use Rattle.std.specs.Prelude.{◌≡◌, OnErr};
 ghost use Rattle.format.specs.Parser.{job_buffer, ranged};
-ghost use Rattle.jobreader.specs.Reader.{last_read_of, read_on, last_read_after, last_read_in, preamble_read};
+ghost use Rattle.jobreader.specs.Reader.{last_read_of, preamble_of, preamble_read};
 
-use number::Read;
+use number::read_number;
+use verdict::{Refusal, Refused};
 
-// The number read last and the place after it. Once a number is refused, `refusal` is the number of that refusal and not 0, and the
-// reader stays at the place of the number.
+// A job and the place reached in it.
 #[derive(Clone, Copy)]
 pub struct Reader<'a> {
     pub src: &'a [u8],
     pub at: usize,
-    pub number: usize,
-    pub refusal: usize,
 }
 
-// The same without the job.
-#[derive(Clone, Copy)]
-pub struct LastRead {
-    pub at: usize,
-    pub number: usize,
-    pub refusal: usize,
-}
-
-// The numbers of a job before its transitions, and the place after them; or a refusal, not 0, and its place.
+// The numbers of a job before its transitions, and the place after them.
 #[derive(Clone, Copy)]
 pub struct Preamble {
     pub variables: usize,
@@ -34,101 +23,54 @@ pub struct Preamble {
     pub start: usize,
     pub transitions: usize,
     pub at: usize,
-    pub refusal: usize,
 }
 
-// The number at a place, from `low` on and below `limit`, unless one was refused.
-fn read_on(job: &[u8], at: usize, refusal: usize, low: usize, limit: usize) -> LastRead
-    ensures { result ≡ last_read_of (read_on at refusal (ranged (job_buffer job.now) low limit)) }
-{
-    if refusal != 0 {
-        return LastRead {
-            at,
-            number: 0,
-            refusal,
-        };
+impl<'a> Reader<'a> {
+    // A reader at a place of a job.
+    pub fn new(src: &'a [u8], at: usize) -> Reader<'a>
+        ensures { (result.src ≡ src.entry) × (result.at ≡ at) }
+    {
+        Reader { src, at }
     }
-    let r = number::read_number(job, at);
-    let Read::Number(n, next) = r else {
-        return LastRead {
-            at,
-            number: 0,
-            refusal: 3,
-        };
-    };
-    if n < low {
-        return LastRead {
-            at,
-            number: 0,
-            refusal: 4,
-        };
-    }
-    if limit <= n {
-        return LastRead {
-            at,
-            number: 0,
-            refusal: 4,
-        };
-    }
-    LastRead {
-        at: next,
-        number: n,
-        refusal: 0,
-    }
-}
 
-// A reader at a place of a job.
-pub fn new<'a>(src: &'a [u8], at: usize) -> Reader<'a>
-    ensures { (result.src ≡ src.entry) × (result.at ≡ at) × (result.number ≡ 0) × (result.refusal ≡ 0) }
-{
-    Reader {
-        src,
-        at,
-        number: 0,
-        refusal: 0,
-    }
-}
-
-// The reader moved on by one number, from `low` on and below `limit`.
-pub fn next<'a>(r: Reader<'a>, low: usize, limit: usize) -> Reader<'a>
-    ensures { (result.src ≡ r.entry.src) × (last_read_in result ≡ last_read_after (last_read_in r.entry) (ranged (job_buffer r.entry.src.now) low limit)) }
-{
-    let s = read_on(r.src, r.at, r.refusal, low, limit);
-    Reader {
-        src: r.src,
-        at: s.at,
-        number: s.number,
-        refusal: s.refusal,
-    }
-}
-
-// One number of a job.
-pub fn read_at(job: &[u8], at: usize, low: usize, limit: usize) -> LastRead
-    ensures { result ≡ last_read_of (ranged (job_buffer job.now) low limit at) }
-{
-    let r = next(new(job, at), low, limit);
-    LastRead {
-        at: r.at,
-        number: r.number,
-        refusal: r.refusal,
+    // The number at the place reached, from `low` on and below `limit`. The reader moves on behind it; where it is refused, the reader stays.
+    pub fn next(&mut self, low: usize, limit: usize) -> Result<usize, Refused>
+        ensures job { self.new.src ≡ self.old.src }
+        ensures number { last_read_of result self.new.at ≡ ranged (job_buffer self.old.src.now) low limit self.old.at }
+        ensures refused { OnErr result (self.new.at ≡ self.old.at) }
+    {
+        let Ok(n) = read_number(self.src, self.at) else {
+            return Err(Refused {
+                refusal: Refusal::JobUnreadable,
+                place: self.at,
+            });
+        };
+        if n.value < low || limit <= n.value {
+            return Err(Refused {
+                refusal: Refusal::JobRange,
+                place: self.at,
+            });
+        }
+        self.at = n.next;
+        Ok(n.value)
     }
 }
 
 // The numbers of a job before its transitions: version, V, S, start, T.
-pub fn read_preamble(job: &[u8]) -> Preamble
-    ensures { result ≡ preamble_read (job_buffer job.now) }
+pub fn read_preamble(job: &[u8]) -> Result<Preamble, Refused>
+    ensures { preamble_of result ≡ preamble_read (job_buffer job.now) 0 }
 {
-    let version = next(new(job, 0), 1, 3);
-    let variables = next(version, 1, 9);
-    let states = next(variables, 1, 65);
-    let start = next(states, 0, states.number);
-    let transitions = next(start, 0, 257);
-    Preamble {
-        variables: variables.number,
-        states: states.number,
-        start: start.number,
-        transitions: transitions.number,
-        at: transitions.at,
-        refusal: transitions.refusal,
-    }
+    let mut reader = Reader::new(job, 0);
+    reader.next(1, 3)?;
+    let variables = reader.next(1, 9)?;
+    let states = reader.next(1, 65)?;
+    let start = reader.next(0, states)?;
+    let transitions = reader.next(0, 257)?;
+    Ok(Preamble {
+        variables,
+        states,
+        start,
+        transitions,
+        at: reader.at,
+    })
 }

@@ -8,12 +8,7 @@ ghost use Rattle.number.specs.CallResult.{lent};
 pub fn lend(values: &[u64], out: &mut [u64])
     ensures { out.new ≡ lent values.now out.old }
 {
-    if out.len() < values.len() {
-        return;
-    }
-    let mut i = 0;
-    while i < values.len() {
-        out[i] = values[i];
-        i += 1;
+    if values.len() <= out.len() {
+        out[..values.len()].copy_from_slice(values);
     }
 }

@@ -9,10 +9,9 @@ use lib.ListN.{length, length-drop, drop}
 use lib.Seq.{drop-drop}
 use Rattle.lists.specs.List.{concat_map}
 use Rattle.lists.proofs.Reflect.{r_lt}
-use Rattle.number.specs.Number.{bytes_of, number_at}
+use Rattle.number.specs.Number.{bytes_of, number_at, numeral}
 use Rattle.number.specs.NumberList.{DecodedList, numbers, refused, with_number, followed, decode_from}
 use Rattle.number.specs.Range.{AtMost}
-use Rattle.number.specs.declared.Read.TheVariants.{Number}
 use Rattle.number.proofs.RoundTrip.{reads, decode_more}
 use Rattle.number.proofs.Writing.{one}
 use Rattle.run.specs.Run.{Transition}
@@ -25,10 +24,10 @@ use Rattle.listing.proofs.Operations.{op_of_for}
 
 -- ---- bytes below 128 are read as themselves
 
-one_byte : (s : List ℕ) (at n : ℕ) (xs : List ℕ) → n ≤ 127 → drop at s ≡ n ∷ xs → number_at s at ≡ Number n (at + 1)
+one_byte : (s : List ℕ) (at n : ℕ) (xs : List ℕ) → n ≤ 127 → drop at s ≡ n ∷ xs → number_at s at ≡ numeral n (at + 1)
 one_byte s at n xs h e =
     let b : bytes_of n ≡ n ∷ [] = one n (omega arith) in
-    reads s at n xs (omega arith) (e ∙ ap (λ l. l ++ xs) (sym b)) ∙ ap (λ (l : List ℕ). Number n (at + length l)) b
+    reads s at n xs (omega arith) (e ∙ ap (λ l. l ++ xs) (sym b)) ∙ ap (λ (l : List ℕ). numeral n (at + length l)) b
 
 -- without a turn nothing is read of bytes that are left
 no_turn : (at : ℕ) (ms : List ℕ) (b : Bool) → T b → cond b (refused at) (numbers []) ≡ numbers ms → ⊥

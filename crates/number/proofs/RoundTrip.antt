@@ -9,12 +9,11 @@ use native.Mathlib.Omega.{arith}
 use borrow.Author.Tests.{lt-ltb, le-ltb}
 use lib.ListN.{length, get_or, drop, length-append, length-drop, drop_of_length-le}
 use lib.Seq.{drop-cons, drop-drop, drop_at, get_or-drop}
-use Rattle.number.specs.Number.{largest, bytes_of, number_at}
+use Rattle.number.specs.Number.{largest, bytes_of, number_at, Read, no_numeral, numeral}
 use Rattle.number.specs.NumberList.{encode, DecodedList, numbers, refused, with_number, followed, decode_from, decode}
 use Rattle.number.specs.Range.{AtMost, Stands}
-use Rattle.number.specs.declared.Read.{Read}
-use Rattle.number.specs.declared.Read.TheVariants.{Number, Unreadable}
-use Rattle.number.proofs.Reading.{by_bytes, one_byte, two_bytes, three_bytes}
+use Rattle.std.specs.Prelude.{Ok, Err}
+use Rattle.number.proofs.Reading.{same_value, same_next, read_or_not, by_bytes, one_byte, two_bytes, three_bytes}
 use Rattle.number.proofs.Writing.{one, two, three, some_bytes}
 
 -- ---- one number
@@ -30,10 +29,10 @@ module _ (s : List ℕ) (at n : ℕ) (r : List ℕ) (small : n ≤ largest) (e :
   first = ap (λ (i : ℕ). get_or s i 0) (sym (add-zero at)) ∙ byte 0
 
   -- the bytes of a number read as that number
-  pub reads : number_at s at ≡ Number n (at + length (bytes_of n))
+  pub reads : number_at s at ≡ numeral n (at + length (bytes_of n))
   reads = by_size (dec_lt n 128) (dec_lt n 16384)
     where
-      by_size : Dec (n < 128) → Dec (n < 16384) → number_at s at ≡ Number n (at + length (bytes_of n))
+      by_size : Dec (n < 128) → Dec (n < 16384) → number_at s at ≡ numeral n (at + length (bytes_of n))
       by_size (yes h) d =
           let b = one n h in
           let a_is : n ≡ get_or s at 0 = sym (rw b at first) in
@@ -80,13 +79,13 @@ module _ (s : List ℕ) (at : ℕ) where
 low_digit : (x y : ℕ) → x < 128 → (x + y * 128) % 128 ≡ x
 low_digit x y h = omega arith
 
-module _ (s : List ℕ) (at n next : ℕ) (e : number_at s at ≡ Number n next) where
+module _ (s : List ℕ) (at n next : ℕ) (e : number_at s at ≡ numeral n next) where
   -- bytes vs that stand at the place, and are those of a number
-  standing : (m : ℕ) (vs : List ℕ) → Number m (at + length vs) ≡ Number n next → m ≤ largest → bytes_of m ≡ vs
+  standing : (m : ℕ) (vs : List ℕ) → numeral m (at + length vs) ≡ numeral n next → m ≤ largest → bytes_of m ≡ vs
       → drop at s ≡ vs ++ drop (at + length vs) s → Stands s at n next
   standing m vs q l b d =
-      let m_is : m ≡ n = cc in
-      let next_is : at + length vs ≡ next = cc in
+      let m_is : m ≡ n = same_value q in
+      let next_is : at + length vs ≡ next = same_next q in
       let b' : bytes_of n ≡ vs = rw m_is at b in
       record { small = rw m_is at l; bytes = rw (b', ← next_is) d; after = rw b' (sym next_is) }
 
@@ -98,7 +97,7 @@ module _ (s : List ℕ) (at n next : ℕ) (e : number_at s at ≡ Number n next)
       let c = get_or s (at + 2) 0 in
       let la : a ≤ 255 = at_most 255 s at limit in
       let lb : b ≤ 255 = at_most 255 s (at + 1) limit in
-      by_bytes at (length s - at) a b c (λ r. r ≡ Number n next → Stands s at n next) (λ z. let q : ◌≡◌ {A = ℕ} 0 1 = cc in absurd (omega arith))
+      by_bytes at (length s - at) a b c (λ r. r ≡ numeral n next → Stands s at n next) (λ z. absurd (read_or_not z))
       (λ h d q. standing a (a ∷ []) q (omega arith) (one a d) (drop_one s at (omega arith)))
       (λ h ha nz d q.
       let m = a - 128 + b * 128 in
@@ -174,8 +173,8 @@ encode_from (suc turns) s at ns limit e = by_end (dec_lt at (length s)) (encode_
         rw (← z) ((st.small, small), ap (λ (l : List ℕ). bytes_of n ++ l) same ∙ sym st.bytes)
 
     by_read : (r : Read) → number_at s at ≡ r → followed (decode_from turns s) r ≡ numbers ns → Rest → AtMost largest ns × (encode ns ≡ drop at s)
-    by_read (Number n next) g f rest = listed n next (stands s at n next g limit) (decode_from turns s next) refl f rest
-    by_read (Unreadable p) g f rest = let z : ◌≡◌ {A = ℕ} 0 1 = cc in absurd (omega arith)
+    by_read (Ok r) g f rest = listed r.value r.next (stands s at r.value r.next g limit) (decode_from turns s r.next) refl f rest
+    by_read (Err p) g f rest = let z : ◌≡◌ {A = ℕ} 0 1 = cc in absurd (omega arith)
 
     by_end : Dec (at < length s) → Rest → AtMost largest ns × (encode ns ≡ drop at s)
     by_end (yes h) rest = by_read (number_at s at) refl (sym (decode_more turns s at h) ∙ e) rest

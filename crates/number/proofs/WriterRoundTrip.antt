@@ -10,7 +10,7 @@ use lib.Seq.{take_at, drop_at}
 use Rattle.number.specs.Number.{largest}
 use Rattle.number.specs.NumberList.{encode, numbers, decode, first_above, answer, output}
 use Rattle.number.specs.Range.{AtMost}
-use Rattle.number.specs.declared.Written.TheVariants.{Filled}
+use Rattle.std.specs.Prelude.{Ok}
 use Rattle.number.proofs.Writing.{answer_large, answer_short, answer_filled}
 use Rattle.number.proofs.RoundTrip.{decode_encode, encode_decode}
 
@@ -30,7 +30,7 @@ all_at_most (n ∷ ns) h = by_size (dec_lt largest n) (all_at_most ns)
     by_size (no k) rest = (omega arith, rest (omega (arith, simp (le-ltb largest n (omega arith)) at h)))
 
 -- where the writer fills k bytes, the numbers are in range and these are their bytes
-filled : (ns : List ℕ) (room k : ℕ) → answer ns room ≡ Filled k → AtMost largest ns × (length (encode ns) ≡ k)
+filled : (ns : List ℕ) (room k : ℕ) → answer ns room ≡ Ok k → AtMost largest ns × (length (encode ns) ≡ k)
 filled ns room k e = by_answer (dec_lt (first_above ns) (length ns)) (dec_lt room (length (encode ns)))
   where
     by_answer : Dec (first_above ns < length ns) → Dec (room < length (encode ns)) → AtMost largest ns × (length (encode ns) ≡ k)
@@ -40,7 +40,7 @@ filled ns room k e = by_answer (dec_lt (first_above ns) (length ns)) (dec_lt roo
 
 module _ (ns out : List ℕ) where
   -- where the writer says that it filled k bytes, these read as the list, and the bytes beyond are as they were
-  pub written_reads : (k : ℕ) → answer ns (length out) ≡ Filled k
+  pub written_reads : (k : ℕ) → answer ns (length out) ≡ Ok k
       → (decode (take k (output (answer ns (length out)) ns out)) ≡ numbers ns) × (drop k (output (answer ns (length out)) ns out) ≡ drop k out)
   unfolding output
   written_reads k e =
@@ -49,10 +49,10 @@ module _ (ns out : List ℕ) where
 
   -- bytes that read as the list are what the writer writes for it, wherever there is room
   pub read_writes : (bytes : List ℕ) → AtMost 255 bytes → decode bytes ≡ numbers ns → length bytes ≤ length out
-      → (answer ns (length out) ≡ Filled (length bytes)) × (take (length bytes) (output (answer ns (length out)) ns out) ≡ bytes)
+      → (answer ns (length out) ≡ Ok (length bytes)) × (take (length bytes) (output (answer ns (length out)) ns out) ≡ bytes)
   unfolding output
   read_writes bytes limit e room =
       let (small, same) = encode_decode bytes ns limit e in
       let fits : length (encode ns) ≤ length out = rw same room in
-      let a : answer ns (length out) ≡ Filled (length bytes) = rw (← same) (sym (answer_filled ns (length out) (none_above ns small) fits)) in
+      let a : answer ns (length out) ≡ Ok (length bytes) = rw (← same) (sym (answer_filled ns (length out) (none_above ns small) fits)) in
       (a, rw (a, take_at (encode ns) (drop (length bytes) out) (length bytes) (ap length same)) same)

@@ -13,7 +13,8 @@ use lib.ListN.{length, get_or, take, drop, length-append, length-take, length-dr
 use lib.Seq.{drop-cons, sets, sets-eq, take_at, drop_at, drop-drop}
 use Rattle.number.specs.Number.{largest, bytes_of}
 use Rattle.number.specs.NumberList.{encode, first_above, answer}
-use Rattle.number.specs.declared.Written.TheVariants.{Filled, TooLarge, TooShort}
+use Rattle.number.specs.declared.WriteRefusal.TheVariants.{TooLarge, TooShort}
+use Rattle.std.specs.Prelude.{Ok, Err}
 
 -- ---- the bytes of one number
 
@@ -135,15 +136,15 @@ above_most (n ∷ ns) = by_size (ltb largest n) (above_most ns)
     by_size false h = omega arith
 
 module _ (ns : List ℕ) (room : ℕ) where
-  pub answer_large : first_above ns < length ns → TooLarge (first_above ns) ≡ answer ns room
+  pub answer_large : first_above ns < length ns → Err (TooLarge (first_above ns)) ≡ answer ns room
   unfolding answer
   answer_large h = simp (lt-ltb (first_above ns) (length ns) h)
 
   module _ (small : length ns ≤ first_above ns) where
-    pub answer_short : room < length (encode ns) → TooShort (length (encode ns)) ≡ answer ns room
+    pub answer_short : room < length (encode ns) → Err (TooShort (length (encode ns))) ≡ answer ns room
     unfolding answer
     answer_short h = simp (le-ltb (first_above ns) (length ns) small, lt-ltb room (length (encode ns)) h)
 
-    pub answer_filled : length (encode ns) ≤ room → Filled (length (encode ns)) ≡ answer ns room
+    pub answer_filled : length (encode ns) ≤ room → Ok (length (encode ns)) ≡ answer ns room
     unfolding answer
     answer_filled h = simp (le-ltb (first_above ns) (length ns) small, le-ltb room (length (encode ns)) h)

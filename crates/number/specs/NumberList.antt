@@ -1,11 +1,9 @@
 -- Lists of numbers as bytes.
-use Rattle.std.specs.Prelude.{cond, List, [], ◌∷◌, ◌++◌, ℕ, zero, suc, ltb, length, drop}
-use Rattle.number.specs.Number.{largest, bytes_of, number_at}
+use Rattle.std.specs.Prelude.{cond, List, [], ◌∷◌, ◌++◌, ℕ, zero, suc, ltb, length, drop, Result, Ok, Err}
+use Rattle.number.specs.Number.{largest, bytes_of, Read, number_at}
 use Rattle.number.specs.CallResult.{CallResult}
-use Rattle.number.specs.declared.Read.{Read}
-use Rattle.number.specs.declared.Read.TheVariants.{Number, Unreadable}
-use Rattle.number.specs.declared.Written.{Written}
-use Rattle.number.specs.declared.Written.TheVariants.{Filled, TooLarge, TooShort}
+use Rattle.number.specs.declared.WriteRefusal.{WriteRefusal}
+use Rattle.number.specs.declared.WriteRefusal.TheVariants.{TooLarge, TooShort}
 
 -- the bytes of a list of numbers: those of each, in order
 unfoldable pub encode : List ℕ → List ℕ
@@ -24,8 +22,8 @@ with_number n (refused at) = refused at
 
 -- after one read: the number before what the rest reads as, or the refusal
 abbrev pub followed : (ℕ → DecodedList) → Read → DecodedList
-followed rest (Number n next) = with_number n (rest next)
-followed rest (Unreadable at) = refused at
+followed rest (Ok r) = with_number r.value (rest r.next)
+followed rest (Err e) = refused e.at
 
 -- "Reading a list is reading number after number to the end." A number has at least one byte, so as many turns as there are bytes are
 -- enough.
@@ -41,21 +39,24 @@ unfoldable pub first_above : List ℕ → ℕ
 first_above [] = 0
 first_above (n ∷ ns) = cond (ltb largest n) 0 (suc (first_above ns))
 
+-- how many bytes the writer filled, or why it filled none
+abbrev pub Written : Type 0
+Written = Result ℕ WriteRefusal
+
 -- What the writer answers where the output has room for so many bytes. "The writer tries 11 over the whole list, then 12; otherwise it
 -- fills the first bytes, touches none beyond and gives how many it filled."
 unfoldable pub answer : List ℕ → ℕ → Written
 answer ns room =
-    cond (ltb (first_above ns) (length ns)) (TooLarge (first_above ns))
-    (cond (ltb room (length (encode ns))) (TooShort (length (encode ns))) (Filled (length (encode ns))))
+    cond (ltb (first_above ns) (length ns)) (Err (TooLarge (first_above ns)))
+    (cond (ltb room (length (encode ns))) (Err (TooShort (length (encode ns)))) (Ok (length (encode ns))))
 
 -- the output after that answer: a refused write leaves it as it was
 unfoldable pub output : Written → List ℕ → List ℕ → List ℕ
-output (Filled k) ns out = encode ns ++ drop k out
-output (TooLarge i) ns out = out
-output (TooShort k) ns out = out
+output (Ok k) ns out = encode ns ++ drop k out
+output (Err refusal) ns out = out
 
 -- 0 with the bytes filled; 11 with the index; 12 with the length needed
 abbrev pub write_result : Written → CallResult
-write_result (Filled k) = record { code = 0; values = k ∷ [] }
-write_result (TooLarge i) = record { code = 11; values = i ∷ [] }
-write_result (TooShort k) = record { code = 12; values = k ∷ [] }
+write_result (Ok k) = record { code = 0; values = k ∷ [] }
+write_result (Err (TooLarge i)) = record { code = 11; values = i ∷ [] }
+write_result (Err (TooShort k)) = record { code = 12; values = k ∷ [] }

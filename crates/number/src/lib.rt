@@ -5,17 +5,25 @@ ghost use Rattle.std.specs.Prelude.{◌≡◌, ◌++◌, ◌+◌, ◌<◌, ◌�
 ghost use Rattle.number.specs.Number.{largest, bytes_of, number_at};
 ghost use Rattle.number.specs.NumberList.{encode, first_above, answer, output};
 
-// What stands at a place: a number and the place after it, or nothing that can be read, with the place asked for.
+// The largest number that a file can have.
+const LARGEST: u64 = 65535;
+
+// A number that stands at a place, and the place after it.
 #[derive(Clone, Copy)]
-pub enum Read {
-    Number(usize, usize),
-    Unreadable(usize),
+pub struct Numeral {
+    pub value: usize,
+    pub next: usize,
 }
 
-// What a writer did: how many bytes it filled; or, refusing, the index of the first number above 65,535 or the length needed.
+// No number can be read at the place that was asked for.
 #[derive(Clone, Copy)]
-pub enum Written {
-    Filled(usize),
+pub struct Unreadable {
+    pub at: usize,
+}
+
+// Why a list isn't written: the first number above 65,535, by its index; or an output that is too short, by the length needed.
+#[derive(Clone, Copy)]
+pub enum WriteRefusal {
     TooLarge(usize),
     TooShort(usize),
 }
@@ -28,83 +36,86 @@ pub fn wide(byte: u8) -> usize
 }
 
 // The number that starts at a place.
-pub fn read_number(bytes: &[u8], at: usize) -> Read
+pub fn read_number(bytes: &[u8], at: usize) -> Result<Numeral, Unreadable>
     ensures { result ≡ number_at bytes.now at }
 {
     if bytes.len() <= at {
-        return Read::Unreadable(at);
+        return Err(Unreadable { at });
     }
     let a = wide(bytes[at]);
     if a < 128 {
-        return Read::Number(a, at + 1);
+        return Ok(Numeral {
+            value: a,
+            next: at + 1,
+        });
     }
     read_long(bytes, at, a)
 }
 
 // The same, where the first byte says that another follows.
-fn read_long(bytes: &[u8], at: usize, a: usize) -> Read
+fn read_long(bytes: &[u8], at: usize, a: usize) -> Result<Numeral, Unreadable>
     requires { (at < length bytes.now) × (a ≡ get_or bytes.now at 0) × (128 ≤ a) × (a < 256) }
     ensures { result ≡ number_at bytes.now at }
 {
     if bytes.len() - at <= 1 {
-        return Read::Unreadable(at);
+        return Err(Unreadable { at });
     }
     let b = wide(bytes[at + 1]);
     if b == 0 {
-        return Read::Unreadable(at);
+        return Err(Unreadable { at });
     }
     if b < 128 {
-        return Read::Number(a - 128 + b * 128, at + 2);
+        return Ok(Numeral {
+            value: a - 128 + b * 128,
+            next: at + 2,
+        });
     }
     if bytes.len() - at <= 2 {
-        return Read::Unreadable(at);
+        return Err(Unreadable { at });
     }
     let c = wide(bytes[at + 2]);
     if c == 0 {
-        return Read::Unreadable(at);
+        return Err(Unreadable { at });
     }
     if c < 4 {
-        return Read::Number(a - 128 + (b - 128) * 128 + c * 16384, at + 3);
+        return Ok(Numeral {
+            value: a - 128 + (b - 128) * 128 + c * 16384,
+            next: at + 3,
+        });
     }
-    Read::Unreadable(at)
+    Err(Unreadable { at })
 }
 
 // The index of the first number above 65,535, or the list's length.
 fn first_above(numbers: &[u64]) -> usize
     ensures { result ≡ first_above numbers.now }
 {
-    let mut i = 0;
-    while i < numbers.len() {
-        if 65535 < numbers[i] {
+    for (i, n) in numbers.iter().enumerate() {
+        if LARGEST < *n {
             return i;
         }
-        i += 1;
     }
-    i
+    numbers.len()
 }
 
 // How many bytes a number takes.
 fn width(n: u64) -> usize
     ensures { (result ≡ length (bytes_of n)) × (result ≤ 3) }
 {
-    if n < 128 {
-        return 1;
+    match n {
+        0..=127 => 1,
+        128..=16383 => 2,
+        _ => 3,
     }
-    if n < 16384 {
-        return 2;
-    }
-    3
 }
 
 // How many bytes a list of numbers takes.
 fn room_needed(numbers: &[u64]) -> usize
     ensures { result ≡ length (encode numbers.now) }
 {
-    let mut total: usize = 0;
-    let mut i = 0;
-    while i < numbers.len() {
-        total += width(numbers[i]);
-        i += 1;
+    let mut total = 0;
+    for n in numbers {
+        total += width(*n);
     }
     total
 }
@@ -134,25 +145,23 @@ fn fill(numbers: &[u64], bytes: &mut [u8])
     ensures { bytes.new ≡ encode numbers.now ++ drop (length (encode numbers.now)) bytes.old }
 {
     let mut at = 0;
-    let mut written = 0;
-    while written < numbers.len() {
-        at = put_number(bytes, at, numbers[written]);
-        written += 1;
+    for number in numbers {
+        at = put_number(bytes, at, *number);
     }
 }
 
 // Writes a list of numbers to the first bytes of the output, or refuses and leaves the output as it is.
-pub fn write_numbers(numbers: &[u64], bytes: &mut [u8]) -> Written
+pub fn write_numbers(numbers: &[u64], bytes: &mut [u8]) -> Result<usize, WriteRefusal>
     ensures { (result ≡ answer numbers.now (length bytes.old)) × (bytes.new ≡ output result numbers.now bytes.old) }
 {
     let above = first_above(numbers);
     if above < numbers.len() {
-        return Written::TooLarge(above);
+        return Err(WriteRefusal::TooLarge(above));
     }
     let needed = room_needed(numbers);
     if bytes.len() < needed {
-        return Written::TooShort(needed);
+        return Err(WriteRefusal::TooShort(needed));
     }
     fill(numbers, bytes);
-    Written::Filled(needed)
+    Ok(needed)
 }

@@ -1,23 +1,16 @@
--- A place is looked for: what is left.
-use mathlib.Core.Bool.{true, false}
-use mathlib.Core.List.{List, ◌∷◌}
-use mathlib.Core.Path.{◌≡◌, refl, sym, ap, ◌∙◌}
-use Prim.Native.Nat.{ℕ, ◌+◌, ◌≤◌, ◌<◌}
-use native.Mathlib.Numerals.{add-one}
-use borrow.Author.Tests.{eq-eqb, ne_eqb}
-use lib.ListN.{length, get_or, drop, drop_of_length-le}
-use lib.Seq.{drop-cons}
+-- A place is looked for: it is absent where no place equals it.
+use mathlib.Core.Bool.{Bool, true, false, not, ◌||◌, ◌&&◌}
+use mathlib.Core.List.{List, [], ◌∷◌}
+use mathlib.Core.Path.{◌≡◌, refl}
+use Prim.Native.Nat.{ℕ}
+use lib.Dec.{eqb}
+use Rattle.std.specs.List.{list_any}
 use Rattle.lists.specs.List.{absent}
 
-module _ (code : ℕ) (places : List ℕ) (i : ℕ) (h : i < length places) where
-  here : drop i places ≡ get_or places i 0 ∷ drop (i + 1) places
-  here = drop-cons places i 0 h ∙ ap (λ (k : ℕ). get_or places i 0 ∷ drop k places) (sym (add-one i))
+absent_any : (code : ℕ) (places : List ℕ) → not (list_any (λ p. eqb p code) places) ≡ absent code places
+absent_any code [] = refl
+absent_any code (p ∷ ps) = elim (eqb p code) as (λ b. not (b || list_any (λ q. eqb q code) ps) ≡ (not b) && absent code ps) [ true ↦ refl | false ↦ absent_any code ps ]
 
-  pub missed : (get_or places i 0 ≡ code → ⊥) → absent code (drop i places) ≡ absent code (drop (i + 1) places)
-  missed n = rw (here, ne_eqb (get_or places i 0) code n) refl
-
-  pub found : get_or places i 0 ≡ code → absent code (drop i places) ≡ false
-  found e = rw (here, eq-eqb (get_or places i 0) code e) refl
-
-pub none_left : (code : ℕ) (places : List ℕ) (i : ℕ) → length places ≤ i → absent code (drop i places) ≡ true
-none_left code places i h = ap (absent code) (drop_of_length-le places h)
+-- by the library's test for a member
+pub none_there : (code : ℕ) (places : List ℕ) (found : Bool) → found ≡ list_any (λ p. eqb p code) places → not found ≡ absent code places
+none_there code places found e = rw e (absent_any code places)

@@ -56,19 +56,6 @@ pub choice_of_null : (n p : ℕ) → p ≡ null → choice_of n p ≡ n
 unfolding choice_of
 choice_of_null n p e = simp (eq-eqb p null e)
 
-pub choice_of_cell : (n p : ℕ) → p ≢ null → choice_of n p ≡ p - 3
-unfolding choice_of
-choice_of_cell n p e = simp (ne_eqb p null e)
-
--- the fresh cell is in use after a choice above #
-pub chosen_inside : (n k m : ℕ) → n ≤ m → (n < k → m ≡ suc n) → chosen n k < cell m
-chosen_inside n k m l fresh = go (dec_lt k n) (ℕ_discrete k n)
-  where
-    go : Dec (k < n) → Dec (k ≡ n) → chosen n k < cell m
-    go (yes i) d = rw (chosen_cell n k i) (omega arith)
-    go (no i) (yes j) = rw (chosen_null n k j) (omega arith)
-    go (no i) (no j) = rw (chosen_fresh n k (omega arith)) (omega (arith, fresh (omega arith)))
-
 -- ---- where variables stand
 
 pub made_same : (v : ℕ) (s : Shape) (k : ℕ) → v ≢ 0 → v ≤ length s.vars → var_at (made v s k) v ≡ chosen (size s) k

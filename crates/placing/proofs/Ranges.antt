@@ -2,7 +2,7 @@
 use mathlib.Core.Bool.{Bool, true, false, ◌||◌, cond, and-false}
 use mathlib.Core.List.{List}
 use mathlib.Core.Logic.{◌≢◌, ◌⊎◌, inl, inr}
-use mathlib.Core.Path.{◌≡◌, refl, ap}
+use mathlib.Core.Path.{◌≡◌, refl}
 use Prim.Native.Nat.{ℕ, zero, suc, ◌+◌, ◌-◌, ◌≤◌, ◌<◌}
 use native.Mathlib.Decide.{ℕ_discrete, dec_lt}
 use native.Mathlib.Omega.{arith}
@@ -14,7 +14,6 @@ use Rattle.lists.specs.Range.{range}
 use Rattle.heap.specs.Codes.{link_in}
 use Rattle.heap.specs.Place.{nowhere, null, dangling, cell}
 use Rattle.place.specs.Place.{place_of, both_nowhere}
-use Rattle.place.specs.declared.Place.{Place}
 use Rattle.placing.specs.Choice.{choice_of}
 use Rattle.placing.specs.Retained.{retained}
 use Rattle.placing.proofs.Chosen.{choice_of_most}
@@ -30,45 +29,6 @@ choice_of_under n p = go (ℕ_discrete p null)
     go : Dec (p ≡ null) → cond (eqb p null) n (p - 3) ≤ n + p
     go (yes e) = simp (eq-eqb p null e) (omega arith)
     go (no e) = simp (ne_eqb p null e) (omega arith)
-
-pub target_dangling : (n p i : ℕ) → p ≡ dangling → one_by_one (n + 2 + i) (n + 2 + i + 1) ≡ target_choices n p i
-unfolding target_choices
-target_dangling n p i e = simp (eq-eqb p dangling e) (ap (one_by_one (n + 2 + i)) (omega arith))
-
-pub target_placed : (n p i at step : ℕ) → p ≢ dangling → at ≡ choice_of n p → step ≡ n + 2 + i - at
-    → record { from = at; step = step; to = n + 2 + i + 1 } ≡ target_choices n p i
-unfolding target_choices
-target_placed n p i at step d at_is step_is =
-    let next : n + 2 + i + 1 ≡ suc (n + 2 + i) = omega arith in
-    simp (ne_eqb p dangling d, at_is, step_is, next)
-
--- ---- by case
-
-module _ (n : ℕ) (wanted : Wanted) where
-  pub choices_nothing : wanted ≡ Nothing → one_by_one 0 0 ≡ choices_of n wanted
-  choices_nothing e = rw e refl
-
-  pub choices_once : wanted ≡ Once → one_by_one 0 1 ≡ choices_of n wanted
-  choices_once e = rw e refl
-
-  pub choices_any : wanted ≡ Any → one_by_one 0 (n + (2 + n)) ≡ choices_of n wanted
-  choices_any e = rw e refl
-
-  pub choices_itself : wanted ≡ Itself → one_by_one 0 (n + (2 + n)) ≡ choices_of n wanted
-  choices_itself e = rw e refl
-
-  module _ (p : Place) where
-    pub choices_at : (k : ℕ) → k ≡ choice_of n p.code → wanted ≡ At p → one_by_one k (k + 1) ≡ choices_of n wanted
-    choices_at k k_is e = let next : k + 1 ≡ suc k = omega arith in rw (e, next, k_is) refl
-
-    pub choices_off : wanted ≡ Off p → one_by_one 0 (n + (2 + n)) ≡ choices_of n wanted
-    choices_off e = rw e refl
-
-    pub choices_source : wanted ≡ Source p → one_by_one 0 (n + (2 + n)) ≡ choices_of n wanted
-    choices_source e = rw e refl
-
-    pub choices_target : (i : ℕ) → wanted ≡ Target p i → target_choices n p.code i ≡ choices_of n wanted
-    choices_target i e = rw e refl
 
 -- ---- what is left out is not wanted
 

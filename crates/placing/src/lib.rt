@@ -7,7 +7,7 @@ ghost use Rattle.placing.specs.Choice.{choice_of, exists};
 ghost use Rattle.placing.specs.Retained.{link_open, retained};
 ghost use Rattle.placing.specs.Wanted.{source_fits, itself_fits, fits_in, one_by_one, target_choices, choices_of, target_of, cell_beside, beside, once_if, wanted_one, wanted_first, wanted_last};
 
-use kinds::{DIFFERENT, LOAD, STORE};
+use kinds::{ASSIGN, DIFFERENT, LOAD, STORE};
 use number::wide;
 use place::{DANGLING, FIRST_CELL, NOWHERE, NULL, Place, both_nowhere, link_at};
 
@@ -30,6 +30,11 @@ pub enum Wanted {
     Target(Place, u8),
 }
 
+impl Wanted {
+    // Any cell: all but #.
+    const CELL: Self = Self::Off(Place::NULL);
+}
+
 // Choices from one on, in steps, before another.
 #[derive(Clone, Copy)]
 pub struct Choices {
@@ -39,6 +44,7 @@ pub struct Choices {
 }
 
 // Whether p is a cell whose link is nowhere or at q.
+#[tactic(auto, unfolding(crate::specs::Retained::link_open))]
 fn link_open(links: &[u8], p: Place, q: Place) -> bool
     ensures { result ≡ link_open links.now p.code q.code }
 {
@@ -46,45 +52,37 @@ fn link_open(links: &[u8], p: Place, q: Place) -> bool
         return false;
     }
     let link = link_at(links, p);
-    if link.code == NOWHERE {
-        return true;
-    }
-    link.code == q.code
+    link == Place::NOWHERE || link == q
 }
 
 // Whether the kind retains a at x and b at y.
+#[tactic(auto, unfolding(crate::specs::Retained::retained))]
 fn retains(kind: u8, links: &[u8], x: Place, y: Place) -> bool
     ensures { result ≡ retained kind x.code y.code links.now }
 {
-    if kind == DIFFERENT {
-        return x.code != y.code;
+    match kind {
+        DIFFERENT => x != y,
+        ..=ASSIGN => x == y,
+        LOAD => link_open(links, y, x),
+        STORE => link_open(links, x, y),
+        _ => DANGLING < x.code && DANGLING < y.code,
     }
-    if kind < LOAD {
-        return x.code == y.code;
-    }
-    if kind == LOAD {
-        return link_open(links, y, x);
-    }
-    if kind == STORE {
-        return link_open(links, x, y);
-    }
-    DANGLING < x.code && DANGLING < y.code
 }
 
 // The choice that puts a variable at # or at a cell.
+#[tactic(auto, unfolding(crate::specs::Choice::choice_of))]
 fn choice_of(n: usize, p: Place) -> usize
     ensures { result ≡ choice_of n p.code }
 {
-    if p.code == NULL {
-        return n;
+    match p.code {
+        NULL => n,
+        FIRST_CELL.. => (p.code - FIRST_CELL) as usize,
+        _ => 0,
     }
-    if p.code < FIRST_CELL {
-        return 0;
-    }
-    (p.code - FIRST_CELL) as usize
 }
 
 // Whether choice k is there: the link that it is within has a place.
+#[tactic(auto, unfolding(crate::specs::Choice::exists))]
 fn choice_exists(links: &[u8], k: usize) -> bool
     ensures { result ≡ exists links.now k }
 {
@@ -93,54 +91,40 @@ fn choice_exists(links: &[u8], k: usize) -> bool
         return true;
     }
     let i = k - n - 2;
-    if n <= i {
-        return false;
-    }
-    links[i] != NOWHERE
+    i < n && links[i] != NOWHERE
 }
 
 // Whether choice k puts a variable at a cell whose link is nowhere or at p.
+#[tactic(auto, unfolding(crate::specs::Wanted::source_fits))]
 fn source_fits(links: &[u8], p: Place, k: usize) -> bool
     ensures { result ≡ source_fits links.now p.code k }
 {
     let n = links.len();
     if k < n {
-        let link = links[k];
-        if link == NOWHERE {
-            return true;
-        }
-        return link == p.code;
+        links[k] == NOWHERE || links[k] == p.code
+    } else if k <= n + 1 {
+        k == n + 1
+    } else {
+        let i = k - n - 2;
+        i < n && links[i] != NOWHERE && links[i] == p.code
     }
-    if k <= n + 1 {
-        return k == n + 1;
-    }
-    let i = k - n - 2;
-    if n <= i {
-        return false;
-    }
-    let link = links[i];
-    if link == NOWHERE {
-        return false;
-    }
-    link == p.code
 }
 
 // Whether choice k puts a variable at a cell whose link is nowhere or at that cell itself.
+#[tactic(auto, unfolding(crate::specs::Wanted::itself_fits))]
 fn itself_fits(links: &[u8], k: usize) -> bool
     ensures { result ≡ itself_fits links.now k }
 {
     let n = links.len();
     if k < n {
-        let link = links[k];
-        if link == NOWHERE {
-            return true;
-        }
-        return wide(link) == k + 3;
+        links[k] == NOWHERE || wide(links[k]) == k + 3
+    } else {
+        k == n + 1
     }
-    k == n + 1
 }
 
 // Whether choice k is wanted.
+#[tactic(auto, unfolding(crate::specs::Wanted::target_fits))]
 pub fn is_wanted(links: &[u8], wanted: Wanted, k: usize) -> bool
     ensures { result ≡ fits_in links.now wanted k }
 {
@@ -154,7 +138,7 @@ pub fn is_wanted(links: &[u8], wanted: Wanted, k: usize) -> bool
         Wanted::Source(p) => source_fits(links, p, k),
         Wanted::Itself => itself_fits(links, k),
         Wanted::Target(p, i) => k == n + 2 + i as usize
-            || (p.code != DANGLING && k == choice_of(n, p)),
+            || (p != Place::DANGLING && k == choice_of(n, p)),
     }
 }
 
@@ -166,30 +150,25 @@ fn one_by_one(from: usize, to: usize) -> Choices
 }
 
 // The choices of a target.
+#[tactic(auto, unfolding(crate::specs::Wanted::target_choices))]
 fn target_choices(n: usize, p: Place, i: u8) -> Choices
     requires { n < 256 }
     ensures { result ≡ target_choices n p.code i }
 {
     let within = n + 2 + i as usize;
-    if p.code == DANGLING {
+    if p == Place::DANGLING {
         return one_by_one(within, within + 1);
     }
     let at = choice_of(n, p);
-    if within <= at {
-        return Choices {
-            from: at,
-            step: 0,
-            to: within + 1,
-        };
-    }
     Choices {
         from: at,
-        step: within - at,
+        step: within.saturating_sub(at),
         to: within + 1,
     }
 }
 
 // The choices to try, which have all that are wanted among them.
+#[tactic(auto, using(crate::proofs::Ranges::choice_of_under))]
 pub fn choices_of(n: u8, wanted: Wanted) -> Choices
     ensures { result ≡ choices_of n wanted }
 {
@@ -198,19 +177,17 @@ pub fn choices_of(n: u8, wanted: Wanted) -> Choices
     match wanted {
         Wanted::Nothing => one_by_one(0, 0),
         Wanted::Once => one_by_one(0, 1),
-        Wanted::Any => one_by_one(0, past),
         Wanted::At(p) => {
             let k = choice_of(cells, p);
             one_by_one(k, k + 1)
         }
-        Wanted::Off(_) => one_by_one(0, past),
-        Wanted::Source(_) => one_by_one(0, past),
-        Wanted::Itself => one_by_one(0, past),
+        Wanted::Any | Wanted::Off(_) | Wanted::Source(_) | Wanted::Itself => one_by_one(0, past),
         Wanted::Target(p, i) => target_choices(cells, p, i),
     }
 }
 
 // What is wanted of a variable where the link of the cell at q is to end at it.
+#[tactic(auto, unfolding(crate::specs::Wanted::target_of))]
 fn target_of(links: &[u8], q: Place) -> Wanted
     ensures { result ≡ target_of links.now q.code }
 {
@@ -218,96 +195,84 @@ fn target_of(links: &[u8], q: Place) -> Wanted
         return Wanted::Nothing;
     }
     let link = link_at(links, q);
-    if link.code == NOWHERE {
-        return Wanted::Any;
+    if link == Place::NOWHERE {
+        Wanted::Any
+    } else {
+        Wanted::Target(link, q.code - FIRST_CELL)
     }
-    Wanted::Target(link, q.code - FIRST_CELL)
 }
 
 // What is wanted of a variable that is to be at a cell, as the one at q is.
+#[tactic(auto, unfolding(crate::specs::Wanted::cell_beside))]
 fn cell_beside(q: Place) -> Wanted
     ensures { result ≡ cell_beside q.code }
 {
     if q.code <= DANGLING {
-        return Wanted::Nothing;
+        Wanted::Nothing
+    } else {
+        Wanted::CELL
     }
-    Wanted::Off(Place::NULL)
 }
 
 // What is wanted of a variable that is nowhere, where the other one is at q. In an operation of kind `starting` the link starts at this one.
+#[tactic(auto, unfolding(crate::specs::Wanted::beside))]
 fn wanted_beside(starting: u8, kind: u8, links: &[u8], q: Place) -> Wanted
     ensures { result ≡ beside starting kind links.now q }
 {
-    if kind == DIFFERENT {
-        return Wanted::Off(q);
+    match kind {
+        DIFFERENT => Wanted::Off(q),
+        ..=ASSIGN => Wanted::At(q),
+        _ if kind == starting => Wanted::Source(q),
+        LOAD | STORE => target_of(links, q),
+        _ => cell_beside(q),
     }
-    if kind < LOAD {
-        return Wanted::At(q);
-    }
-    if kind == starting {
-        return Wanted::Source(q);
-    }
-    if STORE < kind {
-        return cell_beside(q);
-    }
-    target_of(links, q)
 }
 
 // Once, or nothing.
+#[tactic(auto, unfolding(crate::specs::Wanted::once_if))]
 fn once_if(test: bool) -> Wanted
     ensures { result ≡ once_if test }
 {
-    if test {
-        return Wanted::Once;
-    }
-    Wanted::Nothing
+    if test { Wanted::Once } else { Wanted::Nothing }
 }
 
 // What is wanted of a variable that is both a and b, and nowhere.
+#[tactic(auto, unfolding(crate::specs::Wanted::wanted_one))]
 fn wanted_of_one(kind: u8) -> Wanted
     ensures { result ≡ wanted_one kind }
 {
-    if kind == DIFFERENT {
-        return Wanted::Nothing;
+    match kind {
+        DIFFERENT => Wanted::Nothing,
+        ..=LOAD => Wanted::Any,
+        STORE => Wanted::Itself,
+        _ => Wanted::CELL,
     }
-    if kind == STORE {
-        return Wanted::Itself;
-    }
-    if STORE < kind {
-        return Wanted::Off(Place::NULL);
-    }
-    Wanted::Any
 }
 
 // What is wanted of the operand that is placed first, where a is at x and b at y: any choice of a where both are nowhere; where one has a place
 // there is nothing to place, and with one at * there is no choice.
+#[tactic(auto, unfolding(crate::specs::Wanted::wanted_first))]
 pub fn wanted_first(same: bool, x: Place, y: Place) -> Wanted
     ensures { result ≡ wanted_first same x y }
 {
-    if x.code == DANGLING {
-        return Wanted::Nothing;
+    if x == Place::DANGLING || y == Place::DANGLING {
+        Wanted::Nothing
+    } else if both_nowhere(same, x, y) {
+        Wanted::Any
+    } else {
+        Wanted::Once
     }
-    if y.code == DANGLING {
-        return Wanted::Nothing;
-    }
-    if both_nowhere(same, x, y) {
-        return Wanted::Any;
-    }
-    Wanted::Once
 }
 
 // What is wanted of the operand that is placed last, a where it is nowhere and else b; the other one has a place.
+#[tactic(auto, unfolding(crate::specs::Wanted::wanted_last))]
 pub fn wanted_last(kind: u8, same: bool, links: &[u8], x: Place, y: Place) -> Wanted
     ensures { result ≡ wanted_last kind same links.now x y }
 {
-    if x.code == NOWHERE {
-        if same {
-            return wanted_of_one(kind);
-        }
-        return wanted_beside(STORE, kind, links, y);
+    match (x.code, y.code) {
+        (NOWHERE, _) if same => wanted_of_one(kind),
+        (NOWHERE, _) => wanted_beside(STORE, kind, links, y),
+        (_, NOWHERE) => wanted_beside(LOAD, kind, links, x),
+        _ => once_if(retains(kind, links, x, y)),
     }
-    if y.code == NOWHERE {
-        return wanted_beside(LOAD, kind, links, x);
-    }
-    once_if(retains(kind, links, x, y))
 }

@@ -14,12 +14,9 @@ pub fn put_all(bytes: &mut [u8], at: usize, copied: &[u8]) -> usize
     if bytes.len() - at < copied.len() {
         return at;
     }
-    let mut i = 0;
-    while i < copied.len() {
-        bytes[at + i] = copied[i];
-        i += 1;
-    }
-    at + copied.len()
+    let next = at + copied.len();
+    bytes[at..next].copy_from_slice(copied);
+    next
 }
 
 // Writes a number in decimal digits to a place of the output, if there is room for them; gives the place after them.
@@ -30,10 +27,10 @@ pub fn put_number(bytes: &mut [u8], at: usize, n: u64) -> usize
     let mut first: usize = 19;
     let mut left = n;
     while 10 <= left {
-        written[first] = (48 + left % 10) as u8;
-        left = left / 10;
+        written[first] = b'0' + (left % 10) as u8;
+        left /= 10;
         first -= 1;
     }
-    written[first] = (48 + left) as u8;
+    written[first] = b'0' + left as u8;
     put_all(bytes, at, &written[first..])
 }

@@ -6,8 +6,7 @@ use Prim.Native.Nat.{ℕ, suc, ◌+◌, ◌<◌}
 use native.Mathlib.Omega.{arith}
 use lib.ListN.{length, get_or, take, drop}
 use lib.Seq.{drop-cons}
-use Rattle.number.specs.Number.{number_at}
-use Rattle.number.specs.declared.Read.TheVariants.{Number}
+use Rattle.number.specs.Number.{number_at, numeral}
 use Rattle.number.proofs.Reading.{number_known}
 use Rattle.shape.specs.Shape.{AllBelow}
 use Rattle.format.proofs.Sequence.{Reads, done, more}
@@ -18,7 +17,7 @@ pub record Single (s : List ℕ) (at n next : ℕ) : Type 0 where
   pub value : n ≡ get_or s at 0
   pub after : next ≡ at + 1
 
-module _ (s : List ℕ) (at n next : ℕ) (g : number_at s at ≡ Number n next) where
+module _ (s : List ℕ) (at n next : ℕ) (g : number_at s at ≡ numeral n next) where
   pub single : n < 128 → Single s at n next
   single h = let t = number_known s at n next g in record { inside = omega (arith, t.some); value = t.value h; after = t.after h }
 

@@ -15,9 +15,8 @@ use Rattle.heap.specs.Place.{cell}
 use Rattle.facts.specs.Facts.{Fact, FactsOf}
 use Rattle.shape.specs.Shape.{AllBelow}
 use Rattle.factrows.specs.Listed.{fact_at, listed}
-use Rattle.number.specs.Number.{number_at}
-use Rattle.number.specs.declared.Read.TheVariants.{Number}
-use Rattle.number.proofs.Reading.{by_bytes}
+use Rattle.number.specs.Number.{number_at, numeral}
+use Rattle.number.proofs.Reading.{read_or_not, same_next, same_value, by_bytes}
 use Rattle.format.specs.JobBytes.{FactsInRange}
 use Rattle.format.specs.JobNumbers.{fact_numbers, facts_numbers}
 use Rattle.format.proofs.Sequence.{Reads, reads_none, reads_first}
@@ -64,17 +63,17 @@ module _ (n : ℕ) where
 
 module _ (s : List ℕ) where
   -- a number below 16,384 is one byte or two
-  count_stands : (at n mid : ℕ) → n < 16384 → number_at s at ≡ Number n mid → (fact_count s at ≡ n) × (facts_first s at ≡ mid)
+  count_stands : (at n mid : ℕ) → n < 16384 → number_at s at ≡ numeral n mid → (fact_count s at ≡ n) × (facts_first s at ≡ mid)
   unfolding fact_count facts_first
   count_stands at n mid small =
       let a = get_or s at 0 in
       let b = get_or s (at + 1) 0 in
       let c = get_or s (at + 2) 0 in
-      by_bytes at (length s - at) a b c (λ r. r ≡ Number n mid → (fact_count s at ≡ n) × (facts_first s at ≡ mid))
-      (λ e. let z : ◌≡◌ {A = ℕ} 0 1 = cc in absurd (omega arith))
-      (λ l h e. rw (lt-ltb a 128 h) (cc, cc))
-      (λ l h b₀ b₁ e. rw (le-ltb a 128 h) (cc, cc))
-      (λ l h b₀ b₁ c₀ c₁ e. let m : a - 128 + (b - 128) * 128 + c * 16384 ≡ n = cc in absurd (omega arith))
+      by_bytes at (length s - at) a b c (λ r. r ≡ numeral n mid → (fact_count s at ≡ n) × (facts_first s at ≡ mid))
+      (λ e. absurd (read_or_not e))
+      (λ l h e. rw (lt-ltb a 128 h) (same_value e, same_next e))
+      (λ l h b₀ b₁ e. rw (le-ltb a 128 h) (same_value e, same_next e))
+      (λ l h b₀ b₁ c₀ c₁ e. let m : a - 128 + (b - 128) * 128 + c * 16384 ≡ n = same_value e in absurd (omega arith))
 
   -- the facts of a shape of n cells, as they are read
   pub facts_stand : (n at : ℕ) (l : List Fact) (next : ℕ) → n ≤ 12 → FactsOf n l → FactsInRange (version_of s) l → Reads s at (facts_numbers (version_of s) l) next

@@ -9,8 +9,7 @@ use native.Mathlib.Omega.{arith}
 use borrow.Author.Tests.{eq-eqb, ne_eqb}
 use lib.Dec.{ltb, leb}
 use Rattle.lists.proofs.Reflect.{Reflect, r_eq, r_lt, r_le, r_and, r_or, r_iff, r_itself, is_true, same_test, cond_true, cond_cases}
-use Rattle.number.specs.Number.{number_at}
-use Rattle.number.specs.declared.Read.TheVariants.{Number}
+use Rattle.number.specs.Number.{number_at, numeral}
 use Rattle.facts.specs.Facts.{Fact, FactOf}
 use Rattle.format.specs.Job.{rises, rises_after, fact_of, read_fact, facts_after, read_facts}
 use Rattle.format.specs.Parser.{Reason, Parsed, parsed, fault, Buffer, within, such, read_as, ranged}
@@ -104,7 +103,7 @@ module _ (s : Buffer) (n : ℕ) (last : Option Fact) (at : ℕ) where
             (subst (λ (test : Bool). Reflect (least ≤ rank (fact_of kind i j)) test) (sym (rises_by n few least last (fact_of kind i j) due made_of))
             (r_le least (rank (fact_of kind i j)))))
 
-        second : number_at s.bytes b ≡ Number j c
+        second : number_at s.bytes b ≡ numeral j c
         second = reads_one ((ranged_exact s 0 n).sound b j c e₃).0
 
         pub too_low : (k : Reason) → k ≡ s.outside → number < least → fault k b ≡ ranked (read_fact s n last at)

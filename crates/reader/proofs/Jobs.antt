@@ -1,22 +1,18 @@
 -- Reading a job, part after part.
-use mathlib.Core.Bool.{cond}
 use mathlib.Core.List.{List}
-use mathlib.Core.Logic.{◌⊎◌, inl, inr}
-use mathlib.Core.Path.{◌≡◌, refl, sym, ap, ◌∙◌}
-use Prim.Native.Nat.{ℕ, zero, suc, ◌+◌, ◌≤◌, ◌<◌}
+use mathlib.Core.Path.{◌≡◌, refl}
+use Prim.Native.Nat.{ℕ, ◌+◌, ◌≤◌, ◌<◌}
 use native.Mathlib.Omega.{arith}
 use borrow.Author.Tests.{le-leb, lt-leb}
-use lib.Dec.{eqb}
 use lib.ListN.{length}
 use Rattle.format.specs.Job.{read_located}
-use Rattle.format.specs.Parser.{Reason, refusal, Parsed, parsed, fault, many, Buffer, job_buffer, ranged, end}
-use Rattle.format.proofs.Parsing.{then, then_fault, ranged_exact}
+use Rattle.format.specs.Parser.{Reason, refusal, parsed, fault, many, Buffer, job_buffer, ranged, end}
+use Rattle.format.proofs.Parsing.{then, ranged_exact}
 use Rattle.format.proofs.Sequence.{reads_one}
 use Rattle.layout.specs.Entries.{version_of}
-use Rattle.number.specs.Number.{number_at}
-use Rattle.number.specs.declared.Read.TheVariants.{Number}
+use Rattle.number.specs.Number.{number_at, numeral}
 use Rattle.reader.specs.Job.{read_rest}
-use Rattle.jobreader.proofs.PreambleNumbers.{unless_refused, read_preamble, ranged_fault}
+use Rattle.jobreader.specs.Reader.{preamble_read}
 use Rattle.jobreader.specs.declared.Preamble.{Preamble}
 use Rattle.reader.specs.Number.{without_value}
 use Rattle.reader.proofs.Answers.{in_range}
@@ -25,25 +21,6 @@ use Rattle.reader.proofs.Many.{remembered, without_value_fault}
 
 -- ---- the numbers before the transitions
 
--- what a reader gives, with the number n of a refusal; k is the refusal that the code answers
-module _ {A : Type 0} (n at : ℕ) (value : A) {x : Parsed A} where
-  pub reader_refused : (k : Reason) → unless_refused n value at ≡ x → (n ≡ 0 → ⊥)
-      → ((why : Reason) (place : ℕ) → x ≡ fault why place → (why ≡ refusal 3) ⊎ (why ≡ refusal 4)) → k ≡ refusal (cond (eqb n 3) 3 4) → x ≡ fault k at
-  reader_refused k e some which k_is = go n refl
-    where
-      as_number : (refusal n ≡ refusal 3) ⊎ (refusal n ≡ refusal 4) → refusal n ≡ k
-      as_number (inl z) = let n_is : n ≡ 3 = cc in z ∙ sym (rw n_is at k_is)
-      as_number (inr z) = let n_is : n ≡ 4 = cc in z ∙ sym (rw n_is at k_is)
-
-      go : (r : ℕ) → n ≡ r → x ≡ fault k at
-      go zero z = absurd (some z)
-      go (suc j) z =
-          let f : x ≡ fault (refusal n) at = sym (rw z at e) ∙ ap (λ r. fault (refusal r) at) (sym z) in
-          f ∙ ap (λ r. fault r at) (as_number (which (refusal n) at f))
-
-  pub reader_read : unless_refused n value at ≡ x → n ≡ 0 → x ≡ parsed value at
-  reader_read e z = sym (rw z at e)
-
 -- a number of a range below 128 is one byte
 one_byte : (s : Buffer) (low limit at n next : ℕ) → ranged s low limit at ≡ parsed n next → limit ≤ 128 → next ≡ at + 1
 one_byte s low limit at n next h small =
@@ -51,19 +28,8 @@ one_byte s low limit at n next h small =
     (single s.bytes at n next (reads_one g) (omega arith)).after
 
 module _ (s : Buffer) (at : ℕ) where
-  pub preamble_fault : (why : Reason) (place : ℕ) → read_preamble s at ≡ fault why place → (why ≡ s.unreadable) ⊎ (why ≡ s.outside)
-  unfolding read_preamble
-  preamble_fault why place =
-      then_fault (ranged s 1 3 at) _
-      (λ version p₁ h₁. then_fault (ranged s 1 9 p₁) _
-      (λ variables p₂ h₂. then_fault (ranged s 1 65 p₂) _
-      (λ states p₃ h₃. then_fault (ranged s 0 states p₃) _
-      (λ start p₄ h₄. then_fault (ranged s 0 257 p₄) _
-      (λ transitions p₅ h₅ e. let z : ◌≡◌ {A = ℕ} 0 1 = cc in absurd (omega arith)) (ranged_fault s 0 257 p₄ why place))
-      (ranged_fault s 0 states p₃ why place)) (ranged_fault s 1 65 p₂ why place)) (ranged_fault s 1 9 p₁ why place)) (ranged_fault s 1 3 at why place)
-
-  pub preamble_variables : (f : Preamble) (next : ℕ) → read_preamble s at ≡ parsed f next → f.variables ≤ 8
-  unfolding read_preamble
+  pub preamble_variables : (f : Preamble) (next : ℕ) → preamble_read s at ≡ parsed f next → f.variables ≤ 8
+  unfolding preamble_read
   preamble_variables f next =
       then (ranged s 1 3 at) _
       (λ version p₁ h₁. then (ranged s 1 9 p₁) _
@@ -76,8 +42,8 @@ module _ (s : Buffer) (at : ℕ) where
       omega arith)))))
 
   -- the numbers before that of the transitions are one byte each
-  pub preamble_place : (f : Preamble) (next : ℕ) → read_preamble s at ≡ parsed f next → number_at s.bytes (at + 4) ≡ Number f.transitions f.at
-  unfolding read_preamble
+  pub preamble_place : (f : Preamble) (next : ℕ) → preamble_read s at ≡ parsed f next → number_at s.bytes (at + 4) ≡ numeral f.transitions f.at
+  unfolding preamble_read
   preamble_place f next =
       then (ranged s 1 3 at) _
       (λ version p₁ h₁. then (ranged s 1 9 p₁) _

@@ -52,6 +52,21 @@ module _ {A : Type 0} (p : Parser A) where
       ap length (sym xs_are) ∙ ap suc (many_length k mid ys last h₂)))
       e
 
+  -- the same places, where each value is left out as it is read
+  pub many_places : (k at : ℕ) → without_value (many k (λ a. without_value (p a)) at) ≡ without_value (many k p at)
+  unfolding many
+  many_places zero at = refl
+  many_places (suc k) at = go (p at) refl (many_places k)
+    where
+      go : (x : Parsed A) → p at ≡ x → ((next : ℕ) → without_value (many k (λ a. without_value (p a)) next) ≡ without_value (many k p next))
+          → without_value (many (suc k) (λ a. without_value (p a)) at) ≡ without_value (many (suc k) p at)
+      go (parsed v next) e later =
+          rw e
+          (sym (without_value_made (many k (λ a. without_value (p a)) next) (λ (us : List (Unit {0})). tt ∷ us))
+          ∙ later next
+          ∙ without_value_made (many k p next) (λ (xs : List A). v ∷ xs))
+      go (fault why place) e later = rw e refl
+
   -- ---- a loop that has read i of n from `first` on, and is at a place
 
   abbrev pub Left : ℕ → ℕ → ℕ → ℕ → Type 0

@@ -13,8 +13,7 @@ use Rattle.heap.specs.Place.{cell}
 use Rattle.heap.proofs.Rows.{in_table, op_numbers}
 use Rattle.shape.specs.Shape.{InRange}
 use Rattle.run.specs.Run.{Transition, Located}
-use Rattle.number.specs.Number.{number_at}
-use Rattle.number.specs.declared.Read.TheVariants.{Number}
+use Rattle.number.specs.Number.{number_at, numeral}
 use Rattle.kinds.specs.Kinds.{most_b_of, is_some, allowed}
 use Rattle.kinds.proofs.Rows.{known, most_bound}
 use Rattle.format.specs.Certificate.{Member, read_member}
@@ -46,7 +45,7 @@ module _ (s : Buffer) (variables states : ℕ) where
   facts_place a = a + 1 + variables + get_or s.bytes a 0
 
   pub record EntryAfter (at a : ℕ) (m : Located) (next : ℕ) : Type 0 where
-    pub number : number_at s.bytes at ≡ Number m.state a
+    pub number : number_at s.bytes at ≡ numeral m.state a
     pub state : m.state < states
     pub shape : InRange variables 12 m.shape
     pub some : a < length s.bytes

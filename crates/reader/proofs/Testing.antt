@@ -7,7 +7,7 @@ use native.Mathlib.Omega.{arith}
 use borrow.Author.Tests.{eq-eqb, ne_eqb}
 use lib.Dec.{eqb}
 use lib.ListN.{length, get_or}
-use Rattle.number.proofs.Reading.{one_byte}
+use Rattle.number.proofs.Reading.{one_byte, number_some, same_next, same_value}
 use Rattle.run.specs.Run.{Located}
 use Rattle.format.specs.Certificate.{Member, at_start, read_member, test_start}
 use Rattle.format.specs.Job.{read_located}
@@ -17,7 +17,6 @@ use Rattle.format.proofs.Sequence.{reads_one}
 use Rattle.layout.specs.Entries.{version_of}
 use Rattle.reader.specs.Members.{empty_at, tested}
 use Rattle.reader.specs.Number.{without_value}
-use Rattle.number.proofs.Reading.{number_some}
 use Rattle.reader.proofs.Entries.{lost_state}
 use Rattle.reader.proofs.Many.{remembered, without_value_fault, without_value_onward, bind_assoc, many_suc}
 use Rattle.reader.proofs.Standing.{EntryAfter, entry_after}
@@ -57,8 +56,8 @@ module _ (cert : List ℕ) (variables states start at : ℕ) (l : Located) (next
           let (b, w) = entry_after s variables states at l next h in
           let number = w.number in
           let g = reads_one ((ranged_exact s 0 states).sound at state a e).0 in
-          let b_is : b ≡ a = cc in
-          let state_is : l.state ≡ state = cc in
+          let b_is : b ≡ a = same_next (sym number ∙ g) in
+          let state_is : l.state ≡ state = same_value (sym number ∙ g) in
           (state_is, subst (λ (k : ℕ). EntryAfter s variables states at k l next) b_is w)
 
     -- where its state is one byte
@@ -70,8 +69,8 @@ module _ (cert : List ℕ) (variables states start at : ℕ) (l : Located) (next
         let (b, w) = entry_after s variables states at l next h in
         let number = w.number in
         let g = one_byte cert at (get_or cert at 0) refl first_inside small in
-        let b_is : b ≡ at + 1 = cc in
-        let state_is : l.state ≡ get_or cert at 0 = cc in
+        let b_is : b ≡ at + 1 = same_next (sym number ∙ sym g) in
+        let state_is : l.state ≡ get_or cert at 0 = same_value (sym number ∙ sym g) in
         (state_is, subst (λ (k : ℕ). EntryAfter s variables states at k l next) b_is w)
 
 -- ---- the tests keep the place

@@ -4,6 +4,7 @@ use mathlib.Core.Path.{◌≡◌, refl, sym, ap, ◌∙◌}
 use Prim.Native.Nat.{ℕ, ◌+◌, ◌*◌, ◌≤◌}
 use native.Mathlib.Omega.{arith}
 use lib.ListN.{length}
+use Rattle.std.specs.Prelude.{Result, Ok, Err}
 use Rattle.run.specs.Run.{Transition, Located}
 use Rattle.format.specs.Job.{read_located, read_transition, read_job, read_whole_job}
 use Rattle.format.specs.JobNumbers.{JobFile}
@@ -12,13 +13,12 @@ use Rattle.format.proofs.Files.{located_exact, transition_exact, job_exact, whol
 use Rattle.format.proofs.Parsing.{then, many_exact, ranged_exact}
 use Rattle.format.proofs.Sequence.{reads_one, reads_inside}
 use Rattle.layout.specs.Entries.{version_of}
-use Rattle.jobreader.proofs.PreambleNumbers.{read_preamble}
+use Rattle.jobreader.specs.Reader.{preamble_read}
 use Rattle.jobreader.specs.declared.Preamble.{Preamble}
+use Rattle.verdict.specs.declared.Refused.{Refused}
 use Rattle.reader.specs.Job.{read_rest, RestAnswered, JobRead, JobAnswered}
 use Rattle.reader.specs.Number.{without_value}
 use Rattle.reader.specs.declared.Header.{Header}
-use Rattle.reader.specs.declared.JobAnswer.{JobAnswer}
-use Rattle.reader.specs.declared.JobAnswer.TheVariants.{Job, Refused}
 use Rattle.number.proofs.Reading.{number_inside}
 use Rattle.reader.proofs.Jobs.{preamble_place}
 use Rattle.reader.proofs.Many.{remembered, without_value_fault, without_value_onward, bind_assoc}
@@ -38,13 +38,13 @@ module _ (job : List ℕ) where
         })
 
   parts : read_whole_job (job_buffer job) 0
-      ≡ onward (read_preamble (job_buffer job) 0)
+      ≡ onward (preamble_read (job_buffer job) 0)
       (λ f p. onward (many f.transitions (read_transition (version_of job) (job_buffer job) f.variables f.states) p) (file_rest f))
-  unfolding read_whole_job read_job read_preamble file_rest
+  unfolding read_whole_job read_job preamble_read file_rest
   parts = by_version (ranged (job_buffer job) 1 3 0) refl
     where
       -- the version is the first byte
-      by_version : (x : Parsed ℕ) → ranged (job_buffer job) 1 3 0 ≡ x → read_whole_job (job_buffer job) 0 ≡ onward (read_preamble (job_buffer job) 0)
+      by_version : (x : Parsed ℕ) → ranged (job_buffer job) 1 3 0 ≡ x → read_whole_job (job_buffer job) 0 ≡ onward (preamble_read (job_buffer job) 0)
           (λ f p. onward (many f.transitions (read_transition (version_of job) (job_buffer job) f.variables f.states) p) (file_rest f))
       by_version (fault why place) e = rw e refl
       by_version (parsed version a) e = let same = version_read (job_buffer job) version a e in rw (e, same) (simp bind_assoc)
@@ -59,10 +59,10 @@ module _ (job : List ℕ) where
 
   -- ---- refusals
 
-  pub preamble_lost : {why : Reason} {place : ℕ} → read_preamble (job_buffer job) 0 ≡ fault why place → read_whole_job (job_buffer job) 0 ≡ fault why place
+  pub preamble_lost : {why : Reason} {place : ℕ} → preamble_read (job_buffer job) 0 ≡ fault why place → read_whole_job (job_buffer job) 0 ≡ fault why place
   preamble_lost e = rw (parts, e) refl
 
-  module _ (f : Preamble) (e₁ : read_preamble (job_buffer job) 0 ≡ parsed f f.at) where
+  module _ (f : Preamble) (e₁ : preamble_read (job_buffer job) 0 ≡ parsed f f.at) where
     abbrev steps : Parsed (List Transition)
     steps = many f.transitions (read_transition (version_of job) (job_buffer job) f.variables f.states) f.at
 
@@ -140,6 +140,6 @@ module _ (job : List ℕ) where
           rw (← header_is) (made ts bads p ms last g h₁ h₂ (end_sound (job_buffer job) last h₃).0))))
           e
 
-      pub answered : (r : JobAnswer) → RestAnswered job f at r → JobAnswered job r
-      answered (Job h) (next, e) = job_read h next e
-      answered (Refused why place) e = rest_lost e
+      pub answered : (r : Result Header Refused) → RestAnswered job f at r → JobAnswered job r
+      answered (Ok h) (next, e) = job_read h next e
+      answered (Err r) e = rest_lost e

@@ -1,10 +1,11 @@
 -- One fact as it is read, by its rank.
 use Rattle.std.proofs.Math.Option.{Option, none, some}
-use Rattle.std.specs.Prelude.{◌≡◌, ℕ, suc, ◌+◌, ◌-◌, ◌*◌}
+use Rattle.std.specs.Prelude.{◌≡◌, ℕ, suc, ◌+◌, ◌-◌, ◌*◌, Result}
 use Rattle.facts.specs.Facts.{Fact, FactOf}
 use Rattle.format.specs.Job.{read_fact}
 use Rattle.format.specs.Parser.{Parsed, parsed, fault, Buffer}
-use Rattle.reader.specs.declared.Ranged.{Ranged}
+use Rattle.verdict.specs.declared.Refused.{Refused}
+use Rattle.number.specs.declared.Numeral.{Numeral}
 use Rattle.reader.specs.Number.{ranged_of}
 
 -- the rank of a fact, by which facts rise
@@ -22,5 +23,5 @@ ranked (parsed t next) = parsed (rank t) next
 ranked (fault why place) = fault why place
 
 -- the answer is that of reading a fact about n cells, after one that this least rank is due after
-abbrev pub FactAnswered : Buffer → ℕ → ℕ → ℕ → Ranged → Type 0
+abbrev pub FactAnswered : Buffer → ℕ → ℕ → ℕ → Result Numeral Refused → Type 0
 FactAnswered s n least at r = (last : Option Fact) → LeastAfter n last least → ranged_of r ≡ ranked (read_fact s n last at)

@@ -1,5 +1,5 @@
 -- What reading a job answers.
-use Rattle.std.specs.Prelude.{true, List, map, ◌≡◌, ℕ, ◌+◌, ◌*◌, ◌≤◌, ◌<◌, length, get_or}
+use Rattle.std.specs.Prelude.{true, List, map, ◌≡◌, ℕ, ◌+◌, ◌*◌, ◌≤◌, ◌<◌, length, get_or, Result, Ok, Err}
 use Rattle.lists.specs.Range.{range}
 use Rattle.format.specs.JobBytes.{Between}
 use Rattle.format.specs.Job.{read_located, read_whole_job}
@@ -8,13 +8,11 @@ use Rattle.format.specs.Parser.{parsed, fault, Parser, ◌>>=◌, ◌>>◌, retu
 use Rattle.kinds.specs.Kinds.{allowed}
 use Rattle.layout.specs.Entries.{version_of, entries_at, EntriesIn}
 use Rattle.layout.specs.Transitions.{transition_at}
-use Rattle.number.specs.Number.{number_at}
-use Rattle.number.specs.declared.Read.TheVariants.{Number}
+use Rattle.number.specs.Number.{number_at, numeral}
 use Rattle.verdict.specs.Verdict.{reason_of}
+use Rattle.verdict.specs.declared.Refused.{Refused}
 use Rattle.jobreader.specs.declared.Preamble.{Preamble}
 use Rattle.reader.specs.declared.Header.{Header}
-use Rattle.reader.specs.declared.JobAnswer.{JobAnswer}
-use Rattle.reader.specs.declared.JobAnswer.TheVariants.{Job, Refused}
 
 -- the transition at a place is whole and in range
 pub record TransitionIn (bytes : List ℕ) (variables states at : ℕ) : Type 0 where
@@ -40,10 +38,10 @@ pub record JobRead (job : List ℕ) (h : Header) : Type 0 where
   pub start : h.start < h.states
   pub transitions_number : h.transitions ≤ 256
   -- version, V, S and the start state are one byte each, so the number of transitions stands at place 4, and they follow it
-  pub transitions_place : number_at job 4 ≡ Number h.transitions h.transitions_at
+  pub transitions_place : number_at job 4 ≡ numeral h.transitions h.transitions_at
   pub transitions : (i : ℕ) → i < h.transitions → TransitionIn job h.variables h.states (h.transitions_at + 5 * i)
   pub bads_number : Between 1 64 h.bads
-  pub bads_place : number_at job (h.transitions_at + 5 * h.transitions) ≡ Number h.bads h.bads_at
+  pub bads_place : number_at job (h.transitions_at + 5 * h.transitions) ≡ numeral h.bads h.bads_at
   pub bads : EntriesIn job h.variables h.bads_at h.bads
 
 -- what follows the transitions: the forbidden shapes, and nothing after them; with the numbers before, it makes a header
@@ -64,10 +62,10 @@ read_rest job f = do
         bads_at = bads-at;
       })
 
-abbrev pub RestAnswered : List ℕ → Preamble → ℕ → JobAnswer → Type 0
-RestAnswered job f at (Job h) = (next : ℕ) × (read_rest job f at ≡ parsed h next)
-RestAnswered job f at (Refused r place) = read_rest job f at ≡ fault (reason_of r) place
+abbrev pub RestAnswered : List ℕ → Preamble → ℕ → Result Header Refused → Type 0
+RestAnswered job f at (Ok h) = (next : ℕ) × (read_rest job f at ≡ parsed h next)
+RestAnswered job f at (Err r) = read_rest job f at ≡ fault (reason_of r.refusal) r.place
 
-abbrev pub JobAnswered : List ℕ → JobAnswer → Type 0
-JobAnswered job (Job h) = JobRead job h
-JobAnswered job (Refused r place) = read_whole_job (job_buffer job) 0 ≡ fault (reason_of r) place
+abbrev pub JobAnswered : List ℕ → Result Header Refused → Type 0
+JobAnswered job (Ok h) = JobRead job h
+JobAnswered job (Err r) = read_whole_job (job_buffer job) 0 ≡ fault (reason_of r.refusal) r.place

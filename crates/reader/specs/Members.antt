@@ -1,5 +1,5 @@
 -- What reading the members of a certificate answers.
-use Rattle.std.specs.Prelude.{Bool, ◌&&◌, List, [], ◌∷◌, ◌++◌, map, ◌≡◌, ℕ, zero, suc, ◌+◌, ◌%◌, ◌≤◌, eqb, length, get_or, take, drop}
+use Rattle.std.specs.Prelude.{Bool, ◌&&◌, List, [], ◌∷◌, ◌++◌, map, ◌≡◌, ℕ, zero, suc, ◌+◌, ◌%◌, ◌≤◌, eqb, length, get_or, take, drop, Result, Ok, Err}
 use Rattle.lists.specs.List.{absent}
 use Rattle.heap.specs.Place.{null}
 use Rattle.format.specs.Certificate.{Member, without_places, read_member, read_members, test_start}
@@ -7,8 +7,8 @@ use Rattle.format.specs.JobBytes.{Between}
 use Rattle.format.specs.Parser.{refusal, Parsed, parsed, fault, Parser, ◌>>=◌, ◌>>◌, return, here, require, each, Buffer, certificate_buffer, ranged}
 use Rattle.layout.specs.Entries.{version_of, members_at, Table}
 use Rattle.verdict.specs.Verdict.{reason_of}
-use Rattle.reader.specs.declared.MembersAnswer.{MembersAnswer}
-use Rattle.reader.specs.declared.MembersAnswer.TheVariants.{Members, Refused}
+use Rattle.verdict.specs.declared.Refused.{Refused}
+use Rattle.reader.specs.declared.Members.{Members}
 
 -- The number of variables and of states is that of a job, and every place of the certificate fits 16 bits.
 pub record Bounds (cert : List ℕ) (variables states : ℕ) : Type 0 where
@@ -79,7 +79,7 @@ pub record MembersRead (cert : List ℕ) (version variables states start : ℕ) 
   pub members_are : Bounds cert variables states → without_places members ≡ members_at cert variables (take count table)
   pub table_is : Bounds cert variables states → Table cert variables (take count table)
 
-abbrev pub MembersAnswered : List ℕ → ℕ → ℕ → ℕ → ℕ → List ℕ → MembersAnswer → Type 0
-MembersAnswered cert version variables states start table (Members count next) = MembersRead cert version variables states start table count next
-MembersAnswered cert version variables states start table (Refused r place) =
-    read_tested (certificate_buffer cert) version variables states start 0 ≡ fault (reason_of r) place
+abbrev pub MembersAnswered : List ℕ → ℕ → ℕ → ℕ → ℕ → List ℕ → Result Members Refused → Type 0
+MembersAnswered cert version variables states start table (Ok m) = MembersRead cert version variables states start table m.count m.end
+MembersAnswered cert version variables states start table (Err r) =
+    read_tested (certificate_buffer cert) version variables states start 0 ≡ fault (reason_of r.refusal) r.place

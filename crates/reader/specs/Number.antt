@@ -1,9 +1,9 @@
 -- The code's answers on single numbers as those of the parsers.
-use Rattle.std.specs.Prelude.{List, ℕ}
+use Rattle.std.specs.Prelude.{List, ℕ, Result, Ok, Err}
 use Rattle.format.specs.Parser.{Parsed, parsed, fault, Buffer, job_buffer, certificate_buffer}
 use Rattle.verdict.specs.Verdict.{reason_of}
-use Rattle.reader.specs.declared.Ranged.{Ranged}
-use Rattle.reader.specs.declared.Ranged.TheVariants.{Value, Refused}
+use Rattle.verdict.specs.declared.Refused.{Refused}
+use Rattle.number.specs.declared.Numeral.{Numeral}
 use Rattle.reader.specs.declared.Input.{Input}
 use Rattle.reader.specs.declared.Input.TheVariants.{Job, Certificate}
 
@@ -12,9 +12,9 @@ abbrev pub buffer_of : Input → List ℕ → Buffer
 buffer_of Job bytes = job_buffer bytes
 buffer_of Certificate bytes = certificate_buffer bytes
 
-abbrev pub ranged_of : Ranged → Parsed ℕ
-ranged_of (Value n next) = parsed n next
-ranged_of (Refused r place) = fault (reason_of r) place
+abbrev pub ranged_of : Result Numeral Refused → Parsed ℕ
+ranged_of (Ok n) = parsed n.value n.next
+ranged_of (Err r) = fault (reason_of r.refusal) r.place
 
 -- what a parser answers, without the value
 abbrev pub without_value : {A : Type 0} → Parsed A → Parsed (Unit {0})

@@ -10,9 +10,9 @@ ghost use Rattle.reader.specs.Members.{empty_at, tested};
 ghost use Rattle.reader.specs.Number.{without_value};
 
 use crate::factlist::read_facts;
-use crate::{Input, Ranged, reached, read_ranged};
+use crate::{Input, read_ranged};
 use place::{Place, none_at};
-use verdict::{Reached, Refusal};
+use verdict::{Refusal, Refused};
 
 // Whether the empty heap satisfies the shape whose number of cells is at a place: no cells, and no variable at #.
 fn empty_at(cert: &[u8], at: usize, variables: usize) -> bool
@@ -44,18 +44,23 @@ pub(crate) fn may_refuse(cert: &[u8], at: usize, variables: usize, start: usize)
 }
 
 // Tests the member at a place, which was read: refused if it is at the start state and the empty heap satisfies it.
-fn test_member(cert: &[u8], at: usize, variables: usize, states: usize, start: usize) -> Reached
+fn test_member(
+    cert: &[u8],
+    at: usize,
+    variables: usize,
+    states: usize,
+    start: usize,
+) -> Result<usize, Refused>
     requires { (l : Located) × (next : ℕ) × (read_located (version_of cert.now) (certificate_buffer cert.now) variables states at ≡ parsed l next) }
     ensures { (l : Located) (next : ℕ) → read_located (version_of cert.now) (certificate_buffer cert.now) variables states at ≡ parsed l next → reached_of result ≡ test_start start (record { first = at; located = l }) next }
 {
-    let number = read_ranged(Input::Certificate, cert, at, 0, states);
-    let Ranged::Value(state, n_at) = number else {
-        return reached(number);
-    };
-    if state == start {
-        if empty_at(cert, n_at, variables) {
-            return Reached::Refused(Refusal::StartSatisfied, at);
-        }
+    let state = read_ranged(Input::Certificate, cert, at, 0, states)?;
+    let n_at = state.next;
+    if state.value == start && empty_at(cert, n_at, variables) {
+        return Err(Refused {
+            refusal: Refusal::StartSatisfied,
+            place: at,
+        });
     }
     let cells = cert[n_at] as usize;
     read_facts(
@@ -74,19 +79,14 @@ pub(crate) fn test_members(
     variables: usize,
     states: usize,
     start: usize,
-) -> Reached
+) -> Result<usize, Refused>
     requires { (ms : List Member) × (end : ℕ) × (many count (read_member (certificate_buffer cert.now) (version_of cert.now) variables states) first ≡ parsed ms end) }
     ensures { reached_of result ≡ without_value (onward (many count (read_member (certificate_buffer cert.now) (version_of cert.now) variables states) first) (tested start)) }
 {
+    // a loop, for what is asked of the reader of a member is that it was read before, which goes from each to the next
     let mut at = first;
-    let mut i = 0;
-    while i < count {
-        let r = test_member(cert, at, variables, states, start);
-        let Reached::At(next) = r else {
-            return r;
-        };
-        at = next;
-        i += 1;
+    for _i in 0..count {
+        at = test_member(cert, at, variables, states, start)?;
     }
-    Reached::At(at)
+    Ok(at)
 }

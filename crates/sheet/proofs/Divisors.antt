@@ -2,9 +2,10 @@
 use mathlib.Core.Logic.{◌⊎◌, inl, inr}
 use mathlib.Core.Path.{◌≡◌, sym, ap, ap₂, ◌∙◌, subst}
 use Prim.Native.Nat.{ℕ, zero, suc, ◌-◌, ◌*◌, ◌/◌, ◌%◌, ◌<◌, ◌∣◌}
-use native.Mathlib.Nat.{dvd_refl, dvd-zero, dvd-mod_iff, dvd_antisymm, dvd_of_mul-dvd-mul_right, mul-dvd-mul_right, eq-one_of_dvd-one, pos_of_dvd_of_pos, div-mul_cancel, mod-lt, not-suc-le-zero, eq-zero-or-pos, one-mul, zero-mul, mul_left_comm, ne_of_gt, mod-eq-sub-div-mul, mul-div-mul_right, mul_comm, mul-sub, mul_assoc, dvd-mul_right, dvd-mul_left, eq_of_mul-eq-mul_right, mul_right_comm}
+use native.Mathlib.Nat.{dvd-mod_iff, dvd_antisymm, dvd_of_mul-dvd-mul_right, mul-dvd-mul_right, eq-one_of_dvd-one, pos_of_dvd_of_pos, div-mul_cancel, mod-lt, not-suc-le-zero, eq-zero-or-pos, one-mul, zero-mul, mul_left_comm, ne_of_gt, mod-eq-sub-div-mul, mul-div-mul_right, mul_comm, mul-sub, mul_assoc, dvd-mul_right, dvd-mul_left, eq_of_mul-eq-mul_right, mul_right_comm}
 use native.Mathlib.Omega.{arith}
 use borrow.Author.Tests.{eq-eqb, ne_eqb}
+use Rattle.std.proofs.lemmas.Nat.Gcd.{IsGcd-from_zero, IsGcd-from_mod, same_from_IsGcd}
 use Rattle.sheet.specs.Lowest.{gcd_from, gcd, Greatest, Lowest}
 
 greatest_from : (turns a b : ℕ) → b < turns → Greatest a b (gcd_from turns a b)
@@ -13,38 +14,23 @@ greatest_from zero a b h = absurd (not-suc-le-zero h)
 greatest_from (suc turns) a b h = by_size (eq-zero-or-pos b) (λ small. greatest_from turns b (a % b) small)
   where
     by_size : (b ≡ 0) ⊎ (0 < b) → (a % b < turns → Greatest b (a % b) (gcd_from turns b (a % b))) → Greatest a b (gcd_from (suc turns) a b)
-    by_size (inl e) rest = rw (eq-eqb b 0 e, e) (record { left = dvd_refl a; right = dvd-zero a; most = λ k l r. l })
-    by_size (inr p) rest =
-        let g = rest (omega (arith, mod-lt a p)) in
-        rw (ne_eqb b 0 (ne_of_gt p))
-        (record {
-          left = (dvd-mod_iff _ g.left).0 g.right;
-          right = g.left;
-          most = λ k l r. g.most k r ((dvd-mod_iff k r).1 l);
-        })
+    by_size (inl e) rest = rw (eq-eqb b 0 e) (IsGcd-from_zero a b e)
+    by_size (inr p) rest = rw (ne_eqb b 0 (ne_of_gt p)) (IsGcd-from_mod a b _ (rest (omega (arith, mod-lt a p))))
 
 pub gcd_greatest : (a b : ℕ) → Greatest a b (gcd a b)
 gcd_greatest a b = greatest_from (suc b) a b (omega arith)
-
--- there is only one
-pub greatest_one : (a b g h : ℕ) → Greatest a b g → Greatest a b h → g ≡ h
-greatest_one a b g h x y = dvd_antisymm (y.most g x.left x.right) (x.most h y.left y.right)
 
 -- one turn
 pub gcd_none : (a b : ℕ) → b ≡ 0 → a ≡ gcd a b
 unfolding gcd_from
 gcd_none a b e = rw (eq-eqb b 0 e)
 
-pub gcd_turn : (a b : ℕ) → 0 < b → gcd b (a % b) ≡ gcd a b
-gcd_turn a b p =
-    let g = gcd_greatest b (a % b) in
-    greatest_one a b _ _
-    (record { left = (dvd-mod_iff _ g.left).0 g.right; right = g.left; most = λ k l r. g.most k r ((dvd-mod_iff k r).1 l) })
-    (gcd_greatest a b)
+pub gcd_turn : (a b : ℕ) → gcd b (a % b) ≡ gcd a b
+gcd_turn a b = same_from_IsGcd a b _ _ (IsGcd-from_mod a b _ (gcd_greatest b (a % b))) (gcd_greatest a b)
 
 -- the divisor is at least 1 where one of the two is
 pub gcd_some : (n d : ℕ) → 0 < d → 0 < gcd n d
-gcd_some n d p = pos_of_dvd_of_pos (gcd_greatest n d).right p
+gcd_some n d p = pos_of_dvd_of_pos (gcd_greatest n d).1 p
 
 -- "fractions in lowest terms"
 pub in_lowest : (n d : ℕ) → 0 < d → Lowest n d (n / gcd n d) (d / gcd n d)
@@ -59,10 +45,10 @@ in_lowest n d p =
     some = gcd_some n d p
 
     over : n / gcd n d * gcd n d ≡ n
-    over = div-mul_cancel (gcd n d) (gcd_greatest n d).left
+    over = div-mul_cancel (gcd n d) (gcd_greatest n d).0
 
     under : d / gcd n d * gcd n d ≡ d
-    under = div-mul_cancel (gcd n d) (gcd_greatest n d).right
+    under = div-mul_cancel (gcd n d) (gcd_greatest n d).1
 
     by_size : (d / gcd n d ≡ 0) ⊎ (0 < d / gcd n d) → 0 < d / gcd n d
     by_size (inl e) = let none : d ≡ 0 = sym under ∙ ap (λ (m : ℕ). m * gcd n d) e ∙ zero-mul (gcd n d) in absurd (omega arith)
@@ -70,7 +56,7 @@ in_lowest n d p =
 
     both : (k : ℕ) → k ∣ n / gcd n d → k ∣ d / gcd n d → k * gcd n d ∣ gcd n d
     both k l r =
-        (gcd_greatest n d).most (k * gcd n d)
+        (gcd_greatest n d).2 (k * gcd n d)
         (subst (λ (m : ℕ). k * gcd n d ∣ m) over (mul-dvd-mul_right k l (gcd n d)))
         (subst (λ (m : ℕ). k * gcd n d ∣ m) under (mul-dvd-mul_right k r (gcd n d)))
 
@@ -98,7 +84,7 @@ most_scaled (suc turns) a b c k p h l r = by_size (eq-zero-or-pos b) (λ small r
 pub divides_other : (p q m : ℕ) → 0 < m → ((k : ℕ) → k ∣ p → k ∣ q → k ≡ 1) → q ∣ p * m → q ∣ m
 divides_other p q m some apart h =
     let g = gcd_greatest p q in
-    let one = apart (gcd p q) g.left g.right in
+    let one = apart (gcd p q) g.0 g.1 in
     subst (λ (k : ℕ). q ∣ k) (ap (λ (k : ℕ). k * m) one ∙ one-mul m) (most_scaled (suc q) p q m q some (omega arith) h (dvd-mul_right q m))
 
 pub lowest_one : (n d p q p' q' : ℕ) → 0 < d → Lowest n d p q → Lowest n d p' q' → (p ≡ p') × (q ≡ q')

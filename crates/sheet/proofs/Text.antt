@@ -1,16 +1,17 @@
 -- The text of a fraction and of the sheet.
 use mathlib.Core.List.{List, [], ◌∷◌, ◌++◌}
-use mathlib.Core.Path.{◌≡◌, refl}
+use mathlib.Core.Path.{◌≡◌}
 use Prim.Native.Nat.{ℕ, ◌/◌, ◌<◌, ◌≤◌}
 use native.Mathlib.Nat.{div-le_self, ne_of_gt}
 use native.Mathlib.Omega.{arith}
 use borrow.Author.Tests.{eq-eqb, ne_eqb, le-leb, lt-leb}
-use lib.ListN.{length, drop}
+use lib.ListN.{length, take}
+use Rattle.std.proofs.Common.{Ok, Err}
 use Rattle.number.specs.CallResult.{lent}
 use Rattle.putting.specs.Digits.{digits}
-use Rattle.putting.specs.Put.{Put}
+use Rattle.putting.specs.Put.{Put, PutIfRoom}
 use Rattle.putting.proofs.Decimal.{few_digits}
-use Rattle.putting.proofs.Putting.{put_more}
+use Rattle.putting.proofs.Putting.{put_more, put_first, put_taken}
 use Rattle.sheet.specs.Lowest.{gcd}
 use Rattle.sheet.specs.Sheet.{none_text, share_text, covers_text, fraction_text, sheet_text, reported}
 
@@ -35,12 +36,20 @@ pub put_sheet : (v n m : ℕ) {a b c d : ℕ} {out o₁ o₂ o₃ after : List �
 unfolding sheet_text
 put_sheet v n m p q r s = put_more (put_more (put_more p q) r) s
 
-module _ (text out : List ℕ) where
-  pub report_short : length out < length text → (record { number = 12; length = length text } ≡ reported text (length out)) × (out ≡ lent text out)
-  unfolding reported lent
-  report_short h = simp (lt-leb (length text) (length out) h) (refl, refl)
+-- the sheet of n bytes is put: what is told of it, and what it leaves of the room
+module _ {text before sheet : List ℕ} {n : ℕ} (p : Put 0 before text n sheet) (out : List ℕ) where
+  pub told_short : length out < n → Err (record { needed = n }) ≡ reported text (length out)
+  unfolding reported
+  told_short h = let is : n ≡ length text = omega (arith, p.next_is) in rw (is, lt-leb (length text) (length out) (omega arith))
 
-  pub report_done : length text ≤ length out → {after : List ℕ} → after ≡ text ++ drop (length text) out
-      → (record { number = 0; length = length text } ≡ reported text (length out)) × (after ≡ lent text out)
-  unfolding reported lent
-  report_done h e = simp (le-leb (length text) (length out) h) (refl, e)
+  pub told_written : n ≤ length out → Ok n ≡ reported text (length out)
+  unfolding reported
+  told_written h = let is : n ≡ length text = omega (arith, p.next_is) in rw (is, le-leb (length text) (length out) (omega arith))
+
+  pub left : length out < n → out ≡ lent text out
+  unfolding lent
+  left h = rw (lt-leb (length text) (length out) (omega (arith, p.next_is)))
+
+  pub copied : {next : ℕ} {after : List ℕ} → n ≤ length out → PutIfRoom 0 out (take n sheet) next after → after ≡ lent text out
+  unfolding lent
+  copied h c = rw (le-leb (length text) (length out) (omega (arith, p.next_is))) (put_first ((rw (put_taken p) at c).room (omega (arith, p.next_is))))

@@ -1,9 +1,9 @@
 -- The release sheet (document 02, wish 10): "The report prints the accepted share and the mean covers for each accepted certificate as fractions in lowest
 -- terms, 0/1 for zero and `none` where the divisor would be 0. After P1 and P2 it reads `share 1/2 covers 1/1`."
-use Rattle.std.specs.Prelude.{cond, List, [], ◌∷◌, ◌++◌, ℕ, ◌/◌, eqb, leb, length}
+use Rattle.std.specs.Prelude.{cond, List, [], ◌∷◌, ◌++◌, ℕ, ◌/◌, eqb, leb, length, Result, Ok, Err}
 use Rattle.putting.specs.Digits.{digits}
 use Rattle.sheet.specs.Lowest.{gcd}
-use Rattle.sheet.specs.declared.Reported.{Reported}
+use Rattle.sheet.specs.declared.TooShort.{TooShort}
 
 -- "none"
 abbrev pub none_text : List ℕ
@@ -24,6 +24,6 @@ fraction_text n d = cond (eqb d 0) none_text (digits (n / gcd n d) ++ (47 ∷ []
 unfoldable pub sheet_text : ℕ → ℕ → ℕ → List ℕ
 sheet_text verdicts accepted covers = share_text ++ fraction_text accepted verdicts ++ covers_text ++ fraction_text covers accepted
 
--- 0 where the room is enough, else 12; with the text's length
-unfoldable pub reported : List ℕ → ℕ → Reported
-reported text room = record { number = cond (leb (length text) room) 0 12; length = length text }
+-- the text's length where the room is enough, else refused with it
+unfoldable pub reported : List ℕ → ℕ → Result ℕ TooShort
+reported text room = cond (leb (length text) room) (Ok (length text)) (Err (record { needed = length text }))

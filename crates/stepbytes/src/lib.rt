@@ -1,47 +1,33 @@
 // One step on a heap as 137 bytes, with the codes of its cells' values.
 #![tactic(auto)]
 
+ghost use Rattle.stepper.specs.Step.{outcome_code};
 ghost use Rattle.heapbytes.specs.HeapBytes.{StepsBytes};
 
 use heapcodec::{read_heap, write_heap};
-use stepper::Outcome;
+use stepper::{Outcome, StepRefusal};
 
-// What a step on bytes tells: 0 for moved, 100 for blocked, or 13, 14, 15; and the codes of the values after it.
-#[derive(Clone, Copy)]
-pub struct SteppedBytes {
-    pub number: u32,
-    pub values: [u32; 64],
-}
-
-// One operation on a heap of 137 bytes and 64 codes of values. Kinds 11 to 13 write `value`.
+// One operation on a heap of 137 bytes and 64 codes of values, which stay as they are unless it moves. Bytes that are no heap's are refused as an ill formed
+// heap is. Kinds 11 to 13 write `value`.
 pub fn step_bytes(
     heap: &mut [u8],
-    values: [u32; 64],
+    values: &mut [u32; 64],
     kind: u32,
     a: u32,
     b: u32,
     value: u16,
-) -> SteppedBytes
-    ensures { StepsBytes heap.old values kind a b value result.number heap.new result.values }
+) -> Outcome
+    ensures { StepsBytes heap.old values.old kind a b value (outcome_code result) heap.new values.new }
 {
-    let read = read_heap(heap, values);
-    if !read.readable {
-        return SteppedBytes { number: 13, values };
-    }
-    let before = read.heap;
+    let Some(before) = read_heap(heap, *values) else {
+        return Outcome::Refused(StepRefusal::IllFormed);
+    };
     let stepped = before.step(kind, a, b, value);
     let outcome = stepped.outcome;
-    let Outcome::Moved = outcome else {
-        return SteppedBytes {
-            number: stepper::outcome_code(outcome),
-            values,
-        };
-    };
-    let after = stepped.heap;
-    let codes = after.values;
-    write_heap(after, heap);
-    SteppedBytes {
-        number: 0,
-        values: codes,
+    if let Outcome::Moved = outcome {
+        write_heap(stepped.heap, heap);
+        let codes = stepped.heap.values;
+        *values = codes;
     }
+    outcome
 }

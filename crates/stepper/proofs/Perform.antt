@@ -1,13 +1,13 @@
 -- What an operation does on a well formed table, in the terms in which the code does it.
-use mathlib.Core.Bool.{Bool, true, false, ◌&&◌}
+use mathlib.Core.Bool.{Bool, true, false, not, beq, ◌&&◌}
 use mathlib.Core.List.{List, [], ◌∷◌}
 use mathlib.Core.Logic.{if_pos, if_neg, ◌≢◌, ◌⊎◌, inl, inr}
 use mathlib.Core.Path.{◌≡◌, refl, sym, ap, ap₂, ◌∙◌}
 use Prim.Native.Nat.{ℕ, zero, suc, ◌-◌, ◌≤◌, ◌<◌}
 use native.Mathlib.Decide.{dec_lt}
 use native.Mathlib.Omega.{arith}
-use borrow.Author.Tests.{leb-false, lt-leb, lt-ltb}
-use lib.Dec.{leb}
+use borrow.Author.Tests.{leb-false, lt-leb, lt-ltb, eqb-true, eqb_apart}
+use lib.Dec.{leb, eqb}
 use lib.ListN.{length, get_or, set, length-map, get_or-eq_default}
 use lib.Seq.{get_or-set_same}
 use Rattle.heap.specs.Codes.{var_in, link_in}
@@ -158,18 +158,25 @@ module _ (t : Heap64) (s : Sized t) (f : Formed t) (value : ℕ) where
     pub dangling_b : var_in (codes t.vars) b ≡ dangling → stays t Blocked ≡ perform t value (comparison e a b)
     dangling_b z = elim e as (λ k. stays t Blocked ≡ perform t value (comparison k a b)) [ true ↦ blocked t value (equal a b) refl (λ d. d.1 z) | false ↦ blocked t value (different a b) refl (λ d. d.1 z) ]
 
-    module _ (na : var_in (codes t.vars) a ≢ dangling) (nb : var_in (codes t.vars) b ≢ dangling) where
-      pub same_equal : var_in (codes t.vars) a ≡ var_in (codes t.vars) b → e ≡ true → stays t Moved ≡ perform t value (comparison e a b)
-      same_equal z k = rw k (moved t value (equal a b) t (still (equal a b) refl (na, nb, z) refl))
+    -- whether both stand at one place is not what is asked, or it is
+    pub differs : not (beq (eqb (var_in (codes t.vars) a) (var_in (codes t.vars) b)) e) ≡ true → stays t Blocked ≡ perform t value (comparison e a b)
+    differs h = go e (eqb (var_in (codes t.vars) a) (var_in (codes t.vars) b)) refl h
+      where
+        go : (e k : Bool) → eqb (var_in (codes t.vars) a) (var_in (codes t.vars) b) ≡ k → not (beq k e) ≡ true → stays t Blocked ≡ perform t value (comparison e a b)
+        go true true z h = let q : false ≡ true = h in cc
+        go true false z h = blocked t value (equal a b) refl (λ d. eqb_apart (var_in (codes t.vars) a) (var_in (codes t.vars) b) z d.2)
+        go false true z h = blocked t value (different a b) refl (λ d. d.2 (eqb-true (var_in (codes t.vars) a) (var_in (codes t.vars) b) z))
+        go false false z h = let q : false ≡ true = h in cc
 
-      pub same_different : var_in (codes t.vars) a ≡ var_in (codes t.vars) b → e ≡ false → stays t Blocked ≡ perform t value (comparison e a b)
-      same_different z k = rw k (blocked t value (different a b) refl (λ d. d.2 z))
-
-      pub other_equal : var_in (codes t.vars) a ≢ var_in (codes t.vars) b → e ≡ true → stays t Blocked ≡ perform t value (comparison e a b)
-      other_equal z k = rw k (blocked t value (equal a b) refl (λ d. z d.2))
-
-      pub other_different : var_in (codes t.vars) a ≢ var_in (codes t.vars) b → e ≡ false → stays t Moved ≡ perform t value (comparison e a b)
-      other_different z k = rw k (moved t value (different a b) t (still (different a b) refl (na, nb, z) refl))
+    pub agrees : var_in (codes t.vars) a ≢ dangling → var_in (codes t.vars) b ≢ dangling
+        → not (beq (eqb (var_in (codes t.vars) a) (var_in (codes t.vars) b)) e) ≡ false → stays t Moved ≡ perform t value (comparison e a b)
+    agrees na nb h = go e (eqb (var_in (codes t.vars) a) (var_in (codes t.vars) b)) refl h
+      where
+        go : (e k : Bool) → eqb (var_in (codes t.vars) a) (var_in (codes t.vars) b) ≡ k → not (beq k e) ≡ false → stays t Moved ≡ perform t value (comparison e a b)
+        go true true z h = moved t value (equal a b) t (still (equal a b) refl (na, nb, eqb-true (var_in (codes t.vars) a) (var_in (codes t.vars) b) z) refl)
+        go true false z h = let q : true ≡ false = h in cc
+        go false true z h = let q : true ≡ false = h in cc
+        go false false z h = moved t value (different a b) t (still (different a b) refl (na, nb, eqb_apart (var_in (codes t.vars) a) (var_in (codes t.vars) b) z) refl)
 
   -- variable a goes to p
   pub put : (o : Op) (a : ℕ) (p : Place) → allocates o ≡ false → Enabled o (choice t value o) (heap_of t) → 1 ≤ a → a ≤ t.variables

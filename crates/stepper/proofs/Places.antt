@@ -1,12 +1,11 @@
 -- Places and the codes in a table's lists.
-use mathlib.Core.Bool.{Bool, true, false}
-use mathlib.Core.List.{List, ◌∷◌}
+use mathlib.Core.Bool.{Bool, true, false, not}
+use mathlib.Core.List.{List, [], ◌∷◌}
 use mathlib.Core.Path.{◌≡◌, refl, sym, ap, ◌∙◌}
-use Prim.Native.Nat.{ℕ, suc, ◌+◌, ◌-◌, ◌≤◌, ◌<◌}
-use native.Mathlib.Numerals.{add-one}
+use Prim.Native.Nat.{ℕ, zero, suc, ◌+◌, ◌-◌, ◌≤◌, ◌<◌}
 use native.Mathlib.Omega.{arith}
-use lib.ListN.{length, get_or, drop, get_or-map, get_or-eq_default, drop_of_length-le}
-use lib.Seq.{drop-cons}
+use lib.Dec.{eqb}
+use lib.ListN.{length, get_or, get_or-map, get_or-eq_default}
 use Rattle.heap.specs.Place.{nowhere, cell}
 use Rattle.heap.proofs.Codes.{by_code}
 use Rattle.place.specs.Place.{place_of, codes}
@@ -18,14 +17,10 @@ pub code_at : (l : List Place) (i : ℕ) → (get_or l i (place_of nowhere)).cod
 code_at l i = sym (get_or-map (λ (p : Place). p.code) l i (place_of nowhere))
 
 module _ (used : List Bool) where
-  pub standing_none : (p : ℕ) → p ≡ 0 → false ≡ standing used p
+  -- what is no cell's stands unless it is nowhere
+  pub standing_not : (p : ℕ) → p < 3 → not (eqb p nowhere) ≡ standing used p
   unfolding standing
-  standing_none p e = rw e refl
-
-  pub standing_low : (p : ℕ) → 1 ≤ p → p < 3 → true ≡ standing used p
-  unfolding standing
-  standing_low =
-      by_code (λ p. 1 ≤ p → p < 3 → true ≡ standing used p) (λ l h. absurd (omega arith)) (λ l h. refl) (λ l h. refl) (λ i l h. absurd (omega arith))
+  standing_not = by_code (λ p. p < 3 → not (eqb p nowhere) ≡ standing used p) (λ h. refl) (λ h. refl) (λ h. refl) (λ i h. absurd (omega arith))
 
   pub standing_cell : (p : ℕ) → 3 ≤ p → get_or used (p - 3) false ≡ standing used p
   unfolding standing
@@ -36,20 +31,15 @@ module _ (used : List Bool) where
   pub standing_high : (p n : ℕ) → length used ≡ n → n + 3 ≤ p → false ≡ standing used p
   standing_high p n e h = sym (get_or-eq_default used false (omega arith)) ∙ standing_cell p (omega arith)
 
--- ---- the lowest unused cell: what is left after i cells
+-- ---- the lowest unused cell
 
-module _ (us : List Bool) (i : ℕ) (inside : i < length us) where
-  left : drop i us ≡ get_or us i false ∷ drop (i + 1) us
-  left = rw add-one (drop-cons us i false inside)
-
-  pub lowest_here : get_or us i false ≡ false → lowest_unused (drop i us) ≡ 0
-  unfolding lowest_unused
-  lowest_here e = ap lowest_unused left ∙ rw e refl
-
-  pub lowest_later : get_or us i false ≡ true → lowest_unused (drop i us) ≡ suc (lowest_unused (drop (i + 1) us))
-  unfolding lowest_unused
-  lowest_later e = ap lowest_unused left ∙ rw e refl
-
-pub lowest_end : (us : List Bool) (i : ℕ) → length us ≤ i → lowest_unused (drop i us) ≡ 0
+pub lowest_first : (us : List Bool) (i : ℕ) → i < length us → get_or us i false ≡ false → ((k : ℕ) → k < i → get_or us k false ≡ true) → i ≡ lowest_unused us
 unfolding lowest_unused
-lowest_end us i h = ap lowest_unused (drop_of_length-le us h)
+lowest_first [] i h e before = absurd (omega arith)
+lowest_first (u ∷ us) zero h e before = rw e refl
+lowest_first (u ∷ us) (suc i) h e before = rw (before 0 (omega arith)) (ap suc (lowest_first us i (omega arith) e (λ k l. before (suc k) (omega arith))))
+
+pub lowest_none : (us : List Bool) → ((k : ℕ) → k < length us → get_or us k false ≡ true) → length us ≤ lowest_unused us
+unfolding lowest_unused
+lowest_none [] all = omega arith
+lowest_none (u ∷ us) all = rw (all 0 (omega arith)) (let rest = lowest_none us (λ k l. all (suc k) (omega arith)) in omega arith)

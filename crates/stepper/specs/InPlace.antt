@@ -1,16 +1,20 @@
--- Steps that are done in place: what a function that sees the variables alone says of them.
-use Rattle.std.specs.Prelude.{Bool, List, ◌≢◌, ◌≡◌, ℕ, ◌/◌, ◌%◌, ◌≤◌, ◌<◌, get_or, set}
-use Rattle.heap.specs.Place.{nowhere, dangling}
-use Rattle.kinds.specs.Kinds.{allowed}
-use Rattle.place.specs.Place.{place_of}
+-- Operations that are done in place, by their kinds: a table with one place changed, and what a function says of a cell that it looks up.
+use Rattle.std.specs.Prelude.{Bool, true, false, List, ◌≡◌, ℕ, ◌<◌, length, get_or, set, Option, Some, None, MatchOption}
+use Rattle.heap.specs.Place.{cell}
+use Rattle.heap.specs.Operation.{operation}
+use Rattle.kinds.specs.Kinds.{number_of}
+use Rattle.kinds.specs.declared.Kind.{Kind}
 use Rattle.place.specs.declared.Place.{Place}
-use Rattle.stepper.specs.Step.{stays, Steps}
-use Rattle.stepper.specs.Table.{FormedTable}
+use Rattle.stepper.specs.Step.{stays, perform_named}
 use Rattle.stepper.specs.declared.Heap64.{Heap64}
-use Rattle.stepper.specs.declared.Outcome.TheVariants.{Moved}
-use Rattle.stepper.specs.declared.Put.{Put}
-use Rattle.stepper.specs.declared.Put.TheVariants.{Variable, Follow, Link, Other}
-use Rattle.stepper.specs.declared.Turn.{Turn}
+use Rattle.stepper.specs.declared.Outcome.TheVariants.{Refused}
+use Rattle.stepper.specs.declared.StepRefusal.TheVariants.{BadOperation}
+use Rattle.stepper.specs.declared.Stepped.{Stepped}
+
+-- an operation by its kind in the code, refused where there is none
+abbrev pub perform_kind : Heap64 → ℕ → Option Kind → ℕ → ℕ → Stepped
+perform_kind t value None a b = stays t (Refused BadOperation)
+perform_kind t value (Some k) a b = perform_named t value (operation t.variables (number_of k) a b)
 
 -- variable v, from 0, at a place
 abbrev pub with_var : Heap64 → ℕ → Place → Heap64
@@ -20,34 +24,12 @@ with_var t v p = record { variables = t.variables; vars = set t.vars v p; used =
 abbrev pub with_link : Heap64 → ℕ → Place → Heap64
 with_link t i p = record { variables = t.variables; vars = t.vars; used = t.used; links = set t.links i p; values = t.values }
 
--- what is put is inside the table, and then the step is done
-abbrev pub Does : Heap64 → Turn → Put → Type 0
-Does t o (Variable v p) = (v < 8) × Steps t o.kind o.a o.b 0 (stays (with_var t v p) Moved)
-Does t o (Follow v i) =
-    let p = get_or t.links i (place_of nowhere) in
-    (v < 8) × (i < 64) × (p.code ≢ dangling → Steps t o.kind o.a o.b 0 (stays (with_var t v p) Moved))
-Does t o (Link i p) = (i < 64) × Steps t o.kind o.a o.b 0 (stays (with_link t i p) Moved)
-Does t o Other = Unit {0}
+-- the number of the used cell that is at a place; none where the place is no cell
+abbrev pub CellAt : Heap64 → ℕ → Option ℕ → Type 0
+CellAt t p r = MatchOption r (p < 3) (λ i. (i < 64) × (p ≡ cell i) × (get_or t.used i false ≡ true))
 
--- `named` is what the table of kinds says where there are n variables
-abbrev pub Looked : ℕ → Turn → Type 0
-Looked n o = o.named ≡ allowed n o.kind o.a o.b
-
--- the same, for some number of variables
-abbrev pub LookedUp : Turn → Type 0
-LookedUp o = (n : ℕ) × (n ≤ 8) × Looked n o
-
--- so it is on every well formed table that has these variables, whatever else is in it
-abbrev pub Foretells : List Place → Turn → Put → Type 0
-Foretells vars o r =
-    (n : ℕ) (used : List Bool) (links : List Place) (values : List ℕ)
-    → let t : Heap64 = record { variables = n; vars = vars; used = used; links = links; values = values } in
-    FormedTable t → Looked n o → Does t o r
-
--- the operation that a number gives as a turn, looked up in the table of kinds
-pub record TurnOf (number variables : ℕ) (r : Turn) : Type 0 where
-  pub kind : r.kind ≡ number / 256 % 16
-  pub a : r.a ≡ number / 16 % 16
-  pub b : r.b ≡ number % 16
-  pub times : r.times ≡ number / 4096
-  pub looked : Looked variables r
+-- the number of the first cell that is not used; none where all are
+abbrev pub FirstUnused : List Bool → Option ℕ → Type 0
+FirstUnused used r =
+    MatchOption r ((k : ℕ) → k < length used → get_or used k false ≡ true)
+    (λ i. (i < length used) × (get_or used i false ≡ false) × ((k : ℕ) → k < i → get_or used k false ≡ true))

@@ -1,24 +1,22 @@
 -- A tally and its numbers.
-use mathlib.Core.List.{List, [], ◌∷◌, ◌++◌, map, append-nil}
+use mathlib.Core.List.{List, [], ◌∷◌, ◌++◌, append-nil}
 use mathlib.Core.Path.{◌≡◌, refl, sym, ap, ap₂, ◌∙◌}
-use Prim.Native.Nat.{ℕ, ◌+◌, ◌-◌, ◌<◌, ◌≤◌}
+use Prim.Native.Nat.{ℕ, ◌-◌, ◌<◌, ◌≤◌}
 use native.Mathlib.Decide.{dec_lt}
 use native.Mathlib.Omega.{arith}
 use borrow.Author.Tests.{lt-ltb, le-ltb}
 use lib.ListN.{length, get_or, take, drop, replicate, length-drop, take-append-drop, length-append}
-use lib.Seq.{drop-cons, drop-drop, take_at, get_or-take, get_or-drop, length-take-le, sets, sets-eq, drop_at}
-use Rattle.putting.specs.Put.{Put}
-use Rattle.lists.specs.Range.{range}
-use Rattle.lists.proofs.Range.{tabled}
+use lib.Seq.{drop-cons, drop-drop, take_at, length-take-le, drop_at}
 use Rattle.format.specs.Parser.{reason_number}
 use Rattle.format.specs.Verdict.{Verdict, accepted, refused}
 use Rattle.tally.proofs.Taking.{by_fit}
 use Rattle.tally.proofs.Release.{length_more}
-use Rattle.tally.specs.Numbers.{numbers_of, tally_from, number_told, numbers_after, numbers_all}
+use Rattle.tally.specs.Numbers.{numbers_of, tally_from, untaken, numbers_after, numbers_all}
 use Rattle.tally.specs.Release.{tallied}
-use Rattle.tally.specs.Tally.{begun, after, take_in}
-use Rattle.tally.specs.declared.Taken.{Taken}
+use Rattle.tally.specs.Tally.{begun, after, fits, take_in, tally_after}
 use Rattle.tally.specs.declared.Tally.{Tally}
+use Rattle.tally.specs.declared.Untaken.TheVariants.{TooFew, Full}
+use Rattle.std.proofs.Common.{Option, None, Some, unwrap_or, Bool, true, false, cond}
 
 -- the numbers of the tally that a host's numbers are: the first 35
 pub numbers_back : (l : List ℕ) → 35 ≤ length l → numbers_of (tally_from l) ++ drop 35 l ≡ l
@@ -36,74 +34,71 @@ pub tally_back : (t : Tally) (rest : List ℕ) → length t.refusals ≡ 31 → 
 tally_back t rest e =
     ap (λ (r : List ℕ). record { verdicts = t.verdicts; accepted = t.accepted; members = t.members; covers = t.covers; refusals = r }) (take_at t.refusals rest 31 e)
 
--- ---- the loops
-
-pub refusals_table : (l : List ℕ) → 35 ≤ length l → take 31 (drop 4 l) ≡ map (λ i. get_or l (4 + i) 0) (range 0 31)
-refusals_table l h =
-    tabled (λ i. get_or l (4 + i) 0) 0 31 (take 31 (drop 4 l)) (length-take-le 31 (drop 4 l) (omega (arith, length-drop 4 l)))
-    (λ i b. get_or-take 31 (drop 4 l) i 0 b ∙ get_or-drop 4 l i 0)
-
-abbrev pub four : Tally → List ℕ
-four t = t.verdicts ∷ t.accepted ∷ t.members ∷ t.covers ∷ []
-
--- the four stored, then the refusals put after them
-pub put_numbers : (t : Tally) (l : List ℕ) {next : ℕ} {after : List ℕ} → 35 ≤ length l → length t.refusals ≡ 31 → Put 4 (sets l 0 (four t)) t.refusals next after
-    → after ≡ numbers_of t ++ drop 35 l
-put_numbers t l {next} h e p =
-    let n_is : next ≡ 35 = omega (arith, p.next_is) in
-    p.bytes
-    ∙ ap₂ (λ (k : ℕ) (n₀ : List ℕ). (take 4 n₀ ++ t.refusals) ++ drop k n₀) n_is (sets-eq (four t) l 0 (omega arith))
-    ∙ ap (λ (r : List ℕ). (four t ++ t.refusals) ++ r) (drop-drop 31 4 l)
-
 -- ---- a verdict taken in by a host's numbers
 
 module _ (v : Verdict) (l : List ℕ) where
-  pub too_few : length l < 35 → (12 ≡ number_told v l) × (l ≡ numbers_after v l)
-  unfolding number_told numbers_after
+  pub too_few : length l < 35 → (Some TooFew ≡ untaken v l) × (l ≡ numbers_after v l)
+  unfolding untaken numbers_after
   too_few h = rw (lt-ltb (length l) 35 h) (refl, refl)
 
   module _ (h : 35 ≤ length l) where
-    pub number_enough : (take_in v (tally_from l)).number ≡ number_told v l
-    unfolding number_told
-    number_enough = rw (le-ltb (length l) 35 h) refl
-
-    pub numbers_enough : numbers_of (take_in v (tally_from l)).tally ++ drop 35 l ≡ numbers_after v l
+    pub numbers_enough : numbers_of (tally_after v (tally_from l)) ++ drop 35 l ≡ numbers_after v l
     unfolding numbers_after
     numbers_enough = rw (le-ltb (length l) 35 h) refl
 
-    -- then 12 isn't told
-    pub told_enough : ¬ (number_told v l ≡ 12)
-    told_enough e = by_fit v (tally_from l) (λ (r : Taken). r.number ≡ 12 → ⊥) (λ z. absurd (omega (arith, z))) (λ z. absurd (omega (arith, z))) (number_enough ∙ e)
+    -- where the tally is full, all is left as it was
+    pub full_told : take_in v (tally_from l) ≡ None → (Some Full ≡ untaken v l) × (l ≡ numbers_after v l)
+    unfolding take_in untaken
+    full_told e = (
+      rw (le-ltb (length l) 35 h) (go (fits v (tally_from l)) e),
+      sym (numbers_back l h) ∙ ap (λ (o : Option Tally). numbers_of (unwrap_or o (tally_from l)) ++ drop 35 l) (sym e) ∙ numbers_enough,
+    )
+      where
+        go : (b : Bool) → cond b (Some (after v (tally_from l))) None ≡ None → Some Full ≡ cond b None (Some Full)
+        go true e = cc
+        go false e = refl
 
-    size : length (take_in v (tally_from l)).tally.refusals ≡ 31
+    -- where it is not, the tally after the verdict stands there
+    pub taken_told : (t : Tally) → take_in v (tally_from l) ≡ Some t → (None ≡ untaken v l) × (numbers_of t ++ drop 35 l ≡ numbers_after v l)
+    unfolding take_in untaken
+    taken_told t e = (
+      rw (le-ltb (length l) 35 h) (go (fits v (tally_from l)) e),
+      ap (λ (o : Option Tally). numbers_of (unwrap_or o (tally_from l)) ++ drop 35 l) (sym e) ∙ numbers_enough,
+    )
+      where
+        go : (b : Bool) → cond b (Some (after v (tally_from l))) None ≡ Some t → None ≡ cond b None (Some Full)
+        go true e = refl
+        go false e = cc
+
+    size : length (tally_after v (tally_from l)).refusals ≡ 31
     size =
-        by_fit v (tally_from l) (λ (r : Taken). length r.tally.refusals ≡ length (take 31 (drop 4 l))) (after_size v (tally_from l)) refl
+        by_fit v (tally_from l) (λ (t : Tally). length t.refusals ≡ length (take 31 (drop 4 l))) (after_size v (tally_from l)) refl
         ∙ length-take-le 31 (drop 4 l) (omega (arith, length-drop 4 l))
       where
         after_size : (v : Verdict) (t : Tally) → length (after v t).refusals ≡ length t.refusals
         after_size (accepted c) t = refl
         after_size (refused why place) t = length_more (reason_number why - 1) t.refusals
 
-    from_after : tally_from (numbers_after v l) ≡ (take_in v (tally_from l)).tally
-    from_after = ap tally_from (sym numbers_enough) ∙ tally_back (take_in v (tally_from l)).tally (drop 35 l) size
+    from_after : tally_from (numbers_after v l) ≡ (tally_after v (tally_from l))
+    from_after = ap tally_from (sym numbers_enough) ∙ tally_back (tally_after v (tally_from l)) (drop 35 l) size
 
     rest_after : drop 35 (numbers_after v l) ≡ drop 35 l
-    rest_after = ap (drop 35) (sym numbers_enough) ∙ drop_at (numbers_of (take_in v (tally_from l)).tally) (drop 35 l) 35 (omega (arith, size))
+    rest_after = ap (drop 35) (sym numbers_enough) ∙ drop_at (numbers_of (tally_after v (tally_from l))) (drop 35 l) 35 (omega (arith, size))
 
     enough_after : 35 ≤ length (numbers_after v l)
-    enough_after = omega (arith, size, ap length (sym numbers_enough) ∙ length-append (numbers_of (take_in v (tally_from l)).tally) (drop 35 l))
+    enough_after = omega (arith, size, ap length (sym numbers_enough) ∙ length-append (numbers_of (tally_after v (tally_from l))) (drop 35 l))
 
-  -- 12 and 23 leave them as they are
-  pub numbers_same : ¬ (number_told v l ≡ 0) → numbers_after v l ≡ l
+  -- a refusal leaves them as they are
+  pub numbers_same : ¬ (untaken v l ≡ None) → numbers_after v l ≡ l
   numbers_same e = by_length (dec_lt (length l) 35)
     where
+      by_take : (h : 35 ≤ length l) (o : Option Tally) → take_in v (tally_from l) ≡ o → numbers_after v l ≡ l
+      by_take h None is = sym (full_told h is).1
+      by_take h (Some t) is = absurd (e (sym (taken_told h t is).0))
+
       by_length : Dec (length l < 35) → numbers_after v l ≡ l
       by_length (yes few) = sym (too_few few).1
-      by_length (no many) =
-          let h : 35 ≤ length l = omega arith in
-          let full : (take_in v (tally_from l)).tally ≡ tally_from l =
-          by_fit v (tally_from l) (λ (r : Taken). ¬ (r.number ≡ 0) → r.tally ≡ tally_from l) (λ z. absurd (z refl)) (λ z. refl) (λ z. e (sym (number_enough h) ∙ z)) in
-          sym (numbers_enough h) ∙ ap (λ (t : Tally). numbers_of t ++ drop 35 l) full ∙ numbers_back l h
+      by_length (no many) = by_take (omega arith) (take_in v (tally_from l)) refl
 
 -- ---- array and struct agree over a list of verdicts
 

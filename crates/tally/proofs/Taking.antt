@@ -1,17 +1,17 @@
 -- One verdict taken in.
 use mathlib.Core.Bool.{Bool, true, false, ◌&&◌, cond}
 use mathlib.Core.List.{List, [], ◌∷◌}
-use mathlib.Core.Path.{◌≡◌, refl, sym, ap, ◌∙◌}
-use Prim.Native.Nat.{ℕ, zero, suc, ◌+◌, ◌-◌, ◌<◌, ◌≤◌}
+use mathlib.Core.Path.{◌≡◌, refl, ap}
+use Prim.Native.Nat.{ℕ, zero, suc, ◌+◌, ◌<◌, ◌≤◌}
 use native.Mathlib.Omega.{arith}
-use borrow.Author.Tests.{le-leb, lt-leb, leb-true, lt-ltb, ltb-true}
-use lib.Dec.{leb, ltb}
+use Rattle.std.proofs.Common.{None, Some, unwrap_or}
+use borrow.Author.Tests.{le-leb, lt-leb, leb-true}
+use lib.Dec.{leb}
 use lib.ListN.{get_or, set}
 use Rattle.format.specs.Parser.{Reason, reason_number}
 use Rattle.format.specs.Verdict.{Verdict, Counts, accepted, refused}
 use Rattle.lists.proofs.Test.{and_left, and_right}
-use Rattle.tally.specs.Tally.{limit, one_more, after, count_of, fits, take_in}
-use Rattle.tally.specs.declared.Taken.{Taken}
+use Rattle.tally.specs.Tally.{limit, one_more, after, count_of, fits, take_in, tally_after}
 use Rattle.tally.specs.declared.Tally.{Tally}
 
 -- one more at a place, as a store
@@ -23,20 +23,20 @@ one_more_lem (x ∷ xs) (suc i) = ap (λ (l : List ℕ). x ∷ l) (one_more_lem 
 -- ---- taken in, or turned away
 
 module _ (v : Verdict) (t : Tally) where
-  pub goes_in : fits v t ≡ true → record { number = 0; tally = after v t } ≡ take_in v t
+  pub goes_in : fits v t ≡ true → Some (after v t) ≡ take_in v t
   unfolding take_in
-  goes_in e = rw e refl
+  goes_in e = rw e
 
-  pub is_full : fits v t ≡ false → record { number = 23; tally = t } ≡ take_in v t
+  pub is_full : fits v t ≡ false → None ≡ take_in v t
   unfolding take_in
-  is_full e = rw e refl
+  is_full e = rw e
 
-  -- a law of what is taken in, by whether it fits
-  pub by_fit : (P : Taken → Type 0) → P (record { number = 0; tally = after v t }) → P (record { number = 23; tally = t }) → P (take_in v t)
+  -- a law of the tally after it, by whether it fits
+  pub by_fit : (P : Tally → Type 0) → P (after v t) → P t → P (tally_after v t)
   unfolding take_in
   by_fit P inn out = go (fits v t)
     where
-      go : (b : Bool) → P (cond b (record { number = 0; tally = after v t }) (record { number = 23; tally = t }))
+      go : (b : Bool) → P (unwrap_or (cond b (Some (after v t)) None) t)
       go true = inn
       go false = out
 
@@ -73,6 +73,9 @@ accepted_fits t c f =
       le-leb (t.covers + c.covers) limit f.its_covers,
     )
 
+pub accepted_goes_in : (t : Tally) (c : Counts) → FitsAccepted t c → Some (after (accepted c) t) ≡ take_in (accepted c) t
+accepted_goes_in t c f = goes_in (accepted c) t (accepted_fits t c f)
+
 -- nor one that a refusal changes
 pub record FitsRefused (t : Tally) (why : Reason) : Type 0 where
   pub one_verdict : t.verdicts + 1 ≤ limit
@@ -89,35 +92,35 @@ module _ (t : Tally) (why : Reason) (place : ℕ) where
   pub refused_fits : FitsRefused t why → fits (refused why place) t ≡ true
   refused_fits f = simp (le-leb (t.verdicts + 1) limit f.one_verdict, le-leb (count_of (reason_number why) t + 1) limit f.one_count)
 
--- ---- the first number that is full
+  pub refused_goes_in : FitsRefused t why → Some (after (refused why place) t) ≡ take_in (refused why place) t
+  refused_goes_in f = goes_in (refused why place) t (refused_fits f)
 
--- two tests are the same, where each passes if the other does
-same_test : (a b : Bool) → (a ≡ true → b ≡ true) → (b ≡ true → a ≡ true) → a ≡ b
-same_test true b f g = sym (f refl)
-same_test false true f g = g refl
-same_test false false f g = refl
+-- ---- the first number that is full: none
 
-pub full_verdicts : (v : Verdict) (t : Tally) → limit ≤ t.verdicts → false ≡ fits v t
-full_verdicts (accepted c) t h = simp (lt-leb (t.verdicts + 1) limit (omega arith))
-full_verdicts (refused why place) t h = simp (lt-leb (t.verdicts + 1) limit (omega arith))
+pub full_verdicts : (v : Verdict) (t : Tally) → limit ≤ t.verdicts → None ≡ take_in v t
+full_verdicts (accepted c) t h = is_full (accepted c) t (simp (lt-leb (t.verdicts + 1) limit (omega arith)))
+full_verdicts (refused why place) t h = is_full (refused why place) t (simp (lt-leb (t.verdicts + 1) limit (omega arith)))
 
 module _ (t : Tally) (c : Counts) (v : t.verdicts < limit) where
-  pub full_accepted : limit ≤ t.accepted → false ≡ fits (accepted c) t
-  full_accepted h = simp (le-leb (t.verdicts + 1) limit (omega arith), lt-leb (t.accepted + 1) limit (omega arith))
+  pub full_accepted : limit ≤ t.accepted → None ≡ take_in (accepted c) t
+  full_accepted h = is_full (accepted c) t (simp (le-leb (t.verdicts + 1) limit (omega arith), lt-leb (t.accepted + 1) limit (omega arith)))
 
   module _ (a : t.accepted < limit) where
-    pub full_members : limit < t.members + c.members → false ≡ fits (accepted c) t
-    full_members h = simp (le-leb (t.verdicts + 1) limit (omega arith), le-leb (t.accepted + 1) limit (omega arith), lt-leb (t.members + c.members) limit h)
+    pub full_members : limit < t.members + c.members → None ≡ take_in (accepted c) t
+    full_members h =
+        is_full (accepted c) t
+        (simp (le-leb (t.verdicts + 1) limit (omega arith), le-leb (t.accepted + 1) limit (omega arith), lt-leb (t.members + c.members) limit h))
 
-    pub last_covers : t.members + c.members ≤ limit → t.covers ≤ limit → leb c.covers (limit - t.covers) ≡ fits (accepted c) t
-    last_covers m k =
-        same_test (leb c.covers (limit - t.covers)) (leb (t.covers + c.covers) limit)
-        (λ e. le-leb (t.covers + c.covers) limit (omega (arith, leb-true c.covers (limit - t.covers) e)))
-        (λ e. le-leb c.covers (limit - t.covers) (omega (arith, leb-true (t.covers + c.covers) limit e)))
-        ∙ simp (le-leb (t.verdicts + 1) limit (omega arith), le-leb (t.accepted + 1) limit (omega arith), le-leb (t.members + c.members) limit m)
+    pub full_covers : t.members + c.members ≤ limit → limit < t.covers + c.covers → None ≡ take_in (accepted c) t
+    full_covers m h =
+        is_full (accepted c) t
+        (simp (
+          le-leb (t.verdicts + 1) limit (omega arith),
+          le-leb (t.accepted + 1) limit (omega arith),
+          le-leb (t.members + c.members) limit m,
+          lt-leb (t.covers + c.covers) limit h,
+        ))
 
-pub last_count : (t : Tally) (why : Reason) (place : ℕ) → t.verdicts < limit → ltb (count_of (reason_number why) t) limit ≡ fits (refused why place) t
-last_count t why place v =
-    let n = count_of (reason_number why) t in
-    same_test (ltb n limit) (leb (n + 1) limit) (λ e. le-leb (n + 1) limit (omega (arith, ltb-true n limit e))) (λ e. lt-ltb n limit (omega (arith, leb-true (n + 1) limit e)))
-    ∙ simp (le-leb (t.verdicts + 1) limit (omega arith))
+pub full_count : (t : Tally) (why : Reason) (place : ℕ) → t.verdicts < limit → limit ≤ count_of (reason_number why) t → None ≡ take_in (refused why place) t
+full_count t why place v h =
+    is_full (refused why place) t (simp (le-leb (t.verdicts + 1) limit (omega arith), lt-leb (count_of (reason_number why) t + 1) limit (omega arith)))

@@ -1,25 +1,25 @@
 -- A release: a list of verdicts, each taken in as it falls.
-use Rattle.std.specs.Prelude.{Bool, true, false, cond, List, [], ◌∷◌, ◌≡◌, ℕ, suc, ◌+◌, ◌≤◌, eqb, length}
+use Rattle.std.specs.Prelude.{Bool, true, false, cond, List, [], ◌∷◌, ◌≡◌, ℕ, suc, ◌+◌, ◌≤◌, eqb, length, is_some}
 use Rattle.format.specs.Parser.{reason_number}
 use Rattle.format.specs.Verdict.{Verdict, accepted, refused, verdict}
 use Rattle.lists.specs.List.{sum}
-use Rattle.tally.specs.Tally.{count_of, fits, take_in}
+use Rattle.tally.specs.Tally.{count_of, fits, take_in, tally_after}
 use Rattle.tally.specs.declared.Tally.{Tally}
 
 -- what the tally then is
 unfoldable pub tallied : Tally → List Verdict → Tally
 tallied t [] = t
-tallied t (v ∷ vs) = tallied (take_in v t).tally vs
+tallied t (v ∷ vs) = tallied (tally_after v t) vs
 
 -- those that were taken in: "one that gets 23 isn't"
 unfoldable pub taken_in : Tally → List Verdict → List Verdict
 taken_in t [] = []
-taken_in t (v ∷ vs) = let rest = taken_in (take_in v t).tally vs in cond (fits v t) (v ∷ rest) rest
+taken_in t (v ∷ vs) = let rest = taken_in (tally_after v t) vs in cond (fits v t) (v ∷ rest) rest
 
 -- how many got 23
 unfoldable pub turned_away : Tally → List Verdict → ℕ
 turned_away t [] = 0
-turned_away t (v ∷ vs) = let rest = turned_away (take_in v t).tally vs in cond (eqb (take_in v t).number 23) (suc rest) rest
+turned_away t (v ∷ vs) = let rest = turned_away (tally_after v t) vs in cond (is_some (take_in v t)) rest (suc rest)
 
 -- ---- what a list of verdicts says
 

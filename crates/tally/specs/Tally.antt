@@ -1,9 +1,8 @@
 -- The running tally (document 02, wish 10): "one running tally takes in each verdict as it falls. It holds verdicts, accepted ones, a count for each refusal
 -- number, and sums of members and covers over the accepted."
-use Rattle.std.specs.Prelude.{Bool, ◌&&◌, cond, List, [], ◌∷◌, ℕ, zero, suc, ◌+◌, ◌-◌, leb, get_or, replicate}
+use Rattle.std.specs.Prelude.{Bool, ◌&&◌, cond, List, [], ◌∷◌, ℕ, zero, suc, ◌+◌, ◌-◌, leb, get_or, replicate, Option, None, Some, unwrap_or}
 use Rattle.format.specs.Parser.{reason_number}
 use Rattle.format.specs.Verdict.{Verdict, accepted, refused}
-use Rattle.tally.specs.declared.Taken.{Taken}
 use Rattle.tally.specs.declared.Tally.{Tally}
 
 -- "4,294,967,295"
@@ -36,6 +35,10 @@ abbrev pub fits : Verdict → Tally → Bool
 fits (accepted c) t = leb (t.verdicts + 1) limit && leb (t.accepted + 1) limit && leb (t.members + c.members) limit && leb (t.covers + c.covers) limit
 fits (refused why place) t = leb (t.verdicts + 1) limit && leb (count_of (reason_number why) t + 1) limit
 
+-- the tally that takes in a verdict; none where a count or sum would pass the limit
+unfoldable pub take_in : Verdict → Tally → Option Tally
+take_in v t = cond (fits v t) (Some (after v t)) None
+
 -- "When a count or sum would pass 4,294,967,295 the tally is handed back unchanged with 23."
-unfoldable pub take_in : Verdict → Tally → Taken
-take_in v t = cond (fits v t) (record { number = 0; tally = after v t }) (record { number = 23; tally = t })
+abbrev pub tally_after : Verdict → Tally → Tally
+tally_after v t = unwrap_or (take_in v t) t

@@ -14,6 +14,10 @@ zeros = record { from = 0; kind = 0; a = 0; b = 0; to = 0 }
 unfoldable pub transition_bytes : List ℕ → ℕ → Transition
 transition_bytes job at = cond (leb (at + 5) (length job)) (transition_from job at) zeros
 
+-- the last five bytes; five zeros where there are fewer
+unfoldable pub transition_ending : List ℕ → Transition
+transition_ending bytes = cond (leb 5 (length bytes)) (transition_from bytes (length bytes - 5)) zeros
+
 -- the transition that an index names by k, one more than its number, of those from a place on; five zeros for 0
 unfoldable pub transition_named : List ℕ → ℕ → ℕ → Transition
 transition_named job first k = cond (eqb k 0) zeros (transition_bytes job (first + 5 * (k - 1)))

@@ -1,11 +1,10 @@
 -- The code's answers in the numbers of documents 01 and 02.
-use Rattle.std.specs.Prelude.{[], ◌∷◌, ℕ}
+use Rattle.std.specs.Prelude.{[], ◌∷◌, ℕ, Result, Ok, Err}
 use Rattle.format.specs.Parser.{Reason, refusal, broken_rule, reason_number, Parsed, parsed, fault}
 use Rattle.format.specs.Verdict.{Counts, Verdict, accepted, refused}
 use Rattle.number.specs.CallResult.{CallResult}
 use Rattle.verdict.specs.declared.Counts.{Counts as CountsAnswer}
-use Rattle.verdict.specs.declared.Reached.{Reached}
-use Rattle.verdict.specs.declared.Reached.TheVariants.{At, Refused as ReachedRefused}
+use Rattle.verdict.specs.declared.Refused.{Refused as RefusedAt}
 use Rattle.verdict.specs.declared.Refusal.{Refusal}
 use Rattle.verdict.specs.declared.Refusal.TheVariants.{JobLength, CertificateLength, JobUnreadable, JobRange, JobLeft, CertificateUnreadable, CertificateRange, StartSatisfied, CoverFails, CertificateLeft, VersionsDiffer}
 use Rattle.verdict.specs.declared.Verdict.{Verdict as Answer}
@@ -44,9 +43,9 @@ verdict_of (Accepted c) = accepted (counts_told c)
 verdict_of (Refused r place) = refused (reason_of r) place
 
 -- what a place reached, or a refusal, is as the answer of a parser
-abbrev pub reached_of : Reached → Parsed (Unit {0})
-reached_of (At next) = parsed tt next
-reached_of (ReachedRefused r place) = fault (reason_of r) place
+abbrev pub reached_of : Result ℕ RefusedAt → Parsed (Unit {0})
+reached_of (Ok next) = parsed tt next
+reached_of (Err r) = fault (reason_of r.refusal) r.place
 
 -- what a host is told: 0 with the four counts, or document 01's number with the place, the rule that broke, the name and 0
 abbrev pub verdict_result : Verdict → CallResult

@@ -57,11 +57,11 @@ pub enum Verdict {
     Refused(Refusal, usize),
 }
 
-// A place reached, or a refusal with its place.
+// A refusal and its place.
 #[derive(Clone, Copy)]
-pub enum Reached {
-    At(usize),
-    Refused(Refusal, usize),
+pub struct Refused {
+    pub refusal: Refusal,
+    pub place: usize,
 }
 
 // Document 01's number of a refusal.
@@ -88,17 +88,8 @@ pub fn rule_number(refusal: Refusal) -> u32
     ensures { result ≡ rule_told (reason_of refusal) }
 {
     match refusal {
-        Refusal::JobLength => 0,
-        Refusal::CertificateLength => 0,
-        Refusal::JobUnreadable => 0,
-        Refusal::JobRange => 0,
-        Refusal::JobLeft => 0,
-        Refusal::CertificateUnreadable => 0,
-        Refusal::CertificateRange => 0,
-        Refusal::StartSatisfied => 0,
-        Refusal::CoverFails(broken) => broken.rule as u32,
-        Refusal::CertificateLeft => 0,
-        Refusal::VersionsDiffer => 0,
+        Refusal::CoverFails(broken) => u32::from(broken.rule),
+        _ => 0,
     }
 }
 
@@ -107,16 +98,7 @@ pub fn rule_name(refusal: Refusal) -> u32
     ensures { result ≡ name_told (reason_of refusal) }
 {
     match refusal {
-        Refusal::JobLength => 0,
-        Refusal::CertificateLength => 0,
-        Refusal::JobUnreadable => 0,
-        Refusal::JobRange => 0,
-        Refusal::JobLeft => 0,
-        Refusal::CertificateUnreadable => 0,
-        Refusal::CertificateRange => 0,
-        Refusal::StartSatisfied => 0,
-        Refusal::CoverFails(broken) => broken.name as u32,
-        Refusal::CertificateLeft => 0,
-        Refusal::VersionsDiffer => 0,
+        Refusal::CoverFails(broken) => u32::from(broken.name),
+        _ => 0,
     }
 }

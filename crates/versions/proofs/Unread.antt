@@ -9,8 +9,7 @@ use lib.ListN.{length, get_elem?}
 use Rattle.lists.specs.List.{concat_map}
 use Rattle.lists.proofs.List.{element_none, concat_map_append}
 use Rattle.lists.proofs.Reflect.{r_le, r_lt, r_and, cond_false}
-use Rattle.number.specs.Number.{number_at}
-use Rattle.number.specs.declared.Read.TheVariants.{Number}
+use Rattle.number.specs.Number.{number_at, numeral}
 use Rattle.shape.specs.Shape.{size, AllBelow}
 use Rattle.run.specs.Run.{Located}
 use Rattle.cover.specs.Cover.{Cover, owed}
@@ -147,7 +146,7 @@ module _ (f : JobFile) (ok : JobInRange f) (certificate : List ℕ) where
       by_number (parsed own mid) h =
           let (g, (low, high)) = (ranged_exact s f.version (suc f.version)).sound 0 own mid h in
           let own_is : own ≡ f.version = omega arith in
-          let (a, b) = same_version f ok s 0 mid (subst (λ (k : ℕ). number_at certificate 0 ≡ Number k mid) own_is (reads_one g)) in
+          let (a, b) = same_version f ok s 0 mid (subst (λ (k : ℕ). number_at certificate 0 ≡ numeral k mid) own_is (reads_one g)) in
           a ∙ sym b
 
   members_tell : (why : Reason) (place : ℕ) → FirstFault (OfMembers f) certificate (refusal 6) (refusal 7) why place → Says why place

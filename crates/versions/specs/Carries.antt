@@ -3,9 +3,8 @@ use Rattle.std.specs.Prelude.{List, [], ◌∷◌, ◌++◌, ◌≢◌, ◌↔�
 use Rattle.std.proofs.Math.Option.{some}
 use Rattle.std.proofs.Math.ListN.{get_elem?}
 use Rattle.lists.specs.List.{Every, concat_map}
-use Rattle.number.specs.Number.{number_at}
+use Rattle.number.specs.Number.{number_at, no_numeral, numeral}
 use Rattle.number.specs.NumberList.{numbers, decode, encode}
-use Rattle.number.specs.declared.Read.TheVariants.{Number, Unreadable}
 use Rattle.shape.specs.Shape.{size, AllBelow}
 use Rattle.run.specs.Run.{Transition, Located}
 use Rattle.cover.specs.Cover.{Cover, owed}
@@ -55,7 +54,7 @@ NewInMembers version ms = FirstCount (opening_of_members version ms) ms
 pub record OtherVersion (v : ℕ) (bytes : List ℕ) : Type 0 where
   pub number : ℕ
   pub next : ℕ
-  pub reads : number_at bytes 0 ≡ Number number next
+  pub reads : number_at bytes 0 ≡ numeral number next
   pub other : number ≢ v
 
 -- the bytes are those of the job f of version v
@@ -114,9 +113,9 @@ pub data CertificateUnread (f : JobFile) (certificate : List ℕ) : Reason → �
   member_unread : (place : ℕ) → Unread (OfMembers f) certificate place → CertificateUnread f certificate (refusal 6) place
   -- any version number but the job's is one that breaks its range
   member_range : (place : ℕ) → OutOfRange (OfMembers f) certificate place → CertificateUnread f certificate (refusal 7) place
-  cover_unread : (place limit : ℕ) → CoverDue f certificate place limit → number_at certificate place ≡ Unreadable place
+  cover_unread : (place limit : ℕ) → CoverDue f certificate place limit → number_at certificate place ≡ no_numeral place
       → CertificateUnread f certificate (refusal 6) place
-  cover_range : (place limit : ℕ) → CoverDue f certificate place limit → (n next : ℕ) → number_at certificate place ≡ Number n next → limit ≤ n
+  cover_range : (place limit : ℕ) → CoverDue f certificate place limit → (n next : ℕ) → number_at certificate place ≡ numeral n next → limit ≤ n
       → CertificateUnread f certificate (refusal 7) place
   bytes_left : (place : ℕ) → ReadTo f certificate place [] → place < length certificate → CertificateUnread f certificate (refusal 10) place
 

@@ -1,7 +1,7 @@
 // Document 01, "Threads to pull on": each case, with what the code answers. P5 to P11 are put as jobs whose covers show them.
 #![tactic(auto)]
 
-use number::{Read, Written};
+use number::WriteRefusal;
 use place::Place;
 use std::io;
 use stepper::Heap64;
@@ -52,11 +52,11 @@ fn judge(rt: &impl Print, name: &str, job: &[u8], cert: &[u8]) -> io::Result<()>
 fn read(rt: &impl Print, name: &str, bytes: &[u8]) -> io::Result<()> {
     say(rt, name)?;
     match number::read_number(bytes, 0) {
-        Read::Number(n, next) => {
-            say_number(rt, "number ", n as u64)?;
-            say_number(rt, " next ", next as u64)?;
+        Ok(numeral) => {
+            say_number(rt, "number ", numeral.value as u64)?;
+            say_number(rt, " next ", numeral.next as u64)?;
         }
-        Read::Unreadable(place) => say_number(rt, "refused 3 at ", place as u64)?,
+        Err(unreadable) => say_number(rt, "refused 3 at ", unreadable.at as u64)?,
     }
     say(rt, "\n")
 }
@@ -66,9 +66,9 @@ fn write(rt: &impl Print, name: &str, numbers: &[u64]) -> io::Result<()> {
     let mut bytes = [0u8; 4];
     say(rt, name)?;
     match number::write_numbers(numbers, &mut bytes) {
-        Written::Filled(k) => say_number(rt, "filled ", k as u64)?,
-        Written::TooLarge(i) => say_number(rt, "refused 11 at ", i as u64)?,
-        Written::TooShort(k) => say_number(rt, "refused 12 at ", k as u64)?,
+        Ok(k) => say_number(rt, "filled ", k as u64)?,
+        Err(WriteRefusal::TooLarge(i)) => say_number(rt, "refused 11 at ", i as u64)?,
+        Err(WriteRefusal::TooShort(k)) => say_number(rt, "refused 12 at ", k as u64)?,
     }
     say(rt, "\n")
 }

@@ -5,4 +5,4 @@ use Rattle.call_step.proofs.vorruda_step.Goals as goal
 pub returns : goal.returns
 returns c =
     let a = c.args in
-    alone a.heap.now a.kind c.link_kind.result a.a a.b 0 _ _ _ c.link_kind.ensures c.step_bytes-stepped.ensures
+    rw c.outcome_code.ensures (alone a.heap.now a.kind c.link_kind.result a.a a.b 0 _ _ _ c.link_kind.ensures c.step_bytes.ensures)

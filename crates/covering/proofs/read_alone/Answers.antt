@@ -1,5 +1,4 @@
 -- What was read, as the answer of a parser.
-use borrow.Author.Rules.{rules}
 use Rattle.covering.proofs.read_alone.Goals as goal
 
 pub returns-in-Taken : goal.returns-in-Taken

@@ -1,7 +1,6 @@
 -- By what was read.
 use mathlib.Core.Path.{ap, sym}
 use Rattle.covering.specs.Answer.{without_member}
-use borrow.Author.Rules.{rules}
 use Rattle.covering.proofs.refused.Goals as goal
 
 pub returns-in-Taken : goal.returns-in-Taken

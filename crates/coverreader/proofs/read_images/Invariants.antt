@@ -1,10 +1,6 @@
 -- The loop reads the images in turn: those before i are in the array (`Reading`).
-use Prim.Native.Nat.{◌-◌}
 use Rattle.coverreader.proofs.ReadImages.{Reading}
 use Rattle.coverreader.proofs.read_images.Given as goal
 
 abbrev pub invariant-loop-i : goal.invariant-loop-i
 invariant-loop-i l = Reading l.cert l.first l.n l.count l.images l.at l.i
-
-abbrev pub decreases-loop-i : goal.decreases-loop-i
-decreases-loop-i l = l.count - l.i

@@ -1,55 +1,19 @@
--- The rows of below before p are new.
-use mathlib.Core.Path.{◌∙◌}
-use native.Mathlib.Omega.{arith}
-use Rattle.factrows.specs.Rows.{equal_at}
-use Rattle.factrows.proofs.Turning.{turn_none, turn_more, turn_all, equal_new, equal_rest}
+-- The rows of below are new.
+use Rattle.std.proofs.Common.{◌≡◌, ◌∙◌, get_or, take, bit_or, zero-add, arith, rules}
+use Rattle.std.proofs.lemmas.List.{get_or-take}
+use Rattle.factrows.specs.Rows.{equal_at, equal_row}
+use Rattle.factrows.proofs.Turning.{half_new, equal_new, equal_rest}
 use Rattle.factrows.proofs.equal_rows.Goals as goal
-use Rattle.factrows.proofs.equal_rows.Lts as lts
-use Rattle.factrows.proofs.equal_rows.Reads as reads
-use Rattle.factrows.proofs.equal_rows.Tie as tie
-
--- ---- places in the code
-
-abbrev After-class_of-class : Type 0
-After-class_of-class = lts.After-class_of tie.the-claims reads.Pre reads.Post goal.the-invariant-loop-p goal.the-decreases-loop-p
-
-abbrev After-some_of-some : Type 0
-After-some_of-some = lts.After-some_of tie.the-claims reads.Pre reads.Post goal.the-invariant-loop-p goal.the-decreases-loop-p
-
-abbrev Start : Type 0
-Start = lts.Start tie.the-claims reads.Pre reads.Post goal.the-invariant-loop-p goal.the-decreases-loop-p
-
--- the beginning, once class, over and some are known
-abbrev begun : After-some_of-some → Start
-begun c = c.before.before.before.before.before
-
--- where the class became known, once all three are
-abbrev classed : After-some_of-some → After-class_of-class
-classed c = c.before.before
-
-pub loop-p-init : goal.loop-p-init
-loop-p-init c =
-    let a = (begun c).args in
-    (omega arith, turn_none (equal_at a.c a.d a.rows.now) a.rows.now 0 c.sized.ensures (λ j h. absurd (omega arith)))
-
-pub loop-p-preserved : goal.loop-p-preserved
-loop-p-preserved c =
-    let o = c.before.before.before.before in
-    let a = (begun o.before).args in
-    let at = c.loop-p in
-    let l = a.rows.now in
-    let class = (classed o.before).class_of-class in
-    let over = o.over_of-over in
-    let some = o.some_of-some in (
-      omega arith,
-      turn_more (equal_at a.c a.d l) l at.rows at.p at.invariant.1 c.equal_row.result (omega arith)
-          (c.equal_row.ensures
-          ∙ equal_new a.c a.d l at.rows at.p class.result over.result some.result at.invariant.1 (omega arith) class.ensures over.ensures some.ensures),
-    )
 
 pub returns : goal.returns
 returns c =
-    let a = (begun c.before.before).args in
-    let at = c.loop-p in
-    let l = a.rows.now in
-    turn_all (equal_at a.c a.d l) l at.rows at.p at.invariant.1 (λ j h b. equal_rest a.c a.d l j (omega arith))
+    let a = c.args in
+    let class = c.class_of-class in
+    let over = c.over_of-over in
+    let some = c.some_of-some in
+    half_new (equal_at a.c a.d a.rows.now) a.rows.now _ 0 c.told-rows (omega (arith, c.each_row.auto.rows)) (omega arith)
+    (λ j h.
+    let m = c.each_row.ensures.made j (omega arith) in
+    let e : get_or c.each_row.new.rows j 0 ≡ equal_row (get_or (take 14 a.rows.now) j 0) j a.c a.d class.result (bit_or over.result class.result) some.result = search rules in
+    rw zero-add (rw (get_or-take 14 a.rows.now j 0 h) at e ∙ equal_new _ _ _ j _ _ _ h class.ensures over.ensures some.ensures))
+    (λ j h. absurd (omega arith)) (λ j h b. equal_rest _ _ _ j (omega arith))

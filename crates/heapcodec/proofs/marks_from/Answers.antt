@@ -1,4 +1,4 @@
--- The loop fills the table of the marks.
+-- The loop fills the table.
 use mathlib.Core.Path.{refl}
 use native.Mathlib.Omega.{arith}
 use Rattle.lists.proofs.Range.{fill_none, fill_more, fill_all}

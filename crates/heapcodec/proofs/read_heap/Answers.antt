@@ -4,11 +4,12 @@ use mathlib.Core.List.{List}
 use mathlib.Core.Path.{◌≡◌, ◌∙◌, sym}
 use Prim.Native.Nat.{ℕ}
 use native.Mathlib.Omega.{arith}
+use borrow.Author.Rules.{rules}
 use lib.ListN.{length, get_or}
+use Rattle.std.specs.Prelude.{Some}
 use Rattle.heapbytes.specs.HeapBytes.{bytes_readable, heap_from}
 use Rattle.heapbytes.proofs.RoundTrip.{codes_same}
 use Rattle.heapcodec.proofs.Codec.{readable_length, no_heap_read, heap_read}
-use borrow.Author.Rules.{rules}
 use Rattle.heapcodec.proofs.read_heap.Goals as goal
 
 -- where the bytes are a heap's
@@ -20,37 +21,30 @@ module _ (bytes : List ℕ) (r : Bool) (told : r ≡ bytes_readable bytes) (read
   size = readable_length bytes reads_well
 
 pub returns-then-not-is_readable : goal.returns-then-not-is_readable
-returns-then-not-is_readable c =
-    let o = c.is_readable in
-    let a = c.args in
-    sym (no_heap_read a.bytes.now a.values (sym o.ensures ∙ c.if-not-is_readable.true))
+returns-then-not-is_readable c = sym (no_heap_read c.args.bytes.now c.args.values (sym c.is_readable.ensures ∙ c.if-not-is_readable.true))
 
 pub bounds-bytes-0 : goal.bounds-bytes-0
 bounds-bytes-0 c = omega (arith, size c.args.bytes.now _ c.is_readable.ensures c.if-not-is_readable.false)
 
-pub slots_from-requires : goal.slots_from-requires
-slots_from-requires c = size c.args.bytes.now _ c.is_readable.ensures c.if-not-is_readable.false
+pub places_from-requires : goal.places_from-requires
+places_from-requires c = (omega arith, omega (arith, size c.args.bytes.now _ c.is_readable.ensures c.if-not-is_readable.false))
 
 pub marks_from-requires : goal.marks_from-requires
 marks_from-requires c = size c.args.bytes.now _ c.is_readable.ensures c.if-not-is_readable.false
 
-pub links_from-requires : goal.links_from-requires
-links_from-requires c = size c.args.bytes.now _ c.is_readable.ensures c.if-not-is_readable.false
+pub places_from-requires-2 : goal.places_from-requires-2
+places_from-requires-2 c = (omega arith, omega (arith, size c.args.bytes.now _ c.is_readable.ensures c.if-not-is_readable.false))
 
 pub returns : goal.returns
 unfolding heap_from
 returns c =
     let values = c.args.values in
     let count : length values ≡ 64 = search rules in
-    (λ k. record {
-      readable = true;
-      heap =
-          record {
-            variables = get_or c.args.bytes.now 0 0;
-            vars = c.slots_from.ensures k;
-            used = c.marks_from.ensures k;
-            links = c.links_from.ensures k;
-            values = sym (codes_same values count) k;
-          };
-    })
+    (λ k. Some (record {
+      variables = get_or c.args.bytes.now 0 0;
+      vars = c.places_from.ensures k;
+      used = c.marks_from.ensures k;
+      links = c.places_from-2.ensures k;
+      values = sym (codes_same values count) k;
+    }))
     ∙ sym (heap_read c.args.bytes.now values (reads_well c.args.bytes.now _ c.is_readable.ensures c.if-not-is_readable.false))

@@ -1,19 +1,16 @@
--- The loop: the values before the i-th are lent; an array too short stays as it is.
+-- There is room for the values, or there is none.
+use mathlib.Core.Path.{refl}
 use native.Mathlib.Omega.{arith}
-use Rattle.lending.proofs.Lending.{too_short, lend_none, lend_more, lend_all}
+use borrow.Author.Tests.{le-leb, lt-leb}
+use lib.ListN.{length}
+use Rattle.number.specs.CallResult.{lent}
 use Rattle.lending.proofs.lend.Goals as goal
 
-pub returns-then-out-values : goal.returns-then-out-values
-returns-then-out-values c = too_short c.args.values.now c.args.out.now c.if-out-values.true
+pub returns-then-values-out : goal.returns-then-values-out
+unfolding lent
+returns-then-values-out c =
+    rw c.copy_from_slice.ensures.after (simp (le-leb (length c.args.values.now) (length c.args.out.now) (omega arith)) refl)
 
-pub loop-i-init : goal.loop-i-init
-loop-i-init c = lend_none _ _
-
-pub loop-i-preserved : goal.loop-i-preserved
-loop-i-preserved c = lend_more _ _ _ _ c.loop-i.invariant (omega arith) (omega arith)
-
-pub shape_of-out : goal.shape_of-out
-shape_of-out c = c.loop-i.invariant.same
-
-pub returns : goal.returns
-returns c = lend_all _ _ _ _ c.loop-i.invariant (omega arith) (omega arith)
+pub returns-else-values-out : goal.returns-else-values-out
+unfolding lent
+returns-else-values-out c = simp (lt-leb (length c.args.values.now) (length c.args.out.now) (omega arith)) refl

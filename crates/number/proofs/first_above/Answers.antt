@@ -3,20 +3,11 @@ use native.Mathlib.Omega.{arith}
 use Rattle.number.proofs.Writing.{above_here, above_later, above_end}
 use Rattle.number.proofs.first_above.Goals as goal
 
-pub loop-i-init : goal.loop-i-init
-loop-i-init c = (omega arith, omega arith)
-
-pub returns-then-numbers-i-gt65535 : goal.returns-then-numbers-i-gt65535
-returns-then-numbers-i-gt65535 c =
-    let ns = c.args.numbers.now in
-    let i = c.loop-i.i in
-    omega (arith, above_here ns i (omega arith) c.if-numbers-i-gt65535.true)
+pub returns-then-n-gt-LARGEST : goal.returns-then-n-gt-LARGEST
+returns-then-n-gt-LARGEST c = omega (arith, above_here c.args.numbers.now c.loop-i.i (omega arith) (omega arith))
 
 pub loop-i-preserved : goal.loop-i-preserved
-loop-i-preserved c =
-    let ns = c.args.numbers.now in
-    let i = c.loop-i.i in
-    (omega arith, omega (arith, above_later ns i (omega arith) c.if-numbers-i-gt65535.false))
+loop-i-preserved c = omega (arith, above_later c.args.numbers.now c.loop-i.i (omega arith) (omega arith))
 
 pub returns : goal.returns
-returns c = let ns = c.args.numbers.now in let i = c.loop-i.i in omega (arith, above_end ns i (omega arith))
+returns c = omega (arith, above_end c.args.numbers.now c.loop-i.i (omega arith))

@@ -2,30 +2,6 @@
 use native.Mathlib.Omega.{arith}
 use Rattle.number.proofs.Reading.{cut_at_one, zero_second, two_bytes, cut_at_two, zero_third, three_bytes, too_large}
 use Rattle.number.proofs.read_long.Goals as goal
-use Rattle.number.proofs.read_long.Lts as lts
-use Rattle.number.proofs.read_long.Reads as reads
-use Rattle.number.proofs.read_long.Tie as tie
-
--- ---- places in the code
-
-abbrev After-wide-b : Type 0
-After-wide-b = lts.After-wide tie.the-claims reads.Pre reads.Post
-
-abbrev After-wide-c : Type 0
-After-wide-c = lts.After-wide2 tie.the-claims reads.Pre reads.Post
-
-abbrev Start : Type 0
-Start = lts.Start tie.the-claims reads.Pre reads.Post
-
--- ---- moments on the way
-
--- the beginning, once the second byte is read
-abbrev begun : After-wide-b → Start
-begun c = c.before.before.before.before
-
--- where it was read, once the third is
-abbrev second : After-wide-c → After-wide-b
-second c = c.before.before.before.before.before
 
 pub returns-then-bytes-at-le1 : goal.returns-then-bytes-at-le1
 returns-then-bytes-at-le1 c =
@@ -34,41 +10,38 @@ returns-then-bytes-at-le1 c =
 
 pub returns-then-b-eq0 : goal.returns-then-b-eq0
 returns-then-b-eq0 c =
-    let a = (begun c.before.before).args in
+    let a = c.args in
     zero_second a.bytes.now a.at a.a (omega arith) (omega arith) c.wide-b.result (omega arith) (omega arith)
     (omega arith)
 
 pub returns-then-b-lt128 : goal.returns-then-b-lt128
 returns-then-b-lt128 c =
-    let a = (begun c.before.before.before).args in
+    let a = c.args in
     two_bytes a.bytes.now a.at a.a (omega arith) (omega arith) c.wide-b.result (omega arith) (omega arith)
     (omega arith) (omega arith)
 
 pub returns-then-bytes-at-le2 : goal.returns-then-bytes-at-le2
 returns-then-bytes-at-le2 c =
-    let a = (begun c.before.before.before.before).args in
+    let a = c.args in
     cut_at_two a.bytes.now a.at a.a (omega arith) (omega arith) c.wide-b.result (omega arith)
     (omega arith) (omega arith) (omega arith) (omega arith)
 
 pub returns-then-c-eq0 : goal.returns-then-c-eq0
 returns-then-c-eq0 c =
-    let o = second c.before.before in
-    let a = (begun o).args in
-    zero_third a.bytes.now a.at a.a (omega arith) (omega arith) o.wide-b.result
+    let a = c.args in
+    zero_third a.bytes.now a.at a.a (omega arith) (omega arith) c.wide-b.result
     (omega arith) (omega arith) (omega arith) (omega arith) c.wide-c.result (omega arith) (omega arith) (omega arith)
 
 pub returns-then-c-lt4 : goal.returns-then-c-lt4
 returns-then-c-lt4 c =
-    let o = second c.before.before.before in
-    let a = (begun o).args in
+    let a = c.args in
     three_bytes a.bytes.now a.at a.a (omega arith) (omega arith)
-    o.wide-b.result (omega arith) (omega arith) (omega arith) (omega arith)
+    c.wide-b.result (omega arith) (omega arith) (omega arith) (omega arith)
     c.wide-c.result (omega arith) (omega arith) (omega arith) (omega arith)
 
 pub returns : goal.returns
 returns c =
-    let o = second c.before.before.before in
-    let a = (begun o).args in
+    let a = c.args in
     too_large a.bytes.now a.at a.a (omega arith) (omega arith)
-    o.wide-b.result (omega arith) (omega arith) (omega arith) (omega arith)
+    c.wide-b.result (omega arith) (omega arith) (omega arith) (omega arith)
     c.wide-c.result (omega arith) (omega arith) (omega arith) (omega arith)

@@ -5,18 +5,8 @@ use lib.ListN.{length}
 use Rattle.number.proofs.Writing.{length_left, encode_end}
 use Rattle.number.proofs.room_needed.Goals as goal
 
-pub loop-i-init : goal.loop-i-init
-loop-i-init c = (omega arith, omega arith, omega arith)
-
-pub loop-i-preserved : goal.loop-i-preserved
-loop-i-preserved c =
-    let o = c.before.before.before.before in
-    let ns = o.args.numbers.now in
-    let i = o.loop-i.i in
-    (omega arith, omega (arith, length_left ns i (omega arith)), omega arith)
+pub loop-n-preserved : goal.loop-n-preserved
+loop-n-preserved c = (omega (arith, length_left c.args.numbers.now c.loop-n.n-index (omega arith)), omega arith)
 
 pub returns : goal.returns
-returns c =
-    let ns = c.args.numbers.now in
-    let i = c.loop-i.i in
-    omega (arith, ap length (encode_end ns i (omega arith)))
+returns c = omega (arith, ap length (encode_end c.args.numbers.now c.loop-n.n-index (omega arith)))

@@ -5,11 +5,11 @@ use lib.ListN.{length}
 use Rattle.number.proofs.Writing.{one, two, three}
 use Rattle.number.proofs.width.Goals as goal
 
-pub returns-then-n-lt128 : goal.returns-then-n-lt128
-returns-then-n-lt128 c = omega (arith, ap length (one c.args.n c.if-n-lt128.true))
+pub returns-in-0-to-127 : goal.returns-in-0-to-127
+returns-in-0-to-127 c = omega (arith, ap length (one c.args.n (omega arith)))
 
-pub returns-then-n-lt16384 : goal.returns-then-n-lt16384
-returns-then-n-lt16384 c = omega (arith, ap length (two c.args.n (omega arith) c.if-n-lt16384.true))
+pub returns-in-128-to-16383 : goal.returns-in-128-to-16383
+returns-in-128-to-16383 c = omega (arith, ap length (two c.args.n (omega arith) (omega arith)))
 
-pub returns : goal.returns
-returns c = omega (arith, ap length (three c.args.n c.if-n-lt16384.false))
+pub returns-in_default : goal.returns-in_default
+returns-in_default c = omega (arith, ap length (three c.args.n (omega arith)))

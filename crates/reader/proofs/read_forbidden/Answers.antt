@@ -1,64 +1,13 @@
--- The loop: the entries before the i-th are read, and what is left of the parser goes on at the place.
-use mathlib.Core.Path.{ap, ◌∙◌}
-use native.Mathlib.Omega.{arith}
-use Rattle.run.specs.Run.{Located}
-use Rattle.format.specs.Parser.{Parser, job_buffer}
+-- What the closure reads at a place is what the parser of an entry reads there.
+use Rattle.std.proofs.Common.{◌∙◌, rules}
 use Rattle.format.specs.Job.{read_located}
+use Rattle.format.specs.Parser.{job_buffer}
 use Rattle.layout.specs.Entries.{version_of}
-use Rattle.verdict.specs.Verdict.{reached_of}
-use Rattle.reader.proofs.Answers.{reached_got, reached_lost}
-use Rattle.reader.proofs.Many.{left_none, left_more, left_lost, left_all}
+use Rattle.reader.specs.Number.{without_value}
+use Rattle.reader.proofs.Many.{many_places}
 use Rattle.reader.proofs.read_forbidden.Goals as goal
-use Rattle.reader.proofs.read_forbidden.Lts as lts
-use Rattle.reader.proofs.read_forbidden.Reads as reads
-use Rattle.reader.proofs.read_forbidden.Tie as tie
-
--- ---- places in the code
-
-abbrev After-read_entry-r : Type 0
-After-read_entry-r = lts.After-read_entry tie.the-claims reads.Pre reads.Post goal.the-invariant-loop-i goal.the-decreases-loop-i
-
-abbrev At-loop-i : Type 0
-At-loop-i = lts.At-loop tie.the-claims reads.Pre reads.Post goal.the-invariant-loop-i goal.the-decreases-loop-i
-
-abbrev Start : Type 0
-Start = lts.Start tie.the-claims reads.Pre reads.Post goal.the-invariant-loop-i goal.the-decreases-loop-i
-
--- ---- moments on the way
-
--- the beginning
-abbrev begun : At-loop-i → Start
-begun c = c.before.before
-
--- where the loop's turn began, once its entry is read
-abbrev turn : After-read_entry-r → At-loop-i
-turn c = c.before.before
-
--- what reads an entry
-abbrev reading : Start → Parser Located
-reading s = read_located (version_of s.args.job.now) (job_buffer s.args.job.now) s.args.variables s.args.states
-
--- ---- what is to be shown
-pub loop-i-init : goal.loop-i-init
-loop-i-init c = let s = c.before.before in left_none (reading s) s.args.count s.args.first
-
-pub returns-in_default : goal.returns-in_default
-returns-in_default c =
-    let r = c.before.before in
-    let l = (turn r).loop-i in
-    let s = begun (turn r) in
-    let e = c.in_default.is in
-    ap reached_of e ∙ left_lost (reading s) s.args.count s.args.first l.at l.i l.invariant _ _ (omega arith) (reached_lost r.read_entry-r.ensures e)
-
-pub loop-i-preserved : goal.loop-i-preserved
-loop-i-preserved c =
-    let r = c.before.before in
-    let l = (turn r).loop-i in
-    let s = begun (turn r) in
-    left_more (reading s) s.args.count s.args.first l.at l.i l.invariant _ (omega arith) (reached_got r.read_entry-r.ensures c.in-At.is)
 
 pub returns : goal.returns
 returns c =
-    let l = c.loop-i in
-    let s = begun c.before.before in
-    left_all (reading s) s.args.count s.args.first l.at l.i l.invariant (omega arith)
+    let p = read_located (version_of c.args.job.now) (job_buffer c.args.job.now) c.args.variables c.args.states in
+    c.read_many.ensures (λ at. without_value (p at)) (λ at r k. search rules) ∙ many_places p c.args.count c.args.first

@@ -1,5 +1,35 @@
--- The number read and check-range to its range is what the parser says.
+-- By what was read and the two limits: unreadable, out of range, or the number.
+use Rattle.std.proofs.Common.{◌≡◌, ◌∙◌, sym, ap, arith}
+use Rattle.format.specs.Parser.{fault}
+use Rattle.number.specs.Number.{number_at, numeral, no_numeral}
+use Rattle.jobreader.proofs.OneNumber.{unread, outside, value}
+use Rattle.reader.specs.Number.{buffer_of}
+use Rattle.reader.proofs.Answers.{bytes_of, outside_of, unreadable_of}
 use Rattle.reader.proofs.read_ranged.Goals as goal
+use Rattle.reader.proofs.read_ranged.Goals.{then-n-low-via-then-n-low, then-n-low-via-else-n-low+then-limit-n}
+
+pub returns-in_default : goal.returns-in_default
+returns-in_default c =
+    let a = c.args in
+    let s = buffer_of a.input a.bytes.now in
+    let g : number_at s.bytes a.at ≡ no_numeral c.in_default.field-0.at = rw (bytes_of a.input a.bytes.now) (sym c.in_default.ensures) in
+    ap (λ k. fault k a.at) (c.unreadable.ensures ∙ unreadable_of a.input a.bytes.now) ∙ unread s a.at a.low a.limit g
+
+pub returns-then-n-low : goal.returns-then-n-low
+returns-then-n-low c =
+    let a = c.args in
+    let s = buffer_of a.input a.bytes.now in
+    let g : number_at s.bytes a.at ≡ numeral c.in-Ok.n.value c.in-Ok.n.next = rw (bytes_of a.input a.bytes.now) (sym c.in-Ok.ensures) in
+    ap (λ k. fault k a.at) (c.outside.ensures ∙ outside_of a.input a.bytes.now)
+    ∙ outside s a.at a.low a.limit g
+    (λ (l, h). elim c.then-n-low.branch [
+      | then-n-low-via-then-n-low w ↦ omega arith
+      | then-n-low-via-else-n-low+then-limit-n w ↦ omega arith
+    ])
 
 pub returns : goal.returns
-returns c = c.check_range.ensures _ c.read_number.ensures
+returns c =
+    let a = c.args in
+    let s = buffer_of a.input a.bytes.now in
+    let g : number_at s.bytes a.at ≡ numeral c.in-Ok.n.value c.in-Ok.n.next = rw (bytes_of a.input a.bytes.now) (sym c.in-Ok.ensures) in
+    value s a.at a.low a.limit g (omega arith) (omega arith)

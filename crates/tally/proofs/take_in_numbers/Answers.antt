@@ -1,24 +1,21 @@
--- Too few numbers, or the tally of the numbers with the verdict, as numbers again.
-use mathlib.Core.List.{◌++◌}
-use mathlib.Core.Path.{◌≡◌, ap, ◌∙◌}
+-- Too few numbers, or a full tally, or the tally after the verdict as numbers.
+use mathlib.Core.Path.{◌∙◌, sym}
 use native.Mathlib.Omega.{arith}
-use lib.ListN.{drop}
-use Rattle.tally.specs.Numbers.{numbers_of, tally_from}
-use Rattle.tally.specs.Tally.{take_in}
-use Rattle.tally.specs.declared.Taken.{Taken}
-use Rattle.tally.proofs.Numbers.{too_few, number_enough, numbers_enough}
+use Rattle.tally.proofs.Numbers.{too_few, full_told, taken_told}
 use Rattle.verdict.specs.Verdict.{verdict_of}
 use Rattle.tally.proofs.take_in_numbers.Goals as goal
 
 pub returns-then-numbers-lt-NUMBERS : goal.returns-then-numbers-lt-NUMBERS
-returns-then-numbers-lt-NUMBERS c = let a = c.args in too_few (verdict_of a.v) a.numbers.now (omega arith)
+returns-then-numbers-lt-NUMBERS c =
+    let told = too_few (verdict_of c.args.v) c.args.numbers.now (omega arith) in
+    record { taken = told.0; numbers = told.1 }
 
-pub returns : goal.returns
-returns c =
-    let a = c.args in
-    let v = verdict_of a.v in
-    let l = a.numbers.now in
-    let is : c.added-taken.result ≡ take_in v (tally_from l) = c.added-taken.ensures ∙ ap (take_in v) c.tally_from.ensures in (
-      ap (λ (x : Taken). x.number) is ∙ number_enough v l (omega arith),
-      c.put_tally.ensures ∙ ap (λ (x : Taken). numbers_of x.tally ++ drop 35 l) is ∙ numbers_enough v l (omega arith),
-    )
+pub returns-in-None : goal.returns-in-None
+returns-in-None c =
+    let told = full_told (verdict_of c.args.v) c.args.numbers.now (omega arith) (rw (← c.tally_from.ensures) (sym c.in-None.ensures)) in
+    record { taken = told.0; numbers = told.1 }
+
+pub returns-in-Some : goal.returns-in-Some
+returns-in-Some c =
+    let told = taken_told (verdict_of c.args.v) c.args.numbers.now (omega arith) c.in-Some.tally (rw (← c.tally_from.ensures) (sym c.in-Some.ensures)) in
+    record { taken = told.0; numbers = c.put_tally.ensures ∙ told.1 }

@@ -2,7 +2,6 @@
 use mathlib.Core.Path.{sym}
 use native.Mathlib.Omega.{arith}
 use Rattle.covering.proofs.Images.{image_read, image_past}
-use borrow.Author.Rules.{rules}
 use Rattle.covering.proofs.fitting.image_of.Goals as goal
 
 pub returns-then-p-lt15 : goal.returns-then-p-lt15

@@ -1,14 +1,8 @@
 -- The loop compares the image of cell i with the others in turn: those before j differ (`Differing`).
-use Prim.Native.Nat.{◌-◌, ◌<◌}
-use mathlib.Core.Logic.{⊎_elim}
-use native.Mathlib.Omega.{arith}
+use Prim.Native.Nat.{◌<◌}
 use Rattle.coverreader.specs.Images.{ImageCodes}
-use Rattle.covering.proofs.Twice.{Differing, differ_none, differ_all, differ_itself, differ_more, differ_not}
-use borrow.Author.Rules.{rules}
+use Rattle.covering.proofs.Twice.{Differing}
 use Rattle.covering.proofs.rules.image_once.Given as goal
 
 abbrev pub invariant-loop-j : goal.invariant-loop-j
 invariant-loop-j l = (m : ImageCodes l.count 25 l.images) (b : l.i < l.count) → Differing l.count l.images m l.i b l.j
-
-abbrev pub decreases-loop-j : goal.decreases-loop-j
-decreases-loop-j l = l.count - l.j

@@ -1,13 +1,8 @@
 -- The loop looks at the cells in turn: no other cell has the image of one before i (`Passing`).
-use Prim.Native.Nat.{◌-◌}
 use mathlib.Core.Path.{sym, ap, ◌∙◌}
 use native.Mathlib.Omega.{arith}
 use Rattle.lists.specs.Test.{number_or}
-use Rattle.lists.proofs.Lowest.{Passing, pass_none, pass_more, pass_failed, pass_all}
-use Rattle.coverreader.specs.Images.{images_in}
-use Rattle.covering.specs.Images.{once_at}
-use borrow.Author.Tests.{not-true, not-false}
-use borrow.Author.Rules.{rules}
+use Rattle.lists.proofs.Lowest.{pass_none, pass_more, pass_failed, pass_all}
 use Rattle.covering.proofs.rules.image_twice.Goals as goal
 
 pub loop-i-init : goal.loop-i-init

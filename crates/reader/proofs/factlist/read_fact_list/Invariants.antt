@@ -1,11 +1,7 @@
 -- The loop: i of the facts are read, and what is left of the parser goes on at the place, after a fact that the least rank is due after.
-use Prim.Native.Nat.{◌-◌}
 use Rattle.reader.specs.Number.{buffer_of}
 use Rattle.reader.proofs.Facts.{Rising}
 use Rattle.reader.proofs.factlist.read_fact_list.Given as goal
 
 abbrev pub invariant-loop-i : goal.invariant-loop-i
-invariant-loop-i l = Rising (buffer_of l.input l.bytes) l.n l.count l.first l.at l.least l.i
-
-abbrev pub decreases-loop-i : goal.decreases-loop-i
-decreases-loop-i l = l.count - l.i
+invariant-loop-i l = Rising (buffer_of l.input l.bytes) l.n l.count l.first l.at l.least l._i

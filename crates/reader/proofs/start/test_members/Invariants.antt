@@ -1,10 +1,6 @@
 -- The loop: the members before the i-th pass the test.
-use Prim.Native.Nat.{◌-◌}
 use Rattle.reader.proofs.Testing.{Testing}
 use Rattle.reader.proofs.start.test_members.Given as goal
 
 abbrev pub invariant-loop-i : goal.invariant-loop-i
-invariant-loop-i l = Testing l.cert l.variables l.states l.start l.first l.count l.at l.i
-
-abbrev pub decreases-loop-i : goal.decreases-loop-i
-decreases-loop-i l = l.count - l.i
+invariant-loop-i l = Testing l.cert l.variables l.states l.start l.first l.count l.at l._i

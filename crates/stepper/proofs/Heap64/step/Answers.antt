@@ -1,6 +1,8 @@
--- Ill formed, or a step on a well formed heap.
+-- Ill formed, or a step on a well formed heap, by the kind that the table gives.
 use mathlib.Core.Path.{◌∙◌, sym}
 use native.Mathlib.Omega.{arith}
+use Rattle.stepper.specs.Table.{FormedTable}
+use Rattle.stepper.proofs.InPlace.{named_allowed, named_steps}
 use Rattle.stepper.proofs.Steps.{steps, ill_formed}
 use Rattle.stepper.proofs.Heap64.step.Goals as goal
 
@@ -11,10 +13,13 @@ returns-then-not-is_well_formed c =
     steps a.self w.ensures.1 a.kind a.a a.b a.value (omega arith) _
     (ill_formed a.self a.kind a.a a.b a.value (sym w.ensures.0 ∙ c.if-not-is_well_formed.true))
 
-pub step_formed-requires : goal.step_formed-requires
-step_formed-requires c =
-    let w = c.is_well_formed in
-    record { sized = w.ensures.1; formed = sym w.ensures.0 ∙ c.if-not-is_well_formed.false }
+pub perform_named-outcome-requires-clause-is_allowed : goal.perform_named-outcome-requires-clause-is_allowed
+perform_named-outcome-requires-clause-is_allowed c =
+    let a = c.args in named_allowed a.self.variables a.kind a.a a.b c.named-kind.result c.named-kind.ensures
 
 pub returns : goal.returns
-returns c = c.step_formed.ensures
+returns c =
+    let a = c.args in
+    let w = c.is_well_formed in
+    let ready : FormedTable a.self = record { sized = w.ensures.1; formed = sym w.ensures.0 ∙ c.if-not-is_well_formed.false } in
+    named_steps a.self ready a.kind a.a a.b a.value (omega arith) c.named-kind.result c.named-kind.ensures _ c.perform_named-outcome.ensures

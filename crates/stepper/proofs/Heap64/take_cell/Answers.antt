@@ -1,28 +1,15 @@
--- Full where no cell is unused; else the lowest unused one is taken, and a stands at it.
-use Prim.Native.Nat.{◌-◌}
+-- Full where no cell is unused; else the first unused one is taken, and a stands at it.
 use native.Mathlib.Omega.{arith}
 use Rattle.stepper.proofs.Formed.{formed}
-use Rattle.stepper.specs.InPlace.{with_var}
-use Rattle.stepper.proofs.Change.{with_cell}
-use Rattle.stepper.proofs.Perform.{moved, taken, full}
-use Rattle.heap.specs.Operation.{new}
-use Rattle.place.specs.Place.{cell_place}
-use borrow.Author.Tests.{le-leb}
+use Rattle.stepper.proofs.InPlace.{takes, is_full}
 use Rattle.stepper.proofs.Heap64.take_cell.Goals as goal
 
-pub returns-then-i-ge64 : goal.returns-then-i-ge64
-returns-then-i-ge64 c =
-    λ x. full c.args.self x (new c.args.a)
-    (rw (← c.lowest_unused-i.ensures) (le-leb 64 c.lowest_unused-i.result c.if-i-ge64.true))
+pub returns-in_default : goal.returns-in_default
+returns-in_default c = λ x. is_full c.args.self.now c.requires.table x c.args.a c.in_default.ensures
 
-pub bounds-next-a : goal.bounds-next-a
-bounds-next-a c =
-    let start = c.before.before.before in
-    omega (arith, (formed start.args.self start.requires.0.formed).most)
+pub bounds-self-a : goal.bounds-self-a
+bounds-self-a c = omega (arith, c.requires.a_in, (formed c.args.self.now c.requires.table.formed).most)
 
 pub returns : goal.returns
 returns c =
-    let start = c.before.before.before in
-    let t = start.args.self in
-    λ x. rw c.cell-p.ensures
-    (moved t x (new start.args.a) (with_var (with_cell t c.lowest_unused-i.result) (start.args.a - 1) (cell_place c.lowest_unused-i.result)) (taken t start.requires.0.sized (formed t start.requires.0.formed) x start.args.a c.lowest_unused-i.result c.lowest_unused-i.ensures (omega arith) (omega arith) (omega arith)))
+    λ x. rw c.cell.ensures (takes c.args.self.now c.requires.table x c.args.a c.in-Some.i c.in-Some.ensures c.requires.a_in.0 c.requires.a_in.1)
