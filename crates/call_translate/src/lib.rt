@@ -9,9 +9,10 @@ ghost use Rattle.translating.specs.Work.{fault_number};
 ghost use Rattle.translating.specs.Answer.{answer_result};
 
 use lending::lend;
-use translating::{Fault, Translation};
+use translating::{Fault, TranslateRefusal};
 
-// The number of a refusal at a line.
+// The number of a refusal at a line. The numbers are the C interface's, so they stand here with the call, where no `From` for another crate's
+// type may stand.
 fn fault_number(fault: Fault) -> u32
     ensures { result ≡ fault_number fault }
 {
@@ -23,27 +24,17 @@ fn fault_number(fault: Fault) -> u32
 }
 
 // Hands the value of an answer to the host; gives its number.
-fn tell(answer: Translation, out: &mut [u64]) -> u32
+fn tell(answer: Result<usize, TranslateRefusal>, out: &mut [u64]) -> u32
     ensures code { result ≡ (answer_result answer).code }
     ensures values { out.new ≡ lent (answer_result answer).values out.old }
 {
-    match answer {
-        Translation::Filled(k) => {
-            let values = [k as u64];
-            lend(&values, out);
-            0
-        }
-        Translation::Refused(fault, line) => {
-            let values = [line as u64];
-            lend(&values, out);
-            fault_number(fault)
-        }
-        Translation::TooShort(k) => {
-            let values = [k as u64];
-            lend(&values, out);
-            12
-        }
-    }
+    let (code, value) = match answer {
+        Ok(filled) => (0, filled),
+        Err(TranslateRefusal::AtLine(refusal)) => (fault_number(refusal.fault), refusal.line),
+        Err(TranslateRefusal::TooShort(needed)) => (12, needed),
+    };
+    lend(&[value as u64], out);
+    code
 }
 
 // A listing as the bytes of a job ahead of its forbidden shapes, and the states of its marks.

@@ -1,10 +1,10 @@
--- Transitions put one after the other into the job's bytes, and the numbers ahead of them.
+-- Transitions put one after the other into the job's bytes.
 use mathlib.Core.List.{List, [], ◌∷◌, ◌++◌}
-use mathlib.Core.Path.{◌≡◌, refl, sym, ap, ap₂, ◌∙◌}
+use mathlib.Core.Path.{◌≡◌, refl, sym, ap, ◌∙◌}
 use Prim.Native.Nat.{ℕ, zero, suc, ◌+◌, ◌*◌, ◌<◌}
 use native.Mathlib.Omega.{arith}
 use lib.ListN.{length, take, drop, length-append, length-drop}
-use lib.Seq.{sets, length-sets, sets-eq, take_at, take-nil, drop-append-le, length-take-le, take-append-add}
+use lib.Seq.{sets, length-sets, sets-eq, take_at, take-nil, drop-append-le, length-take-le}
 use Rattle.lines.specs.declared.Operation.{Operation}
 use Rattle.listing.specs.LineByLine.{arrow_numbers}
 use Rattle.translating.specs.Reading.{Adds}
@@ -32,11 +32,3 @@ module _ (job : List ℕ) (count : ℕ) (size : length job ≡ 635) (few : count
   pub adds : (from : ℕ) (o : Operation) (to : ℕ) → Adds job count from o to (sets job (5 + 5 * count) (arrow_numbers from o to))
   adds from o to =
       record { size = length-sets job (5 + 5 * count) (arrow_numbers from o to) ∙ size; all = put_behind (arrow_numbers from o to) refl }
-
--- the numbers ahead of so many transitions
-pub put_ahead : (job vs : List ℕ) (count : ℕ) → length job ≡ 635 → length vs ≡ 5
-    → take (5 + 5 * count) (sets job 0 vs) ≡ vs ++ transitions_in count job
-put_ahead job vs count size five =
-    let k : 5 + 5 * count ≡ length vs + 5 * count = omega arith in
-    let z : 0 + length vs ≡ 5 = omega arith in
-    ap₂ take k (sets-eq vs job 0 (omega arith) ∙ ap (λ n. vs ++ drop n job) z) ∙ take-append-add vs (drop 5 job) (5 * count)

@@ -1,5 +1,5 @@
 -- Letters and their numbers: a letter is found among the names or becomes the next one, and keeps its number.
-use mathlib.Core.Bool.{Bool, true, false, cond}
+use mathlib.Core.Bool.{Bool, true, false, cond, not}
 use mathlib.Core.List.{List, [], ◌∷◌, ◌++◌, append-nil}
 use mathlib.Core.Path.{◌≡◌, refl, sym, ap, ap₂, ◌∙◌}
 use Prim.Native.Nat.{ℕ, zero, suc, ◌+◌, ◌≤◌, ◌<◌}
@@ -7,35 +7,46 @@ use native.Mathlib.Decide.{dec_lt}
 use native.Mathlib.Nat.{not-suc-le-zero}
 use native.Mathlib.Numerals.{add-one}
 use native.Mathlib.Omega.{arith}
-use borrow.Author.Tests.{eq-eqb, ne_eqb}
-use lib.Dec.{eqb}
-use lib.ListN.{length, get_or, take, drop, set, length-set, length-append, drop_of_length-le}
-use lib.Seq.{drop-cons, length-take-le, take-suc-set}
+use borrow.Author.Tests.{eq-eqb, ltb-true, ltb-false}
+use lib.Dec.{eqb, ltb}
+use lib.ListN.{length, take, set, length-set, length-append}
+use lib.Seq.{length-take-le, take-suc-set}
+use Rattle.std.specs.Prelude.{None, Some, position}
+use Rattle.std.specs.List.{position_or_len}
 use Rattle.lists.specs.List.{absent}
 use Rattle.lines.specs.declared.Operation.{Operation}
 use Rattle.listing.specs.Names.{meet, index_of, number_in}
-use Rattle.translating.specs.Reading.{LettersMet, names_after, Numbers}
+use Rattle.translating.specs.Reading.{LetterMet, names_after, OperandsMet}
 use Rattle.translating.specs.declared.names.Met.{Met}
 
 -- ---- the index of a letter
 
--- a loop over the names: the letter is not among the first i
-module _ (letter : ℕ) (l : List ℕ) (i : ℕ) where
-  abbrev pub Sought : Type 0
-  Sought = index_of letter l ≡ i + index_of letter (drop i l)
+-- the library's search finds the index, or comes to the end
+index_position : (x : ℕ) (l : List ℕ) → position_or_len (λ y. eqb y x) l ≡ index_of x l
+index_position x [] = refl
+index_position x (y ∷ l) = go (eqb y x) (index_position x l)
+  where
+    go : (b : Bool) → position_or_len (λ y. eqb y x) l ≡ index_of x l → cond (not b) (1 + position_or_len (λ y. eqb y x) l) 0 ≡ cond b 0 (suc (index_of x l))
+    go true e = refl
+    go false e = omega arith
 
-  pub sought_here : Sought → i < length l → get_or l i 0 ≡ letter → i ≡ index_of letter l
-  sought_here s h e =
-      let here : index_of letter (drop i l) ≡ 0 = ap (index_of letter) (drop-cons l i 0 h) ∙ simp (eq-eqb (get_or l i 0) letter e) in
-      omega arith
+module _ (x : ℕ) (l : List ℕ) where
+  abbrev place : ℕ
+  place = position_or_len (λ y. eqb y x) l
 
-  pub sought_later : Sought → i < length l → (get_or l i 0 ≡ letter → ⊥) → index_of letter l ≡ i + 1 + index_of letter (drop (i + 1) l)
-  sought_later s h n =
-      let later : index_of letter (drop i l) ≡ suc (index_of letter (drop (i + 1) l)) = rw (add-one i) (ap (index_of letter) (drop-cons l i 0 h) ∙ simp (ne_eqb (get_or l i 0) letter n)) in
-      omega arith
+  pub at_place : (i : ℕ) → Some i ≡ position (λ y. eqb y x) l → (i ≡ index_of x l) × (i < length l)
+  at_place i = go (ltb place (length l)) refl
+    where
+      go : (b : Bool) → ltb place (length l) ≡ b → Some i ≡ cond b (Some place) None → (i ≡ index_of x l) × (i < length l)
+      go true h e = let is : i ≡ place = cc in (is ∙ index_position x l, omega (arith, ltb-true place (length l) h))
+      go false h e = let z : ◌≡◌ {A = ℕ} 0 1 = cc in absurd (omega arith)
 
-  pub sought_end : Sought → length l ≤ i → i ≡ index_of letter l
-  sought_end s h = let none : index_of letter (drop i l) ≡ 0 = ap (index_of letter) (drop_of_length-le l h) in omega arith
+  pub at_end : None ≡ position (λ y. eqb y x) l → length l ≤ index_of x l
+  at_end = go (ltb place (length l)) refl
+    where
+      go : (b : Bool) → ltb place (length l) ≡ b → None ≡ cond b (Some place) None → length l ≤ index_of x l
+      go true h e = let z : ◌≡◌ {A = ℕ} 0 1 = cc in absurd (omega arith)
+      go false h e = omega (arith, ltb-false place (length l) h, index_position x l)
 
 index_most : (x : ℕ) (l : List ℕ) → index_of x l ≤ length l
 index_most x [] = omega arith
@@ -91,46 +102,36 @@ module _ (letters : List ℕ) (met : ℕ) (few : met ≤ 8) (size : length lette
   pub names_length : length names ≡ met
   names_length = length-take-le met letters (omega arith)
 
-  pub meets_null : (x : ℕ) → x ≡ 0 → LettersMet letters met x (record { met = met; number = 0 }) letters
-  meets_null zero e = record { size = size; count = sym names_length; names = λ h. refl; number = λ h. refl }
-  meets_null (suc x) e = absurd (omega arith)
-
-  pub meets_found : (x i : ℕ) → (x ≡ 0 → ⊥) → i ≡ index_of x names → i < met → LettersMet letters met x (record { met = met; number = i + 1 }) letters
-  meets_found zero i n e h = absurd (n refl)
-  meets_found (suc x) i n e h =
-      let there = index_found (suc x) names (omega (arith, names_length)) in
-      let same : meet names (suc x) ≡ names = rw there refl in
-      record { size = size; count = sym (ap length same ∙ names_length); names = λ h. sym same; number = λ h. rw (add-one i) (ap suc e) }
+  pub meets_found : (x i : ℕ) → (x ≡ 0 → ⊥) → Some i ≡ position (λ y. eqb y x) names
+      → LetterMet letters met x (record { met = met; number = i + 1 }) letters
+  meets_found zero i n e = absurd (n refl)
+  meets_found (suc x) i n e =
+      let (is, below) = at_place (suc x) names i e in
+      let there = index_found (suc x) names (omega arith) in
+      record { size = size; few = few; names = rw there refl; number = rw (add-one i) (ap suc is) }
 
   -- a letter that is no name yet
-  module _ (x i : ℕ) (n : x ≡ 0 → ⊥) (e : i ≡ index_of x names) (h : met ≤ i) where
+  module _ (x : ℕ) (n : x ≡ 0 → ⊥) (e : None ≡ position (λ y. eqb y x) names) where
     new_name : meet names x ≡ names ++ (x ∷ [])
-    new_name = go x n (index_absent x names (omega (arith, names_length)))
+    new_name = go x n (index_absent x names (at_end x names e))
       where
         go : (y : ℕ) → (y ≡ 0 → ⊥) → absent y names ≡ true → meet names y ≡ names ++ (y ∷ [])
         go zero n a = absurd (n refl)
         go (suc y) n a = rw a refl
 
-    longer : met + 1 ≡ length (meet names x)
-    longer = sym (ap length new_name ∙ length-append names (x ∷ []) ∙ omega (arith, names_length))
-
-    pub meets_ninth : 8 ≤ met → LettersMet letters met x (record { met = met + 1; number = i + 1 }) letters
-    meets_ninth l = record { size = size; count = longer; names = λ k. absurd (omega arith); number = λ k. absurd (omega arith) }
-
-    pub meets_new : met < 8 → LettersMet letters met x (record { met = met + 1; number = i + 1 }) (set letters met x)
+    pub meets_new : met < 8 → LetterMet letters met x (record { met = met + 1; number = met + 1 }) (set letters met x)
     meets_new l =
         let after : take (met + 1) (set letters met x) ≡ names ++ (x ∷ []) = rw (add-one met) (take-suc-set letters met x (omega arith)) in
-        let last = index_last x names (omega (arith, names_length)) in
         record {
           size = length-set letters met x ∙ size;
-          count = longer;
-          names = λ k. after ∙ sym new_name;
-          number = λ k. rw after (go x n (omega (arith, names_length, last, index_most x names)));
+          few = omega arith;
+          names = after ∙ sym new_name;
+          number = rw after (go x n (sym (index_last x names (at_end x names e) ∙ names_length)));
         }
       where
-        go : (y : ℕ) → (y ≡ 0 → ⊥) → i ≡ index_of y (names ++ (y ∷ [])) → i + 1 ≡ number_in (names ++ (y ∷ [])) y
+        go : (y : ℕ) → (y ≡ 0 → ⊥) → met ≡ index_of y (names ++ (y ∷ [])) → met + 1 ≡ number_in (names ++ (y ∷ [])) y
         go zero n w = absurd (n refl)
-        go (suc y) n w = rw (add-one i) (ap suc w)
+        go (suc y) n w = rw (add-one met) (ap suc w)
 
 -- ---- an operation
 
@@ -162,33 +163,22 @@ number_kept names y (suc x) h =
     let (m, e) = meet_more names y in
     ap suc (ap (index_of (suc x)) e ∙ index_kept (suc x) names m (h (λ z. omega arith)))
 
-meet_longer : (names : List ℕ) (y : ℕ) → length names ≤ length (meet names y)
-meet_longer names y = let (m, e) = meet_more names y in omega (arith, ap length e, length-append names m)
+module _ (letters : List ℕ) (met : ℕ) (o : Operation) (first : Met) (letters₁ : List ℕ) (a : LetterMet letters met o.a first letters₁) where
+  all_names : meet (take first.met letters₁) o.b ≡ names_after (take met letters) o
+  all_names = ap (λ l. meet l o.b) a.names
 
-module _ (letters : List ℕ) (met : ℕ) (o : Operation) (first : Met) (letters₁ : List ℕ) (a : LettersMet letters met o.a first letters₁) where
-  pub numbers_over : 8 < first.met → Numbers letters met o (record { met = first.met; operation = o }) letters₁
-  numbers_over h =
-      record {
-        size = a.size;
-        over = λ k. omega (arith, a.count, meet_longer (meet (take met letters) o.a) o.b);
-        names = λ k. absurd (omega arith);
-        operation = λ k. absurd (omega arith);
-      }
-
-  pub numbers_both : first.met ≤ 8 → (second : Met) (letters₂ : List ℕ) → LettersMet letters₁ first.met o.b second letters₂
-      → Numbers letters met o (record { met = second.met; operation = record { kind = o.kind; a = first.number; b = second.number } }) letters₂
-  numbers_both h second letters₂ b =
-      let before = a.names h in
-      let all : meet (take first.met letters₁) o.b ≡ names_after (take met letters) o = ap (λ l. meet l o.b) before in
+  pub numbers_both : (second : Met) (letters₂ : List ℕ) → LetterMet letters₁ first.met o.b second letters₂
+      → OperandsMet letters met o (record { met = second.met; operation = record { kind = o.kind; a = first.number; b = second.number } }) letters₂
+  numbers_both second letters₂ b =
       record {
         size = b.size;
-        over = λ k. omega (arith, b.count, ap length all);
-        names = λ k. b.names k ∙ all;
-        operation = λ k.
+        few = b.few;
+        names = b.names ∙ all_names;
+        operation =
             ap₂ (λ x y. record { kind = o.kind; a = x; b = y })
-            (a.number h
-            ∙ ap (λ l. number_in l o.a) before
+            (a.number
+            ∙ ap (λ l. number_in l o.a) a.names
             ∙ sym (number_kept (meet (take met letters) o.a) o.b o.a (meet_among (take met letters) o.a))
-            ∙ ap (λ l. number_in l o.a) (sym (b.names k ∙ all)))
-            (b.number k);
+            ∙ ap (λ l. number_in l o.a) (sym (b.names ∙ all_names)))
+            b.number;
       }

@@ -5,12 +5,7 @@ use Rattle.translating.specs.declared.Fault.{Fault}
 use Rattle.translating.specs.declared.Fault.TheVariants.{Grammar, Nesting, Limits}
 use Rattle.translating.specs.declared.steps.Open as declared
 use Rattle.translating.specs.declared.steps.Progress.{Progress}
-
--- the transitions' bytes behind five for the numbers ahead of them; the names' letters; the marks' states
-pub record Work : Type 0 where
-  pub job : List ℕ
-  pub letters : List ℕ
-  pub states : List ℕ
+use Rattle.translating.specs.declared.steps.Work.{Work}
 
 -- Document 02, wish 4: "A line outside the grammar, an `end` with nothing open or one missing (at the line after the last) gets 17, deeper
 -- nesting 18, more than 8 names or 64 states 19".

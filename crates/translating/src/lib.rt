@@ -9,7 +9,7 @@ ghost use Rattle.translating.specs.Work.{transitions_in};
 ghost use Rattle.translating.specs.Answer.{answer_result, variables_of};
 
 use crate::blocks::{Block, read_block};
-use crate::steps::Progress;
+use crate::steps::{Progress, Work};
 
 mod blocks;
 mod names;
@@ -24,34 +24,29 @@ pub enum Fault {
     Limits,
 }
 
-// How many bytes were filled, or why none was: the listing is refused at a line; the output is too short, with the length needed.
+// A listing is refused: why, and at which line.
 #[derive(Clone, Copy)]
-pub enum Translation {
-    Filled(usize),
-    Refused(Fault, usize),
+pub struct Refusal {
+    pub fault: Fault,
+    pub line: usize,
+}
+
+// Why no byte is filled: the listing is refused at a line; the output is too short, with the length needed.
+#[derive(Clone, Copy)]
+pub enum TranslateRefusal {
+    AtLine(Refusal),
     TooShort(usize),
 }
 
-// Copies bytes to the front of an output.
-fn fill(from: &[u8], to: &mut [u8])
-    requires { length from.now ≤ length to.old }
-    ensures { to.new ≡ from.now ++ drop (length from.now) to.old }
-{
-    let mut i = 0;
-    while i < from.len() {
-        to[i] = from[i];
-        i += 1;
-    }
-}
+impl From<Refusal> for TranslateRefusal {
+    ghost use Rattle.std.specs.Prelude.{◌≡◌};
+    ghost use Rattle.translating.specs.declared.TranslateRefusal.TheVariants.{AtLine};
 
-// How many variables a job with so many names has.
-fn variables_for(met: usize) -> usize
-    ensures { result ≡ variables_of met }
-{
-    if met == 0 {
-        return 1;
+    ghost from_gives = { λ refusal r. r ≡ AtLine refusal };
+
+    fn from(refusal: Refusal) -> TranslateRefusal {
+        TranslateRefusal::AtLine(refusal)
     }
-    met
 }
 
 // Puts the numbers ahead of the transitions: version, variables, states, start, transitions.
@@ -60,49 +55,55 @@ fn put_header(p: Progress, job: &mut [u8; 635])
     ensures { (length job.new ≡ 635) × (take (5 + 5 * p.count) job.new ≡ 1 ∷ variables_of p.met ∷ suc p.passed ∷ 0 ∷ p.count ∷ transitions_in p.count job.old) }
 {
     job[0] = 1;
-    job[1] = variables_for(p.met) as u8;
+    job[1] = p.met.max(1) as u8;
     job[2] = (p.passed + 1) as u8;
     job[3] = 0;
     job[4] = p.count as u8;
 }
 
 // Writes the job and the marks' states of a listing that was read; where there is no room for all marks, none is written.
-fn write(job: &[u8], states: &[u8], bytes: &mut [u8], marks: &mut [u8]) -> Translation
+#[tactic(auto, using(std::proofs::lemmas::Bool::Decides::nat_tests), unfolding(number::specs::CallResult::lent))]
+fn write(
+    job: &[u8],
+    states: &[u8],
+    bytes: &mut [u8],
+    marks: &mut [u8],
+) -> Result<usize, TranslateRefusal>
     ensures result { answer_result result ≡ translate_result (in_room (length bytes.old) job.now states.now) }
     ensures bytes { bytes.new ≡ bytes_after (in_room (length bytes.old) job.now states.now) bytes.old }
     ensures marks { marks.new ≡ marks_after (in_room (length bytes.old) job.now states.now) marks.old }
 {
     if bytes.len() < job.len() {
-        return Translation::TooShort(job.len());
+        return Err(TranslateRefusal::TooShort(job.len()));
     }
-    fill(job, bytes);
+    bytes[..job.len()].copy_from_slice(job);
     if states.len() <= marks.len() {
-        fill(states, marks);
+        marks[..states.len()].copy_from_slice(states);
     }
-    Translation::Filled(job.len())
+    Ok(job.len())
 }
 
 // The listing as a job ahead of B, and the state of each mark, 64 for none; a refusal leaves both outputs as they are.
-pub fn translate(text: &[u8], bytes: &mut [u8], marks: &mut [u8]) -> Translation
+pub fn translate(text: &[u8], bytes: &mut [u8], marks: &mut [u8]) -> Result<usize, TranslateRefusal>
     ensures { Translates text.now bytes.old marks.old (answer_result result) bytes.new marks.new }
 {
-    let mut job = [0u8; 635];
-    let mut letters = [0u8; 8];
-    let mut states = [64u8; 64];
+    let mut work = Work {
+        job: [0; 635],
+        letters: [0; 8],
+        states: [64; 64],
+    };
     let start = Progress {
         at: 0,
         passed: 0,
         count: 0,
         met: 0,
     };
-    let read = read_block(text, start, 0, &mut job, &mut letters, &mut states);
-    match read {
+    match read_block(text, start, 0, &mut work)? {
         Block::Over(p) => {
-            put_header(p, &mut job);
+            put_header(p, &mut work.job);
             let needed = 5 + 5 * p.count;
-            write(&job[..needed], &states, bytes, marks)
+            write(&work.job[..needed], &work.states, bytes, marks)
         }
-        Block::Ended(p) => Translation::Refused(Fault::Grammar, p.passed + 1),
-        Block::Refused(why, line) => Translation::Refused(why, line),
+        Block::Ended(p) => Err(p.refused(Fault::Grammar).into()),
     }
 }

@@ -1,13 +1,13 @@
 // The transitions and marks of one line.
-ghost use Rattle.std.specs.Prelude.{List, ◌≡◌, ℕ, ◌*◌, ◌≤◌, ◌<◌, cond, length};
+ghost use Rattle.std.specs.Prelude.{◌≡◌, ℕ, suc, ◌*◌, ◌≤◌, ◌<◌, cond, length};
 ghost use Rattle.lines.specs.Line.{opens};
 ghost use Rattle.lines.specs.declared.Line.TheVariants.{Perform, Mark};
 ghost use Rattle.listing.specs.LineByLine.{skip_numbers, test_numbers, opposite_numbers};
 ghost use Rattle.translating.specs.Work.{WorkWithin};
 ghost use Rattle.translating.specs.Reading.{Adds, Leads, Begins, MarkIn, Closes};
 
-use crate::Fault;
 use crate::names::number_operation;
+use crate::{Fault, Refusal};
 use kinds::{DIFFERENT, EQUAL};
 use lines::{ANY, Line, Operation};
 
@@ -21,6 +21,27 @@ pub struct Progress {
     pub met: usize,
 }
 
+impl Progress {
+    // A refusal at the line after those passed.
+    pub(crate) fn refused(self, fault: Fault) -> Refusal
+        requires { self.passed ≤ 63 }
+        ensures { result ≡ record { fault = fault; line = suc self.passed } }
+    {
+        Refusal {
+            fault,
+            line: self.passed + 1,
+        }
+    }
+}
+
+// What the reading keeps: the transitions' bytes behind five for the numbers ahead of them; the names' letters; the marks' states.
+#[derive(Drop)]
+pub struct Work {
+    pub job: [u8; 635],
+    pub letters: [u8; 8],
+    pub states: [u8; 64],
+}
+
 // A `while` (it loops) or an `if` that is open: T, and the state from which T leads.
 #[derive(Clone, Copy)]
 pub struct Open {
@@ -29,20 +50,12 @@ pub struct Open {
     pub state: usize,
 }
 
-// Where a step leads, or that there would be more than 8 names or 64 states.
-#[derive(Clone, Copy)]
-pub enum Led {
-    On(Progress),
-    Full,
-}
-
-// What a line does: it leads on; it opens a block; it ends one; it is refused.
+// What a line does: it leads on; it opens a block; it ends one.
 #[derive(Clone, Copy)]
 pub enum Begun {
     On(Progress),
     Opened(Progress, Open),
     Ended,
-    Refused(Fault, usize),
 }
 
 // null = null
@@ -60,30 +73,26 @@ fn skip() -> Operation
 fn test_of(test: Operation) -> Operation
     ensures { result ≡ test_numbers test }
 {
-    if test.kind == ANY {
-        return skip();
+    match test.kind {
+        ANY => skip(),
+        _ => test,
     }
-    test
 }
 
 // The opposite of T.
 fn opposite_of(test: Operation) -> Operation
     ensures { result ≡ opposite_numbers test }
 {
-    if test.kind == ANY {
-        return skip();
-    }
-    if test.kind == EQUAL {
-        return Operation {
+    match test.kind {
+        ANY => skip(),
+        EQUAL => Operation {
             kind: DIFFERENT,
-            a: test.a,
-            b: test.b,
-        };
-    }
-    Operation {
-        kind: EQUAL,
-        a: test.a,
-        b: test.b,
+            ..test
+        },
+        _ => Operation {
+            kind: EQUAL,
+            ..test
+        },
     }
 }
 
@@ -101,19 +110,21 @@ fn put_transition(job: &mut [u8; 635], count: usize, from: usize, operation: Ope
 }
 
 // Leads by an operation from the present state to a new one.
-fn lead(p: Progress, met: usize, operation: Operation, job: &mut [u8; 635]) -> Led
+fn lead(
+    p: Progress,
+    met: usize,
+    operation: Operation,
+    job: &mut [u8; 635],
+) -> Result<Progress, Refusal>
     requires { (length job.old ≡ 635) × (p.passed ≤ 63) × (p.count ≤ 2 * p.passed) }
     ensures { Leads p met operation job.old result job.new }
 {
-    if 8 < met {
-        return Led::Full;
-    }
     if 62 < p.passed {
-        return Led::Full;
+        return Err(p.refused(Fault::Limits));
     }
     let new = p.passed + 1;
     put_transition(job, p.count, p.passed, operation, new);
-    Led::On(Progress {
+    Ok(Progress {
         at: p.at,
         passed: new,
         count: p.count + 1,
@@ -125,25 +136,28 @@ fn lead(p: Progress, met: usize, operation: Operation, job: &mut [u8; 635]) -> L
 fn back_to(opened: Open, new: usize) -> usize
     ensures { result ≡ cond opened.loops opened.state new }
 {
-    if opened.loops {
-        return opened.state;
-    }
-    new
+    if opened.loops { opened.state } else { new }
 }
 
 // The two transitions of an `end`.
-pub(crate) fn close(p: Progress, opened: Open, job: &mut [u8; 635]) -> Led
-    requires { (length job.old ≡ 635) × (p.passed ≤ 63) × (p.count ≤ 2 * p.passed) × (opened.state < 64) }
-    ensures { (letters states : List ℕ) → WorkWithin p (record { job = job.entry.now; letters = letters; states = states }) → Closes p (record { job = job.entry.now; letters = letters; states = states }) opened result (record { job = job.exit.now; letters = letters; states = states }) }
+pub(crate) fn close(p: Progress, opened: Open, work: &mut Work) -> Result<Progress, Refusal>
+    requires { (WorkWithin p work.old) × (opened.state < 64) }
+    ensures { Closes p work.old opened result work.new }
 {
     if 62 < p.passed {
-        return Led::Full;
+        return Err(p.refused(Fault::Limits));
     }
     let new = p.passed + 1;
+    let job = &mut work.job;
     put_transition(job, p.count, p.passed, skip(), back_to(opened, new));
-    let test = opened.test;
-    put_transition(job, p.count + 1, opened.state, opposite_of(test), new);
-    Led::On(Progress {
+    put_transition(
+        job,
+        p.count + 1,
+        opened.state,
+        opposite_of(opened.test),
+        new,
+    );
+    Ok(Progress {
         at: p.at,
         passed: new,
         count: p.count + 2,
@@ -152,17 +166,15 @@ pub(crate) fn close(p: Progress, opened: Open, job: &mut [u8; 635]) -> Led
 }
 
 // A line that is an operation.
-fn perform(operation: Operation, p: Progress, job: &mut [u8; 635], letters: &mut [u8; 8]) -> Begun
-    requires { (length job.old ≡ 635) × (length letters.old ≡ 8) × (p.passed ≤ 63) × (p.count ≤ 2 * p.passed) × (p.met ≤ 8) }
-    ensures { (depth : ℕ) (states : List ℕ) → length states ≡ 64 → Begins depth (Perform operation) p (record { job = job.entry.now; letters = letters.old; states = states }) result (record { job = job.exit.now; letters = letters.new; states = states }) }
+fn perform(operation: Operation, p: Progress, work: &mut Work) -> Result<Begun, Refusal>
+    requires { WorkWithin p work.old }
+    ensures { (depth : ℕ) → Begins depth (Perform operation) p work.old result work.new }
 {
-    let n = number_operation(letters, p.met, operation);
-    let numbered = n.operation;
-    let led = lead(p, n.met, numbered, job);
-    match led {
-        Led::On(q) => Begun::On(q),
-        Led::Full => Begun::Refused(Fault::Limits, p.passed + 1),
-    }
+    let Some(n) = number_operation(&mut work.letters, p.met, operation) else {
+        return Err(p.refused(Fault::Limits));
+    };
+    let q = lead(p, n.met, n.operation, &mut work.job)?;
+    Ok(Begun::On(q))
 }
 
 // `while T` (it loops) or `if T`, with so many open already.
@@ -171,47 +183,37 @@ fn open_block(
     test: Operation,
     p: Progress,
     depth: usize,
-    job: &mut [u8; 635],
-    letters: &mut [u8; 8],
-) -> Begun
-    requires { (length job.old ≡ 635) × (length letters.old ≡ 8) × (p.passed ≤ 63) × (p.count ≤ 2 * p.passed) × (p.met ≤ 8) }
-    ensures { (states : List ℕ) → length states ≡ 64 → Begins depth (opens loops test) p (record { job = job.entry.now; letters = letters.old; states = states }) result (record { job = job.exit.now; letters = letters.new; states = states }) }
+    work: &mut Work,
+) -> Result<Begun, Refusal>
+    requires { WorkWithin p work.old }
+    ensures { Begins depth (opens loops test) p work.old result work.new }
 {
     if 16 <= depth {
-        return Begun::Refused(Fault::Nesting, p.passed + 1);
+        return Err(p.refused(Fault::Nesting));
     }
-    let n = number_operation(letters, p.met, test);
-    let numbered = n.operation;
-    let led = lead(p, n.met, test_of(numbered), job);
-    match led {
-        Led::On(q) => Begun::Opened(
-            q,
-            Open {
-                loops,
-                test: numbered,
-                state: p.passed,
-            },
-        ),
-        Led::Full => Begun::Refused(Fault::Limits, p.passed + 1),
-    }
+    let Some(n) = number_operation(&mut work.letters, p.met, test) else {
+        return Err(p.refused(Fault::Limits));
+    };
+    let q = lead(p, n.met, test_of(n.operation), &mut work.job)?;
+    let open = Open {
+        loops,
+        test: n.operation,
+        state: p.passed,
+    };
+    Ok(Begun::Opened(q, open))
 }
 
 // `mark k`.
-fn mark(k: usize, p: Progress, job: &mut [u8; 635], states: &mut [u8; 64]) -> Begun
-    requires { (k ≤ 63) × (length job.old ≡ 635) × (length states.old ≡ 64) × (p.passed ≤ 63) × (p.count ≤ 2 * p.passed) × (p.met ≤ 8) }
-    ensures { (depth : ℕ) (letters : List ℕ) → length letters ≡ 8 → Begins depth (Mark k) p (record { job = job.entry.now; letters = letters; states = states.entry.now }) result (record { job = job.exit.now; letters = letters; states = states.exit.now }) }
+fn mark(k: usize, p: Progress, work: &mut Work) -> Result<Begun, Refusal>
+    requires { (k ≤ 63) × (WorkWithin p work.old) }
+    ensures { (depth : ℕ) → Begins depth (Mark k) p work.old result work.new }
 {
-    if states[k] != 64 {
-        return Begun::Refused(Fault::Grammar, p.passed + 1);
+    if work.states[k] != 64 {
+        return Err(p.refused(Fault::Grammar));
     }
-    let led = lead(p, p.met, skip(), job);
-    match led {
-        Led::On(q) => {
-            states[k] = p.passed as u8;
-            Begun::On(q)
-        }
-        Led::Full => Begun::Refused(Fault::Limits, p.passed + 1),
-    }
+    let q = lead(p, p.met, skip(), &mut work.job)?;
+    work.states[k] = p.passed as u8;
+    Ok(Begun::On(q))
 }
 
 // One line, up to the block that it opens.
@@ -219,19 +221,17 @@ pub(crate) fn begin(
     line: Line,
     p: Progress,
     depth: usize,
-    job: &mut [u8; 635],
-    letters: &mut [u8; 8],
-    states: &mut [u8; 64],
-) -> Begun
-    requires { (MarkIn line) × (WorkWithin p (record { job = job.now; letters = letters.old; states = states.old })) }
-    ensures { Begins depth line p (record { job = job.entry.now; letters = letters.old; states = states.old }) result (record { job = job.exit.now; letters = letters.new; states = states.new }) }
+    work: &mut Work,
+) -> Result<Begun, Refusal>
+    requires { (MarkIn line) × (WorkWithin p work.old) }
+    ensures { Begins depth line p work.old result work.new }
 {
     match line {
-        Line::Perform(operation) => perform(operation, p, job, letters),
-        Line::While(test) => open_block(true, test, p, depth, job, letters),
-        Line::If(test) => open_block(false, test, p, depth, job, letters),
-        Line::End => Begun::Ended,
-        Line::Mark(k) => mark(k, p, job, states),
-        Line::Other => Begun::Refused(Fault::Grammar, p.passed + 1),
+        Line::Perform(operation) => perform(operation, p, work),
+        Line::While(test) => open_block(true, test, p, depth, work),
+        Line::If(test) => open_block(false, test, p, depth, work),
+        Line::End => Ok(Begun::Ended),
+        Line::Mark(k) => mark(k, p, work),
+        Line::Other => Err(p.refused(Fault::Grammar)),
     }
 }

@@ -1,154 +1,73 @@
 -- A block is its statements, a statement may hold a block: the place in the text moves on at each call, and the position with it.
-use mathlib.Core.List.{List}
 use native.Mathlib.Omega.{arith}
-use Prim.Native.Nat.{ℕ, ◌+◌, ◌≤◌}
-use Rattle.translating.specs.Work.{Work}
-use Rattle.translating.specs.declared.Fault.TheVariants.{Grammar}
+use Rattle.std.proofs.lemmas.Result.{err_from_is_err_and}
+use Rattle.std.specs.Prelude.{Ok, Err}
 use Rattle.translating.specs.declared.blocks.Block.TheVariants as block
-use Rattle.translating.proofs.Nesting.{mark_in_lem, moved, passed_more, block_after, block_over, block_last, block_line, block_ended, block_refused, statement_passed, statement_on, statement_refused, open_over, open_refused, ended_within, close_statement, close_refused}
+use Rattle.translating.proofs.Nesting.{mark_in_lem, moved, block_after, block_over, block_last, statement_on, statement_refused, open_over, open_refused, close_statement, close_refused}
 use Rattle.translating.proofs.blocks.+read_block_read_statement.Goals as goal
-
-abbrev work : List ℕ → List ℕ → List ℕ → Work
-work job letters states = record { job = job; letters = letters; states = states }
 
 -- ---- a block
 
-pub read_block-returns-then-text-at : goal.read_block-returns-then-text-at
-read_block-returns-then-text-at t c =
+pub read_block-returns-in_default : goal.read_block-returns-in_default
+read_block-returns-in_default t c =
     let a = c.args in
     let l = c.loop-reached in
-    let q = l.reached in
-    let w = work a.job.now a.letters.now a.states.now in
-    let v = work l.job l.letters l.states in
-    block_after a.text.now a.depth a.p w q v l.invariant (block.Over q) v (block_over a.text.now a.depth q v l.invariant.further.within c.if-text-at.true)
+    block_after a.text.now a.depth a.p a.work.now l.reached l.work l.invariant (Err c.refused.result) l.work
+    (block_last a.text.now a.depth l.reached l.work c.refused.result c.loop-reached-test.true c.in_default.ensures c.refused.ensures)
 
-pub read_block-returns-then-text-end : goal.read_block-returns-then-text-end
-read_block-returns-then-text-end t c =
-    let a = c.args in
+pub read_block-read_statement-requires : goal.read_block-read_statement-requires
+read_block-read_statement-requires t c =
     let l = c.loop-reached in
-    let q = l.reached in
-    let w = work a.job.now a.letters.now a.states.now in
-    let v = work l.job l.letters l.states in
-    block_after a.text.now a.depth a.p w q v l.invariant (block.Refused Grammar (q.passed + 1)) v
-    (block_last a.text.now a.depth q v c.line_end-end.result c.if-text-at.false c.if-text-end.true c.line_end-end.ensures.2)
-
-pub read_block-read_statement-first-requires : goal.read_block-read_statement-first-requires
-read_block-read_statement-first-requires t c =
-    let a = c.args in
-    let l = c.loop-reached in
-    let q = l.reached in
-    let w = work a.job.now a.letters.now a.states.now in
-    let v = work l.job l.letters l.states in
-    let inside = c.if-text-end.false in (
-      omega (arith, c.decreases, c.line_end-end.ensures.0, l.invariant.further.on, inside),
-      (mark_in_lem _ _ c.read_line-line.ensures, moved q v _ l.invariant.further.within, omega (arith, inside), c.requires.2),
+    let line = c.in-Some.ensures in (
+      omega (arith, c.decreases, l.invariant.further.on, line.0),
+      (mark_in_lem _ _ c.read_line-line.ensures, moved l.reached l.work _ l.invariant.further.within, omega (arith, line.0), c.requires.2),
     )
 
-pub read_block-loop-reached-preserved : goal.read_block-loop-reached-preserved
-read_block-loop-reached-preserved t c =
+pub read_block-returns : goal.read_block-returns
+read_block-returns t c =
     let a = c.args in
     let l = c.loop-reached in
-    let q = l.reached in
-    let w = work a.job.now a.letters.now a.states.now in
-    let v = work l.job l.letters l.states in
-    let s = c.read_statement-first in
-    let n = work s.new.job s.new.letters s.new.states in
-    let end = c.line_end-end in
-    let onward : q.at ≤ end.result + 1 = omega (arith, end.ensures.0) in
-    let lines = block_line a.text.now a.depth q v c.read_line-line.result end.result c.read_line-line.ensures end.ensures.0 c.if-text-end.false end.ensures.2 (end.ensures.3 c.if-text-end.false) in
-    passed_more a.text.now a.depth a.p w q v l.invariant c.in-On.q n
-    (statement_passed a.text.now a.depth q v c.read_line-line.result (end.result + 1) onward lines s.result n c.in-On.q s.ensures c.in-On.is)
-
-pub read_block-returns-in-Ended : goal.read_block-returns-in-Ended
-read_block-returns-in-Ended t c =
-    let a = c.args in
-    let l = c.loop-reached in
-    let q = l.reached in
-    let w = work a.job.now a.letters.now a.states.now in
-    let v = work l.job l.letters l.states in
-    let s = c.read_statement-first in
-    let n = work s.new.job s.new.letters s.new.states in
-    let end = c.line_end-end in
-    let onward : q.at ≤ end.result + 1 = omega (arith, end.ensures.0) in
-    let lines = block_line a.text.now a.depth q v c.read_line-line.result end.result c.read_line-line.ensures end.ensures.0 c.if-text-end.false end.ensures.2 (end.ensures.3 c.if-text-end.false) in
-    block_after a.text.now a.depth a.p w q v l.invariant (block.Ended c.in-Ended.q) n
-    (block_ended a.text.now a.depth q v c.read_line-line.result (end.result + 1) onward lines s.result n c.in-Ended.q s.ensures c.in-Ended.is)
-
-pub read_block-returns-in-Refused : goal.read_block-returns-in-Refused
-read_block-returns-in-Refused t c =
-    let a = c.args in
-    let l = c.loop-reached in
-    let q = l.reached in
-    let w = work a.job.now a.letters.now a.states.now in
-    let v = work l.job l.letters l.states in
-    let s = c.read_statement-first in
-    let n = work s.new.job s.new.letters s.new.states in
-    let end = c.line_end-end in
-    let onward : q.at ≤ end.result + 1 = omega (arith, end.ensures.0) in
-    let lines = block_line a.text.now a.depth q v c.read_line-line.result end.result c.read_line-line.ensures end.ensures.0 c.if-text-end.false end.ensures.2 (end.ensures.3 c.if-text-end.false) in
-    block_after a.text.now a.depth a.p w q v l.invariant (block.Refused c.in-Refused.why c.in-Refused.number) n
-    (block_refused a.text.now a.depth q v c.read_line-line.result (end.result + 1) onward lines s.result n c.in-Refused.why c.in-Refused.number s.ensures c.in-Refused.is)
+    block_after a.text.now a.depth a.p a.work.now l.reached l.work l.invariant (Ok (block.Over l.reached)) l.work
+    (block_over a.text.now a.depth l.reached l.work l.invariant.further.within c.loop-reached-test.false)
 
 -- ---- a statement
+
+pub read_statement-returns-in_err-q : goal.read_statement-returns-in_err-q
+read_statement-returns-in_err-q t c =
+    let a = c.args in
+    let p = err_from_is_err_and c.from_residual.result c.from_residual.ensures.1 in
+    rw (p.1, p.2) (statement_refused a.text.now a.line a.depth a.p a.work.now c.requires.1 c.requires.2 c.begin.new.work c.in_err-q.field-0.0 c.in_err-q.ensures)
+
+pub read_statement-returns-in_err-r-in-Opened : goal.read_statement-returns-in_err-r-in-Opened
+read_statement-returns-in_err-r-in-Opened t c =
+    let a = c.args in
+    let p = err_from_is_err_and c.from_residual-in_err-r-in-Opened.result c.from_residual-in_err-r-in-Opened.ensures.1 in
+    rw (p.1, p.2) (open_refused a.text.now a.line a.depth a.p a.work.now c.requires.1 c.requires.2 c.begin.new.work c.in_ok-q.field-0 c.in_ok-q.ensures
+    c.in-Opened.q c.in-Opened.open c.in-Opened.is c.in_err-r-in-Opened.field-0.0 c.read_block.new.work c.in_err-r-in-Opened.ensures)
+
+pub read_statement-returns-in_err-close-in-Ended-2 : goal.read_statement-returns-in_err-close-in-Ended-2
+read_statement-returns-in_err-close-in-Ended-2 t c =
+    let a = c.args in
+    let p = err_from_is_err_and c.from_residual-in_err-close-in-Ended-2.result c.from_residual-in_err-close-in-Ended-2.ensures.1 in
+    rw (p.1, p.2) (close_refused a.text.now a.line a.depth a.p a.work.now c.requires.1 c.requires.2 c.begin.new.work c.in_ok-q.field-0 c.in_ok-q.ensures
+    c.in-Opened.q c.in-Opened.open c.in-Opened.is c.in_ok-r-in-Opened.field-0 c.read_block.new.work c.in_ok-r-in-Opened.ensures
+    c.in-Ended-2.r c.in-Ended-2.is c.in_err-close-in-Ended-2.field-0.0 c.close.new.work c.in_err-close-in-Ended-2.ensures)
 
 pub read_statement-returns-in-On : goal.read_statement-returns-in-On
 read_statement-returns-in-On t c =
     let a = c.args in
-    let w = work a.job.now a.letters.now a.states.now in
-    let b = c.begin-begun in
-    let v = work b.new.job b.new.letters b.new.states in
-    statement_on a.text.now a.line a.depth a.p w c.requires.1 c.requires.2 b.result v b.ensures c.in-On.q c.in-On.is
-
-pub read_statement-returns-in-Refused : goal.read_statement-returns-in-Refused
-read_statement-returns-in-Refused t c =
-    let a = c.args in
-    let w = work a.job.now a.letters.now a.states.now in
-    let b = c.begin-begun in
-    let v = work b.new.job b.new.letters b.new.states in
-    statement_refused a.text.now a.line a.depth a.p w c.requires.1 c.requires.2 b.result v b.ensures c.in-Refused.why c.in-Refused.number c.in-Refused.is
+    statement_on a.text.now a.line a.depth a.p a.work.now c.requires.1 c.requires.2 c.begin.new.work c.in_ok-q.field-0 c.in_ok-q.ensures c.in-On.q c.in-On.is
 
 pub read_statement-returns-in-Over : goal.read_statement-returns-in-Over
 read_statement-returns-in-Over t c =
     let a = c.args in
-    let w = work a.job.now a.letters.now a.states.now in
-    let b = c.begin-begun in
-    let v = work b.new.job b.new.letters b.new.states in
-    let r = c.read_block-inner in
-    let n = work r.new.job r.new.letters r.new.states in
-    open_over a.text.now a.line a.depth a.p w c.requires.1 c.requires.2 b.result v b.ensures c.in-Opened.q c.in-Opened.open c.in-Opened.is r.result n r.ensures c.in-Over.r c.in-Over.is
+    open_over a.text.now a.line a.depth a.p a.work.now c.requires.1 c.requires.2 c.begin.new.work c.in_ok-q.field-0 c.in_ok-q.ensures
+    c.in-Opened.q c.in-Opened.open c.in-Opened.is c.in_ok-r-in-Opened.field-0 c.read_block.new.work c.in_ok-r-in-Opened.ensures
+    c.in-Over.r c.in-Over.is c.refused.result c.refused.ensures
 
-pub read_statement-returns-in-Refused-inner : goal.read_statement-returns-in-Refused-inner
-read_statement-returns-in-Refused-inner t c =
+pub read_statement-returns-in_ok-close-in-Ended-2 : goal.read_statement-returns-in_ok-close-in-Ended-2
+read_statement-returns-in_ok-close-in-Ended-2 t c =
     let a = c.args in
-    let w = work a.job.now a.letters.now a.states.now in
-    let b = c.begin-begun in
-    let v = work b.new.job b.new.letters b.new.states in
-    let r = c.read_block-inner in
-    let n = work r.new.job r.new.letters r.new.states in
-    open_refused a.text.now a.line a.depth a.p w c.requires.1 c.requires.2 b.result v b.ensures c.in-Opened.q c.in-Opened.open c.in-Opened.is r.result n r.ensures c.in-Refused-inner.why c.in-Refused-inner.number c.in-Refused-inner.is
-
-pub read_statement-returns-in-On-led : goal.read_statement-returns-in-On-led
-read_statement-returns-in-On-led t c =
-    let a = c.args in
-    let w = work a.job.now a.letters.now a.states.now in
-    let b = c.begin-begun in
-    let v = work b.new.job b.new.letters b.new.states in
-    let r = c.read_block-inner in
-    let n = work r.new.job r.new.letters r.new.states in
-    let end = c.in-Ended-inner.r in
-    let k = c.close-led in
-    let closes = k.ensures r.new.letters r.new.states (ended_within a.text.now a.line a.depth a.p w c.requires.1 c.requires.2 b.result v b.ensures c.in-Opened.q c.in-Opened.open c.in-Opened.is r.result n r.ensures end c.in-Ended-inner.is) in
-    close_statement a.text.now a.line a.depth a.p w c.requires.1 c.requires.2 b.result v b.ensures c.in-Opened.q c.in-Opened.open c.in-Opened.is r.result n r.ensures end c.in-Ended-inner.is k.result (work k.new.job r.new.letters r.new.states) closes c.in-On-led.s c.in-On-led.is
-
-pub read_statement-returns-in-Full : goal.read_statement-returns-in-Full
-read_statement-returns-in-Full t c =
-    let a = c.args in
-    let w = work a.job.now a.letters.now a.states.now in
-    let b = c.begin-begun in
-    let v = work b.new.job b.new.letters b.new.states in
-    let r = c.read_block-inner in
-    let n = work r.new.job r.new.letters r.new.states in
-    let end = c.in-Ended-inner.r in
-    let k = c.close-led in
-    let closes = k.ensures r.new.letters r.new.states (ended_within a.text.now a.line a.depth a.p w c.requires.1 c.requires.2 b.result v b.ensures c.in-Opened.q c.in-Opened.open c.in-Opened.is r.result n r.ensures end c.in-Ended-inner.is) in
-    close_refused a.text.now a.line a.depth a.p w c.requires.1 c.requires.2 b.result v b.ensures c.in-Opened.q c.in-Opened.open c.in-Opened.is r.result n r.ensures end c.in-Ended-inner.is k.result (work k.new.job r.new.letters r.new.states) closes c.in-Full.is
+    close_statement a.text.now a.line a.depth a.p a.work.now c.requires.1 c.requires.2 c.begin.new.work c.in_ok-q.field-0 c.in_ok-q.ensures
+    c.in-Opened.q c.in-Opened.open c.in-Opened.is c.in_ok-r-in-Opened.field-0 c.read_block.new.work c.in_ok-r-in-Opened.ensures
+    c.in-Ended-2.r c.in-Ended-2.is c.in_ok-close-in-Ended-2.field-0 c.close.new.work c.in_ok-close-in-Ended-2.ensures

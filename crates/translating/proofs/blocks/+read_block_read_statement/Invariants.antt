@@ -10,9 +10,7 @@ abbrev pub decreases-read_statement : goal.decreases-read_statement
 decreases-read_statement l = 2 * (length l.text.now - l.p.at) + 1
 
 abbrev pub invariant-read_block-loop-reached : goal.invariant-read_block-loop-reached
-invariant-read_block-loop-reached l =
-    Passed l.text l.depth l.fn.p (record { job = l.fn.job; letters = l.fn.letters; states = l.fn.states })
-    l.reached (record { job = l.job; letters = l.letters; states = l.states })
+invariant-read_block-loop-reached l = Passed l.text l.depth l.fn.p l.fn.work l.reached l.work
 
 abbrev pub decreases-read_block-loop-reached : goal.decreases-read_block-loop-reached
 decreases-read_block-loop-reached l = length l.text - l.reached.at
