@@ -1,5 +1,5 @@
 -- Kinds 6 and 7: the shapes before, by their cases, are all that were before.
-use mathlib.Core.Bool.{Bool, true, false, cond}
+use mathlib.Core.Bool.{Bool, false}
 use mathlib.Core.List.{List, [], ◌∷◌}
 use mathlib.Core.Logic.{◌≢◌}
 use mathlib.Core.Path.{◌≡◌, refl, sym}
@@ -27,10 +27,6 @@ module _ (variables kind count : ℕ) (s : List ℕ) (k : ℕ) (r : Bool) (r-is 
   pub before_none : r ≡ false → before_by_case variables kind count s k ≡ []
   unfolding before_by_case
   before_none e = rw (← r-is, e) refl
-
-  pub before_one : r ≡ true → (t : List ℕ) → t ≡ cond r (array_before variables kind count s k) s → before_by_case variables kind count s k ≡ shape_in variables t ∷ []
-  unfolding before_by_case
-  before_one e t t_is = rw (t_is, ← r-is, e) refl
 
 -- ---- all cases
 

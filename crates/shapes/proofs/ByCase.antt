@@ -1,13 +1,18 @@
 -- The cases of kind 7: how many there are, where the variables stand by each, and that these are all, in document 01's order.
 use mathlib.Core.List.{List, [], ◌∷◌, ◌++◌, map, append-nil}
 use mathlib.Core.Logic.{◌≢◌}
-use mathlib.Core.Path.{◌≡◌, refl, sym, ap, ◌∙◌}
-use Prim.Native.Nat.{ℕ, zero, suc, ◌+◌, ◌-◌, ◌/◌, ◌≤◌, ◌<◌}
+use mathlib.Core.Bool.{cond}
+use mathlib.Core.Path.{◌≡◌, refl, sym, ap, ap₂, ◌∙◌}
+use Prim.Native.Nat.{ℕ, zero, suc, ◌+◌, ◌-◌, ◌*◌, ◌/◌, ◌%◌, ◌^◌, ◌≤◌, ◌<◌}
 use native.Mathlib.Decide.{ℕ_discrete}
 use native.Mathlib.Omega.{arith}
 use borrow.Author.Tests.{le-leb, lt-leb, eq-eqb, ne_eqb}
+use lib.Dec.{eqb}
+use Rattle.std.specs.Prelude.{count_by}
+use Rattle.std.proofs.lemmas.List.Sums.{sum_by-cons}
+use Rattle.std.proofs.Math.Nat.{two-pow-succ, mod-eq_of_lt}
 use lib.ListN.{length, get_or, set, take, drop}
-use lib.Seq.{drop-cons, drop-set-lt, take-suc-set, append_snoc, set-get_or, take-length, drop-length}
+use lib.Seq.{drop-cons, drop-set-lt, take-suc-set, append_snoc, take-length, drop-length}
 use Rattle.lists.specs.List.{concat_map}
 use Rattle.lists.specs.Range.{range}
 use Rattle.lists.proofs.List.{range_append, concat_map_append, concat_map_range}
@@ -48,20 +53,30 @@ count_most (p ∷ ps) = go (ℕ_discrete p dangling) (count_most ps)
     go (yes e) h = rw (count_dangling p ps e) (omega arith)
     go (no n) h = rw (count_other p ps n) (omega arith)
 
-pub count_fits : (l : List ℕ) → length l ≤ 9 → case_count l ≤ 512
+count_fits : (l : List ℕ) → length l ≤ 9 → case_count l ≤ 512
 count_fits l h = let a = count_most l in let b = most_grows (length l) h in omega arith
 
--- in a loop from the last variable to the first: the i-th and those after it
-module _ (v : List ℕ) (i : ℕ) (inside : i < length v) where
-  pub count_more : get_or v i 0 ≡ dangling → case_count (drop i v) ≡ case_count (drop (suc i) v) + case_count (drop (suc i) v)
-  count_more e = ap case_count (drop-cons v i 0 inside) ∙ count_dangling (get_or v i 0) (drop (suc i) v) e
-
-  pub count_same : get_or v i 0 ≢ dangling → case_count (drop i v) ≡ case_count (drop (suc i) v)
-  count_same z = ap case_count (drop-cons v i 0 inside) ∙ count_other (get_or v i 0) (drop (suc i) v) z
-
-pub count_none : (v : List ℕ) → case_count (drop (length v) v) ≡ 1
+-- a power of two
+count_power : (l : List ℕ) → case_count l ≡ 2 ^ count_by (λ p. eqb p 2) l
 unfolding case_count
-count_none v = rw (drop-length v) refl
+count_power [] = refl
+count_power (p ∷ ps) = rw (sum_by-cons (λ x. cond (eqb x 2) 1 0) p ps) (go (ℕ_discrete p dangling) (count_power ps))
+  where
+    n : ℕ
+    n = count_by (λ p. eqb p 2) ps
+
+    go : Dec (p ≡ dangling) → case_count ps ≡ 2 ^ n → case_count (p ∷ ps) ≡ 2 ^ (cond (eqb p 2) 1 0 + n)
+    go (yes e) h =
+        let one : 1 + n ≡ suc n = omega arith in
+        rw (count_dangling p ps e, eq-eqb p 2 e, one, two-pow-succ n) (ap₂ ◌+◌ h h)
+    go (no z) h = let none : 0 + n ≡ n = omega arith in rw (count_other p ps z, ne_eqb p 2 z, none) h
+
+pub count_shifted : (l : List ℕ) (n : ℕ) → length l ≤ 9 → n ≡ count_by (λ p. eqb p 2) l → 1 * 2 ^ n % 18446744073709551616 ≡ case_count l
+count_shifted l n h e =
+    let c = count_power l in
+    let f = count_fits l h in
+    let one : 1 * 2 ^ n ≡ case_count l = rw e (omega (arith, c)) in
+    rw one (mod-eq_of_lt (omega (arith, f)))
 
 -- ---- where the first variable stands by case k of n, and the case of the others
 
@@ -107,11 +122,11 @@ module _ (c n k : ℕ) (v : List ℕ) (i : ℕ) (inside : i < length v) where
   pub next_moved : p ≡ dangling → n / 2 ≤ k → chosen_to c n k v i ≡ chosen_to c (n / 2) (k - n / 2) (set v i c) (i + 1)
   next_moved e h = put c (n / 2) (k - n / 2) (case_moved c n k p ps e h)
 
-  pub next_already : p ≡ dangling → k < n / 2 → chosen_to c n k v i ≡ chosen_to c (n / 2) k v (i + 1)
-  next_already e h = put p (n / 2) k (case_already c n k p ps e h) ∙ ap (λ (w : List ℕ). chosen_to c (n / 2) k w (i + 1)) (set-get_or v i 0)
+  pub next_already : p ≡ dangling → k < n / 2 → chosen_to c n k v i ≡ chosen_to c (n / 2) k (set v i p) (i + 1)
+  next_already e h = put p (n / 2) k (case_already c n k p ps e h)
 
-  pub next_other : p ≢ dangling → chosen_to c n k v i ≡ chosen_to c n k v (i + 1)
-  next_other z = put p n k (case_other c n k p ps z) ∙ ap (λ (w : List ℕ). chosen_to c n k w (i + 1)) (set-get_or v i 0)
+  pub next_other : p ≢ dangling → chosen_to c n k v i ≡ chosen_to c n k (set v i p) (i + 1)
+  next_other z = put p n k (case_other c n k p ps z)
 
 pub chosen_all : (c n k : ℕ) (v : List ℕ) (i : ℕ) → i ≡ length v → chosen_to c n k v i ≡ v
 unfolding vars_by_case

@@ -1,62 +1,19 @@
 -- The test for a free cell, one part after the other, and the test before a deleted cell is restored.
-use mathlib.Core.Bool.{Bool, true, false, ◌&&◌, ◌||◌}
-use mathlib.Core.List.{List, []}
+use mathlib.Core.Bool.{Bool, true, false}
+use mathlib.Core.List.{List}
 use mathlib.Core.Logic.{◌≢◌}
-use mathlib.Core.Path.{◌≡◌, refl, sym, ap, ◌∙◌}
-use Prim.Native.Nat.{ℕ, zero, suc, ◌+◌, ◌-◌, ◌≤◌, ◌<◌}
+use mathlib.Core.Path.{◌≡◌, refl, sym, ◌∙◌}
+use Prim.Native.Nat.{ℕ, ◌≤◌, ◌<◌}
 use native.Mathlib.Decide.{ℕ_discrete}
 use native.Mathlib.Omega.{arith}
-use borrow.Author.Tests.{lt-ltb, le-ltb, le-leb, ne_eqb}
-use lib.Dec.{eqb}
-use lib.ListN.{take, drop}
-use Rattle.lists.specs.List.{absent, keep}
+use borrow.Author.Tests.{lt-ltb, le-leb}
+use Rattle.lists.specs.List.{keep}
 use Rattle.lists.proofs.Reflect.{Reflect, r_eq, r_and, r_or, r_iff, r_le, r_lt, r_itself, is_true, is_false, passes}
 use Rattle.heap.specs.Place.{nowhere, null, dangling, cell}
-use Rattle.shape.specs.Shape.{Shape, link_at}
-use Rattle.place.specs.Place.{cell_place}
-use Rattle.place.specs.declared.Place.{Place}
 use Rattle.layout.specs.ShapeArray.{cell_count, operand_at, shape_in, ShapeArray}
 use Rattle.shapes.specs.Change.{is_free_cell, array_without, is_restorable}
 use Rattle.shapes.specs.Without.{is_free, without}
 use Rattle.shapes.proofs.Remove.{holds_without}
-
-module _ (vars links : List ℕ) (c : ℕ) where
-  abbrev s : Shape
-  s = record { vars = vars; links = links; facts = [] }
-
-  pub no_cell : c < 3 → false ≡ is_free c s
-  no_cell h = rw (le-ltb dangling c (omega arith)) refl
-
-  module _ (is_cell : 3 ≤ c) where
-    abbrev test : ℕ → Bool
-    test l = (eqb l nowhere || eqb l dangling) && (absent c s.links && absent c s.vars)
-
-    by_link : is_free c s ≡ test (link_at s c)
-    by_link = rw (lt-ltb dangling c (omega arith)) refl
-
-    pub to_null : link_at s c ≡ null → false ≡ is_free c s
-    to_null e = sym (by_link ∙ ap test e)
-
-    pub to_cell : dangling < link_at s c → false ≡ is_free c s
-    to_cell b =
-        let l : ℕ = link_at s c in
-        sym (by_link ∙ rw (ne_eqb l nowhere (λ e. omega arith), ne_eqb l dangling (λ e. omega arith)) refl)
-
-    module _ (other : link_at s c ≡ null → ⊥) (low : link_at s c ≤ dangling) where
-      unlinked : is_free c s ≡ absent c s.links && absent c s.vars
-      unlinked = by_link ∙ go (link_at s c) other low
-        where
-          go : (l : ℕ) → (l ≡ null → ⊥) → l ≤ dangling → test l ≡ absent c s.links && absent c s.vars
-          go zero z b = refl
-          go (suc zero) z b = absurd (z refl)
-          go (suc (suc zero)) z b = refl
-          go (suc (suc (suc l))) z b = absurd (omega arith)
-
-      pub link_at_lem : absent c s.links ≡ false → false ≡ is_free c s
-      link_at_lem e = rw (unlinked, e) refl
-
-      pub var_at : absent c s.links ≡ true → absent c s.vars ≡ is_free c s
-      var_at e = rw (unlinked, e) refl
 
 -- ---- the test for a cell that can be taken out
 
@@ -75,9 +32,6 @@ module _ (variables : ℕ) (s : List ℕ) (k : ℕ) where
       (λ f. (f.variables_fit, (f.cells_fit, (f.is_cell, f.free))))
       (r_and (r_le variables 9) (r_and (r_le (cell_count s) 14) (r_and (r_lt k (cell_count s)) (r_itself (is_free (cell k) (shape_in variables s))))))
 
-  pub not_free_cell : (FreeCell variables s k → ⊥) → false ≡ is_free_cell variables s k
-  not_free_cell f = sym (is_false (is_free_cell variables s k) (λ t. f (r_free_cell.holds t)))
-
   pub free_cell : is_free_cell variables s k ≡ true → FreeCell variables s k
   free_cell e = r_free_cell.holds (passes (is_free_cell variables s k) e)
 
@@ -85,15 +39,6 @@ module _ (variables : ℕ) (s : List ℕ) (k : ℕ) where
     pub by_shape : is_free (cell k) (shape_in variables s) ≡ is_free_cell variables s k
     unfolding is_free_cell
     by_shape = rw (le-leb variables 9 few, le-leb (cell_count s) 14 small, lt-ltb k (cell_count s) is_cell) refl
-
-    -- the test on parts of the array
-    pub by_parts : (p : Place) → p ≡ cell_place k
-        → is_free p.code (record { vars = take (18 + variables - 18) (drop 18 s); links = take (3 + cell_count s - 3) (drop 3 s); facts = [] }) ≡ is_free_cell variables s k
-    by_parts p is-k =
-        let code : p.code ≡ cell k = rw is-k (simp (lt-ltb k 253 (omega arith)) (omega arith)) in
-        let vars : 18 + variables - 18 ≡ variables = omega arith in
-        let links : 3 + cell_count s - 3 ≡ cell_count s = omega arith in
-        rw (code, vars, links) by_shape
 
 -- where it is passed, the shape in the array without the cell
 pub by_array : (variables : ℕ) (s : List ℕ) → ShapeArray variables s → (k : ℕ) → k < cell_count s
@@ -149,3 +94,7 @@ module _ (variables a : ℕ) (s : List ℕ) where
 
   pub is_restorable_lem : is_restorable variables a s ≡ true → Restorable variables a s
   is_restorable_lem e = r_restorable.holds (passes (is_restorable variables a s) e)
+
+  -- there is room for the variables
+  pub restored_fit : (r : Bool) → r ≡ is_restorable variables a s → r ≡ true → variables ≤ 9
+  restored_fit r r_is e = (is_restorable_lem (sym r_is ∙ e)).variables_fit

@@ -1,6 +1,6 @@
 -- Kind 6: what was before new, and the array without a cell.
 use mathlib.Core.List.Memᴰ
-use mathlib.Core.List.{List, [], ◌∷◌, ◌++◌, map, append-nil}
+use mathlib.Core.List.{List, [], ◌∷◌, map}
 use mathlib.Core.Logic.{◌≢◌}
 use mathlib.Core.Path.{◌≡◌, refl, sym, ap, ap₂, ◌∙◌}
 use Prim.Native.Nat.{ℕ, zero, suc, ◌+◌, ◌-◌, ◌≤◌, ◌<◌}
@@ -10,24 +10,18 @@ use borrow.Author.Tests.{lt-ltb, le-ltb, le-leb, lt-leb, ne_eqb}
 use lib.Dec.{T}
 use lib.ListN.{length, get_or, drop, length-map}
 use lib.Seq.{get_or-take, get_or-drop, ext_get_or}
-use Rattle.lists.specs.List.{concat_map}
-use Rattle.lists.specs.Range.{range}
-use Rattle.lists.proofs.List.{at_mem, get_or_mem, mem_get_or, every_none}
-use Rattle.facts.specs.Facts.{FactOf}
-use Rattle.lists.proofs.Reflect.{r_and, r_le, r_lt, cond_cases}
-use Rattle.heap.specs.Operation.{new}
+use Rattle.lists.proofs.List.{at_mem, get_or_mem, mem_get_or}
 use Rattle.heap.specs.Place.{nowhere, null, cell}
-use Rattle.shape.specs.Placing.{set_var}
 use Rattle.shape.specs.Shape.{Shape, AllBelow, var_at, size}
 use Rattle.shape.proofs.Laws.{link_map}
-use Rattle.backward.specs.Predecessors.{remove_at, lower, remove_cell, before}
+use Rattle.backward.specs.Predecessors.{remove_at, lower, remove_cell}
 use Rattle.backward.proofs.Remove.{lower_low, lower_below, links_remove_length}
 use Rattle.layout.specs.ShapeArray.{cell_count, operand_at, links_in, shape_in, ShapeArray}
-use Rattle.shapes.specs.Change.{set_operand, slot_from, slot_without, array_without}
+use Rattle.shapes.specs.Change.{slot_from, slot_without, array_without}
 use Rattle.shapes.specs.Operands.{HoldsShape}
-use Rattle.shapes.specs.Without.{is_free, without}
-use Rattle.shapes.proofs.New.{r_is_free, new_at_cell, new_at_null, new_at_dangling, new_at_nowhere}
-use Rattle.shapes.proofs.Slots.{size_in, vars_in, var_in_lem, link_in_lem, links_in_range, shape_operand}
+use Rattle.shapes.specs.Without.{is_free}
+use Rattle.shapes.proofs.New.{r_is_free}
+use Rattle.shapes.proofs.Slots.{size_in, vars_in, var_in_lem, link_in_lem, links_in_range}
 use Rattle.shapes.proofs.Tables.{table_length, table_at, operands_all, vars_mapped}
 
 -- ---- where a stands
@@ -45,30 +39,6 @@ module _ (variables : ℕ) (s : List ℕ) (h : ShapeArray variables s) where
 
   pub links_below : AllBelow (cell (size shape)) shape.links
   links_below x m = let (i, b, e) = mem_get_or shape.links x m in rw (sym e) (links_in_range variables s h i b)
-
-  module _ (a : ℕ) (some : 1 ≤ a) (most : a ≤ variables) where
-    pub new_nowhere : operand_at s a ≡ nowhere → before (new a) shape ≡ concat_map (without shape) (range 0 (cell_count s)) ++ (shape ∷ [])
-    new_nowhere e =
-        new_at_nowhere shape a some (omega (arith, vars_in variables s h)) (rw (size_in variables s h) vars_below) links_below (every_none (FactOf (size shape))) (var_in_lem variables s h a ∙ e)
-        ∙ ap (λ (m : ℕ). concat_map (without shape) (range 0 m) ++ (shape ∷ [])) (size_in variables s h)
-
-    pub new_none : operand_at s a ≢ nowhere → operand_at s a < 3 → before (new a) shape ≡ []
-    new_none z b = go (operand_at s a) (var_in_lem variables s h a) z b
-      where
-        go : (x : ℕ) → var_at shape a ≡ x → x ≢ nowhere → x < 3 → before (new a) shape ≡ []
-        go zero e z b = absurd (z refl)
-        go (suc zero) e z b = new_at_null shape a e
-        go (suc (suc zero)) e z b = new_at_dangling shape a e
-        go (suc (suc (suc x))) e z b = absurd (omega arith)
-
-    pub new_cell : (x : ℕ) → operand_at s a ≡ x → 3 ≤ x
-        → before (new a) shape ≡ concat_map (without (shape_in variables (set_operand s a nowhere))) (range (x - 3) (x - 2 - (x - 3)))
-    new_cell x e b =
-        let x_is : x ≡ cell (x - 3) = omega arith in
-        let one : x - 2 - (x - 3) ≡ 1 = omega arith in
-        new_at_cell shape a (x - 3) (var_in_lem variables s h a ∙ e ∙ x_is)
-        ∙ sym (append-nil (without (set_var a nowhere shape) (x - 3)))
-        ∙ ap₂ (λ (t : Shape) (m : ℕ). concat_map (without t) (range (x - 3) m)) (sym (shape_operand variables s a nowhere h.cells_fit some)) (sym one)
 
 -- ---- the array without cell k
 
@@ -112,10 +82,6 @@ module _ (n k i : ℕ) where
   pub from_next : cell k ≤ i → suc i < cell n → slot_from n k i ≡ suc i
   unfolding slot_from
   from_next l m = simp (le-leb (cell k) i l, lt-ltb (suc i) (cell n) m)
-
-  pub from_most : n ≤ 14 → i < 28 → slot_from n k i < 28
-  unfolding slot_from
-  from_most b h = cond_cases (λ j. j < 28) (r_and (r_le (cell k) i) (r_lt (suc i) (cell n))) (λ (l, m). omega arith) (λ _. h)
 
 module _ (variables : ℕ) (s : List ℕ) (h : ShapeArray variables s) (k : ℕ) (is_cell : k < cell_count s) (free : T (is_free (cell k) (shape_in variables s)))
     (t : List ℕ) (t-length : length t ≡ 28) (t-at : (i : ℕ) → i < 28 → get_or t i 0 ≡ slot_without s k i) where

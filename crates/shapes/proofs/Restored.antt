@@ -1,5 +1,5 @@
 -- Kind 7: what was before delete, and the arrays of its cases.
-use mathlib.Core.Bool.{Bool, true, false, ◌||◌, cond}
+use mathlib.Core.Bool.{◌||◌, cond}
 use mathlib.Core.List.{List, [], ◌∷◌, ◌++◌, map}
 use mathlib.Core.Logic.{◌≢◌}
 use mathlib.Core.Path.{◌≡◌, refl, sym, ap, ap₂, ◌∙◌}
@@ -7,7 +7,7 @@ use Prim.Native.Nat.{ℕ, zero, suc, ◌+◌, ◌≤◌, ◌<◌}
 use native.Mathlib.Omega.{arith}
 use borrow.Author.Tests.{le-leb, le-ltb, lt-ltb, ne_eqb}
 use lib.Dec.{eqb}
-use lib.ListN.{length, get_or, set, take, drop, length-map, length-set, length-drop, take-append-drop, get_or-append}
+use lib.ListN.{length, get_or, set, take, drop, length-map, length-drop, take-append-drop, get_or-append}
 use lib.Seq.{ext_get_or, get_or-take, get_or-drop, drop-drop, drop_at, take_at, length-take-le, take-append-le, drop-append-le}
 use Rattle.lists.specs.List.{concat_map}
 use Rattle.lists.specs.Range.{range}
@@ -20,10 +20,9 @@ use Rattle.shape.proofs.Laws.{link_map}
 use Rattle.backward.specs.Predecessors.{forget, forget_links, vars_before, with_vars, before}
 use Rattle.backward.proofs.Delete.{forget_below}
 use Rattle.layout.specs.ShapeArray.{cell_count, operand_at, links_in, shape_in, ShapeArray}
-use Rattle.shapes.specs.Change.{set_operand, add_cell, is_restorable, slot_forgotten, array_forgotten, array_restored, case_count, vars_by_case, array_by_case, cases_of_delete}
+use Rattle.shapes.specs.Change.{set_operand, add_cell, slot_forgotten, array_forgotten, array_restored, case_count, vars_by_case, array_by_case}
 use Rattle.shapes.specs.Operands.{HoldsShape}
 use Rattle.shapes.proofs.ByCase.{length_by_case, each_changed, cases_all}
-use Rattle.shapes.proofs.Free.{is_restorable_lem}
 use Rattle.shapes.proofs.Slots.{size_in, vars_in, var_in_lem, link_in_lem, shape_operand, array_operand, count_operand, count_cell, shape_cell, array_cell}
 use Rattle.shapes.proofs.Tables.{table_length, table_at}
 
@@ -100,32 +99,6 @@ stored s t a e = by_count t (ap cell_count e ∙ count_forgotten s) ∙ ap (λ (
         let more : cell_count s + 1 ≡ suc (cell_count s) = omega arith in
         let fresh : 3 + cell_count s ≡ cell (cell_count s) = omega arith in
         rw (c, more, fresh) refl
-
--- ---- the array t, restored if the test r holds
-
-module _ (variables a : ℕ) (s t : List ℕ) (r : Bool) (r-is : r ≡ is_restorable variables a s) (t_is : t ≡ cond r (array_restored s a) s) where
-  pub cases_none : r ≡ false → record { first = 0; end = 0 } ≡ cases_of_delete variables a s
-  unfolding cases_of_delete
-  cases_none e = rw (← r-is, e) refl
-
-  module _ (e : r ≡ true) where
-    pub room : variables ≤ 9
-    room = (is_restorable_lem variables a s (sym r-is ∙ e)).variables_fit
-
-    is_restored : t ≡ array_restored s a
-    is_restored = rw e at t_is
-
-    pub whole : length t ≡ 28
-    whole =
-        ap length is_restored
-        ∙ length-set (add_cell (array_forgotten s) nowhere) (17 + a) (cell (cell_count s))
-        ∙ length-set (set (array_forgotten s) 0 (suc (cell_count (array_forgotten s)))) (cell (cell_count (array_forgotten s))) nowhere
-        ∙ length-set (array_forgotten s) 0 (suc (cell_count (array_forgotten s)))
-        ∙ table_length (slot_forgotten s)
-
-    pub cases_some : (n : ℕ) → n ≡ case_count (take variables (drop 18 t)) → record { first = 0; end = n } ≡ cases_of_delete variables a s
-    unfolding cases_of_delete
-    cases_some n n_is = rw (n_is, is_restored, ← r-is, e) refl
 
 -- ---- the shape by one case
 

@@ -1,7 +1,7 @@
 // Shapes in arrays (layout/specs/ShapeArray.antt), undone by kinds 6 (new) and 7 (delete). Numbers that do not fit an array change nothing.
 #![tactic(auto)]
 
-ghost use Rattle.std.specs.Prelude.{cond, [], ◌≡◌, ◌≤◌, ◌<◌, length};
+ghost use Rattle.std.specs.Prelude.{cond, [], ℕ, ◌≡◌, ◌≤◌, ◌<◌, slice_index};
 ghost use Rattle.backward.specs.Predecessors.{lower};
 ghost use Rattle.layout.specs.ShapeArray.{cell_count, operand_at};
 ghost use Rattle.shapes.specs.Change.{is_free_cell, slot_from, slot_without, array_without, cases_of_new, cases_of, operand_forgotten, array_prepared, is_before, array_before};
@@ -18,90 +18,77 @@ mod restore;
 fn is_free(vars: &[u8], links: &[u8], p: Place) -> bool
     ensures { result ≡ is_free p.code (record { vars = vars.entry.now; links = links.now; facts = [] }) }
 {
-    if p.code < FIRST_CELL {
-        return false;
-    }
-    let link = link_at(links, p);
-    if link.code == NULL {
-        return false;
-    }
-    if DANGLING < link.code {
-        return false;
-    }
-    if !none_at(links, p.code) {
-        return false;
-    }
-    none_at(vars, p.code)
+    FIRST_CELL <= p.code
+        && matches!(link_at(links, p).code, NOWHERE | DANGLING)
+        && none_at(links, p.code)
+        && none_at(vars, p.code)
 }
 
 // Whether the array has room for so many variables and for its cells, and cell k is one of them, and free.
+#[tactic(auto, unfolding(crate::specs::Change::is_free_cell))]
 fn is_free_cell(variables: usize, s: &[u8; 28], k: u8) -> bool
     ensures { result ≡ is_free_cell variables s.now k }
 {
-    if 9 < variables {
-        return false;
-    }
     let n = s[0];
-    if 14 < n {
+    if 9 < variables || 14 < n || n <= k {
         return false;
     }
-    if n <= k {
-        return false;
-    }
-    let p = Place::cell(k);
-    let all = &s[..];
-    is_free(&all[18..18 + variables], &all[3..3 + n as usize], p)
+    is_free(
+        &s[18..18 + variables],
+        &s[3..3 + n as usize],
+        Place::cell(k),
+    )
 }
 
 // The slot from which slot i comes in a shape of n cells, once cell k is taken out.
+#[tactic(auto, unfolding(crate::specs::Change::slot_from))]
 fn slot_from(n: u8, k: u8, i: usize) -> usize
     requires { (n ≤ 14) × (k < n) × (i < 28) }
     ensures { result ≡ slot_from n k i }
 {
-    if i < 3 + k as usize {
-        return i;
+    if 3 + k as usize <= i && i < 2 + n as usize {
+        i + 1
+    } else {
+        i
     }
-    if 2 + n as usize <= i {
-        return i;
-    }
-    i + 1
 }
 
 // A place, once the cell at `gone` is taken out.
 fn lowered(gone: u8, code: u8) -> u8
     ensures { result ≡ lower gone code }
 {
-    if gone < code {
-        return code - 1;
-    }
-    code
+    if gone < code { code - 1 } else { code }
 }
 
 // Slot i once cell k is taken out.
+#[tactic(auto, unfolding(crate::specs::Change::slot_without, crate::specs::Change::slot_from))]
 fn slot_without(s: &[u8; 28], k: u8, i: usize) -> u8
     requires { (cell_count s.now ≤ 14) × (k < cell_count s.now) × (i < 28) }
     ensures { result ≡ slot_without s.now k i }
 {
-    if i == 0 {
-        return s[0] - 1;
+    match i {
+        0 => s[0] - 1,
+        1 | 2 => s[i],
+        _ => lowered(FIRST_CELL + k, s[slot_from(s[0], k, i)]),
     }
-    if i < 3 {
-        return s[i];
+}
+
+// Makes each slot of t what is given for its number.
+pub(crate) fn fill_slots<F: Fn(usize) -> u8>(t: &mut [u8; 28], slot: F)
+    requires { (i : ℕ) → i < 28 → F.pre slot i }
+    ensures { (i : ℕ) → i < 28 → F.post slot i (slice_index t.new i) }
+{
+    for (i, code) in t.iter_mut().enumerate() {
+        *code = slot(i);
     }
-    let from = slot_from(s[0], k, i);
-    lowered(FIRST_CELL + k, s[from])
 }
 
 // Makes t the shape of s without its cell k.
-fn take_out(s: &[u8; 28], k: u8, t: &mut [u8])
-    requires { (cell_count s.now ≤ 14) × (k < cell_count s.now) × (length t.old ≡ 28) }
+fn take_out(s: &[u8; 28], k: u8, t: &mut [u8; 28])
+    requires { (cell_count s.now ≤ 14) × (k < cell_count s.now) }
     ensures { t.new ≡ array_without s.now k }
 {
-    let mut i = 0;
-    while i < 28 {
-        t[i] = slot_without(s, k, i);
-        i += 1;
-    }
+    fill_slots(t, |i| slot_without(s, k, i));
 }
 
 // Makes t the shape of s without its cell k, if that is free. Whether it is; without room for such a shape, it is not.
@@ -120,21 +107,17 @@ fn remove_cell(variables: usize, s: &[u8; 28], k: u8, t: &mut [u8; 28]) -> bool
 fn operand_at(s: &[u8], a: u8) -> u8
     ensures { result ≡ operand_at s.now a }
 {
-    let slot = 17 + a as usize;
-    if s.len() <= slot {
-        return NOWHERE;
-    }
-    s[slot]
+    s.get(17 + a as usize).copied().unwrap_or(NOWHERE)
 }
 
 // Puts an operand nowhere, if the array has a slot for it.
+#[tactic(auto, unfolding(crate::specs::Change::operand_forgotten))]
 fn forget_operand(s: &mut [u8; 28], a: u8)
     ensures { s.new ≡ operand_forgotten s.old a }
 {
-    if 10 < a {
-        return;
+    if a <= 10 {
+        s[17 + a as usize] = NOWHERE;
     }
-    s[17 + a as usize] = NOWHERE;
 }
 
 // Numbers of cases, from one on, before another.
@@ -144,8 +127,13 @@ pub struct Cases {
     pub end: usize,
 }
 
+impl Cases {
+    pub(crate) const NONE: Self = Self { first: 0, end: 0 };
+}
+
 // The cases of kind 6, by the cell that was new: a's cell, or any where a is nowhere; the case after the last cell is one that the shape lacks. Puts
 // a nowhere.
+#[tactic(auto, unfolding(crate::specs::Change::cases_of_new))]
 fn prepare_new(a: u8, s: &mut [u8; 28]) -> Cases
     ensures cases { result ≡ cases_of_new (cell_count s.old) (operand_at s.old a) }
     ensures shape { s.new ≡ operand_forgotten s.old a }
@@ -153,24 +141,25 @@ fn prepare_new(a: u8, s: &mut [u8; 28]) -> Cases
     let n = wide(s[0]);
     let x = operand_at(s, a);
     forget_operand(s, a);
-    if x == NOWHERE {
-        return Cases {
+    match x {
+        NOWHERE => Cases {
             first: 0,
             end: n + 1,
-        };
-    }
-    if x < FIRST_CELL {
-        return Cases { first: 0, end: 0 };
-    }
-    let k = (x - FIRST_CELL) as usize;
-    Cases {
-        first: k,
-        end: k + 1,
+        },
+        NULL | DANGLING => Cases::NONE,
+        FIRST_CELL.. => {
+            let k = wide(x - FIRST_CELL);
+            Cases {
+                first: k,
+                end: k + 1,
+            }
+        }
     }
 }
 
 // The cases of the shapes before: by kind 7 where the variables stood, by any other kind, which is taken for 6, which cell was new. Changes s as is
 // common to them: by kind 7 no link stands at * and a stands at a fresh cell, by 6 a is nowhere.
+#[tactic(auto, unfolding(crate::specs::Change::cases_of, crate::specs::Change::array_prepared))]
 pub fn prepare_cases(variables: usize, kind: u8, a: u8, s: &mut [u8; 28]) -> Cases
     ensures cases { result ≡ cases_of variables kind a s.old }
     ensures shape { s.new ≡ array_prepared variables kind a s.old }
@@ -182,6 +171,7 @@ pub fn prepare_cases(variables: usize, kind: u8, a: u8, s: &mut [u8; 28]) -> Cas
 }
 
 // Makes t, where what is common to all cases is done, the shape before by case k of so many, if there is one. Whether there is.
+#[tactic(auto, unfolding(crate::specs::Change::is_before, crate::specs::Change::array_before))]
 pub fn undo_case(variables: usize, kind: u8, count: usize, k: usize, t: &mut [u8; 28]) -> bool
     ensures is { result ≡ is_before variables kind t.old k }
     ensures shape { t.new ≡ cond result (array_before variables kind count t.old k) t.old }

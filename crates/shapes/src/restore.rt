@@ -1,62 +1,42 @@
 // Kind 7 (delete) undone: the deleted cell is restored, once, and the variables stand as each case says.
-ghost use Rattle.std.specs.Prelude.{cond, ◌&&◌, ◌≡◌, ◌≤◌, ◌<◌, leb, length};
+ghost use Rattle.std.specs.Prelude.{cond, count_by, ◌&&◌, ◌==◌, ◌≡◌, ◌≤◌, ◌<◌, leb, length};
 ghost use Rattle.layout.specs.ShapeArray.{cell_count};
 ghost use Rattle.shapes.specs.Change.{is_restorable, slot_forgotten, array_forgotten, array_restored, case_count, vars_by_case, array_by_case, cases_of_delete};
 
-use crate::Cases;
-use place::{DANGLING, FIRST_CELL, NOWHERE, NULL};
+use crate::{Cases, fill_slots};
+use place::{DANGLING, FIRST_CELL, NOWHERE};
 
 // Slot i of a shape in which no link stands at *.
+#[tactic(auto, unfolding(crate::specs::Change::slot_forgotten))]
 fn slot_forgotten(s: &[u8; 28], i: usize) -> u8
     requires { i < 28 }
     ensures { result ≡ slot_forgotten s.now i }
 {
-    let code = s[i];
-    if i < 3 {
-        return code;
+    match i {
+        3..=16 if s[i] == DANGLING => NOWHERE,
+        _ => s[i],
     }
-    if 16 < i {
-        return code;
-    }
-    if code == DANGLING {
-        return NOWHERE;
-    }
-    code
 }
 
 // Makes t the shape of s in which no link stands at *.
-fn forget_links(s: &[u8; 28], t: &mut [u8])
-    requires { length t.old ≡ 28 }
+fn forget_links(s: &[u8; 28], t: &mut [u8; 28])
     ensures { t.new ≡ array_forgotten s.now }
 {
-    let mut i = 0;
-    while i < 28 {
-        t[i] = slot_forgotten(s, i);
-        i += 1;
-    }
+    fill_slots(t, |i| slot_forgotten(s, i));
 }
 
 // Makes t the shape of s in which no link stands at *, and a stands at a fresh cell without a link, if a is nowhere or at * and there is room for
 // all. Whether so.
+#[tactic(auto, unfolding(crate::specs::Change::is_restorable))]
 fn restore_deleted(variables: usize, a: u8, s: &[u8; 28], t: &mut [u8; 28]) -> bool
     ensures is { result ≡ is_restorable variables a s.now }
     ensures shape { t.new ≡ cond result (array_restored s.now a) t.old }
 {
     let n = s[0];
-    if 9 < variables {
+    if 9 < variables || 10 <= a || 14 <= n {
         return false;
     }
-    if 10 <= a {
-        return false;
-    }
-    if 14 <= n {
-        return false;
-    }
-    let x = s[17 + a as usize];
-    if x == NULL {
-        return false;
-    }
-    if DANGLING < x {
+    if !matches!(s[17 + a as usize], NOWHERE | DANGLING) {
         return false;
     }
     forget_links(s, t);
@@ -66,37 +46,36 @@ fn restore_deleted(variables: usize, a: u8, s: &[u8; 28], t: &mut [u8; 28]) -> b
     true
 }
 
+// How many of these places are *.
+fn count_dangling(vars: &[u8]) -> usize
+    ensures { result ≡ count_by (λ p. p == 2) vars.now }
+{
+    vars.iter().filter(|code| **code == DANGLING).count()
+}
+
 // How many cases there are of where variables that are now at these places stood.
 fn count_cases(vars: &[u8]) -> usize
     requires { length vars.now ≤ 9 }
     ensures { result ≡ case_count vars.now }
 {
-    let mut count = 1;
-    let mut i = vars.len();
-    while 0 < i {
-        i -= 1;
-        if vars[i] == DANGLING {
-            count += count;
-        }
-    }
-    count
+    1 << count_dangling(vars)
 }
 
 // The cases of where the variables stood. Changes s as is common to them: no link stands at *, and a stands at a fresh cell; without a shape before
 // there is no case, and s stays.
+#[tactic(auto, unfolding(crate::specs::Change::cases_of_delete))]
 pub(crate) fn prepare_delete(variables: usize, a: u8, s: &mut [u8; 28]) -> Cases
     ensures cases { result ≡ cases_of_delete variables a s.old }
     ensures shape { s.new ≡ cond (is_restorable variables a s.old) (array_restored s.old a) s.old }
 {
     let old = *s;
-    if restore_deleted(variables, a, &old, s) {
-        let all = &s[..];
-        return Cases {
-            first: 0,
-            end: count_cases(&all[18..18 + variables]),
-        };
+    if !restore_deleted(variables, a, &old, s) {
+        return Cases::NONE;
     }
-    Cases { first: 0, end: 0 }
+    Cases {
+        first: 0,
+        end: count_cases(&s[18..18 + variables]),
+    }
 }
 
 // Puts variables where they stood by case k of so many, `gone` being the deleted cell. In the first half of the cases a variable at * was there
@@ -106,15 +85,12 @@ fn choose_case(vars: &mut [u8], gone: u8, count: usize, k: usize)
 {
     let mut half = count;
     let mut left = k;
-    let mut i = 0;
-    while i < vars.len() {
-        let at = i;
-        i += 1;
-        if vars[at] == DANGLING {
-            half = half / 2;
+    for code in vars.iter_mut() {
+        if *code == DANGLING {
+            half /= 2;
             if half <= left {
-                vars[at] = gone;
-                left = left - half;
+                *code = gone;
+                left -= half;
             }
         }
     }
@@ -122,16 +98,12 @@ fn choose_case(vars: &mut [u8], gone: u8, count: usize, k: usize)
 
 // Puts the variables of t where they stood by case k of so many, its last cell being the deleted one, if there is room for variables and cells.
 // Whether there is.
-pub(crate) fn stand_by_case(variables: usize, count: usize, k: usize, t: &mut [u8]) -> bool
-    requires { length t.old ≡ 28 }
+pub(crate) fn stand_by_case(variables: usize, count: usize, k: usize, t: &mut [u8; 28]) -> bool
     ensures is { result ≡ (leb variables 9 && leb (cell_count t.old) 14) }
     ensures shape { t.new ≡ cond result (array_by_case variables count k t.old) t.old }
 {
     let n = t[0];
-    if 9 < variables {
-        return false;
-    }
-    if 14 < n {
+    if 9 < variables || 14 < n {
         return false;
     }
     choose_case(&mut t[18..18 + variables], 2 + n, count, k);

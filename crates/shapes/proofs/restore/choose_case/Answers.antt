@@ -1,46 +1,26 @@
 -- The loop: the variables before the i-th stand where they stood by their case.
-use mathlib.Core.Path.{refl, sym, ◌∙◌}
+use mathlib.Core.Path.{sym, ◌∙◌}
+use Prim.Native.Nat.{◌<◌}
 use native.Mathlib.Omega.{arith}
-use lib.ListN.{length-set}
+use lib.ListN.{length}
 use Rattle.shapes.proofs.ByCase.{next_moved, next_already, next_other, chosen_all}
 use Rattle.shapes.proofs.restore.choose_case.Goals as goal
+use Rattle.shapes.proofs.restore.choose_case.Goals.{then-code-eq-DANGLING+then-half-left, then-code-eq-DANGLING+else-half-left, else-code-eq-DANGLING}
 
-pub loop-i-init : goal.loop-i-init
-loop-i-init c = (refl, omega arith, refl)
-
-pub loop-i-smaller-then-half-left : goal.loop-i-smaller-then-half-left
-loop-i-smaller-then-half-left c =
-    let o = c.before.before.before in
-    let l = o.loop-i in
-    omega (arith, length-set l.vars l.i o.args.gone, o.loop-i-test.true)
-
-pub loop-i-preserved-then-half-left : goal.loop-i-preserved-then-half-left
-loop-i-preserved-then-half-left c =
-    let o = c.before.before.before in
-    let l = o.loop-i in
-    let gone = o.args.gone in
-    let same = length-set l.vars l.i gone in
-    (same ∙ l.invariant.0, omega (arith, same), l.invariant.2 ∙ next_moved gone l.half l.left l.vars l.i o.loop-i-test.true c.if-vars-at-eq-DANGLING.true c.if-half-left.true)
-
-pub loop-i-preserved-else-half-left : goal.loop-i-preserved-else-half-left
-loop-i-preserved-else-half-left c =
-    let o = c.before.before.before.before in
-    let l = o.loop-i in
-    let gone = o.args.gone in
-    (l.invariant.0, omega arith, l.invariant.2 ∙ next_already gone l.half l.left l.vars l.i o.loop-i-test.true c.if-vars-at-eq-DANGLING.true (omega (arith, c.if-half-left.false)))
-
-pub loop-i-preserved : goal.loop-i-preserved
-loop-i-preserved c =
-    let o = c.before.before.before in
-    let l = o.loop-i in
-    let gone = o.args.gone in
-    (l.invariant.0, omega arith, l.invariant.2 ∙ next_other gone l.half l.left l.vars l.i o.loop-i-test.true c.if-vars-at-eq-DANGLING.false)
-
-pub shape_of-vars : goal.shape_of-vars
-shape_of-vars c = c.loop-i.invariant.0
+pub loop-code-preserved : goal.loop-code-preserved
+loop-code-preserved c =
+    let gone = c.args.gone in
+    let l = c.loop-code in
+    let inside : l.code-index < length l.vars = omega arith in
+    let j = c.if-code-eq-DANGLING in
+    l.invariant
+    ∙ elim j.branch [
+      | then-code-eq-DANGLING+then-half-left w ↦ rw (w.vars-is, w.half-is, w.left-is) (next_moved gone l.half l.left l.vars l.code-index inside w.if-code-eq-DANGLING.true w.if-half-left.true)
+      | then-code-eq-DANGLING+else-half-left w ↦ rw (w.vars-is, w.half-is, w.left-is) (next_already gone l.half l.left l.vars l.code-index inside w.if-code-eq-DANGLING.true (omega arith))
+      | else-code-eq-DANGLING w ↦ rw (w.vars-is, w.half-is, w.left-is) (next_other gone l.half l.left l.vars l.code-index inside w.if-code-eq-DANGLING.false)
+    ]
 
 pub returns : goal.returns
 returns c =
-    let l = c.loop-i in
-    let a = c.args in
-    sym (l.invariant.2 ∙ chosen_all a.gone l.half l.left l.vars l.i (omega arith))
+    let l = c.loop-code in
+    sym (l.invariant ∙ chosen_all c.args.gone l.half l.left l.vars l.code-index (omega arith))
