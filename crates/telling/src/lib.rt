@@ -22,35 +22,40 @@ pub fn verdict_number(v: Verdict) -> u32
     }
 }
 
-// Tells a host the verdict's number and, in an array that it lends, the four counts, or the place, the broken rule, its name and 0.
-pub fn tell(v: Verdict, out: &mut [u64]) -> u32
-    ensures { (result ≡ (verdict_result (verdict_of v)).code) × (out.new ≡ lent (verdict_result (verdict_of v)).values out.old) }
+// The four counts, or the place, the broken rule, its name and 0.
+fn values_of(v: Verdict) -> [u64; 4]
+    ensures { result ≡ (verdict_result (verdict_of v)).values }
 {
     match v {
-        Verdict::Accepted(counts) => {
-            let values = [
-                counts.bads as u64,
-                counts.members as u64,
-                counts.covers as u64,
-                counts.links as u64,
-            ];
-            lend(&values, out);
-            0
-        }
-        Verdict::Refused(refusal, place) => {
-            let rule = verdict::rule_number(refusal) as u64;
-            let name = verdict::rule_name(refusal) as u64;
-            let values = [place as u64, rule, name, 0];
-            lend(&values, out);
-            verdict::refusal_number(refusal)
-        }
+        Verdict::Accepted(counts) => [
+            counts.bads as u64,
+            counts.members as u64,
+            counts.covers as u64,
+            counts.links as u64,
+        ],
+        Verdict::Refused(refusal, place) => [
+            place as u64,
+            verdict::rule_number(refusal) as u64,
+            verdict::rule_name(refusal) as u64,
+            0,
+        ],
     }
+}
+
+// Tells a host the verdict's number and, in an array that it lends, its values.
+pub fn tell(v: Verdict, out: &mut [u64]) -> u32
+    ensures number { result ≡ (verdict_result (verdict_of v)).code }
+    ensures values { out.new ≡ lent (verdict_result (verdict_of v)).values out.old }
+{
+    lend(&values_of(v), out);
+    verdict_number(v)
 }
 
 // Puts words and a number after them at a place of a line; gives the place after them.
 fn put_worded(line: &mut [u8], at: usize, words: &[u8], n: u64) -> usize
     requires { at + length words.now + 20 ≤ length line.old }
-    ensures { (result ≤ at + length words.now + 20) × Put at line.old (words.now ++ digits n) result line.new }
+    ensures length { result ≤ at + length words.now + 20 }
+    ensures put { Put at line.old (words.now ++ digits n) result line.new }
 {
     let next = put_all(line, at, words);
     put_number(line, next, n)
@@ -59,7 +64,8 @@ fn put_worded(line: &mut [u8], at: usize, words: &[u8], n: u64) -> usize
 // Puts the line of an accepted pair, and gives its length.
 fn put_counts(counts: Counts, line: &mut [u8]) -> usize
     requires { 128 ≤ length line.old }
-    ensures { (result ≤ 128) × Put 0 line.old (verdict_line (verdict_of (Verdict.Accepted counts))) result line.new }
+    ensures length { result ≤ 128 }
+    ensures put { Put 0 line.old (verdict_line (verdict_of (Verdict.Accepted counts))) result line.new }
 {
     let bads = put_worded(line, 0, b"accepted bads ", counts.bads as u64);
     let members = put_worded(line, bads, b" members ", counts.members as u64);
@@ -70,7 +76,8 @@ fn put_counts(counts: Counts, line: &mut [u8]) -> usize
 // Puts the line of a refusal, and gives its length.
 fn put_refusal(refusal: Refusal, place: usize, line: &mut [u8]) -> usize
     requires { 128 ≤ length line.old }
-    ensures { (result ≤ 128) × Put 0 line.old (verdict_line (verdict_of (Verdict.Refused refusal place))) result line.new }
+    ensures length { result ≤ 128 }
+    ensures put { Put 0 line.old (verdict_line (verdict_of (Verdict.Refused refusal place))) result line.new }
 {
     let number = put_worded(
         line,
@@ -89,7 +96,8 @@ fn put_refusal(refusal: Refusal, place: usize, line: &mut [u8]) -> usize
 
 // Puts the verdict's line, without a line end, and gives its length.
 pub fn put_line(v: Verdict, line: &mut [u8; 128]) -> usize
-    ensures { (result ≤ 128) × Put 0 line.old (verdict_line (verdict_of v)) result line.new }
+    ensures length { result ≤ 128 }
+    ensures put { Put 0 line.old (verdict_line (verdict_of v)) result line.new }
 {
     match v {
         Verdict::Accepted(counts) => put_counts(counts, line),
