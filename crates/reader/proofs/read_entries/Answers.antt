@@ -7,16 +7,10 @@ use Rattle.layout.specs.Entries.{version_of}
 use Rattle.reader.specs.Number.{without_value}
 use Rattle.reader.proofs.Answers.{handed}
 use Rattle.reader.proofs.Many.{remembered, left_lost, left_all}
-use Rattle.reader.proofs.MemberPlaces.{as_entry, note_none, note_more, note_last, note_all}
-use Rattle.reader.proofs.Testing.{pass_none, pass_more, pass_all, read_lost}
+use Rattle.reader.proofs.MemberPlaces.{as_entry, note_more, note_last, note_all}
+use Rattle.reader.proofs.Testing.{pass_more, pass_all, read_lost}
 use Rattle.reader.proofs.read_entries.Goals as goal
 use Rattle.reader.proofs.read_entries.Goals.{then-may_refuse, else-may_refuse}
-
-pub loop-i-init : goal.loop-i-init
-loop-i-init c = let a = c.args in (note_none (read_member (certificate_buffer a.cert.now) (version_of a.cert.now) a.variables a.states) a.count a.first a.starts.now, λ _. pass_none a.cert.now a.variables a.states a.start a.first a.count)
-
-pub bounds-starts-i : goal.bounds-starts-i
-bounds-starts-i c = omega (arith, c.loop-i.invariant.0.size)
 
 pub returns-in_err-next : goal.returns-in_err-next
 returns-in_err-next c =
@@ -28,11 +22,6 @@ returns-in_err-next c =
           (read_lost a.cert.now a.variables a.states a.start a.first a.count _ _ (left_lost (read_member (certificate_buffer a.cert.now) (version_of a.cert.now) a.variables a.states) a.count a.first l.at l.i l.invariant.0.left _ _ (omega arith) refused));
       starts = note_last (read_member (certificate_buffer a.cert.now) (version_of a.cert.now) a.variables a.states) a.count a.first a.starts.now l.starts l.at l.i l.invariant.0 (omega arith) (omega arith) _ _ refused;
     }
-
-pub may_refuse-requires : goal.may_refuse-requires
-may_refuse-requires c =
-    let (m, g) = remembered _ _ (sym c.in_ok-next.ensures) in
-    (c.args.states, m, _, g)
 
 pub loop-i-preserved : goal.loop-i-preserved
 loop-i-preserved c =

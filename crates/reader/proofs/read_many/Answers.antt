@@ -2,11 +2,8 @@
 use Rattle.std.proofs.Common.{sym, ap, arith}
 use Rattle.reader.specs.Number.{without_value}
 use Rattle.reader.proofs.Answers.{handed}
-use Rattle.reader.proofs.Many.{left_none, left_more, left_lost, left_all}
+use Rattle.reader.proofs.Many.{left_more, left_lost, left_all}
 use Rattle.reader.proofs.read_many.Goals as goal
-
-pub loop-i-init : goal.loop-i-init
-loop-i-init g c = λ p h. left_none p c.args.count c.args.first
 
 pub returns-in_err-at : goal.returns-in_err-at
 returns-in_err-at g c = λ p h.

@@ -5,16 +5,13 @@ use Rattle.layout.specs.Entries.{version_of}
 use Rattle.kinds.proofs.Rows.{most_bound}
 use Rattle.reader.specs.Number.{without_value}
 use Rattle.reader.proofs.Answers.{handed}
-use Rattle.reader.proofs.Transitions.{last_most, lost_from, lost_kind, lost_a, lost_b, to_last}
+use Rattle.reader.proofs.Transitions.{lost_from, lost_kind, lost_a, lost_b, to_last}
 use Rattle.reader.proofs.read_transition.Goals as goal
 
 pub returns-in_err-from : goal.returns-in_err-from
 returns-in_err-from c =
     handed _ _ c.from_residual.ensures.1
     (lost_from (version_of c.args.job.now) (job_buffer c.args.job.now) c.args.variables c.args.states c.args.first (sym c.in_err-from.ensures))
-
-pub overflow_add-last_kind : goal.overflow_add-last_kind
-overflow_add-last_kind c = omega (arith, c.last_kind.ensures, last_most (version_of c.args.job.now))
 
 pub returns-in_err-kind : goal.returns-in_err-kind
 returns-in_err-kind c =

@@ -2,11 +2,8 @@
 use Rattle.std.proofs.Common.{sym, arith}
 use Rattle.reader.specs.Number.{buffer_of}
 use Rattle.reader.proofs.Answers.{handed}
-use Rattle.reader.proofs.Facts.{rise_none, rise_all, rise_lost, rank_small, rise_more}
+use Rattle.reader.proofs.Facts.{rise_all, rise_lost, rank_small, rise_more}
 use Rattle.reader.proofs.factlist.read_fact_list.Goals as goal
-
-pub loop-i-init : goal.loop-i-init
-loop-i-init c = rise_none (buffer_of c.args.input c.args.bytes.now) c.args.n c.args.count c.args.first
 
 pub returns-in_err-fact : goal.returns-in_err-fact
 returns-in_err-fact c =

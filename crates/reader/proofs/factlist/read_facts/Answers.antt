@@ -1,5 +1,5 @@
 -- By the version.
-use mathlib.Core.Path.{sym, ◌∙◌}
+use mathlib.Core.Path.{◌∙◌}
 use Rattle.layout.specs.Entries.{version_of}
 use Rattle.reader.specs.Number.{buffer_of}
 use Rattle.reader.proofs.Facts.{facts_none}
@@ -9,9 +9,3 @@ pub returns-then-version_of-ne2 : goal.returns-then-version_of-ne2
 returns-then-version_of-ne2 c =
     let a = c.args in
     facts_none (buffer_of a.input a.bytes.now) a.n (version_of a.bytes.now) a.at (λ e. c.if-version_of-ne2.true (c.version_of.ensures ∙ e))
-
-pub read_counted-requires : goal.read_counted-requires
-read_counted-requires c = (c.requires, sym c.version_of.ensures ∙ c.if-version_of-ne2.false)
-
-pub returns : goal.returns
-returns c = c.read_counted.ensures

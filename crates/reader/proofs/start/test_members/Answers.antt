@@ -1,11 +1,8 @@
 -- The loop: the members before the i-th pass the test.
 use Rattle.std.proofs.Common.{sym, arith}
 use Rattle.reader.proofs.Answers.{handed}
-use Rattle.reader.proofs.Testing.{test_none, next_member, test_lost, test_more, test_all}
+use Rattle.reader.proofs.Testing.{next_member, test_lost, test_more, test_all}
 use Rattle.reader.proofs.start.test_members.Goals as goal
-
-pub loop-i-init : goal.loop-i-init
-loop-i-init c = test_none c.args.cert.now c.args.variables c.args.states c.args.start c.args.first c.args.count c.requires.0 c.requires.1 c.requires.2
 
 pub test_member-requires : goal.test_member-requires
 test_member-requires c =
