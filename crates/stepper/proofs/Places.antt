@@ -1,10 +1,9 @@
 -- Places and the codes in a table's lists.
-use mathlib.Core.Bool.{Bool, true, false, not}
+use mathlib.Core.Bool.{Bool, true, false}
 use mathlib.Core.List.{List, [], ◌∷◌}
 use mathlib.Core.Path.{◌≡◌, refl, sym, ap, ◌∙◌}
 use Prim.Native.Nat.{ℕ, zero, suc, ◌+◌, ◌-◌, ◌≤◌, ◌<◌}
 use native.Mathlib.Omega.{arith}
-use lib.Dec.{eqb}
 use lib.ListN.{length, get_or, get_or-map, get_or-eq_default}
 use Rattle.heap.specs.Place.{nowhere, cell}
 use Rattle.heap.proofs.Codes.{by_code}
@@ -17,11 +16,6 @@ pub code_at : (l : List Place) (i : ℕ) → (get_or l i (place_of nowhere)).cod
 code_at l i = sym (get_or-map (λ (p : Place). p.code) l i (place_of nowhere))
 
 module _ (used : List Bool) where
-  -- what is no cell's stands unless it is nowhere
-  pub standing_not : (p : ℕ) → p < 3 → not (eqb p nowhere) ≡ standing used p
-  unfolding standing
-  standing_not = by_code (λ p. p < 3 → not (eqb p nowhere) ≡ standing used p) (λ h. refl) (λ h. refl) (λ h. refl) (λ i h. absurd (omega arith))
-
   pub standing_cell : (p : ℕ) → 3 ≤ p → get_or used (p - 3) false ≡ standing used p
   unfolding standing
   standing_cell =

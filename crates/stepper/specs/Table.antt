@@ -54,9 +54,13 @@ standing used (suc zero) = true
 standing used (suc (suc zero)) = true
 standing used (suc (suc (suc i))) = get_or used i false
 
--- a place: at #, at * or at a used cell where one is wanted, else nowhere
-abbrev pub place_fits : List Bool → Bool → ℕ → Bool
-place_fits used wanted p = cond wanted (standing used p) (eqb p nowhere)
+-- no cell or a used one
+abbrev pub aimed : List Bool → ℕ → Bool
+aimed used p = cond (ltb p 3) true (standing used p)
+
+-- so is the i-th of some places
+abbrev pub aimed_at : List Bool → List Place → ℕ → Bool
+aimed_at used places i = aimed used (get_or (codes places) i nowhere)
 
 -- "a nonzero slot above V, a variable .. that isn't at #, * or a used cell": slot i is right
 abbrev pub slot_fits : Heap64 → ℕ → Bool

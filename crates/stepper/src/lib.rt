@@ -1,7 +1,7 @@
 // The stepper: one operation on a heap of up to 64 cells, which may have values.
 #![tactic(auto)]
 
-ghost use Rattle.std.specs.Prelude.{true, ◌≡◌, ◌≤◌, map, IfSome};
+ghost use Rattle.std.specs.Prelude.{true, ◌≡◌, ◌≤◌, length, map, IfSome};
 ghost use Rattle.heap.specs.Codes.{var_in};
 ghost use Rattle.heap.specs.Operation.{assign, load, store, new, delete, copy, read, operation};
 ghost use Rattle.kinds.specs.Kinds.{number_of, allowed};
@@ -10,10 +10,10 @@ ghost use Rattle.place.specs.Place.{codes};
 ghost use Rattle.stepper.specs.Step.{outcome_code, stays, comparison, value_test, codes_meet, other_value, codes_differ, perform, perform_named, Performs, Steps};
 ghost use Rattle.stepper.specs.Turns.{InTurn, StepsInTurn};
 ghost use Rattle.stepper.specs.InPlace.{perform_kind, CellAt, FirstUnused};
-ghost use Rattle.stepper.specs.Table.{place_fits, slot_fits, cell_fits, value_fits, well_formed, Sized, FormedTable, code_in, most_code, dangle_place};
+ghost use Rattle.stepper.specs.Table.{aimed, aimed_at, slot_fits, cell_fits, value_fits, well_formed, Sized, FormedTable, code_in, most_code, dangle_place};
 
 use kinds::Kind;
-use place::Place;
+use place::{FIRST_CELL, Place};
 
 // A heap of up to 64 cells: how many variables there are, where each stands, which cells are used, where their links stand, and the codes of
 // their values: 0 for none, v + 1 for the value v.
@@ -64,17 +64,28 @@ pub fn outcome_code(outcome: Outcome) -> u32
     }
 }
 
-// Whether a variable or a link is right: at #, at * or at a used cell where there is to be one, else nowhere.
-fn is_right(used: &[bool], wanted: bool, p: Place) -> bool
-    ensures { result ≡ place_fits used.now wanted p.code }
+// Whether a place, if it is a cell, is a used one. Its code is compared here, and not asked for by `cell_index`: that takes three instructions more a place, of
+// which a step tests 72.
+fn is_aimed(used: &[bool], p: Place) -> bool
+    ensures { result ≡ aimed used.now p.code }
 {
-    if !wanted {
-        return p == Place::NOWHERE;
+    if p.code < FIRST_CELL {
+        return true;
     }
-    match p.cell_index() {
-        Some(i) => i < used.len() && used[i],
-        None => p != Place::NOWHERE,
+    let i = (p.code - FIRST_CELL) as usize;
+    i < used.len() && used[i]
+}
+
+// Whether each of the places that is a cell is a used one.
+fn all_aimed(used: &[bool], places: &[Place]) -> bool
+    ensures { result ≡ all_from (length places.now) 0 (aimed_at used.now places.now) }
+{
+    for p in places {
+        if !is_aimed(used, *p) {
+            return false;
+        }
     }
+    true
 }
 
 // The largest code of a used cell's value, and of an unused one's.
@@ -114,29 +125,33 @@ fn dangle(places: &mut [Place], at: Place)
 }
 
 impl Heap64 {
-    // Whether the slots of variables are right.
+    // Whether the slots of variables are right: nowhere just where there is no variable, and at used cells.
     fn slots_fit(&self) -> bool
         ensures { result ≡ all_from 8 0 (slot_fits self.now) }
     {
         let variables = self.variables as usize;
+        let mut marked = true;
         for i in 0..8 {
-            if !is_right(&self.used, i < variables, self.vars[i]) {
-                return false;
-            }
+            marked &= (i < variables) == (self.vars[i] != Place::NOWHERE);
         }
-        true
+        if !marked {
+            return false;
+        }
+        all_aimed(&self.used, &self.vars)
     }
 
     // Whether the links of cells are right: nowhere just where a cell is unused, and at used cells.
     fn cells_fit(&self) -> bool
         ensures { result ≡ all_from 64 0 (cell_fits self.now) }
     {
+        let mut marked = true;
         for i in 0..64 {
-            if !is_right(&self.used, self.used[i], self.links[i]) {
-                return false;
-            }
+            marked &= self.used[i] == (self.links[i] != Place::NOWHERE);
         }
-        true
+        if !marked {
+            return false;
+        }
+        all_aimed(&self.used, &self.links)
     }
 
     // Whether the codes of values are right: at most 65,536 where a cell is used, else 0.

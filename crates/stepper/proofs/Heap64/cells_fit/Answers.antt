@@ -1,26 +1,30 @@
--- The loop: every number before the i-th passes the test.
-use mathlib.Core.Bool.{false}
-use lib.ListN.{get_or}
+-- The loop: whether there is a place just where one is wanted, so far, with what is left to test, decides. Then each is a used cell's.
+use mathlib.Core.Bool.{◌&&◌}
 use mathlib.Core.Path.{◌≡◌, sym, ap, ◌∙◌}
 use native.Mathlib.Omega.{arith}
-use Rattle.lists.proofs.Test.{all_passed, all_failed, all_done}
-use Rattle.stepper.specs.Table.{place_fits, cell_fits}
+use borrow.Author.Rules.{rules}
+use lib.ListN.{length}
+use Rattle.lists.specs.Test.{all_from}
+use Rattle.stepper.specs.Table.{aimed_at}
+use Rattle.stepper.proofs.Fits.{one_tested, all_tested, cell_marked, cells_are}
 use Rattle.stepper.proofs.Places.{code_at}
 use Rattle.stepper.proofs.Heap64.cells_fit.Goals as goal
-
-pub returns-then-not-is_right : goal.returns-then-not-is_right
-returns-then-not-is_right c =
-    let t = c.args.self.now in
-    let i = c.loop-i.i in
-    let tested : cell_fits t i ≡ c.is_right.result = sym (ap (place_fits t.used (get_or t.used i false)) (code_at t.links i)) ∙ sym c.is_right.ensures in
-    sym (all_failed (cell_fits t) 64 i (omega arith) (tested ∙ c.if-not-is_right.true)) ∙ c.loop-i.invariant
 
 pub loop-i-preserved : goal.loop-i-preserved
 loop-i-preserved c =
     let t = c.args.self.now in
-    let i = c.loop-i.i in
-    let tested : cell_fits t i ≡ c.is_right.result = sym (ap (place_fits t.used (get_or t.used i false)) (code_at t.links i)) ∙ sym c.is_right.ensures in
-    sym (all_passed (cell_fits t) 64 i (omega arith) (tested ∙ c.if-not-is_right.false)) ∙ c.loop-i.invariant
+    rw (c.ne.ensures, code_at t.links c.loop-i.i) (one_tested (cell_marked t) 64 c.loop-i.i c.loop-i.marked (omega arith) ∙ c.loop-i.invariant)
+
+pub returns-then-not-marked : goal.returns-then-not-marked
+returns-then-not-marked c =
+    let t = c.args.self.now in
+    let e = all_tested (cell_marked t) 64 c.loop-i.i c.loop-i.marked (omega arith) c.loop-i.invariant in
+    sym (cells_are t ∙ ap (λ b. b && all_from 64 0 (aimed_at t.used t.links)) (sym e ∙ c.if-not-marked.true))
 
 pub returns : goal.returns
-returns c = sym (all_done (cell_fits c.args.self.now) 64 c.loop-i.i (omega arith)) ∙ c.loop-i.invariant
+returns c =
+    let t = c.args.self.now in
+    let e = all_tested (cell_marked t) 64 c.loop-i.i c.loop-i.marked (omega arith) c.loop-i.invariant in
+    let size : length t.links ≡ 64 = search rules in
+    c.all_aimed.ensures ∙ ap (λ k. all_from k 0 (aimed_at t.used t.links)) size
+    ∙ sym (cells_are t ∙ ap (λ b. b && all_from 64 0 (aimed_at t.used t.links)) (sym e ∙ c.if-not-marked.false))

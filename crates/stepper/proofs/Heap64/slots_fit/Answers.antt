@@ -1,25 +1,30 @@
--- The loop: every number before the i-th passes the test.
-use lib.Dec.{ltb}
+-- The loop: whether there is a place just where one is wanted, so far, with what is left to test, decides. Then each is a used cell's.
+use mathlib.Core.Bool.{◌&&◌}
 use mathlib.Core.Path.{◌≡◌, sym, ap, ◌∙◌}
 use native.Mathlib.Omega.{arith}
-use Rattle.lists.proofs.Test.{all_passed, all_failed, all_done}
-use Rattle.stepper.specs.Table.{place_fits, slot_fits}
+use borrow.Author.Rules.{rules}
+use lib.ListN.{length}
+use Rattle.lists.specs.Test.{all_from}
+use Rattle.stepper.specs.Table.{aimed_at}
+use Rattle.stepper.proofs.Fits.{one_tested, all_tested, slot_marked, slots_are}
 use Rattle.stepper.proofs.Places.{code_at}
 use Rattle.stepper.proofs.Heap64.slots_fit.Goals as goal
-
-pub returns-then-not-is_right : goal.returns-then-not-is_right
-returns-then-not-is_right c =
-    let t = c.args.self.now in
-    let i = c.loop-i.i in
-    let tested : slot_fits t i ≡ c.is_right.result = sym (ap (place_fits t.used (ltb i t.variables)) (code_at t.vars i)) ∙ sym c.is_right.ensures in
-    sym (all_failed (slot_fits t) 8 i (omega arith) (tested ∙ c.if-not-is_right.true)) ∙ c.loop-i.invariant
 
 pub loop-i-preserved : goal.loop-i-preserved
 loop-i-preserved c =
     let t = c.args.self.now in
-    let i = c.loop-i.i in
-    let tested : slot_fits t i ≡ c.is_right.result = sym (ap (place_fits t.used (ltb i t.variables)) (code_at t.vars i)) ∙ sym c.is_right.ensures in
-    sym (all_passed (slot_fits t) 8 i (omega arith) (tested ∙ c.if-not-is_right.false)) ∙ c.loop-i.invariant
+    rw (c.ne.ensures, code_at t.vars c.loop-i.i) (one_tested (slot_marked t) 8 c.loop-i.i c.loop-i.marked (omega arith) ∙ c.loop-i.invariant)
+
+pub returns-then-not-marked : goal.returns-then-not-marked
+returns-then-not-marked c =
+    let t = c.args.self.now in
+    let e = all_tested (slot_marked t) 8 c.loop-i.i c.loop-i.marked (omega arith) c.loop-i.invariant in
+    sym (slots_are t ∙ ap (λ b. b && all_from 8 0 (aimed_at t.used t.vars)) (sym e ∙ c.if-not-marked.true))
 
 pub returns : goal.returns
-returns c = sym (all_done (slot_fits c.args.self.now) 8 c.loop-i.i (omega arith)) ∙ c.loop-i.invariant
+returns c =
+    let t = c.args.self.now in
+    let e = all_tested (slot_marked t) 8 c.loop-i.i c.loop-i.marked (omega arith) c.loop-i.invariant in
+    let size : length t.vars ≡ 8 = search rules in
+    c.all_aimed.ensures ∙ ap (λ k. all_from k 0 (aimed_at t.used t.vars)) size
+    ∙ sym (slots_are t ∙ ap (λ b. b && all_from 8 0 (aimed_at t.used t.vars)) (sym e ∙ c.if-not-marked.false))

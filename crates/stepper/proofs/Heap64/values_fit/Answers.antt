@@ -4,13 +4,11 @@ use mathlib.Core.Path.{sym, ap, ◌∙◌}
 use native.Mathlib.Omega.{arith}
 use Rattle.lists.proofs.Test.{all_done}
 use Rattle.stepper.specs.Table.{value_fits}
-use Rattle.stepper.proofs.Fits.{one_tested}
+use Rattle.stepper.proofs.Fits.{one_tested, all_tested}
 use Rattle.stepper.proofs.Heap64.values_fit.Goals as goal
 
 pub loop-i-preserved : goal.loop-i-preserved
 loop-i-preserved c = rw c.most_code.ensures (one_tested (value_fits c.args.self.now) 64 c.loop-i.i c.loop-i.fits (omega arith) ∙ c.loop-i.invariant)
 
 pub returns : goal.returns
-returns c =
-    let fits = c.loop-i.fits in
-    sym (and-true fits) ∙ ap (λ b. fits && b) (sym (all_done (value_fits c.args.self.now) 64 c.loop-i.i (omega arith))) ∙ c.loop-i.invariant
+returns c = all_tested (value_fits c.args.self.now) 64 c.loop-i.i c.loop-i.fits (omega arith) c.loop-i.invariant
