@@ -82,6 +82,7 @@ pub fn write_heap(heap: Heap64, bytes: &mut [u8])
         return;
     }
     bytes[0] = heap.variables;
+    // Variables and links have a loop each: one function for both would also have to say which bytes it leaves, and is no plainer.
     for (i, place) in heap.vars.iter().enumerate() {
         bytes[SLOTS + i] = place.code;
     }

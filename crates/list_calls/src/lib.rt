@@ -1,41 +1,49 @@
 // The calls of the block list for a host in C: a library of their own, without the checker.
 #![tactic(auto)]
 
-ghost use Rattle.list_calls.specs.ListBytes.{HeapLent, PutBack, CountsBytes, CountTells, InsertsBytes, RemovesBytes};
+ghost use Rattle.std.specs.Prelude.{◌≡◌};
+ghost use Rattle.std.specs.Fn.{FnOnceReturnsAtMut};
+ghost use Rattle.list_calls.specs.ListBytes.{edit_number, heap_lent, AnswersBytes, CountTells, InsertsBytes, RemovesBytes};
 
-use blocklist::{Edit, Edited, Length, refusal_number};
-use heapcodec::{HeapRead, read_heap, read_values, write_heap, write_values};
+use blocklist::ListRefusal;
+use heapcodec::{read_heap, read_values, write_heap, write_values};
 use lending::lend;
+use stepper::Heap64;
 
-// The heap that bytes and numbers are; not readable where there aren't 64 numbers.
-fn heap_lent(heap: &[u8], values: &[u32]) -> HeapRead
-    ensures { HeapLent heap.now values.now result }
+// The heap that bytes and numbers are, or 13; they are none where there aren't 64 numbers.
+fn heap_lent(heap: &[u8], values: &[u32]) -> Result<Heap64, ListRefusal>
+    ensures { result ≡ heap_lent heap.now values.now }
 {
-    let read = read_heap(heap, read_values(values));
     if values.len() != 64 {
-        let other = read.heap;
-        return HeapRead {
-            readable: false,
-            heap: other,
-        };
+        return Err(ListRefusal::IllFormed);
     }
-    read
+    read_heap(heap, read_values(values)).ok_or(ListRefusal::IllFormed)
 }
 
-// Writes the heap after an edit, if it is done, and gives its number.
-fn put_back(edited: Edited, heap: &mut [u8], values: &mut [u32]) -> u32
-    ensures { PutBack edited heap.old values.old result heap.new values.new }
+// What a call of the list answers on the heap that is lent. The heap after it is written back, unless the answer is a refusal.
+fn on_lent<T: Drop, F: FnOnce(&mut Heap64) -> Result<T, ListRefusal>>(
+    heap: &mut [u8],
+    values: &mut [u32],
+    call: F,
+) -> Result<T, ListRefusal>
+    requires { F.IsAlwaysCallable call }
+    ensures { AnswersBytes (λ t r. FnOnceReturnsAtMut F.FnOnce call t r.0 r.1) heap.old values.old result heap.new values.new }
 {
-    let edit = edited.edit;
-    match edit {
-        Edit::Done => {
-            let after = edited.heap;
-            let codes = after.values;
-            write_heap(after, heap);
-            write_values(codes, values);
-            0
-        }
-        Edit::Refused(refusal) => refusal_number(refusal),
+    let mut lent = heap_lent(heap, values)?;
+    let answer = call(&mut lent)?;
+    let codes = lent.values;
+    write_heap(lent, heap);
+    write_values(codes, values);
+    Ok(answer)
+}
+
+// What a host is told of an edit.
+fn edit_number(edited: Result<(), ListRefusal>) -> u32
+    ensures { result ≡ edit_number edited }
+{
+    match edited {
+        Ok(()) => 0,
+        Err(refusal) => u32::from(refusal),
     }
 }
 
@@ -44,12 +52,7 @@ fn put_back(edited: Edited, heap: &mut [u8], values: &mut [u32]) -> u32
 pub extern "C" fn vorruda_list_insert(heap: &mut [u8], values: &mut [u32], n: u32) -> u32
     ensures { InsertsBytes heap.old values.old n result heap.new values.new }
 {
-    let read = heap_lent(heap, values);
-    if !read.readable {
-        return 13;
-    }
-    let before = read.heap;
-    put_back(blocklist::insert(before, n), heap, values)
+    edit_number(on_lent(heap, values, |lent| blocklist::insert(lent, n)))
 }
 
 // Removes the n-th block, from 1: 0, or 13, 29, 28.
@@ -57,52 +60,7 @@ pub extern "C" fn vorruda_list_insert(heap: &mut [u8], values: &mut [u32], n: u3
 pub extern "C" fn vorruda_list_remove(heap: &mut [u8], values: &mut [u32], n: u32) -> u32
     ensures { RemovesBytes heap.old values.old n result heap.new values.new }
 {
-    let read = heap_lent(heap, values);
-    if !read.readable {
-        return 13;
-    }
-    let before = read.heap;
-    put_back(blocklist::remove(before, n), heap, values)
-}
-
-// What a count tells: its number, and how many blocks there are.
-#[derive(Clone, Copy)]
-struct CountTold {
-    number: u32,
-    cells: u64,
-}
-
-// Counts the blocks.
-fn count_lent(heap: &mut [u8], values: &mut [u32]) -> CountTold
-    ensures { CountsBytes heap.old values.old result.number result.cells heap.new values.new }
-{
-    let read = heap_lent(heap, values);
-    if !read.readable {
-        return CountTold {
-            number: 13,
-            cells: 0,
-        };
-    }
-    let before = read.heap;
-    let counted = blocklist::count(before);
-    let length = counted.length;
-    match length {
-        Length::Cells(cells) => {
-            let after = counted.heap;
-            let edited = Edited {
-                heap: after,
-                edit: Edit::Done,
-            };
-            CountTold {
-                number: put_back(edited, heap, values),
-                cells: cells as u64,
-            }
-        }
-        Length::Refused(refusal) => CountTold {
-            number: refusal_number(refusal),
-            cells: 0,
-        },
-    }
+    edit_number(on_lent(heap, values, |lent| blocklist::remove(lent, n)))
 }
 
 // Counts the blocks and tells how many there are: 0, or 13, 29.
@@ -110,7 +68,10 @@ fn count_lent(heap: &mut [u8], values: &mut [u32]) -> CountTold
 pub extern "C" fn vorruda_list_count(heap: &mut [u8], values: &mut [u32], out: &mut [u64]) -> u32
     ensures { CountTells heap.old values.old out.old result heap.new values.new out.new }
 {
-    let told = count_lent(heap, values);
-    lend(&[told.cells], out);
-    told.number
+    let (number, cells) = match on_lent(heap, values, blocklist::count) {
+        Ok(cells) => (0, u64::from(cells)),
+        Err(refusal) => (u32::from(refusal), 0),
+    };
+    lend(&[cells], out);
+    number
 }

@@ -8,7 +8,7 @@ use heapcodec::{read_heap, write_heap};
 use stepper::{Outcome, StepRefusal};
 
 // One operation on a heap of 137 bytes and 64 codes of values, which stay as they are unless it moves. Bytes that are no heap's are refused as an ill formed
-// heap is. Kinds 11 to 13 write `value`.
+// heap is. Kinds 11 to 13 write `value`. Kind, operands and value come one by one, as the C interface gives them.
 pub fn step_bytes(
     heap: &mut [u8],
     values: &mut [u32; 64],

@@ -1,17 +1,15 @@
--- 13, or what the list promises.
-use mathlib.Core.Path.{sym, ◌∙◌}
-use borrow.Author.Tests.{not-true, not-false}
+-- What the list promises of the heap that is lent.
+use mathlib.Core.Path.{subst}
+use Rattle.std.proofs.Common.{of_calls}
+use Rattle.stepper.specs.declared.Heap64.{Heap64}
 use Rattle.blocklist.specs.Answers.{Inserts}
-use Rattle.list_calls.proofs.Lists.{edits_13, edits_done}
+use Rattle.list_calls.proofs.Lists.{edits_by}
 use Rattle.list_calls.proofs.vorruda_list_insert.Goals as goal
-
-pub returns-then-not-read : goal.returns-then-not-read
-returns-then-not-read c =
-    let l = c.heap_lent-read in
-    edits_13 c.args.heap.now c.args.values.now (λ t r. Inserts t c.args.n r) (sym l.ensures.readable_is ∙ not-true l.result.readable c.if-not-read.true)
 
 pub returns : goal.returns
 returns c =
-    let l = c.heap_lent-read in
-    edits_done c.args.heap.now c.args.values.now (λ t r. Inserts t c.args.n r) (sym l.ensures.readable_is ∙ not-false l.result.readable c.if-not-read.false) l.result l.ensures
-    c.insert.result c.insert.ensures c.put_back.result c.put_back.new.heap c.put_back.new.values c.put_back.ensures
+    let n = c.args.n in
+    rw c.edit_number.ensures
+    (edits_by c.args.heap.now c.args.values.now _ (λ t r. Inserts t n r)
+    (λ t r p. subst (λ (u : Heap64). Inserts u n r) p.shows (subst (λ (u : Heap64). Inserts p.shown.now n (r.0, u)) p.leaves (search (of_calls, p.met))))
+    c.on_lent.result c.on_lent.new.heap c.on_lent.new.values c.on_lent.ensures)
