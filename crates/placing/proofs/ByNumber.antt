@@ -3,9 +3,10 @@ use mathlib.Core.Bool.{Bool, true, false, ◌&&◌, cond}
 use mathlib.Core.List.{List, [], ◌∷◌, append-nil}
 use mathlib.Core.Logic.{◌≢◌, ◌⊎◌, inl, inr}
 use mathlib.Core.Path.{◌≡◌, refl, sym, ap, ◌∙◌}
-use Prim.Native.Nat.{ℕ, zero, suc, ◌+◌, ◌≤◌, ◌<◌}
+use Prim.Native.Nat.{ℕ, ◌+◌, ◌≤◌, ◌<◌}
 use native.Mathlib.Decide.{ℕ_discrete}
 use native.Mathlib.Omega.{arith}
+use Rattle.std.proofs.lemmas.Bool.Decides.{nat_tests}
 use borrow.Author.Tests.{eq-eqb, ne_eqb}
 use lib.Dec.{eqb}
 use lib.ListN.{length, get_or}
@@ -15,7 +16,7 @@ use Rattle.lists.proofs.List.{range_mem}
 use Rattle.lists.proofs.Test.{and_right}
 use Rattle.heap.specs.Place.{nowhere, dangling, cell}
 use Rattle.place.specs.Place.{both_nowhere}
-use Rattle.shape.specs.Placing.{place, placed_from}
+use Rattle.shape.specs.Placing.{place}
 use Rattle.shape.specs.Shape.{Shape, var_at, size}
 use Rattle.shape.proofs.PlacingByNumber.{choice, choices_by_number}
 use Rattle.placing.specs.Choice.{chosen, exists, opened, made, put}
@@ -50,13 +51,7 @@ only_first f m h none = sym (concat_map_stretch f 0 1 m (omega arith) h (λ k _ 
 
 -- a variable that has a place
 pub place_one : (v : ℕ) (s : Shape) → var_at s v ≢ nowhere → var_at s v ≢ dangling → place v s ≡ s ∷ []
-place_one v s = go (var_at s v)
-  where
-    go : (p : ℕ) → p ≢ nowhere → p ≢ dangling → placed_from p v s ≡ s ∷ []
-    go zero n d = absurd (n refl)
-    go (suc zero) n d = refl
-    go (suc (suc zero)) n d = absurd (d refl)
-    go (suc (suc (suc i))) n d = refl
+place_one v s = grind (arith, nat_tests)
 
 pub place_choices : (v : ℕ) (s : Shape) → var_at s v ≡ nowhere → place v s ≡ concat_map (choice v s) (range 0 (size s + (2 + size s)))
 place_choices v s e = rw e (sym (choices_by_number v s))
@@ -67,13 +62,7 @@ clash e = let z : ◌≡◌ {A = ℕ} 0 1 = cc in absurd (omega arith)
 -- both are nowhere, and are two
 pub both_nowhere_lem : (a b x y : ℕ) → both_nowhere (eqb a b) x y ≡ true → (x ≡ nowhere) × (y ≡ nowhere) × (a ≢ b)
 unfolding both_nowhere
-both_nowhere_lem a b x y t = go (ℕ_discrete x nowhere) (ℕ_discrete y nowhere) (ℕ_discrete a b)
-  where
-    go : Dec (x ≡ nowhere) → Dec (y ≡ nowhere) → Dec (a ≡ b) → (x ≡ nowhere) × (y ≡ nowhere) × (a ≢ b)
-    go (no n) d e = clash (simp (ne_eqb x nowhere n) at t)
-    go (yes i) (no n) e = clash (simp (eq-eqb x nowhere i, ne_eqb y nowhere n) at t)
-    go (yes i) (yes j) (yes e) = clash (simp (eq-eqb x nowhere i, eq-eqb y nowhere j, eq-eqb a b e) at t)
-    go (yes i) (yes j) (no n) = (i, j, n)
+both_nowhere_lem a b x y t = grind (arith, nat_tests)
 
 module _ (variables kind a b : ℕ) where
   abbrev keep_one : Shape → List Shape
@@ -89,7 +78,7 @@ module _ (variables kind a b : ℕ) where
 
   -- where b has a place the kind decides
   decided : (t : Shape) → var_at t b ≢ nowhere → var_at t b ≢ dangling → seconds variables kind a b t ≡ keep_one t
-  decided t n d = ap (concat_map keep_one) (place_one b t n d) ∙ append-nil (keep_one t)
+  decided t n d = grind (arith, nat_tests)
 
 module _ (variables kind a b : ℕ) (s : Shape) (kind_least : 1 ≤ kind)
     (links_range : (i : ℕ) → i < size s → get_or s.links i nowhere < cell (size s)) where
@@ -180,7 +169,7 @@ module _ (variables kind a b : ℕ) (s : Shape) (kind_least : 1 ≤ kind)
   module _ (apart : kind ≡ 4 → a ≢ b) (a_slot : a ≤ length s.vars) (nx : var_at s a ≢ dangling) (ny : var_at s b ≢ dangling) where
     module _ (b_slot : b ≤ length s.vars) (one : var_at s a ≡ nowhere → a ≢ b → var_at s b ≢ nowhere) (x_in : var_at s a < cell (size s)) (y-in : var_at s b < cell (size s)) where
       b_at : var_at s a ≡ nowhere → a ≢ b → At (size s) (var_at s b)
-      b_at e i = record { some = one e i; safe = ny; inside = y-in }
+      b_at e i = grind (arith, nat_tests)
 
       a_at : var_at s a ≢ nowhere → At (size s) (var_at s a)
       a_at n = record { some = n; safe = nx; inside = x_in }

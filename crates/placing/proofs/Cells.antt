@@ -6,7 +6,7 @@ use mathlib.Core.Path.{◌≡◌, refl, sym, ap, ◌∙◌}
 use Prim.Native.Nat.{ℕ, ◌+◌, ◌≤◌, ◌<◌}
 use native.Mathlib.Decide.{ℕ_discrete}
 use native.Mathlib.Omega.{arith}
-use borrow.Author.Tests.{lt-ltb, le-ltb}
+use Rattle.std.proofs.lemmas.Bool.Decides.{nat_tests}
 use lib.ListN.{length}
 use Rattle.lists.specs.List.{◌∈◌, keep}
 use Rattle.lists.specs.Range.{range}
@@ -45,7 +45,7 @@ placed v s t h m = go (ℕ_discrete (var_at s v) nowhere) (ℕ_discrete (var_at 
 module _ (variables kind a b : ℕ) (above : 5 < kind) where
   pub unchanged : (t : Shape) → changed variables kind a b t ≡ t
   unfolding changed
-  unchanged t = simp (le-ltb kind 3 (omega arith), lt-ltb 5 kind above)
+  unchanged t = grind (arith, nat_tests)
 
   tested : (t : Shape) → keep (retained_in kind a b t) (changed variables kind a b t) ≡ keep (is_cell (var_at t a) && is_cell (var_at t b)) t
   unfolding retained_in

@@ -3,17 +3,14 @@ use mathlib.Core.Bool.{Bool, true, false, ◌&&◌, cond}
 use mathlib.Core.List.Memᴰ
 use mathlib.Core.List.{List, [], append-nil}
 use mathlib.Core.Logic.{◌≢◌}
-use mathlib.Core.Path.{◌≡◌, refl, sym, ap, ◌∙◌}
-use Prim.Native.Nat.{ℕ, zero, suc, ◌+◌, ◌-◌, ◌≤◌, ◌<◌}
-use native.Mathlib.Decide.{ℕ_discrete, dec_lt}
+use mathlib.Core.Path.{◌≡◌, refl, ap, ◌∙◌}
+use Prim.Native.Nat.{ℕ, zero, suc, ◌≤◌, ◌<◌}
 use native.Mathlib.Omega.{arith}
-use borrow.Author.Tests.{lt-ltb, le-ltb, le-leb, lt-leb, eq-eqb, ne_eqb, ltb-true}
-use lib.Dec.{eqb, ltb}
+use Rattle.std.proofs.lemmas.Bool.Decides.{nat_tests}
 use lib.ListN.{length}
 use Rattle.lists.specs.List.{◌∈◌, concat_map, keep}
 use Rattle.lists.specs.Range.{range}
 use Rattle.lists.proofs.List.{keep_mem, concat_map_mem}
-use Rattle.lists.proofs.Test.{and_left}
 use Rattle.heap.specs.Place.{nowhere, null, dangling, cell}
 use Rattle.shape.specs.Placing.{place}
 use Rattle.shape.specs.Shape.{Shape, var_at, size}
@@ -25,36 +22,25 @@ use Rattle.placing.specs.Retained.{link_open, retained, retained_in}
 
 pub choice_made : (v : ℕ) (s : Shape) (k : ℕ) → choice v s k ≡ keep (exists s.links k) (made v s k)
 unfolding exists made chosen opened
-choice_made v s k = go (dec_lt k n) (ℕ_discrete k n) (ℕ_discrete k (suc n))
-  where
-    n : ℕ
-    n = size s
-
-    go : Dec (k < n) → Dec (k ≡ n) → Dec (k ≡ suc n) → choice v s k ≡ keep (exists s.links k) (made v s k)
-    go (yes h) e f = simp (lt-ltb k n h, lt-ltb k (n + 2) (omega arith), le-leb k n (omega arith))
-    go (no h) (yes e) f = simp (le-ltb k n (omega arith), eq-eqb k n e, lt-ltb k (n + 2) (omega arith), le-leb k n (omega arith))
-    go (no h) (no e) (yes f) =
-        simp (le-ltb k n (omega arith), ne_eqb k n e, eq-eqb k (suc n) f, lt-ltb k (n + 2) (omega arith), lt-leb k n (omega arith))
-    go (no h) (no e) (no f) =
-        simp (le-ltb k n (omega arith), ne_eqb k n e, ne_eqb k (suc n) f, le-ltb k (n + 2) (omega arith), lt-leb k n (omega arith))
+choice_made v s k = grind (arith, nat_tests)
 
 -- ---- where a choice is
 
 pub chosen_cell : (n k : ℕ) → k < n → chosen n k ≡ cell k
 unfolding chosen
-chosen_cell n k h = simp (lt-ltb k n h)
+chosen_cell n k h = grind (arith, nat_tests)
 
 pub chosen_null : (n k : ℕ) → k ≡ n → chosen n k ≡ null
 unfolding chosen
-chosen_null n k e = simp (le-ltb k n (omega arith), eq-eqb k n e)
+chosen_null n k e = grind (arith, nat_tests)
 
 pub chosen_fresh : (n k : ℕ) → n < k → chosen n k ≡ cell n
 unfolding chosen
-chosen_fresh n k h = simp (le-ltb k n (omega arith), ne_eqb k n (omega arith))
+chosen_fresh n k h = grind (arith, nat_tests)
 
 pub choice_of_null : (n p : ℕ) → p ≡ null → choice_of n p ≡ n
 unfolding choice_of
-choice_of_null n p e = simp (eq-eqb p null e)
+choice_of_null n p e = grind (arith, nat_tests)
 
 -- ---- where variables stand
 
@@ -73,37 +59,16 @@ not_null s (suc v) e z = omega arith
 -- a choice puts a variable at # or at a cell
 pub chosen_placed : (n k : ℕ) → (chosen n k ≢ nowhere) × (chosen n k ≢ dangling)
 unfolding chosen
-chosen_placed n k = go (ltb k n) (eqb k n)
-  where
-    go : (a b : Bool) → (cond a (cell k) (cond b null (cell n)) ≢ nowhere) × (cond a (cell k) (cond b null (cell n)) ≢ dangling)
-    go true b = (λ e. omega arith, λ e. omega arith)
-    go false true = (λ e. omega arith, λ e. omega arith)
-    go false false = (λ e. omega arith, λ e. omega arith)
+chosen_placed n k = (λ e. grind (arith, nat_tests), λ e. grind (arith, nat_tests))
 
 -- only one choice puts a variable at a place of the shape
 pub chosen_other : (n k q : ℕ) → q ≢ nowhere → q ≢ dangling → q < cell n → k ≢ choice_of n q → chosen n k ≢ q
 unfolding chosen choice_of
-chosen_other n k q nn nd h other = go (dec_lt k n) (ℕ_discrete k n) (ℕ_discrete q null)
-  where
-    go : Dec (k < n) → Dec (k ≡ n) → Dec (q ≡ null) → chosen n k ≢ q
-    go (yes l) e (yes z) c = let w : cell k ≡ q = simp (lt-ltb k n l) at c in omega arith
-    go (yes l) e (no z) c =
-        let w : cell k ≡ q = simp (lt-ltb k n l) at c in
-        let o : k ≢ q - 3 = simp (ne_eqb q null z) at other in
-        o (omega arith)
-    go (no l) (yes e) d c =
-        let w : null ≡ q = simp (le-ltb k n (omega arith), eq-eqb k n e) at c in
-        let o : k ≢ n = simp (eq-eqb q null (sym w)) at other in
-        o e
-    go (no l) (no e) d c = let w : cell n ≡ q = simp (le-ltb k n (omega arith), ne_eqb k n e) at c in omega arith
+chosen_other n k q nn nd h other c = grind (arith, nat_tests)
 
 pub choice_of_most : (n q : ℕ) → q < cell n → choice_of n q ≤ n
 unfolding choice_of
-choice_of_most n q h = go (eqb q null)
-  where
-    go : (b : Bool) → cond b n (q - 3) ≤ n
-    go true = omega arith
-    go false = omega arith
+choice_of_most n q h = grind (arith, nat_tests)
 
 -- a variable that has a place keeps it
 pub place_keeps : (v : ℕ) (s t : Shape) (u : ℕ) → t ∈ place v s → var_at s u ≢ nowhere → var_at t u ≡ var_at s u
@@ -137,9 +102,9 @@ made_links v s k = refl
 pub tested_at : (kind a b : ℕ) (t : Shape) (x y : ℕ) (links : List ℕ) → var_at t a ≡ x → var_at t b ≡ y → t.links ≡ links
     → retained_in kind a b t ≡ retained kind x y links
 unfolding retained_in
-tested_at kind a b t x y links ex ey el = rw (← ex, ← ey, ← el) refl
+tested_at kind a b t x y links ex ey el = grind (arith, nat_tests)
 
 -- the cell whose link the operation changes is there
 pub retained_cell : (kind x y : ℕ) (links : List ℕ) → retained kind x y links ≡ true → (kind ≡ 4 → 3 ≤ y) × (kind ≡ 5 → 3 ≤ x)
 unfolding retained link_open
-retained_cell kind x y links e = (λ k. let t = rw k at e in ltb-true 2 y (and_left (ltb 2 y) _ t), λ k. let t = rw k at e in ltb-true 2 x (and_left (ltb 2 x) _ t))
+retained_cell kind x y links e = grind (arith, nat_tests)

@@ -5,13 +5,12 @@ use mathlib.Core.Logic.{◌≢◌}
 use mathlib.Core.Path.{◌≡◌, refl, ap}
 use Prim.Native.Nat.{ℕ, suc, ◌≤◌}
 use native.Mathlib.Omega.{arith}
-use borrow.Author.Tests.{lt-ltb, le-ltb, eq-eqb, ne_eqb}
+use Rattle.std.proofs.lemmas.Bool.Decides.{nat_tests}
+use borrow.Author.Tests.{lt-ltb, eq-eqb}
 use lib.ListN.{length}
 use Rattle.lists.specs.List.{keep}
-use Rattle.lists.proofs.List.{end, ◌&◌}
 use Rattle.heap.specs.Operation.{kind_of}
 use Rattle.heap.specs.Place.{nowhere}
-use Rattle.heap.proofs.Rows.{by_kind}
 use Rattle.shape.specs.Placing.{set_var, place_both}
 use Rattle.shape.specs.Shape.{Shape, var_at}
 use Rattle.backward.specs.Predecessors.{set_link, link_fits, add_helper, drop_helper, retain, before}
@@ -22,9 +21,7 @@ module _ (variables a b : ℕ) (s : Shape) where
   -- but where kind 4 has one variable
   pub by_two : (kind : ℕ) → 1 ≤ kind → kind ≤ 5 → (kind ≡ 4 → a ≢ b) → b ≤ variables → before (op_of (kind_of kind) a b) s ≡ firsts variables kind a b s
   unfolding retained_in retained changed link_open
-  by_two kind l h apart most =
-      by_kind 5 (λ k. (k ≡ 4 → a ≢ b) → before (op_of (kind_of k) a b) s ≡ firsts variables k a b s)
-      ((λ _. refl) & (λ _. refl) & (λ _. refl) & (λ n. simp (ne_eqb a b (n refl), le-ltb variables b most)) & (λ _. refl) & end) kind l h apart
+  by_two kind l h apart most = grind (arith, nat_tests)
 
 map_retain : (f : Shape → Shape) (test : Shape → Bool) (change : Shape → Shape) (l : List Shape)
     → map f (retain test change l) ≡ retain test (λ s. f (change s)) l

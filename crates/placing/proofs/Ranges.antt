@@ -3,16 +3,16 @@ use mathlib.Core.Bool.{Bool, true, false, ◌||◌, cond, and-false}
 use mathlib.Core.List.{List}
 use mathlib.Core.Logic.{◌≢◌, ◌⊎◌, inl, inr}
 use mathlib.Core.Path.{◌≡◌, refl}
-use Prim.Native.Nat.{ℕ, zero, suc, ◌+◌, ◌-◌, ◌≤◌, ◌<◌}
-use native.Mathlib.Decide.{ℕ_discrete, dec_lt}
+use Prim.Native.Nat.{ℕ, suc, ◌+◌, ◌-◌, ◌≤◌, ◌<◌}
+use native.Mathlib.Decide.{ℕ_discrete}
 use native.Mathlib.Omega.{arith}
-use borrow.Author.Tests.{eq-eqb, ne_eqb, le-leb, lt-leb}
+use Rattle.std.proofs.lemmas.Bool.Decides.{nat_tests}
+use borrow.Author.Tests.{eq-eqb, ne_eqb}
 use lib.Dec.{eqb, ltb, leb}
 use lib.ListN.{length, get_or}
 use Rattle.lists.specs.List.{concat_map}
 use Rattle.lists.specs.Range.{range}
-use Rattle.heap.specs.Codes.{link_in}
-use Rattle.heap.specs.Place.{nowhere, null, dangling, cell}
+use Rattle.heap.specs.Place.{nowhere, dangling, cell}
 use Rattle.place.specs.Place.{place_of, both_nowhere}
 use Rattle.placing.specs.Choice.{choice_of}
 use Rattle.placing.specs.Retained.{retained}
@@ -24,11 +24,7 @@ use Rattle.placing.specs.declared.Wanted.TheVariants.{Nothing, Once, Any, At, Of
 
 pub choice_of_under : (n p : ℕ) → choice_of n p ≤ n + p
 unfolding choice_of
-choice_of_under n p = go (ℕ_discrete p null)
-  where
-    go : Dec (p ≡ null) → cond (eqb p null) n (p - 3) ≤ n + p
-    go (yes e) = simp (eq-eqb p null e) (omega arith)
-    go (no e) = simp (ne_eqb p null e) (omega arith)
+choice_of_under n p = grind (arith, nat_tests)
 
 -- ---- what is left out is not wanted
 
@@ -128,16 +124,7 @@ covers_stretch Out start past =
     }
 
 covers_one : (n k : ℕ) → k ≤ n → Covers (one_by_one k (suc k)) (λ j. eqb j k ≡ false) 0 (n + (2 + n))
-covers_one n k h =
-    record {
-      forward = omega arith;
-      most = omega arith;
-      least = omega arith;
-      before = λ j _ b. ne_eqb j k (omega arith);
-      between = λ h. absurd (h refl);
-      two = λ h. absurd (h refl);
-      after = λ j b _. ne_eqb j k (omega arith);
-    }
+covers_one n k h = grind (arith, nat_tests)
 
 pub covers : (links : List ℕ) (wanted : Wanted) → Sound (length links) wanted
     → Covers (choices_of (length links) wanted) (λ j. fits_in links wanted j ≡ false) 0 (length links + (2 + length links))
@@ -164,22 +151,7 @@ covers links (Target p i) s = covers_target (length links) p.code i s.0 s.1
 sound_target : (links : List ℕ) (q : ℕ) → q < cell (length links) → ((i : ℕ) → i < length links → get_or links i nowhere < cell (length links))
     → Sound (length links) (target_of links q)
 unfolding target_of
-sound_target links q inside range = go (dec_lt 2 q)
-  where
-    linked : 2 < q → Dec (link_in links q ≡ nowhere)
-        → Sound (length links) (cond (eqb (link_in links q) nowhere) Any (Target (place_of (link_in links q)) (q - 3)))
-    linked h (yes e) = rw (eq-eqb (link_in links q) nowhere e) tt
-    linked h (no e) = rw (ne_eqb (link_in links q) nowhere e) (link_range q h inside, omega arith)
-      where
-        link_range : (q : ℕ) → 2 < q → q < cell (length links) → link_in links q < cell (length links)
-        link_range zero h b = absurd (omega arith)
-        link_range (suc zero) h b = absurd (omega arith)
-        link_range (suc (suc zero)) h b = absurd (omega arith)
-        link_range (suc (suc (suc i))) h b = range i (omega arith)
-
-    go : Dec (2 < q) → Sound (length links) (target_of links q)
-    go (no h) = rw (le-leb q dangling (omega arith)) tt
-    go (yes h) = rw (lt-leb q dangling (omega arith)) (linked h (ℕ_discrete (link_in links q) nowhere))
+sound_target links q inside range = grind (arith, nat_tests)
 
 sound_cell : (n q : ℕ) → Sound n (cell_beside q)
 unfolding cell_beside

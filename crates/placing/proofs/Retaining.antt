@@ -6,6 +6,7 @@ use mathlib.Core.Path.{◌≡◌, refl, sym, ◌∙◌}
 use Prim.Native.Nat.{ℕ, zero, suc, ◌+◌, ◌-◌, ◌≤◌, ◌<◌}
 use native.Mathlib.Decide.{ℕ_discrete, dec_lt}
 use native.Mathlib.Omega.{arith}
+use Rattle.std.proofs.lemmas.Bool.Decides.{nat_tests}
 use borrow.Author.Tests.{lt-ltb, le-ltb, le-leb, lt-leb, eq-eqb, ne_eqb}
 use lib.Dec.{eqb, ltb}
 use lib.ListN.{length, get_or, set, length-set, get_or-eq_default, get_or-append}
@@ -18,7 +19,7 @@ use Rattle.place.specs.Place.{place_of}
 use Rattle.shape.proofs.Laws.{link_set_other, link_snoc, link_unlinked}
 use Rattle.placing.specs.Choice.{chosen, choice_of, exists, opened}
 use Rattle.placing.specs.Retained.{At, link_open, retained}
-use Rattle.placing.proofs.Chosen.{chosen_cell, chosen_null, chosen_fresh, chosen_placed, chosen_other, choice_of_null, choice_of_most}
+use Rattle.placing.proofs.Chosen.{chosen_cell, chosen_null, chosen_fresh, chosen_placed, choice_of_null, choice_of_most}
 use Rattle.placing.proofs.Tests.{retains_cells, cell_none, cell_any, beside_cells, one_cell}
 use Rattle.placing.specs.Wanted.{source_fits, itself_fits, target_fits, fits_in, target_of, any_cell, cell_beside, beside, wanted_one}
 
@@ -26,28 +27,28 @@ use Rattle.placing.specs.Wanted.{source_fits, itself_fits, target_fits, fits_in,
 
 open_at : (links : List ℕ) (p q l : ℕ) → 2 < p → link_in links p ≡ l → link_open links p q ≡ eqb l nowhere || eqb l q
 unfolding link_open
-open_at links p q l h e = rw (lt-ltb dangling p h, e) refl
+open_at links p q l h e = grind (arith, nat_tests)
 
 pub open_none : (links : List ℕ) (p q : ℕ) → p ≤ 2 → link_open links p q ≡ false
 unfolding link_open
-open_none links p q h = simp (le-ltb dangling p h)
+open_none links p q h = grind (arith, nat_tests)
 
 module _ (links : List ℕ) (k : ℕ) where
   exists_low : k < length links + 2 → exists links k ≡ true
   unfolding exists
-  exists_low h = simp (lt-ltb k (length links + 2) h)
+  exists_low h = grind (arith, nat_tests)
 
   exists_high : length links + 2 ≤ k → exists links k ≡ not (eqb (get_or links (k - (length links + 2)) nowhere) nowhere)
   unfolding exists
-  exists_high h = simp (le-ltb k (length links + 2) h)
+  exists_high h = grind (arith, nat_tests)
 
   pub opened_none : k ≤ length links → opened links k ≡ links
   unfolding opened
-  opened_none h = simp (le-leb k (length links) h)
+  opened_none h = grind (arith, nat_tests)
 
   pub opened_fresh : k ≡ suc (length links) → opened links k ≡ links ++ (nowhere ∷ [])
   unfolding opened
-  opened_fresh e = simp (lt-leb k (length links) (omega arith), eq-eqb k (suc (length links)) e)
+  opened_fresh e = grind (arith, nat_tests)
 
   link_kept : (p : ℕ) → k < length links + 2 → link_in (opened links k) p ≡ link_in links p
   link_kept p h = go (ℕ_discrete k (suc (length links)))
@@ -60,7 +61,7 @@ module _ (links : List ℕ) (k : ℕ) where
     pub opened_middle : opened links k
         ≡ set links (k - (length links + 2)) (cell (length links)) ++ (get_or links (k - (length links + 2)) nowhere ∷ [])
     unfolding opened
-    opened_middle = simp (lt-leb k (length links) (omega arith), ne_eqb k (suc (length links)) (omega arith))
+    opened_middle = grind (arith, nat_tests)
 
     set_length : length (set links (k - (length links + 2)) (cell (length links))) ≡ length links
     set_length = length-set links (k - (length links + 2)) (cell (length links))
@@ -85,51 +86,27 @@ module _ (links : List ℕ) (k : ℕ) where
 
 -- ---- the same place, and a different one
 
-chosen_there : (n q : ℕ) → At n q → chosen n (choice_of n q) ≡ q
-unfolding choice_of
-chosen_there n q at = go (ℕ_discrete q null)
-  where
-    go : Dec (q ≡ null) → chosen n (choice_of n q) ≡ q
-    go (yes e) = simp (eq-eqb q null e) (chosen_null n n refl ∙ sym e)
-    go (no e) =
-        let c : cell (q - 3) ≡ q = omega (arith, at.some, at.safe) in
-        simp (ne_eqb q null e) (chosen_cell n (q - 3) (omega (arith, at.some, at.safe, at.inside)) ∙ c)
-
 module _ (n q k : ℕ) (at : At n q) where
   same_place : eqb q (chosen n k) ≡ eqb k (choice_of n q)
-  same_place = go (ℕ_discrete k (choice_of n q))
-    where
-      go : Dec (k ≡ choice_of n q) → eqb q (chosen n k) ≡ eqb k (choice_of n q)
-      go (yes e) = rw e (eq-eqb q (chosen n (choice_of n q)) (sym (chosen_there n q at)) ∙ sym (eq-eqb (choice_of n q) (choice_of n q) refl))
-      go (no e) =
-          ne_eqb q (chosen n k) (λ z. chosen_other n k q at.some at.safe at.inside e (sym z)) ∙ sym (ne_eqb k (choice_of n q) e)
+  unfolding chosen choice_of
+  same_place = grind (arith, nat_tests)
 
   same_place_too : eqb (chosen n k) q ≡ eqb k (choice_of n q)
-  same_place_too = go (ℕ_discrete k (choice_of n q))
-    where
-      go : Dec (k ≡ choice_of n q) → eqb (chosen n k) q ≡ eqb k (choice_of n q)
-      go (yes e) = rw e (eq-eqb (chosen n (choice_of n q)) q (chosen_there n q at) ∙ sym (eq-eqb (choice_of n q) (choice_of n q) refl))
-      go (no e) = ne_eqb (chosen n k) q (chosen_other n k q at.some at.safe at.inside e) ∙ sym (ne_eqb k (choice_of n q) e)
+  unfolding chosen choice_of
+  same_place_too = grind (arith, nat_tests)
 
 module _ (links : List ℕ) (q k : ℕ) (at : At (length links) q) where
   -- a choice at a place of the shape is there
   at_exists : exists links k && eqb k (choice_of (length links) q) ≡ eqb k (choice_of (length links) q)
-  at_exists = go (ℕ_discrete k (choice_of (length links) q))
-    where
-      go : Dec (k ≡ choice_of (length links) q) → exists links k && eqb k (choice_of (length links) q) ≡ eqb k (choice_of (length links) q)
-      go (yes e) = rw (exists_low links k (omega (arith, choice_of_most (length links) q at.inside))) refl
-      go (no e) = rw (ne_eqb k (choice_of (length links) q) e) (and-false (exists links k))
+  unfolding exists choice_of
+  at_exists = grind (arith, nat_tests)
 
 -- ---- a cell
 
 -- a choice is at a cell, but for #
 chosen_apart : (n k : ℕ) → ltb dangling (chosen n k) ≡ not (eqb k n)
-chosen_apart n k = go (dec_lt k n) (ℕ_discrete k n)
-  where
-    go : Dec (k < n) → Dec (k ≡ n) → ltb dangling (chosen n k) ≡ not (eqb k n)
-    go (yes h) e = rw (chosen_cell n k h, ne_eqb k n (omega arith)) (lt-ltb dangling (cell k) (omega arith))
-    go (no h) (yes e) = rw (chosen_null n k e, eq-eqb k n e) refl
-    go (no h) (no e) = rw (chosen_fresh n k (omega arith), ne_eqb k n e) (lt-ltb dangling (cell n) (omega arith))
+unfolding chosen
+chosen_apart n k = grind (arith, nat_tests)
 
 module _ (links : List ℕ) (k : ℕ) where
   any_cell_lem : exists links k && ltb dangling (chosen (length links) k) ≡ fits_in links any_cell k

@@ -1,9 +1,11 @@
 -- What is wanted of the operand placed last, and of the one placed first, is what the kind retains.
-use mathlib.Core.Bool.{Bool, true, false, ◌&&◌, ◌||◌, cond}
+use mathlib.Core.Bool.{Bool, true, false, ◌&&◌, cond}
 use mathlib.Core.List.{List}
 use mathlib.Core.Logic.{◌≢◌}
 use mathlib.Core.Path.{◌≡◌, refl, sym}
 use Prim.Native.Nat.{ℕ, ◌+◌, ◌≤◌, ◌<◌}
+use native.Mathlib.Omega.{arith}
+use Rattle.std.proofs.lemmas.Bool.Decides.{nat_tests}
 use native.Mathlib.Decide.{ℕ_discrete}
 use borrow.Author.Tests.{eq-eqb, ne_eqb}
 use lib.Dec.{eqb}
@@ -14,7 +16,6 @@ use Rattle.placing.specs.Choice.{chosen, exists, opened}
 use Rattle.placing.specs.Retained.{At}
 use Rattle.placing.specs.Retained.{retained}
 use Rattle.placing.specs.Wanted.{fits_in, once_if, wanted_first, wanted_last}
-use Rattle.placing.specs.declared.Wanted.TheVariants.{Nothing, Once, Any}
 use Rattle.placing.proofs.Retaining.{beside_first, beside_second, one_fits}
 
 -- one choice, which changes nothing
@@ -80,17 +81,13 @@ module _ (same : Bool) (x y : ℕ) (links : List ℕ) (k : ℕ) where
 
   pub first_b_dangling : y ≡ dangling → fits_first ≡ false
   unfolding wanted_first
-  first_b_dangling e = rw (eq-eqb y dangling e) (go (eqb x dangling))
-    where
-      go : (t : Bool) → fits_in links (cond (t || true) Nothing (cond (both_nowhere same x y) Any Once)) k ≡ false
-      go true = refl
-      go false = refl
+  first_b_dangling e = grind (arith, nat_tests)
 
   module _ (nx : x ≢ dangling) (ny : y ≢ dangling) where
     pub first_both : both_nowhere same x y ≡ true → fits_first ≡ exists links k
     unfolding wanted_first
-    first_both e = rw (ne_eqb x dangling nx, ne_eqb y dangling ny, e) refl
+    first_both e = grind (arith, nat_tests)
 
     pub first_one : both_nowhere same x y ≡ false → fits_first ≡ eqb k 0
     unfolding wanted_first
-    first_one e = rw (ne_eqb x dangling nx, ne_eqb y dangling ny, e) refl
+    first_one e = grind (arith, nat_tests)

@@ -9,7 +9,7 @@ ghost use Rattle.placing.specs.Wanted.{source_fits, itself_fits, fits_in, one_by
 
 use kinds::{ASSIGN, DIFFERENT, LOAD, STORE};
 use number::wide;
-use place::{DANGLING, FIRST_CELL, NOWHERE, NULL, Place, both_nowhere, link_at};
+use place::{DANGLING, FIRST_CELL, NOWHERE, Place, both_nowhere, link_at};
 
 // The choices of a variable that are retained.
 #[derive(Clone, Copy)]
@@ -74,10 +74,10 @@ fn retains(kind: u8, links: &[u8], x: Place, y: Place) -> bool
 fn choice_of(n: usize, p: Place) -> usize
     ensures { result ≡ choice_of n p.code }
 {
-    match p.code {
-        NULL => n,
-        FIRST_CELL.. => (p.code - FIRST_CELL) as usize,
-        _ => 0,
+    if p == Place::NULL {
+        n
+    } else {
+        p.cell_index().unwrap_or(0)
     }
 }
 
