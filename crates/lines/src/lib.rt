@@ -2,9 +2,10 @@
 #![tactic(auto)]
 
 ghost use Rattle.std.specs.Prelude.{Some, None, MatchOption, IfSome, ◌≡◌, ◌<◌};
+ghost use Rattle.kinds.specs.Kinds.{number_of};
 ghost use Rattle.lines.specs.Line.{letter_of, operand_of, checked, enclosed_of, second_of, between_of, operation_of, test_of, digit_of, mark_for, mark_of, line_of};
 
-use kinds::{ASSIGN, DELETE, DIFFERENT, EQUAL, LOAD, NEW, STORE, allows};
+use kinds::{DIFFERENT, Kind, allows};
 
 // The kind of the word `any`, which the table of kinds does not have.
 pub const ANY: u8 = 0;
@@ -55,11 +56,15 @@ fn read_operand(bytes: &[u8]) -> Option<(u8, &[u8])>
 
 // The operation of a kind and operands that the table of kinds allows, with the letters as 26 variables.
 #[tactic(auto, unfolding(crate::specs::Line::checked))]
-fn check_table(kind: u8, a: u8, b: u8) -> Option<Operation>
-    ensures { result ≡ checked kind a b }
+fn check_table(kind: Kind, a: u8, b: u8) -> Option<Operation>
+    ensures { result ≡ checked (number_of kind) a b }
 {
     if allows(26, kind as usize, a as usize, b as usize) {
-        Some(Operation { kind, a, b })
+        Some(Operation {
+            kind: kind as u8,
+            a,
+            b,
+        })
     } else {
         None
     }
@@ -67,8 +72,8 @@ fn check_table(kind: u8, a: u8, b: u8) -> Option<Operation>
 
 // After `new(` or `delete(`.
 #[tactic(auto, using(crate::proofs::Starting::wholes), unfolding(crate::specs::Line::enclosed_of))]
-fn read_enclosed(kind: u8, bytes: &[u8]) -> Option<Operation>
-    ensures { result ≡ enclosed_of kind bytes.now }
+fn read_enclosed(kind: Kind, bytes: &[u8]) -> Option<Operation>
+    ensures { result ≡ enclosed_of (number_of kind) bytes.now }
 {
     let (a, rest) = read_operand(bytes)?;
     if rest == b")".as_slice() {
@@ -80,14 +85,14 @@ fn read_enclosed(kind: u8, bytes: &[u8]) -> Option<Operation>
 
 // After the first operand and what stands between.
 #[tactic(auto, using(crate::proofs::Starting::wholes, std::proofs::lemmas::Bool::Decides::nat_tests), unfolding(crate::specs::Line::second_of))]
-fn read_second(kind: u8, a: u8, bytes: &[u8]) -> Option<Operation>
-    ensures { result ≡ second_of kind a bytes.now }
+fn read_second(kind: Kind, a: u8, bytes: &[u8]) -> Option<Operation>
+    ensures { result ≡ second_of (number_of kind) a bytes.now }
 {
     let (b, rest) = read_operand(bytes)?;
     if rest.is_empty() {
         check_table(kind, a, b)
-    } else if kind == ASSIGN && rest == b".next".as_slice() {
-        check_table(LOAD, a, b)
+    } else if kind == Kind::Assign && rest == b".next".as_slice() {
+        check_table(Kind::Load, a, b)
     } else {
         None
     }
@@ -99,13 +104,13 @@ fn read_between(a: u8, bytes: &[u8]) -> Option<Operation>
     ensures { result ≡ between_of a bytes.now }
 {
     if let Some(rest) = bytes.strip_prefix(b" = ") {
-        read_second(EQUAL, a, rest)
+        read_second(Kind::Equal, a, rest)
     } else if let Some(rest) = bytes.strip_prefix(b" != ") {
-        read_second(DIFFERENT, a, rest)
+        read_second(Kind::Different, a, rest)
     } else if let Some(rest) = bytes.strip_prefix(b" := ") {
-        read_second(ASSIGN, a, rest)
+        read_second(Kind::Assign, a, rest)
     } else if let Some(rest) = bytes.strip_prefix(b".next := ") {
-        read_second(STORE, a, rest)
+        read_second(Kind::Store, a, rest)
     } else {
         None
     }
@@ -117,10 +122,10 @@ fn read_operation(bytes: &[u8]) -> Option<Operation>
     ensures { result ≡ operation_of bytes.now }
 {
     if let Some(rest) = bytes.strip_prefix(b"new(") {
-        return read_enclosed(NEW, rest);
+        return read_enclosed(Kind::New, rest);
     }
     if let Some(rest) = bytes.strip_prefix(b"delete(") {
-        return read_enclosed(DELETE, rest);
+        return read_enclosed(Kind::Delete, rest);
     }
     let (a, rest) = read_operand(bytes)?;
     read_between(a, rest)
