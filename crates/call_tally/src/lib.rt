@@ -11,7 +11,7 @@ ghost use Rattle.tally.specs.Numbers.{numbers_after};
 
 use lending::lend;
 use sheet::report;
-use tally::{NUMBERS, take_in_numbers};
+use tally::{NUMBERS, Untaken, take_in_numbers};
 use telling::{tell, verdict_number};
 
 // Judges a pair and takes the verdict into the tally that the host lends.
@@ -29,17 +29,18 @@ pub extern "C" fn vorruda_tally_verdict(
     ensures accepted { result ≡ 0 → Acceptable job.now cert.now }
     ensures safe { result ≡ 0 → SafeBytes job.now }
 {
-    if tally.len() < NUMBERS {
-        lend(&[35, 0, 0, 0], out);
-        return 12;
-    }
     let judged = checker::check(job, cert);
-    if take_in_numbers(tally, judged) == 23 {
-        let number = verdict_number(judged);
-        lend(&[number as u64, 0, 0, 0], out);
-        return 23;
+    match take_in_numbers(tally, judged) {
+        Ok(()) => tell(judged, out),
+        Err(Untaken::TooFew) => {
+            lend(&[35, 0, 0, 0], out);
+            12
+        }
+        Err(Untaken::Full) => {
+            lend(&[verdict_number(judged) as u64, 0, 0, 0], out);
+            23
+        }
     }
-    tell(judged, out)
 }
 
 // Writes the release sheet of a tally.
@@ -53,7 +54,14 @@ pub extern "C" fn vorruda_tally_report(tally: &[u32], text: &mut [u8], out: &mut
         lend(&[35, 1], out);
         return 12;
     }
-    let reported = report(tally[0], tally[1], tally[3], text);
-    lend(&[reported.length as u64, 0], out);
-    reported.number
+    match report(tally[0], tally[1], tally[3], text) {
+        Ok(length) => {
+            lend(&[length as u64, 0], out);
+            0
+        }
+        Err(short) => {
+            lend(&[short.needed as u64, 0], out);
+            12
+        }
+    }
 }
