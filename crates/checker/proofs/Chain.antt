@@ -10,11 +10,10 @@ use Rattle.format.specs.Parser.{certificate_buffer}
 use Rattle.transitions.specs.Index.{next_into, Chained}
 use Rattle.checker.proofs.Into.{before, owed_from, FirstInto, none_into, some_into}
 use Rattle.reader.specs.declared.Header.{Header}
-use Rattle.verdict.specs.declared.Refusal.{Refusal}
+use Rattle.std.specs.Prelude.{Ok, Err}
+use Rattle.verdict.specs.declared.Refused.{Refused}
 use Rattle.checker.specs.Jobs.{transition_in, to_state, owed_by}
-use Rattle.checker.specs.Checking.{Within, covers_of, ChecksAll}
-use Rattle.checker.specs.declared.checked.Checked.{Checked}
-use Rattle.checker.specs.declared.checked.Checked.TheVariants.{Upto, Refused}
+use Rattle.checker.specs.Checking.{Within, Checked, covers_of, ChecksAll}
 use Rattle.checker.specs.declared.checked.Position.{Position}
 use Rattle.checker.proofs.Checking.{Progress, begin, advance, halt, finish}
 
@@ -40,7 +39,7 @@ module _ {job : List ℕ} {h : Header} {cert : List ℕ} {ms : List Located} {m 
       let all : h.transitions - 0 ≡ h.transitions = omega arith in
       record { passed = 0; inside = omega arith; named = rw all e; progress = rw all (begin w) }
 
-  pub chain_end : {k : ℕ} {t : Position} → Chain job h cert ms m from k t → k ≤ 0 → ChecksAll cert ms (owed_by job h m) from (Upto t)
+  pub chain_end : {k : ℕ} {t : Position} → Chain job h cert ms m from k t → k ≤ 0 → ChecksAll cert ms (owed_by job h m) from (Ok t)
   chain_end c e =
       let none = none_into (transition_in job h) m (h.transitions - c.passed) c.passed (sym c.named ∙ omega arith) in
       finish (rw none at c.progress)
@@ -68,10 +67,10 @@ module _ {job : List ℕ} {h : Header} {cert : List ℕ} {ms : List Located} {m 
         rw (map-append (read_cover (certificate_buffer cert) ms) here rest) at (rw same at (rw first.owes at c.progress))
 
     module _ {g : Checked} (taken : ChecksAll cert ms here t g) where
-      pub chain_halt : {r : Refusal} {place : ℕ} → g ≡ Refused r place → ChecksAll cert ms (owed_by job h m) from g
+      pub chain_halt : {r : Refused} → g ≡ Err r → ChecksAll cert ms (owed_by job h m) from (Err r)
       chain_halt e = halt (covers_of cert ms here) (covers_of cert ms rest) left taken e
 
-      pub chain_more : (index : List ℕ) → Chained (to_state job h) h.transitions 0 index → {u : Position} → g ≡ Upto u
+      pub chain_more : (index : List ℕ) → Chained (to_state job h) h.transitions 0 index → {u : Position} → g ≡ Ok u
           → Chain job h cert ms m from (get_or index (63 + k) 0) u
       chain_more index follows e =
           rw (← slot)

@@ -6,10 +6,9 @@ use native.Mathlib.Omega.{arith}
 use lib.ListN.{length}
 use Rattle.lists.specs.List.{sum}
 use Rattle.format.specs.Parser.{Parsed, parsed, fault, Parser, onward, each}
-use Rattle.verdict.specs.declared.Refusal.{Refusal}
-use Rattle.checker.specs.Checking.{Tally, one_more, take_all, tally_of, checked_of, Within, Takes}
-use Rattle.checker.specs.declared.checked.Checked.{Checked}
-use Rattle.checker.specs.declared.checked.Checked.TheVariants.{Upto, Refused}
+use Rattle.std.specs.Prelude.{Ok, Err}
+use Rattle.verdict.specs.declared.Refused.{Refused}
+use Rattle.checker.specs.Checking.{Tally, one_more, take_all, tally_of, Checked, checked_of, Within, Takes}
 use Rattle.checker.specs.declared.checked.Position.{Position}
 
 pub take_one : (p : Parser ℕ) (n : Tally) (at : ℕ) → take_all (p ∷ []) n at ≡ onward (p at) (λ links next. parsed (one_more n links) next)
@@ -88,7 +87,7 @@ module _ {cert : List ℕ} {all : List (Parser ℕ)} {from : Position} where
   pub begin : Within cert from → Progress cert all from all from
   begin w = record { within = w; left = refl }
 
-  pub finish : {t : Position} → Progress cert all from [] t → Takes cert all from (Upto t)
+  pub finish : {t : Position} → Progress cert all from [] t → Takes cert all from (Ok t)
   unfolding take_all
   finish p = (p.left, p.within)
 
@@ -97,8 +96,8 @@ module _ {cert : List ℕ} {all : List (Parser ℕ)} {from : Position} where
     after : (r : Parsed Tally) → r ≡ take_all ps (tally_of t) t.at → onward r (take_all rest) ≡ take_all all (tally_of from) from.at
     after r e = ap (λ q. onward q (take_all rest)) e ∙ sym (take_append ps rest (tally_of t) t.at) ∙ p.left
 
-    pub advance : {g : Checked} {u : Position} → Takes cert ps t g → g ≡ Upto u → Progress cert all from rest u
-    advance {u = u} (e, w) g_is = record { within = rw g_is at w; left = after (checked_of (Upto u)) (rw g_is at e) }
+    pub advance : {g : Checked} {u : Position} → Takes cert ps t g → g ≡ Ok u → Progress cert all from rest u
+    advance {u = u} (e, w) g_is = record { within = rw g_is at w; left = after (checked_of (Ok u)) (rw g_is at e) }
 
-    pub halt : {g : Checked} {r : Refusal} {place : ℕ} → Takes cert ps t g → g ≡ Refused r place → Takes cert all from g
-    halt {r = r} {place} (e, w) g_is = rw g_is (after (checked_of (Refused r place)) (rw g_is at e), tt)
+    pub halt : {g : Checked} {r : Refused} → Takes cert ps t g → g ≡ Err r → Takes cert all from (Err r)
+    halt {r = r} (e, w) g_is = (after (checked_of (Err r)) (rw g_is at e), tt)

@@ -10,9 +10,9 @@ use Rattle.undoing.specs.Rowed.{Rowed}
 use Rattle.factrows.specs.Rows.{rows_test}
 use Rattle.format.specs.Parser.{parsed, fault, certificate_buffer}
 use Rattle.verdict.specs.Verdict.{reason_of}
-use Rattle.verdict.specs.declared.Refusal.{Refusal}
+use Rattle.std.specs.Prelude.{Ok, Err}
+use Rattle.verdict.specs.declared.Refused.{Refused}
 use Rattle.checker.specs.Checking.{Tally, one_more, take_all, tally_of, checked_of, located, cover_rowed, Within, Checks}
-use Rattle.checker.specs.declared.checked.Checked.TheVariants.{Upto, Refused}
 use Rattle.checker.specs.declared.checked.Position.{Position}
 use Rattle.checker.proofs.CoverPlace.{cover_place}
 use Rattle.checker.proofs.Checking.{take_one}
@@ -46,7 +46,7 @@ module _ (cert : List ℕ) (ms : List Located) (state : ℕ) where
           let rest : further.counted % 4294967296 < 4294967296 = mod-lt further.counted (omega arith) in
           ap₂ (λ (c k : ℕ). record { covers = c; links = k }) (omega (arith, links_room)) (omega (arith, links_room))
 
-      pub one_taken : Checks cert ms state (o ∷ []) t (Upto further)
+      pub one_taken : Checks cert ms state (o ∷ []) t (Ok further)
       one_taken = (
         rw (take_one (cover_rowed cert ms state o) (tally_of t) t.at, ← e, parts) refl,
         record {
@@ -57,6 +57,6 @@ module _ (cert : List ℕ) (ms : List Located) (state : ℕ) where
         },
       )
 
-    pub one_refused : (r : Refusal) (place : ℕ) → fault (reason_of r) place ≡ cover_rowed cert ms state o t.at
-        → checked_of (Refused r place) ≡ take_all (cover_rowed cert ms state o ∷ []) (tally_of t) t.at
-    one_refused r place e = rw (take_one (cover_rowed cert ms state o) (tally_of t) t.at, ← e) refl
+    pub one_refused : (r : Refused) → fault (reason_of r.refusal) r.place ≡ cover_rowed cert ms state o t.at
+        → checked_of (Err r) ≡ take_all (cover_rowed cert ms state o ∷ []) (tally_of t) t.at
+    one_refused r e = rw (take_one (cover_rowed cert ms state o) (tally_of t) t.at, ← e) refl

@@ -10,12 +10,11 @@ use Rattle.lists.specs.Range.{range}
 use Rattle.run.specs.Run.{Located}
 use Rattle.undoing.specs.Rowed.{Rowed}
 use Rattle.format.specs.Parser.{Parser}
-use Rattle.verdict.specs.declared.Refusal.{Refusal}
+use Rattle.std.specs.Prelude.{Ok, Err}
+use Rattle.verdict.specs.declared.Refused.{Refused}
 use Rattle.placing.specs.declared.Choices.{Choices}
 use Rattle.placing.proofs.Ranges.{stretch, Covers}
-use Rattle.checker.specs.Checking.{Within, cover_rowed, covers_rowed, Checks}
-use Rattle.checker.specs.declared.checked.Checked.{Checked}
-use Rattle.checker.specs.declared.checked.Checked.TheVariants.{Upto, Refused}
+use Rattle.checker.specs.Checking.{Within, cover_rowed, covers_rowed, Checked, Checks}
 use Rattle.checker.specs.declared.checked.Position.{Position}
 use Rattle.checker.proofs.Lists.{range_next, range_end}
 use Rattle.checker.proofs.Checking.{Progress, begin, advance, halt, finish}
@@ -98,17 +97,17 @@ module _ {cert : List ℕ} {ms : List Located} {state : ℕ} {f : ℕ → List R
         }
 
     module _ (inside : k < c.to) {g : Checked} (taken : Checks cert ms state (f k) t g) where
-      pub loop_more : {u : Position} → g ≡ Upto u → ChoiceLoop cert ms state f c start past t₀ (k + c.step) u
+      pub loop_more : {u : Position} → g ≡ Ok u → ChoiceLoop cert ms state f c start past t₀ (k + c.step) u
       loop_more e =
           record {
             progress = rw (skipped h k inside (cover_rowed cert ms state) now.among) at (advance here (rest (cover_rowed cert ms state) f past (k + 1)) (next inside) taken e);
             among = still h k inside now.among (ℕ_discrete c.step 1);
           }
 
-      pub loop_stop : {r : Refusal} {place : ℕ} → g ≡ Refused r place → {all : List Rowed} → stretch f start past ≡ all → Checks cert ms state all t₀ g
+      pub loop_stop : {r : Refused} → g ≡ Err r → {all : List Rowed} → stretch f start past ≡ all → Checks cert ms state all t₀ (Err r)
       loop_stop e all-is = rw (← all-is) (halt here (rest (cover_rowed cert ms state) f past (k + 1)) (next inside) taken e)
 
-    pub loop_all : c.to ≤ k → {all : List Rowed} → stretch f start past ≡ all → Checks cert ms state all t₀ (Upto t)
+    pub loop_all : c.to ≤ k → {all : List Rowed} → stretch f start past ≡ all → Checks cert ms state all t₀ (Ok t)
     loop_all b all-is = rw (← all-is) (finish (rw (over ∙ end) at now.progress))
       where
         over : rest (cover_rowed cert ms state) f past k ≡ rest (cover_rowed cert ms state) f past (k + past)

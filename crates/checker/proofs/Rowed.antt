@@ -28,10 +28,9 @@ use Rattle.undoing.specs.Rowed.{Rowed, StandsFor, AllStandFor, rowed}
 use Rattle.undoing.specs.Undone.{is_undone, rows_undone}
 use Rattle.undoing.proofs.None.{has_none, closed_none, lowered_none}
 use Rattle.undoing.proofs.Rowed.{rows_among}
-use Rattle.checker.specs.Checking.{located, cover_rowed, covers_rowed, covers_of, take_all, Within, ChecksAll, Checks}
+use Rattle.checker.specs.Checking.{located, cover_rowed, covers_rowed, covers_of, take_all, Within, Checked, ChecksAll, Checks}
 use Rattle.undoing.specs.Before.{facts_before, valued_before, is_taken_out, is_before_rowed, rows_before, before_rowed, cases_rowed}
-use Rattle.checker.specs.declared.checked.Checked.{Checked}
-use Rattle.checker.specs.declared.checked.Checked.TheVariants.{Upto}
+use Rattle.std.specs.Prelude.{Ok}
 use Rattle.checker.specs.declared.checked.Position.{Position}
 use Rattle.checker.proofs.Checking.{Same, take_same}
 
@@ -138,6 +137,6 @@ module _ (variables kind a b : ℕ) (s rows : List ℕ) (u : Bool) (u-is : u ≡
       → valued_before variables kind a b s rows ≡ rowed l (shape_in variables s) ∷ []
   valued_one e l l_is = rw (← u-is, l_is, e) refl
 
-pub checks_none : (cert : List ℕ) (ms : List Located) (state : ℕ) (t : Position) → Within cert t → Checks cert ms state [] t (Upto t)
+pub checks_none : (cert : List ℕ) (ms : List Located) (state : ℕ) (t : Position) → Within cert t → Checks cert ms state [] t (Ok t)
 unfolding take_all
 checks_none cert ms state t w = (refl, w)

@@ -25,14 +25,13 @@ use Rattle.reader.specs.Job.{JobRead}
 use Rattle.reader.specs.Members.{Bounds, tested, read_tested}
 use Rattle.reader.specs.declared.Header.{Header}
 use Rattle.verdict.specs.Verdict.{reason_of, counts_told, verdict_of}
-use Rattle.verdict.specs.declared.Refusal.{Refusal}
+use Rattle.std.specs.Prelude.{Ok, Err}
+use Rattle.verdict.specs.declared.Refused.{Refused}
 use Rattle.verdict.specs.declared.Counts.{Counts as CountsAnswer}
 use Rattle.verdict.specs.declared.Verdict.{Verdict as Answer}
 use Rattle.verdict.specs.declared.Verdict.TheVariants.{Accepted}
 use Rattle.checker.specs.Jobs.{file_in, read_covers}
-use Rattle.checker.specs.Checking.{Tally, no_covers, take_all, tally_of, checked_of, covers_of}
-use Rattle.checker.specs.declared.checked.Checked.{Checked}
-use Rattle.checker.specs.declared.checked.Checked.TheVariants.{Upto, Refused}
+use Rattle.checker.specs.Checking.{Tally, no_covers, take_all, tally_of, Checked, checked_of, covers_of}
 use Rattle.checker.specs.declared.checked.Position.{Position}
 use Rattle.checker.proofs.Checking.{more, take_each}
 
@@ -49,10 +48,10 @@ module _ (cert : List ℕ) (j : Job) (ms : List Located) (at : ℕ) (g : Checked
   after links place = onward (end (certificate_buffer cert) place) (λ u next. parsed (counts_of j ms links) next)
 
   by_each : (r : Parsed (List ℕ)) → checked_of g ≡ onward r (λ ls next. parsed (more (owed j ms) no_covers ls) next)
-      → ((why : Refusal) (place : ℕ) → g ≡ Refused why place → onward r (λ ls. after (sum ls)) ≡ fault (reason_of why) place)
-      × ((t : Position) → g ≡ Upto t → ((tally_of t).covers ≡ length (owed j ms)) × (onward r (λ ls. after (sum ls)) ≡ after (tally_of t).links t.at))
+      → ((why : Refused) → g ≡ Err why → onward r (λ ls. after (sum ls)) ≡ fault (reason_of why.refusal) why.place)
+      × ((t : Position) → g ≡ Ok t → ((tally_of t).covers ≡ length (owed j ms)) × (onward r (λ ls. after (sum ls)) ≡ after (tally_of t).links t.at))
   by_each (parsed ls next) e = (
-    (λ why place g_is. let z : ◌≡◌ {A = ℕ} 0 1 = cc (ap checked_of g_is) in absurd (omega arith)),
+    (λ why g_is. let z : ◌≡◌ {A = ℕ} 0 1 = cc (ap checked_of g_is) in absurd (omega arith)),
     (λ t g_is.
         let f : ◌≡◌ {A = Parsed Tally} (parsed (tally_of t) t.at) (parsed (more (owed j ms) no_covers ls) next) = sym (ap checked_of g_is) ∙ e in
         let tally_is : tally_of t ≡ more (owed j ms) no_covers ls = cc in
@@ -62,21 +61,21 @@ module _ (cert : List ℕ) (j : Job) (ms : List Located) (at : ℕ) (g : Checked
         (covers-is ∙ omega arith, ap₂ after (sym links_is) (sym at_is))),
   )
   by_each (fault reason place) e = (
-    (λ why q g_is.
-        let f : ◌≡◌ {A = Parsed Tally} (fault (reason_of why) q) (fault reason place) = sym (ap checked_of g_is) ∙ e in
-        let reason_is : reason ≡ reason_of why = cc in
-        let place_is : place ≡ q = cc in
+    (λ why g_is.
+        let f : ◌≡◌ {A = Parsed Tally} (fault (reason_of why.refusal) why.place) (fault reason place) = sym (ap checked_of g_is) ∙ e in
+        let reason_is : reason ≡ reason_of why.refusal = cc in
+        let place_is : place ≡ why.place = cc in
         ap₂ fault reason_is place_is),
     (λ t g_is. let z : ◌≡◌ {A = ℕ} 0 1 = cc (ap checked_of g_is) in absurd (omega arith)),
   )
 
-  pub covers_refused : (why : Refusal) (place : ℕ) → g ≡ Refused why place → refused (reason_of why) place ≡ conclude (read_covers cert j ms at)
+  pub covers_refused : (why : Refused) → g ≡ Err why → refused (reason_of why.refusal) why.place ≡ conclude (read_covers cert j ms at)
   unfolding read_covers
-  covers_refused why place g_is =
+  covers_refused why g_is =
       let r = each (read_cover (certificate_buffer cert) ms) (owed j ms) at in
-      sym (ap conclude ((by_each r (taken ∙ take_each (read_cover (certificate_buffer cert) ms) (owed j ms) no_covers at)).0 why place g_is))
+      sym (ap conclude ((by_each r (taken ∙ take_each (read_cover (certificate_buffer cert) ms) (owed j ms) no_covers at)).0 why g_is))
 
-  module _ (t : Position) (g_is : g ≡ Upto t) where
+  module _ (t : Position) (g_is : g ≡ Ok t) where
     -- all covers were taken
     reached : ((tally_of t).covers ≡ length (owed j ms)) × (read_covers cert j ms at ≡ after (tally_of t).links t.at)
     unfolding read_covers

@@ -3,7 +3,7 @@
 
 ghost use Rattle.std.specs.Prelude.{List, ◌↔◌, ◌≡◌, ℕ, ◌≤◌, length, IfOk};
 ghost use Rattle.checker.specs.Jobs.{file_in, read_covers};
-ghost use Rattle.checker.specs.Pairs.{tested_if, pair_of, MembersKept, placed, places_after};
+ghost use Rattle.checker.specs.Pairs.{tested_if, outcome_of, pair_of, MembersKept, placed, places_after};
 ghost use Rattle.format.specs.Conditions.{Conditions, ConditionsAt};
 ghost use Rattle.format.specs.JobBytes.{SafeBytes};
 ghost use Rattle.format.specs.Parser.{certificate_buffer, within};
@@ -17,7 +17,7 @@ ghost use Rattle.verdict.specs.declared.Verdict.TheVariants.{Accepted};
 use crate::checked::COVER;
 use crate::owed::check_owed;
 use layout::version_of;
-use reader::{Header, JobAnswer, MembersAnswer, read_job, read_members};
+use reader::{Header, read_job, read_members};
 use verdict::{Counts, Refusal, Refused, Verdict};
 
 mod change;
@@ -47,24 +47,29 @@ fn fits(len: usize) -> bool
 }
 
 // Checks the covers and sees that nothing is left after them.
-fn check_covers(job: &[u8], h: Header, cert: &[u8], starts: &[u16], at: usize) -> Verdict
+fn check_covers(
+    job: &[u8],
+    h: Header,
+    cert: &[u8],
+    starts: &[u16],
+    at: usize,
+) -> Result<Counts, Refused>
     requires { (JobRead job.now h) × (Table cert.now h.variables starts.now) × (at ≤ length cert.now) × (length cert.now ≤ 65536) }
-    ensures { verdict_of result ≡ conclude (read_covers cert.now (file_in job.now h).job (members_at cert.now h.variables starts.now) at) }
+    ensures { outcome_of result ≡ conclude (read_covers cert.now (file_in job.now h).job (members_at cert.now h.variables starts.now) at) }
 {
-    match check_owed(job, h, cert, starts, at) {
-        Err(refused) => Verdict::Refused(refused.refusal, refused.place),
-        Ok(t) => {
-            if t.at < cert.len() {
-                return Verdict::Refused(Refusal::CertificateLeft, t.at);
-            }
-            Verdict::Accepted(Counts {
-                bads: h.bads as u32,
-                members: starts.len() as u32,
-                covers: (t.counted / COVER) as u32,
-                links: (t.counted % COVER) as u32,
-            })
-        }
+    let t = check_owed(job, h, cert, starts, at)?;
+    if t.at < cert.len() {
+        return Err(Refused {
+            refusal: Refusal::CertificateLeft,
+            place: t.at,
+        });
     }
+    Ok(Counts {
+        bads: h.bads as u32,
+        members: starts.len() as u32,
+        covers: (t.counted / COVER) as u32,
+        links: (t.counted % COVER) as u32,
+    })
 }
 
 // Checks a certificate for a job that was read; 8 is judged at the state `tested`. The places of its members go into a table.
@@ -74,21 +79,37 @@ fn check_certificate(
     tested: usize,
     cert: &[u8],
     starts: &mut [u16; 512],
-) -> Verdict
+) -> Result<Counts, Refused>
     requires { (JobRead job.now h) × (length cert.now ≤ 65536) }
-    ensures verdict { verdict_of result ≡ conclude (read_certificate tested (certificate_buffer cert.now) (file_in job.now h) 0) }
-    ensures kept { (c : CountsAnswer) → result ≡ Accepted c → MembersKept job.now cert.now h tested c.members starts.new }
+    ensures verdict { outcome_of result ≡ conclude (read_certificate tested (certificate_buffer cert.now) (file_in job.now h) 0) }
+    ensures kept { IfOk result (λ c. MembersKept job.now cert.now h tested c.members starts.new) }
     ensures starts { starts.new ≡ placed cert.now (file_in job.now h) starts.old }
 {
     let version = version_of(job);
-    let r = read_members(cert, version, h.variables, h.states, tested, starts);
-    match r {
-        MembersAnswer::Refused(why, place) => Verdict::Refused(why, place),
-        MembersAnswer::Members(members, at) => {
-            let all = &starts[..];
-            check_covers(job, h, cert, &all[..members], at)
-        }
+    let members = read_members(cert, version, h.variables, h.states, tested, starts)?;
+    let all = &starts[..];
+    check_covers(job, h, cert, &all[..members.count], members.end)
+}
+
+// The counts of a job and a certificate that are accepted.
+fn counts_of(job: &[u8], cert: &[u8]) -> Result<Counts, Refused>
+    ensures { outcome_of result ≡ verdict job.now cert.now }
+{
+    if !fits(job.len()) {
+        return Err(Refused {
+            refusal: Refusal::JobLength,
+            place: 0,
+        });
     }
+    if !fits(cert.len()) {
+        return Err(Refused {
+            refusal: Refusal::CertificateLength,
+            place: 0,
+        });
+    }
+    let h = read_job(job)?;
+    let mut starts = [0u16; 512];
+    check_certificate(job, h, h.start, cert, &mut starts)
 }
 
 // The verdict on a job and a certificate: accepted with these counts exactly if the conditions of document 01 hold with them. An accepted job is
@@ -98,19 +119,9 @@ pub fn check(job: &[u8], cert: &[u8]) -> Verdict
     ensures accepted { (c : CountsDue) → (verdict_of result ≡ accepted c) ↔ Conditions job.now cert.now c }
     ensures safe { (c : CountsAnswer) → result ≡ Accepted c → SafeBytes job.now }
 {
-    if !fits(job.len()) {
-        return Verdict::Refused(Refusal::JobLength, 0);
-    }
-    if !fits(cert.len()) {
-        return Verdict::Refused(Refusal::CertificateLength, 0);
-    }
-    let r = read_job(job);
-    match r {
-        JobAnswer::Refused(why, place) => Verdict::Refused(why, place),
-        JobAnswer::Job(h) => {
-            let mut starts = [0u16; 512];
-            check_certificate(job, h, h.start, cert, &mut starts)
-        }
+    match counts_of(job, cert) {
+        Ok(counts) => Verdict::Accepted(counts),
+        Err(refused) => Verdict::Refused(refused.refusal, refused.place),
     }
 }
 
@@ -122,17 +133,6 @@ fn tested_state(h: Header, judged: bool) -> usize
         return h.start;
     }
     h.states
-}
-
-// A verdict, with the job where it is accepted.
-fn with_job(v: Verdict, header: Header) -> Result<AcceptedPair, Refused>
-    ensures verdict { pair_of result ≡ verdict_of v }
-    ensures accepted { IfOk result (λ p. (v ≡ Accepted p.counts) × (p.header ≡ header)) }
-{
-    match v {
-        Verdict::Accepted(counts) => Ok(AcceptedPair { counts, header }),
-        Verdict::Refused(refusal, place) => Err(Refused { refusal, place }),
-    }
 }
 
 // The verdict with 8 judged or not, and what was read of an accepted pair: where each part of the job stands, and the places of the members.
@@ -159,12 +159,8 @@ pub fn check_pair(
             place: 0,
         });
     }
-    let r = read_job(job);
-    match r {
-        JobAnswer::Refused(refusal, place) => Err(Refused { refusal, place }),
-        JobAnswer::Job(h) => {
-            let tested = tested_state(h, judged);
-            with_job(check_certificate(job, h, tested, cert, starts), h)
-        }
-    }
+    let header = read_job(job)?;
+    let tested = tested_state(header, judged);
+    let counts = check_certificate(job, header, tested, cert, starts)?;
+    Ok(AcceptedPair { counts, header })
 }

@@ -184,7 +184,13 @@ pub(crate) fn check_owed(
     ensures { checked_of result ≡ take_all (covers_of cert.now (members_at cert.now h.variables starts.now) (owed (file_in job.now h).job (members_at cert.now h.variables starts.now))) no_covers at }
 {
     // neither is ever so: said for the compiler, so that tests of it in the loops go
-    if h.variables == 0 || 8 < h.variables {
+    if 8 < h.variables {
+        return Err(Refused {
+            refusal: Refusal::JobRange,
+            place: 0,
+        });
+    }
+    if h.variables == 0 {
         return Err(Refused {
             refusal: Refusal::JobRange,
             place: 0,

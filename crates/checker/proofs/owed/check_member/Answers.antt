@@ -31,15 +31,13 @@ use Rattle.checker.proofs.Rowed.{loaded_none, checks_none}
 use Rattle.checker.specs.Jobs.{transition_in, to_state}
 use Rattle.checker.proofs.Chain.{Chain, chain_begin, chain_end, chain_below, chain_halt, chain_more, chain_less}
 use borrow.Author.Tests.{le-leb}
+use Rattle.std.proofs.lemmas.Result.{err_from_is_err_and}
 use Rattle.checker.proofs.owed.check_member.Goals as goal
 use Rattle.checker.proofs.owed.check_member.Lts as lts
 use Rattle.checker.proofs.owed.check_member.Reads as reads
 use Rattle.checker.proofs.owed.check_member.Tie as tie
 
 -- ---- places in the code
-
-abbrev After-check_transition-g : Type 0
-After-check_transition-g = lts.After-check_transition tie.the-claims reads.Pre reads.Post goal.the-invariant-loop-k goal.the-decreases-loop-k tie.handed_clauses
 
 abbrev After-settle_facts : Type 0
 After-settle_facts = lts.After-settle_facts tie.the-claims reads.Pre reads.Post goal.the-invariant-loop-k goal.the-decreases-loop-k tie.handed_clauses
@@ -52,9 +50,6 @@ After-transition_named-by = lts.After-transition_named tie.the-claims reads.Pre 
 
 abbrev Else-not-settle_facts : Type 0
 Else-not-settle_facts = lts.Else2 tie.the-claims reads.Pre reads.Post goal.the-invariant-loop-k goal.the-decreases-loop-k tie.handed_clauses
-
-abbrev In-Upto : Type 0
-In-Upto = lts.Past-After-known_told tie.the-claims reads.Pre reads.Post goal.the-invariant-loop-k goal.the-decreases-loop-k tie.handed_clauses
 
 abbrev In-loop-k : Type 0
 In-loop-k = lts.In-loop tie.the-claims reads.Pre reads.Post goal.the-invariant-loop-k goal.the-decreases-loop-k tie.handed_clauses
@@ -125,13 +120,6 @@ there : (c : In-loop-k)
     TransitionIn a.job.now a.h.variables a.h.states (a.h.transitions_at + 5 * (c.loop-k.k - 1))
 there c = (first c).requires.0.transitions (c.loop-k.k - 1) (chain_below c.loop-k.invariant c.loop-k-test.true)
 
--- there are few names, so that a slot of the index fits
-few : (c : In-loop-k) → c.loop-k.k ≤ 256
-few c = named _ _ (chain_below c.loop-k.invariant c.loop-k-test.true) (first c).requires.0.transitions_number
-  where
-    named : (k count : ℕ) → k - 1 < count → count ≤ 256 → k ≤ 256
-    named k count b m = omega arith
-
 small : (n : ℕ) → n ≤ 640 → Fits w64 n
 small n h = record { fits = omega arith }
 
@@ -156,26 +144,6 @@ bytes c =
     let a = (first c.before).args in
     c.transition_named-by.ensures ∙ named_some a.job.now a.h.transitions_at l.loop-k.k c.loop-k-test.true
     ∙ bytes_all a.job.now (a.h.transitions_at + 5 * (l.loop-k.k - 1)) (le-leb _ _ (there c.before).inside)
-
--- where the loop's turn began, once its transition was checked
-abbrev turn : After-check_transition-g → In-loop-k
-turn c = c.before.before.before.before
-
--- the covers by the transition that k names
-taken : (c : After-check_transition-g)
-    → let l = (turn c).loop-k in
-    let s = first (turn c) in
-    ChecksAll s.args.cert.now (members s) (before (member s) (transition_in s.args.job.now s.args.h (l.k - 1))) l.t c.check_transition-g.result
-taken c =
-    let l = (turn c).before in
-    let o = l.before in
-    let e = o.before in
-    let s = first (turn c) in
-    let by = transition_in s.args.job.now s.args.h (l.loop-k.k - 1) in
-    subst (λ (ss : List Shape). ChecksAll s.args.cert.now (members s) (map (located by.from) ss) l.loop-k.t c.check_transition-g.result)
-    (sym (entry_before s.args.cert.now s.args.h.variables (place s) (entry_in s) s.requires.2.variables_most _ _ e.load_shape.ensures e.settle_facts.ensures.facts (consistent o) by.op))
-    (subst (λ (t : Transition). ChecksAll s.args.cert.now (members s) (map (located t.from) (predecessorsBefore (op_of (kind_of t.kind) t.a t.b) (closed o))) l.loop-k.t c.check_transition-g.result)
-    (bytes c.before.before.before) (c.check_transition-g.ensures (closed o) (settled o)))
 
 pub overflow_cast-at : goal.overflow_cast-at
 overflow_cast-at c = omega (arith, (entry_in c.before.before.before.before.before).inside)
@@ -216,8 +184,8 @@ returns-then-not-settle_facts c =
 pub loop-k-init : goal.loop-k-init
 loop-k-init c = linked (begun c.before.before)
 
-pub check_transition-g-requires : goal.check_transition-g-requires
-check_transition-g-requires c =
+pub check_transition-requires : goal.check_transition-requires
+check_transition-requires c =
     let i = c.before.before.before.before in
     let l = i.before in
     let e = l.before.before in
@@ -232,39 +200,75 @@ check_transition-g-requires c =
       (closed l.before, settled l.before),
     )
 
-pub returns-in_default : goal.returns-in_default
-returns-in_default c =
-    let o = c.before.before in
-    chain_halt (turn o).loop-k.invariant (turn o).loop-k-test.true (taken o) c.in_default.is
+pub returns-in_err-t : goal.returns-in_err-t
+returns-in_err-t c =
+    let a = c.args in
+    let first : ℕ = get_or a.starts.now a.m 0 in
+    let ms = members_from a.cert.now a.h.variables a.starts.now in
+    let m : Located = located_at a.cert.now a.h.variables first in
+    let entry = c.requires.2.entry a.m c.requires.3 in
+    let most = c.requires.2.variables_most in
+    let f = c.settle_facts in
+    let consistent : is_consistent f.new.facts ≡ true = rw f.ensures.facts (sym f.ensures.is ∙ c.if-not-settle_facts.false) in
+    let closed : Shape = whole a.cert.now a.h.variables first entry most _ _ c.load_shape.ensures f.ensures.facts in
+    let settled : Settled (rowed f.new.facts (shape_in a.h.variables c.load_shape.new.s)) closed =
+    entry_settled a.cert.now a.h.variables first entry most _ _ c.load_shape.ensures f.ensures.facts consistent in
+    let by = transition_in a.job.now a.h (c.loop-k.k - 1) in
+    let there = c.requires.0.transitions (c.loop-k.k - 1) (chain_below c.loop-k.invariant c.loop-k-test.true) in
+    let bytes : c.transition_named-by.result ≡ transition_from a.job.now (a.h.transitions_at + 5 * (c.loop-k.k - 1)) =
+    c.transition_named-by.ensures ∙ named_some a.job.now a.h.transitions_at c.loop-k.k c.loop-k-test.true
+    ∙ bytes_all a.job.now (a.h.transitions_at + 5 * (c.loop-k.k - 1)) (le-leb _ _ there.inside) in
+    let taken : ChecksAll a.cert.now ms (before m by) c.loop-k.t c.check_transition.result =
+    subst (λ (ss : List Shape). ChecksAll a.cert.now ms (map (located by.from) ss) c.loop-k.t c.check_transition.result)
+    (sym (entry_before a.cert.now a.h.variables first entry most _ _ c.load_shape.ensures f.ensures.facts consistent by.op))
+    (subst (λ (t : Transition). ChecksAll a.cert.now ms (map (located t.from) (predecessorsBefore (op_of (kind_of t.kind) t.a t.b) closed)) c.loop-k.t c.check_transition.result)
+    bytes (c.check_transition.ensures closed settled)) in
+    let p = err_from_is_err_and c.from_residual.result c.from_residual.ensures.1 in
+    rw (p.1, p.2) (chain_halt c.loop-k.invariant c.loop-k-test.true taken c.in_err-t.was)
 
--- once the position is told
-abbrev told : In-Upto → After-check_transition-g
-told c = c.before
+-- there are few names, so that a slot of the index fits
+few_names : (k count : ℕ) → k - 1 < count → count ≤ 256 → k ≤ 256
+few_names k count b m = omega arith
 
 pub overflow_cast-k-in-loop-k : goal.overflow_cast-k-in-loop-k
-overflow_cast-k-in-loop-k c = small _ (under _ (few (turn (told c.before))))
+overflow_cast-k-in-loop-k c = small _ (under _ (few_names _ _ (chain_below c.loop-k.invariant c.loop-k-test.true) c.requires.0.transitions_number))
 
 pub overflow_add-k : goal.overflow_add-k
-overflow_add-k c = small _ (slot _ (few (turn (told c.before))))
+overflow_add-k c = small _ (slot _ (few_names _ _ (chain_below c.loop-k.invariant c.loop-k-test.true) c.requires.0.transitions_number))
 
 pub offset_bounds-index-k : goal.offset_bounds-index-k
-offset_bounds-index-k c = small _ (twice _ (few (turn (told c.before))))
+offset_bounds-index-k c = small _ (twice _ (few_names _ _ (chain_below c.loop-k.invariant c.loop-k-test.true) c.requires.0.transitions_number))
 
 pub bounds-index-k : goal.bounds-index-k
-bounds-index-k c = inside _ (few (turn (told c.before.before)))
+bounds-index-k c = inside _ (few_names _ _ (chain_below c.loop-k.invariant c.loop-k-test.true) c.requires.0.transitions_number)
 
 pub loop-k-smaller : goal.loop-k-smaller
-loop-k-smaller c =
-    let i = turn (told c.before.before.before) in
-    let s = first i in
-    chain_less i.loop-k.invariant i.loop-k-test.true s.args.index.now s.requires.1.next
+loop-k-smaller c = chain_less c.loop-k.invariant c.loop-k-test.true c.args.index.now c.requires.1.next
 
 pub loop-k-preserved : goal.loop-k-preserved
 loop-k-preserved c =
-    let o = told c.before.before.before in
-    let i = turn o in
-    let s = first i in
-    chain_more i.loop-k.invariant i.loop-k-test.true (taken o) s.args.index.now s.requires.1.next c.in-Upto.is
+    let a = c.args in
+    let first : ℕ = get_or a.starts.now a.m 0 in
+    let ms = members_from a.cert.now a.h.variables a.starts.now in
+    let m : Located = located_at a.cert.now a.h.variables first in
+    let entry = c.requires.2.entry a.m c.requires.3 in
+    let most = c.requires.2.variables_most in
+    let f = c.settle_facts in
+    let consistent : is_consistent f.new.facts ≡ true = rw f.ensures.facts (sym f.ensures.is ∙ c.if-not-settle_facts.false) in
+    let closed : Shape = whole a.cert.now a.h.variables first entry most _ _ c.load_shape.ensures f.ensures.facts in
+    let settled : Settled (rowed f.new.facts (shape_in a.h.variables c.load_shape.new.s)) closed =
+    entry_settled a.cert.now a.h.variables first entry most _ _ c.load_shape.ensures f.ensures.facts consistent in
+    let by = transition_in a.job.now a.h (c.loop-k.k - 1) in
+    let there = c.requires.0.transitions (c.loop-k.k - 1) (chain_below c.loop-k.invariant c.loop-k-test.true) in
+    let bytes : c.transition_named-by.result ≡ transition_from a.job.now (a.h.transitions_at + 5 * (c.loop-k.k - 1)) =
+    c.transition_named-by.ensures ∙ named_some a.job.now a.h.transitions_at c.loop-k.k c.loop-k-test.true
+    ∙ bytes_all a.job.now (a.h.transitions_at + 5 * (c.loop-k.k - 1)) (le-leb _ _ there.inside) in
+    let taken : ChecksAll a.cert.now ms (before m by) c.loop-k.t c.check_transition.result =
+    subst (λ (ss : List Shape). ChecksAll a.cert.now ms (map (located by.from) ss) c.loop-k.t c.check_transition.result)
+    (sym (entry_before a.cert.now a.h.variables first entry most _ _ c.load_shape.ensures f.ensures.facts consistent by.op))
+    (subst (λ (t : Transition). ChecksAll a.cert.now ms (map (located t.from) (predecessorsBefore (op_of (kind_of t.kind) t.a t.b) closed)) c.loop-k.t c.check_transition.result)
+    bytes (c.check_transition.ensures closed settled)) in
+    chain_more c.loop-k.invariant c.loop-k-test.true taken c.args.index.now c.requires.1.next c.in_ok-t.was
 
 pub returns : goal.returns
 returns c = chain_end c.loop-k.invariant c.loop-k-test.false

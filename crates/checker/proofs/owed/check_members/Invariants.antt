@@ -1,6 +1,5 @@
 -- The loop: the covers of the members before the m-th are checked.
-use Prim.Native.Nat.{◌-◌}
-use lib.ListN.{length, drop}
+use lib.ListN.{drop}
 use Rattle.lists.specs.List.{concat_map}
 use Rattle.layout.specs.Entries.{members_at}
 use Rattle.layout.specs.Members.{members_from}
@@ -13,6 +12,3 @@ abbrev pub invariant-loop-m : goal.invariant-loop-m
 invariant-loop-m l =
     Progress l.cert (covers_of l.cert (members_from l.cert l.h.variables l.starts) (concat_map (owed_by l.job l.h) (members_at l.cert l.h.variables l.starts))) l.initial.t
     (covers_of l.cert (members_from l.cert l.h.variables l.starts) (concat_map (owed_by l.job l.h) (members_at l.cert l.h.variables (drop l.m l.starts)))) l.t
-
-abbrev pub decreases-loop-m : goal.decreases-loop-m
-decreases-loop-m l = length l.starts - l.m
