@@ -1,10 +1,7 @@
 -- The loop reads the images in turn: those before i are in the array (`Reading`).
 use Rattle.std.proofs.Common.{◌≡◌, ℕ, sym, arith}
-use Rattle.coverreader.proofs.ReadImages.{reading_none, reading_all, reading_unreadable, reading_outside, reading_more}
+use Rattle.coverreader.proofs.ReadImages.{reading_all, reading_unreadable, reading_outside, reading_more}
 use Rattle.coverreader.proofs.read_images.Goals as goal
-
-pub loop-i-init : goal.loop-i-init
-loop-i-init c = reading_none _ _ _ _ _ c.requires.0
 
 pub returns-in_default : goal.returns-in_default
 returns-in_default c =
