@@ -421,7 +421,12 @@ impl Heap64 {
                 outcome: Outcome::Refused(StepRefusal::IllFormed),
             };
         }
-        let kind = kinds::named(self.variables as usize, kind as usize, a as usize, b as usize);
+        let kind = kinds::named(
+            self.variables as usize,
+            kind as usize,
+            a as usize,
+            b as usize,
+        );
         let outcome = self.perform_named(kind, a as usize, b as usize, value);
         Stepped {
             heap: self,
