@@ -7,7 +7,7 @@ use native.Mathlib.Numerals.{add-one}
 use native.Mathlib.Omega.{arith}
 use borrow.Author.Tests.{le-ltb, ne_eqb}
 use lib.Dec.{eqb, ltb}
-use lib.ListN.{length, get_or}
+use lib.ListN.{get_or}
 use Rattle.heap.specs.Place.{nowhere, cell}
 use Rattle.heap.proofs.Codes.{by_code}
 use Rattle.lists.specs.Test.{all_from}

@@ -76,9 +76,6 @@ perform_named t value (some o) = perform t value o
 abbrev pub Performs : Heap64 → Op → Stepped → Type 0
 Performs t o r = (value : ℕ) → r ≡ perform t value o
 
-abbrev pub PerformsNamed : Heap64 → Option Op → Stepped → Type 0
-PerformsNamed t o r = (value : ℕ) → r ≡ perform_named t value o
-
 -- "The stepper tries 13, then 14, then 15."
 unfoldable pub step_of : Heap64 → ℕ → ℕ → ℕ → ℕ → Stepped
 step_of t kind a b value =

@@ -16,7 +16,7 @@ use kinds::Kind;
 use place::{FIRST_CELL, Place};
 
 // A heap of up to 64 cells: how many variables there are, where each stands, which cells are used, where their links stand, and the codes of
-// their values: 0 for none, v + 1 for the value v.
+// their values: 0 for none, v + 1 for the value v. The arrays lie side by side, as `table_of` and the host's buffers have them.
 #[derive(Clone, Copy)]
 pub struct Heap64 {
     pub variables: u8,
@@ -42,7 +42,7 @@ pub enum Outcome {
     Refused(StepRefusal),
 }
 
-// The heap after a step: the heap before it, unless the outcome is moved.
+// The heap after a step: the heap before it, unless the outcome is moved. It is no Result: a step that is blocked or refused hands back its heap too.
 #[derive(Clone, Copy)]
 pub struct Stepped {
     pub heap: Heap64,
@@ -95,7 +95,8 @@ fn most_code(used: bool) -> u32
     if used { 65536 } else { 0 }
 }
 
-// Whether codes of values are those of two equal values, or the first that of a value below the second's.
+// Whether codes of values are those of two equal values, or the first that of a value below the second's. `equal`, and `larger` below, are as the definitions
+// `codes_meet` and `codes_differ` take them.
 fn codes_meet(equal: bool, v: u32, w: u32) -> bool
     ensures { result ≡ codes_meet equal v w }
 {
@@ -125,7 +126,8 @@ fn dangle(places: &mut [Place], at: Place)
 }
 
 impl Heap64 {
-    // Whether the slots of variables are right: nowhere just where there is no variable, and at used cells.
+    // Whether the slots of variables are right: nowhere just where there is no variable, and at used cells. The first is tested of all of them, here and
+    // in the next two: a loop that isn't left early compares several at once.
     fn slots_fit(&self) -> bool
         ensures { result ≡ all_from 8 0 (slot_fits self.now) }
     {

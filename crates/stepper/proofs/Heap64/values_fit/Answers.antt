@@ -1,8 +1,6 @@
 -- The loop: whether the codes so far fit, with what is left to test, decides.
-use mathlib.Core.Bool.{◌&&◌, and-true}
-use mathlib.Core.Path.{sym, ap, ◌∙◌}
+use mathlib.Core.Path.{◌∙◌}
 use native.Mathlib.Omega.{arith}
-use Rattle.lists.proofs.Test.{all_done}
 use Rattle.stepper.specs.Table.{value_fits}
 use Rattle.stepper.proofs.Fits.{one_tested, all_tested}
 use Rattle.stepper.proofs.Heap64.values_fit.Goals as goal
