@@ -31,6 +31,7 @@ fn line_length(rest: &[u8]) -> Option<usize>
 }
 
 // The line at a place in the text, without the byte 10 that ends it; none where no byte 10 follows.
+#[tactic(auto, using(crate::proofs::Cutting::cut_last, crate::proofs::Cutting::cut_line))]
 fn line_at(text: &[u8], at: usize) -> Option<&[u8]>
     requires { at ≤ length text.now }
     ensures { MatchOption result (lines_of (drop at text.now) ≡ last_line (drop at text.now)) (λ line. (at + length line.now < length text.now) × (lines_of (drop at text.now) ≡ line_of line.now ∷ lines_of (drop (at + length line.now + 1) text.now))) }

@@ -51,6 +51,7 @@ fn number_operand(letters: &mut [u8; 8], met: usize, operand: u8) -> Option<Met>
 }
 
 // Numbers the operands of an operation, unless there are more than 8 names then.
+#[tactic(auto, using(crate::proofs::Naming::numbers_both))]
 pub(crate) fn number_operation(
     letters: &mut [u8; 8],
     met: usize,

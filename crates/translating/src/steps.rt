@@ -35,6 +35,7 @@ impl Progress {
 }
 
 // What the reading keeps: the transitions' bytes behind five for the numbers ahead of them; the names' letters; the marks' states.
+// There is no heap: each array has the most room that the limits allow, and `Progress` says how much of it counts.
 #[derive(Drop)]
 pub struct Work {
     pub job: [u8; 635],
