@@ -25,11 +25,9 @@ use Rattle.reader.specs.Job.{JobRead}
 use Rattle.reader.specs.Members.{Bounds, tested, read_tested}
 use Rattle.reader.specs.declared.Header.{Header}
 use Rattle.verdict.specs.Verdict.{reason_of, counts_told, verdict_of}
-use Rattle.std.specs.Prelude.{Ok, Err}
+use Rattle.std.specs.Prelude.{Result, Ok, Err}
 use Rattle.verdict.specs.declared.Refused.{Refused}
 use Rattle.verdict.specs.declared.Counts.{Counts as CountsAnswer}
-use Rattle.verdict.specs.declared.Verdict.{Verdict as Answer}
-use Rattle.verdict.specs.declared.Verdict.TheVariants.{Accepted}
 use Rattle.checker.specs.Jobs.{file_in, read_covers}
 use Rattle.checker.specs.Checking.{Tally, no_covers, take_all, tally_of, Checked, checked_of, covers_of}
 use Rattle.checker.specs.declared.checked.Position.{Position}
@@ -176,9 +174,9 @@ module _ (tested : JobFile → ℕ) (job cert : List ℕ) where
 
 -- what `check` promises of the verdict: which it is, when it accepts, and that an accepted job is safe
 module _ (job cert : List ℕ) where
-  pub promised : (r : Answer) → verdict_of r ≡ verdict job cert
+  pub promised : (r : Result CountsAnswer Refused) → verdict_of r ≡ verdict job cert
       → (verdict_of r ≡ verdict job cert)
-      × (((c : Counts) → (verdict_of r ≡ accepted c) ↔ Conditions job cert c) × ((c : CountsAnswer) → r ≡ Accepted c → SafeBytes job))
+      × (((c : Counts) → (verdict_of r ≡ accepted c) ↔ Conditions job cert c) × ((c : CountsAnswer) → r ≡ Ok c → SafeBytes job))
   promised r e = (
     e,
     (

@@ -8,7 +8,6 @@ use Rattle.layout.specs.Entries.{version_of}
 use Rattle.reader.specs.Members.{member_places, with_places, MembersRead}
 use Rattle.reader.specs.declared.Header.{Header}
 use Rattle.verdict.specs.Verdict.{reason_of, counts_told}
-use Rattle.verdict.specs.declared.Counts.{Counts as CountsAnswer}
 use Rattle.verdict.specs.declared.Refused.{Refused}
 use Rattle.checker.specs.declared.AcceptedPair.{AcceptedPair}
 
@@ -17,11 +16,7 @@ abbrev pub tested_if : Bool → JobFile → ℕ
 tested_if true = start_of
 tested_if false = no_state
 
--- the verdict of the definitions that counts or a refusal are, and an accepted pair
-abbrev pub outcome_of : Result CountsAnswer Refused → Verdict
-outcome_of (Ok c) = accepted (counts_told c)
-outcome_of (Err r) = refused (reason_of r.refusal) r.place
-
+-- the verdict of the definitions that an accepted pair or a refusal is
 abbrev pub pair_of : Result AcceptedPair Refused → Verdict
 pair_of (Ok p) = accepted (counts_told p.counts)
 pair_of (Err r) = refused (reason_of r.refusal) r.place

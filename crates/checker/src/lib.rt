@@ -1,9 +1,9 @@
 // The checker: one verdict for the bytes of a job and of a certificate.
 #![tactic(auto)]
 
-ghost use Rattle.std.specs.Prelude.{List, ◌↔◌, ◌≡◌, ℕ, ◌≤◌, length, IfOk};
+ghost use Rattle.std.specs.Prelude.{List, Ok, ◌↔◌, ◌≡◌, ℕ, ◌≤◌, length, IfOk};
 ghost use Rattle.checker.specs.Jobs.{file_in, read_covers};
-ghost use Rattle.checker.specs.Pairs.{tested_if, outcome_of, pair_of, MembersKept, placed, places_after};
+ghost use Rattle.checker.specs.Pairs.{tested_if, pair_of, MembersKept, placed, places_after};
 ghost use Rattle.format.specs.Conditions.{Conditions, ConditionsAt};
 ghost use Rattle.format.specs.JobBytes.{SafeBytes};
 ghost use Rattle.format.specs.Parser.{certificate_buffer, within};
@@ -12,7 +12,6 @@ ghost use Rattle.layout.specs.Entries.{members_at, Table};
 ghost use Rattle.reader.specs.Job.{JobRead};
 ghost use Rattle.verdict.specs.Verdict.{verdict_of};
 ghost use Rattle.verdict.specs.declared.Counts.{Counts as CountsAnswer};
-ghost use Rattle.verdict.specs.declared.Verdict.TheVariants.{Accepted};
 
 use crate::checked::COVER;
 use crate::owed::check_owed;
@@ -53,9 +52,9 @@ fn check_covers(
     cert: &[u8],
     starts: &[u16],
     at: usize,
-) -> Result<Counts, Refused>
+) -> Verdict
     requires { (JobRead job.now h) × (Table cert.now h.variables starts.now) × (at ≤ length cert.now) × (length cert.now ≤ 65536) }
-    ensures { outcome_of result ≡ conclude (read_covers cert.now (file_in job.now h).job (members_at cert.now h.variables starts.now) at) }
+    ensures { verdict_of result ≡ conclude (read_covers cert.now (file_in job.now h).job (members_at cert.now h.variables starts.now) at) }
 {
     let t = check_owed(job, h, cert, starts, at)?;
     if t.at < cert.len() {
@@ -79,9 +78,9 @@ fn check_certificate(
     tested: usize,
     cert: &[u8],
     starts: &mut [u16; 512],
-) -> Result<Counts, Refused>
+) -> Verdict
     requires { (JobRead job.now h) × (length cert.now ≤ 65536) }
-    ensures verdict { outcome_of result ≡ conclude (read_certificate tested (certificate_buffer cert.now) (file_in job.now h) 0) }
+    ensures verdict { verdict_of result ≡ conclude (read_certificate tested (certificate_buffer cert.now) (file_in job.now h) 0) }
     ensures kept { IfOk result (λ c. MembersKept job.now cert.now h tested c.members starts.new) }
     ensures starts { starts.new ≡ placed cert.now (file_in job.now h) starts.old }
 {
@@ -91,9 +90,12 @@ fn check_certificate(
     check_covers(job, h, cert, &all[..members.count], members.end)
 }
 
-// The counts of a job and a certificate that are accepted.
-fn counts_of(job: &[u8], cert: &[u8]) -> Result<Counts, Refused>
-    ensures { outcome_of result ≡ verdict job.now cert.now }
+// The verdict on a job and a certificate: accepted with these counts exactly if the conditions of document 01 hold with them. An accepted job is
+// safe.
+pub fn check(job: &[u8], cert: &[u8]) -> Verdict
+    ensures exact { verdict_of result ≡ verdict job.now cert.now }
+    ensures accepted { (c : CountsDue) → (verdict_of result ≡ accepted c) ↔ Conditions job.now cert.now c }
+    ensures safe { (c : CountsAnswer) → result ≡ Ok c → SafeBytes job.now }
 {
     if !fits(job.len()) {
         return Err(Refused {
@@ -110,19 +112,6 @@ fn counts_of(job: &[u8], cert: &[u8]) -> Result<Counts, Refused>
     let h = read_job(job)?;
     let mut starts = [0u16; 512];
     check_certificate(job, h, h.start, cert, &mut starts)
-}
-
-// The verdict on a job and a certificate: accepted with these counts exactly if the conditions of document 01 hold with them. An accepted job is
-// safe.
-pub fn check(job: &[u8], cert: &[u8]) -> Verdict
-    ensures exact { verdict_of result ≡ verdict job.now cert.now }
-    ensures accepted { (c : CountsDue) → (verdict_of result ≡ accepted c) ↔ Conditions job.now cert.now c }
-    ensures safe { (c : CountsAnswer) → result ≡ Accepted c → SafeBytes job.now }
-{
-    match counts_of(job, cert) {
-        Ok(counts) => Verdict::Accepted(counts),
-        Err(refused) => Verdict::Refused(refused.refusal, refused.place),
-    }
 }
 
 // The state at which 8 is judged: the start, or the first number that is no state, where no member is.

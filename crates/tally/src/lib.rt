@@ -53,7 +53,7 @@ impl Tally {
     {
         let verdicts = self.verdicts.checked_add(1)?;
         match v {
-            Verdict::Accepted(counts) => {
+            Ok(counts) => {
                 let accepted = self.accepted.checked_add(1)?;
                 let members = self.members.checked_add(counts.members)?;
                 let covers = self.covers.checked_add(counts.covers)?;
@@ -65,9 +65,9 @@ impl Tally {
                     ..self
                 })
             }
-            Verdict::Refused(refusal, _) => {
+            Err(r) => {
                 let mut refusals = self.refusals;
-                let at = (refusal_number(refusal) - 1) as usize;
+                let at = (refusal_number(r.refusal) - 1) as usize;
                 refusals[at] = refusals[at].checked_add(1)?;
                 Some(Tally {
                     verdicts,

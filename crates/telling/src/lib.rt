@@ -1,7 +1,7 @@
 // What is told of a verdict: to a host, its number and four values; to a person, its line.
 #![tactic(auto)]
 
-ghost use Rattle.std.specs.Prelude.{◌++◌, ◌≡◌, ◌+◌, ◌≤◌, length};
+ghost use Rattle.std.specs.Prelude.{◌++◌, ◌≡◌, ◌+◌, ◌≤◌, length, Ok, Err};
 ghost use Rattle.number.specs.CallResult.{lent};
 ghost use Rattle.putting.specs.Digits.{digits};
 ghost use Rattle.putting.specs.Put.{Put};
@@ -10,15 +10,15 @@ ghost use Rattle.telling.specs.Line.{verdict_line};
 
 use lending::lend;
 use putting::{put_all, put_number};
-use verdict::{Counts, Refusal, Verdict};
+use verdict::{Counts, Refused, Verdict};
 
 // The verdict's number, 0 for accepted.
 pub fn verdict_number(v: Verdict) -> u32
     ensures { result ≡ (verdict_result (verdict_of v)).code }
 {
     match v {
-        Verdict::Accepted(_) => 0,
-        Verdict::Refused(refusal, _) => verdict::refusal_number(refusal),
+        Ok(_) => 0,
+        Err(r) => verdict::refusal_number(r.refusal),
     }
 }
 
@@ -27,16 +27,16 @@ fn values_of(v: Verdict) -> [u64; 4]
     ensures { result ≡ (verdict_result (verdict_of v)).values }
 {
     match v {
-        Verdict::Accepted(counts) => [
+        Ok(counts) => [
             counts.bads as u64,
             counts.members as u64,
             counts.covers as u64,
             counts.links as u64,
         ],
-        Verdict::Refused(refusal, place) => [
-            place as u64,
-            verdict::rule_number(refusal) as u64,
-            verdict::rule_name(refusal) as u64,
+        Err(r) => [
+            r.place as u64,
+            verdict::rule_number(r.refusal) as u64,
+            verdict::rule_name(r.refusal) as u64,
             0,
         ],
     }
@@ -65,7 +65,7 @@ fn put_worded(line: &mut [u8], at: usize, words: &[u8], n: u64) -> usize
 fn put_counts(counts: Counts, line: &mut [u8]) -> usize
     requires { 128 ≤ length line.old }
     ensures length { result ≤ 128 }
-    ensures put { Put 0 line.old (verdict_line (verdict_of (Verdict.Accepted counts))) result line.new }
+    ensures put { Put 0 line.old (verdict_line (verdict_of (Ok counts))) result line.new }
 {
     let bads = put_worded(line, 0, b"accepted bads ", counts.bads as u64);
     let members = put_worded(line, bads, b" members ", counts.members as u64);
@@ -74,24 +74,24 @@ fn put_counts(counts: Counts, line: &mut [u8]) -> usize
 }
 
 // Puts the line of a refusal, and gives its length.
-fn put_refusal(refusal: Refusal, place: usize, line: &mut [u8]) -> usize
+fn put_refusal(r: Refused, line: &mut [u8]) -> usize
     requires { 128 ≤ length line.old }
     ensures length { result ≤ 128 }
-    ensures put { Put 0 line.old (verdict_line (verdict_of (Verdict.Refused refusal place))) result line.new }
+    ensures put { Put 0 line.old (verdict_line (verdict_of (Err r))) result line.new }
 {
     let number = put_worded(
         line,
         0,
         b"refused ",
-        verdict::refusal_number(refusal) as u64,
+        verdict::refusal_number(r.refusal) as u64,
     );
-    let at = put_worded(line, number, b" at ", place as u64);
-    let rule = verdict::rule_number(refusal);
+    let at = put_worded(line, number, b" at ", r.place as u64);
+    let rule = verdict::rule_number(r.refusal);
     if rule == 0 {
         return at;
     }
     let named = put_worded(line, at, b" rule ", rule as u64);
-    put_worded(line, named, b" of ", verdict::rule_name(refusal) as u64)
+    put_worded(line, named, b" of ", verdict::rule_name(r.refusal) as u64)
 }
 
 // Puts the verdict's line, without a line end, and gives its length.
@@ -100,7 +100,7 @@ pub fn put_line(v: Verdict, line: &mut [u8; 128]) -> usize
     ensures put { Put 0 line.old (verdict_line (verdict_of v)) result line.new }
 {
     match v {
-        Verdict::Accepted(counts) => put_counts(counts, line),
-        Verdict::Refused(refusal, place) => put_refusal(refusal, place, line),
+        Ok(counts) => put_counts(counts, line),
+        Err(r) => put_refusal(r, line),
     }
 }

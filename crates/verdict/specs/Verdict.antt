@@ -7,8 +7,6 @@ use Rattle.verdict.specs.declared.Counts.{Counts as CountsAnswer}
 use Rattle.verdict.specs.declared.Refused.{Refused as RefusedAt}
 use Rattle.verdict.specs.declared.Refusal.{Refusal}
 use Rattle.verdict.specs.declared.Refusal.TheVariants.{JobLength, CertificateLength, JobUnreadable, JobRange, JobLeft, CertificateUnreadable, CertificateRange, StartSatisfied, CoverFails, CertificateLeft, VersionsDiffer}
-use Rattle.verdict.specs.declared.Verdict.{Verdict as Answer}
-use Rattle.verdict.specs.declared.Verdict.TheVariants.{Accepted, Refused}
 
 -- document 01, "Refusals, in checking order"
 abbrev pub reason_of : Refusal → Reason
@@ -38,9 +36,9 @@ abbrev pub counts_told : CountsAnswer → Counts
 counts_told c = record { bads = c.bads; members = c.members; covers = c.covers; links = c.links }
 
 -- the verdict of the definitions that an answer of the code is
-abbrev pub verdict_of : Answer → Verdict
-verdict_of (Accepted c) = accepted (counts_told c)
-verdict_of (Refused r place) = refused (reason_of r) place
+abbrev pub verdict_of : Result CountsAnswer RefusedAt → Verdict
+verdict_of (Ok c) = accepted (counts_told c)
+verdict_of (Err r) = refused (reason_of r.refusal) r.place
 
 -- what a place reached, or a refusal, is as the answer of a parser
 abbrev pub reached_of : Result ℕ RefusedAt → Parsed (Unit {0})

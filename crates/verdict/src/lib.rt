@@ -50,19 +50,15 @@ pub struct Counts {
     pub links: u32,
 }
 
-// Accepted with the counts, or a refusal with its place.
-#[derive(Clone, Copy)]
-pub enum Verdict {
-    Accepted(Counts),
-    Refused(Refusal, usize),
-}
-
 // A refusal and its place.
 #[derive(Clone, Copy)]
 pub struct Refused {
     pub refusal: Refusal,
     pub place: usize,
 }
+
+// The counts of a pair that is accepted, or why and where it is refused.
+pub type Verdict = Result<Counts, Refused>;
 
 // Document 01's number of a refusal.
 pub fn refusal_number(refusal: Refusal) -> u32

@@ -12,13 +12,13 @@ use Rattle.verdict.specs.declared.Counts.{Counts}
 use Rattle.verdict.specs.declared.Refused.{Refused}
 use Rattle.verdict.specs.Verdict.{counts_told}
 use Rattle.checker.specs.Jobs.{file_in, read_covers}
-use Rattle.checker.specs.Pairs.{outcome_of}
+use Rattle.verdict.specs.Verdict.{verdict_of}
 use Rattle.checker.proofs.Pairs.{members_kept}
 use Rattle.checker.proofs.Verdicts.{bounds, certificate_refused, certificate_members}
 use Rattle.checker.proofs.check_certificate.Goals as goal
 
 -- what follows of counts, where there are some
-of_counts : (r : Result Counts Refused) (v : Verdict) (P : Counts → Type 0) → outcome_of r ≡ v → ((k : Counts) → outcome_of (Ok k) ≡ v → P k) → IfOk r P
+of_counts : (r : Result Counts Refused) (v : Verdict) (P : Counts → Type 0) → verdict_of r ≡ v → ((k : Counts) → verdict_of (Ok k) ≡ v → P k) → IfOk r P
 of_counts (Ok k) v P e f = f k e
 of_counts (Err r) v P e f = tt
 
