@@ -3,9 +3,10 @@ use mathlib.Core.List.{List, ◌++◌}
 use mathlib.Core.Path.{◌≡◌, sym, ap, ◌∙◌}
 use Prim.Native.Nat.{ℕ, ◌+◌, ◌-◌, ◌≤◌, ◌<◌}
 use native.Mathlib.Decide.{dec_lt}
+use native.Mathlib.Numerals.{add-one}
 use native.Mathlib.Omega.{arith}
-use lib.ListN.{length, get_or, take, drop, length-drop, get_or-append}
-use lib.Seq.{length-take-le, take-append-le, take-take, get_or-append-add, get_or-take, get_or-drop, ext_get_or, paste, length_paste_head, length-paste}
+use lib.ListN.{length, get_or, take, drop, set, length-drop, get_or-append}
+use lib.Seq.{length-take-le, take-append-le, take-take, get_or-append-add, get_or-take, get_or-drop, ext_get_or, paste, paste-suc, length_paste_head, length-paste}
 
 module _ (d : List ℕ) (at : ℕ) (s : List ℕ) (n : ℕ) (room : at + n ≤ length d) (enough : n ≤ length s) where
   abbrev front : List ℕ
@@ -40,6 +41,12 @@ module _ (d : List ℕ) (at : ℕ) (s : List ℕ) (n : ℕ) (room : at + n ≤ l
       ∙ get_or-append-add front (drop (at + n) d) k 0
       ∙ get_or-drop (at + n) d k 0
       ∙ ap (λ (j : ℕ). get_or d j 0) f
+
+-- i bytes from a place on are copied, and then one more
+pub copy_more : (d : List ℕ) (at : ℕ) (bytes : List ℕ) (first : ℕ) (l : List ℕ) (i : ℕ) → l ≡ paste d at (drop first bytes) i → at + i < length d → first + i < length bytes
+    → set l (at + i) (get_or bytes (first + i) 0) ≡ paste d at (drop first bytes) (i + 1)
+copy_more d at bytes first l i e room enough =
+    rw (e, ← get_or-drop first bytes i 0, add-one i) (paste-suc d at (drop first bytes) i 0 room (omega (arith, length-drop first bytes)))
 
 -- copied to the front of a list, and from there
 pub copy_through : (d : List ℕ) (at : ℕ) (z s : List ℕ) (n : ℕ) → n ≤ length s → paste d at (drop 0 (paste z 0 s n)) n ≡ paste d at s n

@@ -1,40 +1,15 @@
--- The loop that copies bytes, and the moves that load the codes of an entry.
+-- The moves that load the codes of an entry.
 use mathlib.Core.Bool.{true, false}
 use mathlib.Core.List.{List}
 use mathlib.Core.Path.{◌≡◌, refl, sym, ap, ◌∙◌}
-use Prim.Native.Nat.{ℕ, ◌+◌, ◌-◌, ◌≤◌, ◌<◌}
-use native.Mathlib.Numerals.{add-one}
+use Prim.Native.Nat.{ℕ, ◌+◌, ◌-◌, ◌≤◌}
 use native.Mathlib.Omega.{arith}
 use lib.Dec.{leb}
-use lib.ListN.{length, get_or, drop, set, length-set, length-drop}
-use lib.Seq.{get_or-drop, drop-drop, length-paste, paste, paste-zero, paste-suc}
+use lib.ListN.{length, drop, length-drop}
+use lib.Seq.{drop-drop, length-paste, paste}
 use Rattle.lists.proofs.Reflect.{Reflect, r_and, r_le, is_false, same_test, passes}
 use Rattle.layout.specs.Loading.{most_inside, loaded_codes}
 use Rattle.layout.proofs.Copies.{copy_joined}
-
--- i of so many bytes from a place on have been copied to d, from another place on
-pub record Copying (d : List ℕ) (at : ℕ) (bytes : List ℕ) (first count : ℕ) (l : List ℕ) (i : ℕ) : Type 0 where
-  pub inside : i ≤ count
-  pub same : length l ≡ length d
-  pub copied : l ≡ paste d at (drop first bytes) i
-
-pub copy_none : (d : List ℕ) (at : ℕ) (bytes : List ℕ) (first count : ℕ) → Copying d at bytes first count d 0
-copy_none d at bytes first count = record { inside = omega arith; same = refl; copied = paste-zero d at (drop first bytes) }
-
-module _ {d : List ℕ} {at : ℕ} {bytes : List ℕ} {first count : ℕ} {l : List ℕ} {i : ℕ} (w : Copying d at bytes first count l i) where
-  pub copy_more : (k : ℕ) → k ≡ at + i → i < count → at + count ≤ length d → first + count ≤ length bytes
-      → Copying d at bytes first count (set l k (get_or bytes (first + i) 0)) (i + 1)
-  copy_more k e b room enough =
-      record {
-        inside = omega arith;
-        same = length-set l k (get_or bytes (first + i) 0) ∙ w.same;
-        copied =
-            rw (w.copied, e, ← get_or-drop first bytes i 0, add-one i)
-            (paste-suc d at (drop first bytes) i 0 (omega arith) (omega (arith, length-drop first bytes)));
-      }
-
-  pub copy_all : count ≤ i → l ≡ paste d at (drop first bytes) count
-  copy_all b = let e : i ≡ count = omega (arith, w.inside) in rw (← e) w.copied
 
 module _ (bytes : List ℕ) (variables links : ℕ) where
   abbrev pub Most : Type 0

@@ -16,20 +16,17 @@ use place::Place;
 pub fn version_of(bytes: &[u8]) -> u8
     ensures { result ≡ version_of bytes.now }
 {
-    if bytes.len() == 0 {
-        return 0;
-    }
-    bytes[0]
+    bytes.first().copied().unwrap_or(0)
 }
 
 // A byte of a file; 0 past its end.
 fn byte_at(bytes: &[u8], at: usize) -> usize
     ensures { (result ≡ get_or bytes.now at 0) × (result ≤ 255) }
 {
-    if at < bytes.len() {
-        return wide(bytes[at]);
+    match bytes.get(at) {
+        Some(byte) => wide(*byte),
+        None => 0,
     }
-    0
 }
 
 // The number of facts that stands at a place, in one byte or two.
@@ -73,18 +70,14 @@ fn links_inside(bytes: &[u8], at: usize, variables: usize) -> bool
     if 9 < variables {
         return false;
     }
-    if bytes.len() < 2 + variables {
+    let Some(last) = bytes.len().checked_sub(2 + variables) else {
         return false;
-    }
-    let last = bytes.len() - 2 - variables;
-    if last < at {
+    };
+    let Some(left) = last.checked_sub(at) else {
         return false;
-    }
-    let n = bytes[at + 1] as usize;
-    if 12 < n {
-        return false;
-    }
-    n <= last - at
+    };
+    let n = wide(bytes[at + 1]);
+    n <= 12 && n <= left
 }
 
 // The place after the entry of at most 12 cells that stands whole at a place, where an array has room for its variables; else 0.
@@ -109,15 +102,13 @@ pub fn is_whole(bytes: &[u8], at: usize, variables: usize) -> bool
     entry_end(bytes, at, variables) != 0
 }
 
-// Copies so many bytes, from a place on, to a place of a slice.
+// Copies so many bytes, from a place on, to a place of a slice. Byte by byte: with `copy_from_slice` a load of a shape took 28 instructions more.
 fn copy_bytes(bytes: &[u8], first: usize, count: usize, to: &mut [u8], at: usize)
     requires { (at + count ≤ length to.old) × (first + count ≤ length bytes.now) }
     ensures { to.new ≡ paste to.old at (drop first bytes.now) count }
 {
-    let mut i = 0;
-    while i < count {
+    for i in 0..count {
         to[at + i] = bytes[first + i];
-        i += 1;
     }
 }
 
@@ -136,10 +127,7 @@ fn most_inside(bytes: &[u8], variables: usize, links: usize) -> bool
     requires { links ≤ length bytes.now }
     ensures { result ≡ most_inside bytes.now variables links }
 {
-    if 8 < variables {
-        return false;
-    }
-    if links < 8 {
+    if 8 < variables || links < 8 {
         return false;
     }
     12 <= bytes.len() - links
@@ -168,9 +156,8 @@ pub fn load_shape(bytes: &[u8], at: usize, variables: usize, s: &mut [u8; 28])
         return;
     }
     let n = bytes[at + 1];
-    let null = Place::NULL;
-    load_codes(bytes, variables, at + 2 + variables, n as usize, s);
-    s[17] = null.code;
+    load_codes(bytes, variables, at + 2 + variables, wide(n), s);
+    s[17] = Place::NULL.code;
     s[0] = n;
 }
 
@@ -202,20 +189,12 @@ pub fn load_facts(bytes: &[u8], at: usize, variables: usize, rows: &mut [u16; 28
     ensures { rows.new ≡ loaded_facts bytes.now variables at }
 {
     let span = fact_span(bytes, at, variables);
-    let first = span.first;
-    let end = span.end;
-    close(rows, &bytes[first..end]);
+    close(rows, &bytes[span.first..span.end]);
 }
 
 // How many cells the shape in an array has: no more than there are slots from the first link on.
 pub fn cells_held(s: &[u8; 28]) -> usize
     ensures { (length s.now ≡ 28) × (result ≤ 25) × (result ≡ length (links_in s.now)) }
 {
-    let all = &s[..];
-    let n = all[0] as usize;
-    let most = all.len() - 3;
-    if most < n {
-        return most;
-    }
-    n
+    wide(s[0]).min(s.len() - 3)
 }

@@ -42,9 +42,8 @@ fn mark_at(marks: &[u8; 28], n: usize, p: usize) -> u8
     requires { n ≤ 25 }
     ensures { (length marks.now ≡ 28) × (result ≡ mark_in n marks.now p) }
 {
-    let all = &marks[..];
     if p < n + 3 {
-        return all[p];
+        return marks[p];
     }
     USED
 }
@@ -83,9 +82,8 @@ pub fn stop_from(s: &[u8; 28], marks: &[u8; 28], first: usize) -> usize
     ensures { result ≡ stop_from (length (links_in s.now)) s.now marks.now first }
 {
     let n = cells_held(s);
-    let mut left = n;
     let mut p = first;
-    while 0 < left {
+    for _ in 0..n {
         if mark_at(marks, n, p) == STOP {
             return p;
         }
@@ -93,7 +91,6 @@ pub fn stop_from(s: &[u8; 28], marks: &[u8; 28], first: usize) -> usize
             return 0;
         }
         p = wide(s[p]);
-        left -= 1;
     }
     0
 }

@@ -1,10 +1,7 @@
--- The loop copies the bytes in turn: the first i are copied (`Copying`).
-use Prim.Native.Nat.{◌-◌}
-use Rattle.layout.proofs.Loading.{Copying}
+-- The first i bytes are copied.
+use Rattle.std.proofs.Common.{◌≡◌, drop}
+use lib.Seq.{paste}
 use Rattle.layout.proofs.copy_bytes.Given as goal
 
 abbrev pub invariant-loop-i : goal.invariant-loop-i
-invariant-loop-i l = Copying l.initial.to l.at l.bytes l.first l.count l.to l.i
-
-abbrev pub decreases-loop-i : goal.decreases-loop-i
-decreases-loop-i l = l.count - l.i
+invariant-loop-i l = l.to ≡ paste l.initial.to l.at (drop l.first l.bytes) l.i
