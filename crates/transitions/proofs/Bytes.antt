@@ -1,9 +1,10 @@
 -- Transitions read from bytes that are there, and those that are not.
 use mathlib.Core.Bool.{true, false}
 use mathlib.Core.List.{List}
-use mathlib.Core.Path.{◌≡◌, refl, ◌∙◌}
+use mathlib.Core.Path.{◌≡◌, refl, sym, ◌∙◌}
 use Prim.Native.Nat.{ℕ, ◌+◌, ◌-◌, ◌*◌, ◌≤◌, ◌<◌}
 use borrow.Author.Tests.{eq-eqb, ne_eqb, le-leb, lt-leb}
+use lib.Dec.{leb}
 use lib.ListN.{length, get_or, take, drop}
 use native.Mathlib.Decide.{ℕ_discrete}
 use native.Mathlib.Omega.{arith}
@@ -40,9 +41,9 @@ module _ (job : List ℕ) (at : ℕ) where
   unfolding transition_bytes
   bytes_none h = rw (lt-leb (at + 5) (length job) h) refl
 
-  pub bytes_all : at + 5 ≤ length job → transition_from job at ≡ transition_bytes job at
+  pub bytes_all : leb (at + 5) (length job) ≡ true → transition_bytes job at ≡ transition_from job at
   unfolding transition_bytes
-  bytes_all h = rw (le-leb (at + 5) (length job) h) refl
+  bytes_all e = rw e refl
 
 -- by a name
 module _ (job : List ℕ) (first k : ℕ) where
@@ -50,7 +51,7 @@ module _ (job : List ℕ) (first k : ℕ) where
   unfolding transition_named
   named_zero e = rw (eq-eqb k 0 e) refl
 
-  pub named_some : 0 < k → transition_bytes job (first + 5 * (k - 1)) ≡ transition_named job first k
+  pub named_some : 0 < k → transition_named job first k ≡ transition_bytes job (first + 5 * (k - 1))
   unfolding transition_named
   named_some h = rw (ne_eqb k 0 (λ e. omega arith)) refl
 
@@ -59,7 +60,7 @@ module _ (job : List ℕ) (first k : ℕ) where
     where
       known : Dec (k ≡ 0) → zeros ≡ transition_named job first k
       known (yes e) = named_zero e
-      known (no n) = bytes_none job (first + 5 * (k - 1)) (omega arith) ∙ named_some (omega arith)
+      known (no n) = bytes_none job (first + 5 * (k - 1)) (omega arith) ∙ sym (named_some (omega arith))
 
 -- five bytes from the i-th on are the transition at a place
 module _ {job : List ℕ} {first size : ℕ} {bytes : List ℕ} (p : Part job first size bytes) where
@@ -71,7 +72,7 @@ module _ {job : List ℕ} {first size : ℕ} {bytes : List ℕ} (p : Part job fi
       let e2 = byte_at p (i + 2) (at + 2) (omega arith) (omega arith) in
       let e3 = byte_at p (i + 3) (at + 3) (omega arith) (omega arith) in
       let e4 = byte_at p (i + 4) (at + 4) (omega arith) (omega arith) in
-      rw (e0, e1, e2, e3, e4) (bytes_all job at (omega (arith, p.inside)))
+      rw (e0, e1, e2, e3, e4) (sym (bytes_all job at (le-leb (at + 5) (length job) (omega (arith, p.inside)))))
 
 -- the first five, and the last five of those up to a name's transition
 pub read_first : {job : List ℕ} {at : ℕ} {bytes : List ℕ} → Part job at 5 bytes → transition_from bytes 0 ≡ transition_bytes job at
@@ -88,7 +89,7 @@ read_last {job} {first} {bytes} k p = known (ℕ_discrete k 0)
     known (yes e) = rw (lt-leb 5 (length bytes) (omega (arith, size))) (named_zero job first k e)
     known (no n) =
         rw (le-leb 5 (length bytes) (omega (arith, size)))
-        (bytes_read p (length bytes - 5) (first + 5 * (k - 1)) (omega (arith, size)) (omega (arith, size)) ∙ named_some job first k (omega arith))
+        (bytes_read p (length bytes - 5) (first + 5 * (k - 1)) (omega (arith, size)) (omega (arith, size)) ∙ sym (named_some job first k (omega arith)))
 
 module _ (job : List ℕ) (first count : ℕ) where
   r_there : Reflect ((count ≤ 256) × (first + 5 * count ≤ length job)) (are_there job first count)

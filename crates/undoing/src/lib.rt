@@ -8,40 +8,45 @@ ghost use Rattle.undoing.specs.Undone.{fact_kind, left_cell, right_cell, is_undo
 use factrows::{add_fact, clashes, drop_cell, has_fact, remove_cell};
 use kinds::{BELOW_VALUE, COPY, EQUAL_VALUE, LARGER, READ};
 
-// The kind of the fact that an operation tells: 1, that two cells are equal, by a test for equal or a copy; else 0, that one is below the other.
-fn fact_kind(kind: u8) -> usize
-    ensures { result ≡ fact_kind kind }
-{
-    if kind == EQUAL_VALUE {
-        return 1;
-    }
-    if kind == COPY {
-        return 1;
-    }
-    0
+// A fact that an operation tells: of kind 1, that its two cells are equal, or of kind 0, that the left one is below the right one.
+#[derive(Clone, Copy)]
+struct Told {
+    kind: usize,
+    left: usize,
+    right: usize,
 }
 
-// The first cell of that fact: d, where a larger value was written to c.
-fn left_cell(kind: u8, c: usize, d: usize) -> usize
-    ensures { result ≡ left_cell kind c d }
-{
-    if kind == LARGER {
-        return d;
+impl Told {
+    // What an operation that names the cells c and d tells of them: that they are equal, by a test for equal or a copy; else that one is below the
+    // other, d where a larger value was written to c.
+    #[tactic(auto, unfolding(crate::specs::Undone::fact_kind, crate::specs::Undone::left_cell, crate::specs::Undone::right_cell))]
+    fn by(kind: u8, c: usize, d: usize) -> Self
+        ensures kind { result.kind ≡ fact_kind kind }
+        ensures left { result.left ≡ left_cell kind c d }
+        ensures right { result.right ≡ right_cell kind c d }
+    {
+        match kind {
+            EQUAL_VALUE | COPY => Self {
+                kind: 1,
+                left: c,
+                right: d,
+            },
+            LARGER => Self {
+                kind: 0,
+                left: d,
+                right: c,
+            },
+            _ => Self {
+                kind: 0,
+                left: c,
+                right: d,
+            },
+        }
     }
-    c
-}
-
-// The second.
-fn right_cell(kind: u8, c: usize, d: usize) -> usize
-    ensures { result ≡ right_cell kind c d }
-{
-    if kind == LARGER {
-        return c;
-    }
-    d
 }
 
 // Makes the rows those before an operation of kinds 8 to 13, if there is a shape before: none where its fact puts a cell below itself. Whether there is.
+#[tactic(auto, unfolding(crate::specs::Undone::is_undone, crate::specs::Undone::rows_undone, crate::specs::Undone::is_own))]
 pub fn undo_values(rows: &mut [u16; 28], kind: u8, c: usize, d: usize) -> bool
     ensures is { result ≡ is_undone kind c d rows.old }
     ensures rows { rows.new ≡ cond result (rows_undone kind c d rows.old) rows.old }
@@ -50,24 +55,18 @@ pub fn undo_values(rows: &mut [u16; 28], kind: u8, c: usize, d: usize) -> bool
         drop_cell(rows, c);
         return true;
     }
-    if COPY < kind {
-        if c == d {
-            drop_cell(rows, c);
-            add_fact(rows, 1, c, c);
-            return true;
-        }
+    if COPY < kind && c == d {
+        drop_cell(rows, c);
+        add_fact(rows, 1, c, c);
+        return true;
     }
-    let fact = fact_kind(kind);
-    let left = left_cell(kind, c, d);
-    let right = right_cell(kind, c, d);
-    if clashes(rows, fact, left, right) {
+    let told = Told::by(kind, c, d);
+    if clashes(rows, told.kind, told.left, told.right) {
         return false;
     }
-    add_fact(rows, fact, left, right);
-    if BELOW_VALUE < kind {
-        if c != d {
-            drop_cell(rows, c);
-        }
+    add_fact(rows, told.kind, told.left, told.right);
+    if BELOW_VALUE < kind && c != d {
+        drop_cell(rows, c);
     }
     true
 }
