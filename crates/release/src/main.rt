@@ -9,7 +9,7 @@ use sheet::report;
 use std::env::FillError;
 use std::io;
 use std::rt::{Env, Files};
-use tally::{Tally, added};
+use tally::Tally;
 use telling::put_line;
 use verdict::Verdict;
 
@@ -56,19 +56,18 @@ fn judge_pair(
 }
 
 // The tally after a verdict, or the same where it is full, which is told.
-fn taken_in(rt: &impl Eprint, tally: Tally, judged: Verdict) -> io::Result<Tally> {
-    let taken = added(tally, judged);
-    if taken.number != 0 {
+fn taken_in(rt: &impl Eprint, mut tally: Tally, judged: Verdict) -> io::Result<Tally> {
+    if tally.take_in(judged).is_err() {
         eprintln!(rt; "the tally is full: this verdict is not in it")?;
     }
-    Ok(taken.tally)
+    Ok(tally)
 }
 
 // Prints the release sheet.
 fn print_sheet(rt: &impl Print, tally: Tally) -> io::Result<()> {
     let mut text = [0u8; 56];
-    let reported = report(tally.verdicts, tally.accepted, tally.covers, &mut text);
-    rt.write_all(&text[..reported.length])?;
+    let length = report(tally.verdicts, tally.accepted, tally.covers, &mut text).unwrap();
+    rt.write_all(&text[..length])?;
     rt.write_all(b"\n")
 }
 
@@ -78,7 +77,7 @@ fn main(rt: HostRuntime) -> io::Result<()> {
     if arguments < 3 || arguments % 2 == 0 {
         return eprintln!(&rt; "usage: release JOB CERTIFICATE [JOB CERTIFICATE ...]");
     }
-    let mut tally = tally::begin();
+    let mut tally = Tally::new();
     let pairs = arguments / 2;
     for i in 0..pairs {
         let judged = judge_pair(&rt, 2 * i + 1, 2 * i + 2)?;

@@ -1,76 +1,55 @@
 // Document 01, "Threads to pull on": each case, with what the code answers. P5 to P11 are put as jobs whose covers show them.
 #![tactic(auto)]
 
-use number::WriteRefusal;
+use number::{Numeral, Unreadable, WriteRefusal};
 use place::Place;
 use std::io;
 use stepper::Heap64;
-use verdict::{Counts, Refusal, Verdict};
-
-// Prints a text.
-fn say(rt: &impl Print, text: &str) -> io::Result<()> {
-    rt.print(text)
-}
-
-// Prints a text and a number.
-fn say_number(rt: &impl Print, text: &str, n: u64) -> io::Result<()> {
-    say(rt, text)?;
-    rt.print(n)
-}
-
-// Prints what is told of an accepted pair.
-fn say_counts(rt: &impl Print, counts: Counts) -> io::Result<()> {
-    say_number(rt, "accepted bads ", counts.bads as u64)?;
-    say_number(rt, " members ", counts.members as u64)?;
-    say_number(rt, " covers ", counts.covers as u64)?;
-    say_number(rt, " links ", counts.links as u64)
-}
-
-// Prints what is told of a refused pair.
-fn say_refusal(rt: &impl Print, refusal: Refusal, place: usize) -> io::Result<()> {
-    say_number(rt, "refused ", verdict::refusal_number(refusal) as u64)?;
-    say_number(rt, " at ", place as u64)?;
-    let rule = verdict::rule_number(refusal);
-    if rule == 0 {
-        return Ok(());
-    }
-    say_number(rt, " rule ", rule as u64)?;
-    say_number(rt, " of ", verdict::rule_name(refusal) as u64)
-}
+use verdict::{Counts, Refused};
 
 // Prints the verdict on a case.
 fn judge(rt: &impl Print, name: &str, job: &[u8], cert: &[u8]) -> io::Result<()> {
-    say(rt, name)?;
     match checker::check(job, cert) {
-        Verdict::Accepted(counts) => say_counts(rt, counts)?,
-        Verdict::Refused(refusal, place) => say_refusal(rt, refusal, place)?,
+        Ok(
+            Counts {
+                bads,
+                members,
+                covers,
+                links,
+            },
+        ) => println!(rt;
+            "{name}accepted bads {bads} members {members} covers {covers} links {links}"
+        ),
+        Err(refused) => say_refusal(rt, name, refused),
     }
-    say(rt, "\n")
+}
+
+// Prints what is told of a refused pair.
+fn say_refusal(rt: &impl Print, name: &str, refused: Refused) -> io::Result<()> {
+    let Refused { refusal, place } = refused;
+    let number = verdict::refusal_number(refusal);
+    match (verdict::rule_number(refusal), verdict::rule_name(refusal)) {
+        (0, _) => println!(rt; "{name}refused {number} at {place}"),
+        (rule, of) => println!(rt; "{name}refused {number} at {place} rule {rule} of {of}"),
+    }
 }
 
 // Prints what is read at the start of some bytes.
 fn read(rt: &impl Print, name: &str, bytes: &[u8]) -> io::Result<()> {
-    say(rt, name)?;
     match number::read_number(bytes, 0) {
-        Ok(numeral) => {
-            say_number(rt, "number ", numeral.value as u64)?;
-            say_number(rt, " next ", numeral.next as u64)?;
-        }
-        Err(unreadable) => say_number(rt, "refused 3 at ", unreadable.at as u64)?,
+        Ok(Numeral { value, next }) => println!(rt; "{name}number {value} next {next}"),
+        Err(Unreadable { at }) => println!(rt; "{name}refused 3 at {at}"),
     }
-    say(rt, "\n")
 }
 
 // Prints what writing a list answers.
 fn write(rt: &impl Print, name: &str, numbers: &[u64]) -> io::Result<()> {
     let mut bytes = [0u8; 4];
-    say(rt, name)?;
     match number::write_numbers(numbers, &mut bytes) {
-        Ok(k) => say_number(rt, "filled ", k as u64)?,
-        Err(WriteRefusal::TooLarge(i)) => say_number(rt, "refused 11 at ", i as u64)?,
-        Err(WriteRefusal::TooShort(k)) => say_number(rt, "refused 12 at ", k as u64)?,
+        Ok(k) => println!(rt; "{name}filled {k}"),
+        Err(WriteRefusal::TooLarge(i)) => println!(rt; "{name}refused 11 at {i}"),
+        Err(WriteRefusal::TooShort(k)) => println!(rt; "{name}refused 12 at {k}"),
     }
-    say(rt, "\n")
 }
 
 // J: state 0, new of variable 1, state 1; forbidden there: variable 1 at #.
@@ -174,10 +153,8 @@ fn sizes(rt: &impl Print) -> io::Result<()> {
 
 // Prints what becomes of a step of that kind, both operands variable 1.
 fn say_step(rt: &impl Print, name: &str, heap: Heap64, kind: u32) -> io::Result<()> {
-    let stepped = heap.step(kind, 1, 1, 0);
-    let outcome = stepped.outcome;
-    say_number(rt, name, stepper::outcome_code(outcome) as u64)?;
-    say(rt, "\n")
+    let outcome = stepper::outcome_code(heap.step(kind, 1, 1, 0).outcome);
+    println!(rt; "{name}{outcome}")
 }
 
 // Variable 1 at the one used cell, which is linked to * and has no value: kind 4 finds b's link at *, kind 8 no value.
