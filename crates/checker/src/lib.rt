@@ -46,13 +46,7 @@ fn fits(len: usize) -> bool
 }
 
 // Checks the covers and sees that nothing is left after them.
-fn check_covers(
-    job: &[u8],
-    h: Header,
-    cert: &[u8],
-    starts: &[u16],
-    at: usize,
-) -> Verdict
+fn check_covers(job: &[u8], h: Header, cert: &[u8], starts: &[u16], at: usize) -> Verdict
     requires { (JobRead job.now h) × (Table cert.now h.variables starts.now) × (at ≤ length cert.now) × (length cert.now ≤ 65536) }
     ensures { verdict_of result ≡ conclude (read_covers cert.now (file_in job.now h).job (members_at cert.now h.variables starts.now) at) }
 {
