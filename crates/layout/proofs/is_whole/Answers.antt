@@ -2,6 +2,5 @@
 use Rattle.layout.proofs.Whole.{end_tells}
 use Rattle.layout.proofs.is_whole.Goals as goal
 
--- src/lib.rt:98:1
 pub returns : goal.returns
 returns c = let a = c.args in end_tells a.bytes.now a.variables a.at c.entry_end.result c.entry_end.ensures
