@@ -5,7 +5,8 @@ use mathlib.Core.Path.{◌≡◌, refl, sym, ap, ◌∙◌}
 use Prim.Native.Nat.{ℕ, suc, ◌+◌, ◌-◌, ◌≤◌, ◌<◌}
 use native.Mathlib.Decide.{ℕ_discrete, dec_lt}
 use native.Mathlib.Omega.{arith}
-use borrow.Author.Tests.{lt-ltb, le-ltb, eq-eqb, ne_eqb}
+use Rattle.std.proofs.lemmas.Bool.Decides.{nat_tests}
+use borrow.Author.Tests.{ne_eqb}
 use lib.ListN.{get_or, set}
 use lib.Seq.{set-append_left}
 use Rattle.heap.specs.Place.{nowhere, null, cell}
@@ -44,33 +45,21 @@ module _ (s : List ℕ) (x k : ℕ) where
   module _ (e : operand_at s x ≡ nowhere) where
     pub placed_cell : k < cell_count s → placed_in s x k ≡ set_operand s x (cell k)
     unfolding placed_in
-    placed_cell b = simp (eq-eqb (operand_at s x) nowhere e, lt-ltb k (cell_count s) b)
+    placed_cell b = grind (arith, nat_tests)
 
     pub placed_null : k ≡ cell_count s → placed_in s x k ≡ set_operand s x null
     unfolding placed_in
-    placed_null b = simp (eq-eqb (operand_at s x) nowhere e, le-ltb k (cell_count s) (omega arith), eq-eqb k (cell_count s) b)
+    placed_null b = grind (arith, nat_tests)
 
     pub placed_fresh : k ≡ suc (cell_count s) → placed_in s x k ≡ set_operand (add_cell s nowhere) x (cell (cell_count s))
     unfolding placed_in
-    placed_fresh b =
-        simp (
-          eq-eqb (operand_at s x) nowhere e,
-          le-ltb k (cell_count s) (omega arith),
-          ne_eqb k (cell_count s) (omega arith),
-          eq-eqb k (suc (cell_count s)) b,
-        )
+    placed_fresh b = grind (arith, nat_tests)
 
     pub placed_middle : suc (cell_count s) < k
         → let c = cell (k - (cell_count s + 2)) in
         placed_in s x k ≡ set_operand (set_link_of (add_cell s (get_or s c nowhere)) c (cell (cell_count s))) x (cell (cell_count s))
     unfolding placed_in
-    placed_middle b =
-        simp (
-          eq-eqb (operand_at s x) nowhere e,
-          le-ltb k (cell_count s) (omega arith),
-          ne_eqb k (cell_count s) (omega arith),
-          ne_eqb k (suc (cell_count s)) (omega arith),
-        )
+    placed_middle b = grind (arith, nat_tests)
 
     -- the stores of the code
     pub stored_fresh : k ≡ suc (cell_count s) → set (set (set s 0 (cell_count s + 1)) (3 + cell_count s) nowhere) (17 + x) (3 + cell_count s) ≡ placed_in s x k

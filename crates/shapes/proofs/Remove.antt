@@ -6,7 +6,8 @@ use mathlib.Core.Path.{◌≡◌, refl, sym, ap, ap₂, ◌∙◌}
 use Prim.Native.Nat.{ℕ, zero, suc, ◌+◌, ◌-◌, ◌≤◌, ◌<◌}
 use native.Mathlib.Decide.{dec_lt}
 use native.Mathlib.Omega.{arith}
-use borrow.Author.Tests.{lt-ltb, le-ltb, le-leb, lt-leb, ne_eqb}
+use Rattle.std.proofs.lemmas.Bool.Decides.{nat_tests}
+use borrow.Author.Tests.{lt-ltb, ne_eqb}
 use lib.Dec.{T}
 use lib.ListN.{length, get_or, drop, length-map}
 use lib.Seq.{get_or-take, get_or-drop, ext_get_or}
@@ -67,21 +68,16 @@ module _ (s : List ℕ) (k : ℕ) where
   -- the slot of a link or an operand
   pub slot_place : (i : ℕ) → 3 ≤ i → slot_without s k i ≡ lower (cell k) (get_or s (slot_from (cell_count s) k i) 0)
   unfolding slot_without
-  slot_place i h = simp (ne_eqb i 0 (omega arith), le-ltb i 3 h)
+  slot_place i h = grind (arith, nat_tests)
 
 module _ (n k i : ℕ) where
   pub from_same : (cell k ≤ i → suc i < cell n → ⊥) → slot_from n k i ≡ i
   unfolding slot_from
-  from_same o = go (dec_lt i (cell k)) (dec_lt (suc i) (cell n))
-    where
-      go : Dec (i < cell k) → Dec (suc i < cell n) → slot_from n k i ≡ i
-      go (yes l) d = simp (lt-leb (cell k) i l)
-      go (no l) (yes m) = absurd (o (omega arith) m)
-      go (no l) (no m) = simp (le-leb (cell k) i (omega arith), le-ltb (suc i) (cell n) (omega arith))
+  from_same o = grind (arith, nat_tests)
 
   pub from_next : cell k ≤ i → suc i < cell n → slot_from n k i ≡ suc i
   unfolding slot_from
-  from_next l m = simp (le-leb (cell k) i l, lt-ltb (suc i) (cell n) m)
+  from_next l m = grind (arith, nat_tests)
 
 module _ (variables : ℕ) (s : List ℕ) (h : ShapeArray variables s) (k : ℕ) (is_cell : k < cell_count s) (free : T (is_free (cell k) (shape_in variables s)))
     (t : List ℕ) (t-length : length t ≡ 28) (t-at : (i : ℕ) → i < 28 → get_or t i 0 ≡ slot_without s k i) where

@@ -6,6 +6,7 @@ use mathlib.Core.Path.{◌≡◌, refl, sym, ap, ◌∙◌}
 use Prim.Native.Nat.{ℕ, zero, suc, ◌+◌, ◌≤◌, ◌<◌}
 use native.Mathlib.Decide.{ℕ_discrete, dec_lt}
 use native.Mathlib.Omega.{arith}
+use Rattle.std.proofs.lemmas.Bool.Decides.{nat_tests}
 use borrow.Author.Tests.{lt-ltb, le-ltb, eq-eqb, ne_eqb}
 use lib.Dec.{ltb}
 use lib.ListN.{get_or, set, take, drop, length-set, length-take}
@@ -42,11 +43,7 @@ working_room variables b h = go (dec_lt variables b)
 
 -- only kind 4 has a helper
 no_helper : (variables kind a b : ℕ) → Operands variables kind a b → kind ≢ 4 → b ≤ variables
-no_helper variables kind a b o n = go (dec_lt variables b)
-  where
-    go : Dec (variables < b) → b ≤ variables
-    go (yes h) = absurd (n (o.helper h))
-    go (no h) = omega arith
+no_helper variables kind a b o n = grind (arith, nat_tests)
 
 -- ---- the helper goes
 

@@ -5,13 +5,13 @@ use mathlib.Core.List.{List, [], ◌∷◌, ◌++◌, map, append-nil}
 use mathlib.Core.Path.{◌≡◌, refl, sym, ap, ◌∙◌, subst}
 use Prim.Native.Nat.{ℕ, ◌≤◌, ◌<◌}
 use native.Mathlib.Omega.{arith}
-use borrow.Author.Tests.{lt-ltb, le-ltb, eq-eqb}
+use Rattle.std.proofs.lemmas.Bool.Decides.{nat_tests}
+use borrow.Author.Tests.{lt-ltb, le-ltb}
 use Rattle.lists.specs.List.{◌∈◌, Every, concat_map, keep}
-use Rattle.lists.proofs.List.{end, ◌&◌, every_none, concat_map_mem, keep_mem}
+use Rattle.lists.proofs.List.{every_none, concat_map_mem, keep_mem}
 use Rattle.lists.proofs.Reflect.{r_lt}
 use Rattle.heap.specs.Operation.{Op, below_value, read, kind_of}
 use Rattle.heap.specs.Place.{cell, dangling}
-use Rattle.heap.proofs.Rows.{by_kind}
 use Rattle.shape.specs.Placing.{place}
 use Rattle.shape.specs.Shape.{Shape, var_at, size, InRange}
 use Rattle.backward.specs.Predecessors.{with_facts, forget_facts, is_cell, place_cells, retain, before}
@@ -38,12 +38,12 @@ facts_left kind a b rows t h = rw (le-ltb 5 kind h) refl
 
 -- the number of a cell
 cell_number_lem : (p : ℕ) → dangling < p → cell (cell_number p) ≡ p
-cell_number_lem p h = rw (le-ltb p 3 (omega arith)) (omega arith)
+cell_number_lem p h = grind (arith, nat_tests)
 
 -- a cell is not below itself
 clash : (a : ℕ) (rows : List ℕ) (t : Shape) → cell_number (var_at t a) < 14 → facts_before 9 a a rows t ≡ []
 unfolding facts_before is_undone is_own fact_kind left_cell right_cell
-clash a rows t h = rw (lt-ltb (cell_number (var_at t a)) 14 h, eq-eqb (cell_number (var_at t a)) (cell_number (var_at t a)) refl) refl
+clash a rows t h = grind (arith, nat_tests)
 
 every_empty : {A B : Type 0} {f : A → List B} (l : List A) → Every (λ x. f x ≡ []) l → concat_map f l ≡ []
 every_empty [] h = refl
@@ -61,14 +61,11 @@ facts_undone kind a b rows t s l h settled ea eb ca cb =
 
 -- what comes behind the placings: nothing for kinds 1 to 5, and `shapes_undone` for 8 to 12
 behind_left : (kind a b : ℕ) (s : Shape) → 1 ≤ kind → kind ≤ 5 → behind (op_of (kind_of kind) a b) s ≡ s ∷ []
-behind_left kind a b s l h = by_kind 5 (λ k. behind (op_of (kind_of k) a b) s ≡ s ∷ []) (refl & refl & refl & refl & refl & end) kind l h
+behind_left kind a b s l h = grind (arith, nat_tests)
 
 behind_undone : (kind a b : ℕ) (s : Shape) → 8 ≤ kind → kind ≤ 12 → behind (op_of (kind_of kind) a b) s ≡ shapes_undone kind (var_at s a) (var_at s b) s
 unfolding shapes_undone
-behind_undone kind a b s l h =
-    by_kind 12 (λ k. 8 ≤ k → behind (op_of (kind_of k) a b) s ≡ shapes_undone k (var_at s a) (var_at s b) s)
-    ((λ z. absurd (omega arith)) & (λ z. absurd (omega arith)) & (λ z. absurd (omega arith)) & (λ z. absurd (omega arith)) & (λ z. absurd (omega arith)) & (λ z. absurd (omega arith)) & (λ z. absurd (omega arith)) & (λ _. refl) & (λ _. refl) & (λ _. refl) & (λ _. refl) & (λ _. refl) & end)
-    kind (omega arith) h l
+behind_undone kind a b s l h = grind (arith, nat_tests)
 
 -- and for 13 the cell's facts go
 read_undone : (p : ℕ) (s : Shape) → shapes_undone 13 p p s ≡ forget_facts p s ∷ []
@@ -77,14 +74,10 @@ read_undone p s = refl
 
 -- the placings of kinds 8 to 12 are at cells
 placed_cells : (kind a b : ℕ) (s : Shape) → 8 ≤ kind → kind ≤ 12 → placed (op_of (kind_of kind) a b) s ≡ place_cells a b s
-placed_cells kind a b s l h =
-    by_kind 12 (λ k. 8 ≤ k → placed (op_of (kind_of k) a b) s ≡ place_cells a b s)
-    ((λ z. absurd (omega arith)) & (λ z. absurd (omega arith)) & (λ z. absurd (omega arith)) & (λ z. absurd (omega arith)) & (λ z. absurd (omega arith)) & (λ z. absurd (omega arith)) & (λ z. absurd (omega arith)) & (λ _. refl) & (λ _. refl) & (λ _. refl) & (λ _. refl) & (λ _. refl) & end)
-    kind (omega arith) h l
+placed_cells kind a b s l h = grind (arith, nat_tests)
 
 placed_before : (kind a b : ℕ) (s : Shape) → 1 ≤ kind → kind ≤ 5 → placed (op_of (kind_of kind) a b) s ≡ before (op_of (kind_of kind) a b) s
-placed_before kind a b s l h =
-    by_kind 5 (λ k. placed (op_of (kind_of k) a b) s ≡ before (op_of (kind_of k) a b) s) (refl & refl & refl & refl & refl & end) kind l h
+placed_before kind a b s l h = grind (arith, nat_tests)
 
 -- results that are kept and then changed
 kept_changed : (test : Shape → Bool) (change : Shape → Shape) (l : List Shape) → retain test change l ≡ concat_map (λ t. change t ∷ []) (retain test (λ t. t) l)

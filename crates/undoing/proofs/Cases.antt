@@ -1,12 +1,12 @@
 -- The cases that `undo_values` tells apart.
-use mathlib.Core.Bool.{true, false, ◌&&◌, not}
+use native.Mathlib.Omega.{arith}
+use Rattle.std.proofs.lemmas.Bool.Decides.{nat_tests}
+use mathlib.Core.Bool.{true, false, not}
 use mathlib.Core.List.{List}
 use mathlib.Core.Logic.{◌≢◌}
 use mathlib.Core.Path.{◌≡◌, refl}
 use Prim.Native.Nat.{ℕ, ◌<◌}
 use borrow.Author.Tests.{eq-eqb, ne_eqb, lt-ltb}
-use lib.Dec.{eqb, ltb}
-use Rattle.lists.proofs.Reflect.{r_eq, r_lt, r_and, r_not, is_false}
 use Rattle.factrows.specs.Rows.{with_fact, clashing, without_cell}
 use Rattle.undoing.specs.Undone.{fact_kind, left_cell, right_cell, is_own, is_undone, rows_told, rows_undone}
 
@@ -18,7 +18,7 @@ own kind c d h e = rw (lt-ltb 10 kind h, eq-eqb c d e) refl
 -- it does not
 pub not_own : (kind c d : ℕ) → (10 < kind → c ≢ d) → is_own kind c d ≡ false
 unfolding is_own
-not_own kind c d h = is_false _ (λ t. let (a, b) = (r_and (r_lt 10 kind) (r_eq c d)).holds t in h a b)
+not_own kind c d h = grind (arith, nat_tests)
 
 module _ (kind c d : ℕ) (l : List ℕ) where
   -- read
@@ -41,9 +41,9 @@ module _ (kind c d : ℕ) (l : List ℕ) where
       -- the written cell's facts go
       pub undone_written : 9 < kind → c ≢ d → without_cell c (rows_told kind c d l) ≡ rows_undone kind c d l
       unfolding rows_undone
-      undone_written h e = rw (ne_eqb kind 13 n, o, lt-ltb 9 kind h, ne_eqb c d e) refl
+      undone_written h e = grind (arith, nat_tests)
 
       -- none go: a test, or a copy of a cell to itself
       pub undone_kept : (9 < kind → c ≡ d) → rows_told kind c d l ≡ rows_undone kind c d l
       unfolding rows_undone
-      undone_kept h = rw (ne_eqb kind 13 n, o, is_false (ltb 9 kind && not (eqb c d)) (λ t. let (a, b) = (r_and (r_lt 9 kind) (r_not (r_eq c d))).holds t in b (h a))) refl
+      undone_kept h = grind (arith, nat_tests)

@@ -1,5 +1,5 @@
 -- Kinds 6 and 7 by their cases: what comes out of them, facts in rows, stands for the predecessors.
-use mathlib.Core.Bool.{Bool, true, false, ◌&&◌, not, and-true}
+use mathlib.Core.Bool.{Bool, true, false, ◌&&◌, not}
 use mathlib.Core.List.Memᴰ
 use mathlib.Core.List.{List, [], ◌∷◌, ◌++◌, map, append-nil}
 use mathlib.Core.Logic.{◌≢◌}
@@ -7,6 +7,7 @@ use mathlib.Core.Path.{◌≡◌, refl, sym, ap, ◌∙◌, subst, subst₂}
 use Prim.Native.Nat.{ℕ, zero, suc, ◌+◌, ◌-◌, ◌≤◌, ◌<◌}
 use native.Mathlib.Decide.{ℕ_discrete, dec_lt}
 use native.Mathlib.Omega.{arith}
+use Rattle.std.proofs.lemmas.Bool.Decides.{nat_tests}
 use borrow.Author.Tests.{lt-ltb, le-ltb, eq-eqb, ne_eqb}
 use lib.ListN.{length, set, length-map}
 use lib.Seq.{set-get_or}
@@ -21,7 +22,7 @@ use Rattle.shape.specs.Placing.{set_var}
 use Rattle.shape.specs.Shape.{Shape, AllBelow, var_at, size}
 use Rattle.backward.specs.Predecessors as backward
 use Rattle.backward.specs.Predecessors.{with_facts, lower, lower_fact, remove_link, remove_cell, unspoken}
-use Rattle.backward.proofs.Bare.{map_keep, map_concat, concat_one, before_rides, placed_bare}
+use Rattle.backward.proofs.Bare.{map_concat, concat_one, before_rides, placed_bare}
 use Rattle.backward.proofs.Remove.{lower_below, lower_least, links_remove_length}
 use Rattle.backward.proofs.Tests.{Unspoken, r_unspoken}
 use Rattle.factrows.specs.Rows.{has_fact, lowered}
@@ -100,7 +101,7 @@ module _ (variables : ℕ) (s rows : List ℕ) (array : ShapeArray variables s) 
 
   left : (count : ℕ) (t : List ℕ) (k : ℕ) → before_rowed variables 7 count t rows k ≡ map (rowed rows) (before_by_case variables 7 count t k)
   unfolding before_rowed is_before_rowed rows_before before_by_case
-  left count t k = rw (and-true (is_before variables 7 t k)) (sym (map_keep (rowed rows) (is_before variables 7 t k) (shape_in variables (array_before variables 7 count t k))))
+  left count t k = grind (arith, nat_tests)
 
   abbrev cases : Cases
   cases = cases_of_delete variables a s

@@ -5,11 +5,11 @@ use mathlib.Core.Logic.{◌≢◌}
 use mathlib.Core.Path.{◌≡◌, refl, ap, subst}
 use Prim.Native.Nat.{ℕ, zero, suc, ◌+◌, ◌-◌, ◌≤◌, ◌<◌}
 use native.Mathlib.Omega.{arith}
-use borrow.Author.Tests.{ne_eqb}
+use Rattle.std.proofs.lemmas.Bool.Decides.{nat_tests}
 use lib.Dec.{eqb}
 use Rattle.lists.specs.List.{keep}
 use Rattle.lists.proofs.List.{every_cons}
-use Rattle.lists.proofs.Reflect.{Reflect, r_eq, r_either, cond_cases}
+use Rattle.lists.proofs.Reflect.{Reflect, r_eq, cond_cases}
 use Rattle.heap.specs.Place.{cell}
 use Rattle.heap.specs.Value.{below, equals}
 use Rattle.facts.specs.Facts.{FactOf, close}
@@ -54,15 +54,15 @@ module _ (o : Rowed) (s : Shape) (h : StandsFor o s) (all : ClosedFacts s.facts)
 
 fact_kind_lem : (kind : ℕ) → fact_kind kind < 2
 unfolding fact_kind
-fact_kind_lem kind = cond_cases (λ (k : ℕ). k < 2) (r_either (r_eq kind 8) (r_eq kind 10)) (λ _. omega arith) (λ _. omega arith)
+fact_kind_lem kind = grind (arith, nat_tests)
 
 left_inside : (kind c d n : ℕ) → c < n → d < n → left_cell kind c d < n
 unfolding left_cell
-left_inside kind c d n hc hd = cond_cases (λ (p : ℕ). p < n) (r_eq kind 11) (λ _. hd) (λ _. hc)
+left_inside kind c d n hc hd = grind (arith, nat_tests)
 
 right_inside : (kind c d n : ℕ) → c < n → d < n → right_cell kind c d < n
 unfolding right_cell
-right_inside kind c d n hc hd = cond_cases (λ (p : ℕ). p < n) (r_eq kind 11) (λ _. hc) (λ _. hd)
+right_inside kind c d n hc hd = grind (arith, nat_tests)
 
 module _ (o : Rowed) (s : Shape) (h : Settled o s) (c d : ℕ) (hc : c < size s) (hd : d < size s) where
   abbrev l : List ℕ
@@ -136,7 +136,7 @@ module _ (o : Rowed) (s : Shape) (h : Settled o s) (c d : ℕ) (hc : c < size s)
   -- larger and smaller
   below_told : (kind : ℕ) → 10 < kind → fact_kind kind ≡ below
   unfolding fact_kind
-  below_told kind a = rw (ne_eqb kind 8 (omega arith), ne_eqb kind 10 (omega arith)) refl
+  below_told kind a = grind (arith, nat_tests)
 
   compared : (kind : ℕ) → 10 < kind → kind < 13 → Before kind (before_compared (cell c) (cell d) (cell (left_cell kind c d)) (cell (right_cell kind c d)) s)
   compared kind a b = cond_cases (Before kind) (r_eq (cell c) (cell d)) one two
