@@ -52,10 +52,8 @@ pub(crate) fn count_steps(job: &[u8], first: usize, count: usize, variables: usi
     ensures { (result ≡ length (bad_steps_shapes variables (transitions_from job.now first 0 count))) × (result ≤ 512) }
 {
     let mut shapes = 0;
-    let mut i = 0;
-    while i < count {
+    for i in 0..count {
         shapes += shapes_at(job, first + 5 * i);
-        i += 1;
     }
     shapes
 }
@@ -99,10 +97,8 @@ pub(crate) fn put_steps(
     ensures { Put at bytes.old (concat_map (located_numbers (version_of job.now)) (bad_steps_shapes variables (transitions_from job.now first 0 count))) result bytes.new }
 {
     let mut next = at;
-    let mut i = 0;
-    while i < count {
+    for i in 0..count {
         next = put_step(job, first + 5 * i, variables, bytes, next);
-        i += 1;
     }
     next
 }
