@@ -24,9 +24,9 @@ use Rattle.transitions.specs.Transitions.{transition_bytes}
 use Rattle.transitions.specs.declared.Transition.{Transition as Bytes}
 use Rattle.forbidding.specs.Answers.{count_bytes}
 use Rattle.putting.specs.Put.{Put}
-use Rattle.forbidding.specs.Steps.{through_of, StepIn}
-use Rattle.forbidding.specs.declared.steps.Through.{Through}
-use Rattle.forbidding.specs.declared.steps.Through.TheVariants.{Variable, Nothing}
+use Rattle.std.proofs.Common.{Option as Maybe, None, Some}
+use Rattle.std.specs.Option.{option_to_list}
+use Rattle.forbidding.specs.Steps.{StepIn}
 use Rattle.putting.proofs.Putting.{put_none, put_more}
 use Rattle.forbidding.proofs.Shapes.{step_length}
 
@@ -61,37 +61,37 @@ module _ (job : List ℕ) (at : ℕ) (t : Bytes) (t_is : t ≡ transition_bytes 
   pub from_is : t.from ≡ (transition_at job at).from
   from_is = ap (λ (u : Bytes). u.from) bytes_are
 
-  pub through_is : (s : Through) → through_of s ≡ steps_through (op_of (kind_of t.kind) t.a t.b) → through_of s ≡ steps_through (transition_at job at).op
+  pub through_is : (s : Maybe ℕ) → option_to_list s ≡ steps_through (op_of (kind_of t.kind) t.a t.b) → option_to_list s ≡ steps_through (transition_at job at).op
   through_is s e = e ∙ ap (λ (u : Bytes). steps_through (op_of (kind_of u.kind) u.a u.b)) bytes_are
 
-  module _ (s : Through) (s-is : through_of s ≡ steps_through (op_of (kind_of t.kind) t.a t.b)) (n : ℕ) where
-    shapes_are : (vs : List ℕ) → through_of s ≡ vs → bad_steps_of n (transition_at job at) ≡ concat_map (λ v. at_state (transition_at job at).from (bad_step_shapes n v)) vs
+  module _ (s : Maybe ℕ) (s-is : option_to_list s ≡ steps_through (op_of (kind_of t.kind) t.a t.b)) (n : ℕ) where
+    shapes_are : (vs : List ℕ) → option_to_list s ≡ vs → bad_steps_of n (transition_at job at) ≡ concat_map (λ v. at_state (transition_at job at).from (bad_step_shapes n v)) vs
     shapes_are vs e = ap (concat_map (λ v. at_state (transition_at job at).from (bad_step_shapes n v))) (sym (through_is s s-is) ∙ e)
 
     -- two shapes for a step, and none else
-    pub shapes_through : (v : ℕ) → s ≡ Variable v → bad_steps_of n (transition_at job at) ≡ at_state t.from (bad_step_shapes n v)
-    shapes_through v e = shapes_are (v ∷ []) (ap through_of e) ∙ ap (λ (q : ℕ). at_state q (bad_step_shapes n v)) (sym from_is)
+    pub shapes_through : (v : ℕ) → s ≡ Some v → bad_steps_of n (transition_at job at) ≡ at_state t.from (bad_step_shapes n v)
+    shapes_through v e = shapes_are (v ∷ []) (ap option_to_list e) ∙ ap (λ (q : ℕ). at_state q (bad_step_shapes n v)) (sym from_is)
 
-    pub shapes_none : s ≡ Nothing → bad_steps_of n (transition_at job at) ≡ []
-    shapes_none e = shapes_are [] (ap through_of e)
+    pub shapes_none : s ≡ None → bad_steps_of n (transition_at job at) ≡ []
+    shapes_none e = shapes_are [] (ap option_to_list e)
 
-    pub step_bytes : (v : ℕ) → s ≡ Variable v → length (concat_map (located_numbers (version_of job)) (bad_steps_of n (transition_at job at))) ≡ 2 * (2 + n + count_bytes (version_of job))
+    pub step_bytes : (v : ℕ) → s ≡ Some v → length (concat_map (located_numbers (version_of job)) (bad_steps_of n (transition_at job at))) ≡ 2 * (2 + n + count_bytes (version_of job))
     step_bytes v e = ap (λ (l : List Located). length (concat_map (located_numbers (version_of job)) l)) (shapes_through v e) ∙ step_length (version_of job) n v t.from
 
-    pub put_through : {next last : ℕ} {before after : List ℕ} (v : ℕ) → s ≡ Variable v
+    pub put_through : {next last : ℕ} {before after : List ℕ} (v : ℕ) → s ≡ Some v
         → Put next before (concat_map (located_numbers (version_of job)) (at_state t.from (bad_step_shapes n v))) last after
         → Put next before (concat_map (located_numbers (version_of job)) (bad_steps_of n (transition_at job at))) last after
     put_through {next} {last} {before} {after} v e =
         subst (λ (l : List Located). Put next before (concat_map (located_numbers (version_of job)) l) last after) (sym (shapes_through v e))
 
-    pub put_nothing : (next : ℕ) (before : List ℕ) → s ≡ Nothing → next ≤ length before
+    pub put_nothing : (next : ℕ) (before : List ℕ) → s ≡ None → next ≤ length before
         → Put next before (concat_map (located_numbers (version_of job)) (bad_steps_of n (transition_at job at))) next before
     put_nothing next before e h =
         subst (λ (l : List Located). Put next before (concat_map (located_numbers (version_of job)) l) next before) (sym (shapes_none e)) (put_none next before h)
 
     -- the variable of a step is one of the job's
-    pub variable_in : (v : ℕ) → s ≡ Variable v → StepIn job n at → (1 ≤ v) × (v ≤ n)
-    variable_in v e k = k.through v (subst (λ (l : List ℕ). v ∈ l) (ap through_of (sym e) ∙ through_is s s-is) (Memᴰ.head refl))
+    pub variable_in : (v : ℕ) → s ≡ Some v → StepIn job n at → (1 ≤ v) × (v ≤ n)
+    variable_in v e k = k.through v (subst (λ (l : List ℕ). v ∈ l) (ap option_to_list (sym e) ∙ through_is s s-is) (Memᴰ.head refl))
 
 -- ---- the loops over the transitions: those before the i-th are done
 

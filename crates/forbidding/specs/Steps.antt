@@ -1,15 +1,8 @@
 -- The transitions of a job by their bytes, and what they step through.
-use Rattle.std.specs.Prelude.{List, [], ◌∷◌, ℕ, ◌+◌, ◌*◌, ◌≤◌, ◌<◌, length}
+use Rattle.std.specs.Prelude.{List, ℕ, ◌+◌, ◌*◌, ◌≤◌, ◌<◌, length}
 use Rattle.lists.specs.List.{◌∈◌}
 use Rattle.forbidden.specs.Sets.{steps_through}
 use Rattle.layout.specs.Transitions.{transition_at}
-use Rattle.forbidding.specs.declared.steps.Through.{Through}
-use Rattle.forbidding.specs.declared.steps.Through.TheVariants.{Variable, Nothing}
-
--- the variable as a list of one or none, as the definitions have it
-abbrev pub through_of : Through → List ℕ
-through_of (Variable v) = v ∷ []
-through_of Nothing = []
 
 -- the transition at a place is whole, and it leaves a state below 64 and steps through none but variables 1 to n
 pub record StepIn (job : List ℕ) (n at : ℕ) : Type 0 where

@@ -1,5 +1,6 @@
 // The transitions of a job that step through a variable.
 ghost use Rattle.std.specs.Prelude.{◌≡◌, ℕ, ◌+◌, ◌≤◌, length};
+ghost use Rattle.std.specs.Option.{option_to_list};
 ghost use Rattle.lists.specs.List.{concat_map};
 ghost use Rattle.heap.specs.Operation.{kind_of};
 ghost use Rattle.forbidden.specs.Sets.{steps_through, bad_steps_of, bad_steps_shapes};
@@ -7,30 +8,23 @@ ghost use Rattle.format.specs.JobNumbers.{located_numbers};
 ghost use Rattle.layout.specs.Entries.{version_of};
 ghost use Rattle.layout.specs.Transitions.{op_of, transition_at, transitions_from};
 ghost use Rattle.putting.specs.Put.{Put};
-ghost use Rattle.forbidding.specs.Steps.{through_of, StepIn, StepsIn};
+ghost use Rattle.forbidding.specs.Steps.{StepIn, StepsIn};
 
 use crate::put::{Point, put_bad_step};
 use layout::version_of;
 use transitions::transition_at;
 
-// The variable that an operation steps through, if it does.
-#[derive(Clone, Copy)]
-pub enum Through {
-    Variable(usize),
-    Nothing,
-}
-
-// For kind 4 its b, for kind 5 its a.
-fn steps_through(kind: u8, a: u8, b: u8) -> Through
-    ensures { through_of result ≡ steps_through (op_of (kind_of kind) a b) }
+// The variable that an operation steps through, if it does: for kind 4 its b, for kind 5 its a.
+fn steps_through(kind: u8, a: u8, b: u8) -> Option<usize>
+    ensures { option_to_list result ≡ steps_through (op_of (kind_of kind) a b) }
 {
     if kind == 4 {
-        return Through::Variable(b as usize);
+        return Some(b as usize);
     }
     if kind == 5 {
-        return Through::Variable(a as usize);
+        return Some(a as usize);
     }
-    Through::Nothing
+    None
 }
 
 // How many forbidden shapes the transition at a place makes.
@@ -41,8 +35,8 @@ fn shapes_at(job: &[u8], at: usize) -> usize
     let t = transition_at(job, at);
     let step = steps_through(t.kind, t.a, t.b);
     match step {
-        Through::Variable(_) => 2,
-        Through::Nothing => 0,
+        Some(_) => 2,
+        None => 0,
     }
 }
 
@@ -52,10 +46,8 @@ pub(crate) fn count_steps(job: &[u8], first: usize, count: usize, variables: usi
     ensures { (result ≡ length (bad_steps_shapes variables (transitions_from job.now first 0 count))) × (result ≤ 512) }
 {
     let mut shapes = 0;
-    let mut i = 0;
-    while i < count {
+    for i in 0..count {
         shapes += shapes_at(job, first + 5 * i);
-        i += 1;
     }
     shapes
 }
@@ -68,7 +60,7 @@ fn put_step(job: &[u8], from: usize, variables: usize, bytes: &mut [u8], at: usi
     let t = transition_at(job, from);
     let step = steps_through(t.kind, t.a, t.b);
     match step {
-        Through::Variable(variable) => {
+        Some(variable) => {
             let version = version_of(job);
             let state = t.from as usize;
             put_bad_step(
@@ -82,7 +74,7 @@ fn put_step(job: &[u8], from: usize, variables: usize, bytes: &mut [u8], at: usi
                 },
             )
         }
-        Through::Nothing => at,
+        None => at,
     }
 }
 
@@ -99,10 +91,8 @@ pub(crate) fn put_steps(
     ensures { Put at bytes.old (concat_map (located_numbers (version_of job.now)) (bad_steps_shapes variables (transitions_from job.now first 0 count))) result bytes.new }
 {
     let mut next = at;
-    let mut i = 0;
-    while i < count {
+    for i in 0..count {
         next = put_step(job, first + 5 * i, variables, bytes, next);
-        i += 1;
     }
     next
 }

@@ -35,8 +35,8 @@ put_bad_step-requires c =
     let s = begun o in
     let t = o.transition_at-t in
     let step = o.steps_through-step in
-    let in_range = variable_in s.args.job.now s.args.from t.result t.ensures s.requires.0.whole step.result step.ensures s.args.variables _ c.in-Variable.is s.requires.0 in
-    let size = step_bytes s.args.job.now s.args.from t.result t.ensures s.requires.0.whole step.result step.ensures s.args.variables _ c.in-Variable.is in (
+    let in_range = variable_in s.args.job.now s.args.from t.result t.ensures s.requires.0.whole step.result step.ensures s.args.variables _ c.in-Some.is s.requires.0 in
+    let size = step_bytes s.args.job.now s.args.from t.result t.ensures s.requires.0.whole step.result step.ensures s.args.variables _ c.in-Some.is in (
       record {
         most = s.requires.1;
         some = in_range.0;
@@ -46,18 +46,18 @@ put_bad_step-requires c =
       omega (arith, size, s.requires.2, ap count_bytes c.version_of-version.ensures),
     )
 
-pub returns-in-Variable : goal.returns-in-Variable
-returns-in-Variable c =
+pub returns-in-Some : goal.returns-in-Some
+returns-in-Some c =
     let a = c.before.before.before.before in
     let o = through a in
     let s = begun o in
     let t = o.transition_at-t in
     let step = o.steps_through-step in
-    put_through s.args.job.now s.args.from t.result t.ensures s.requires.0.whole step.result step.ensures s.args.variables _ a.in-Variable.is (rw a.version_of-version.ensures at c.put_bad_step.ensures)
+    put_through s.args.job.now s.args.from t.result t.ensures s.requires.0.whole step.result step.ensures s.args.variables _ a.in-Some.is (rw a.version_of-version.ensures at c.put_bad_step.ensures)
 
-pub returns-in-Nothing : goal.returns-in-Nothing
-returns-in-Nothing c =
+pub returns-in-None : goal.returns-in-None
+returns-in-None c =
     let s = begun c.before.before in
     let t = c.transition_at-t in
     let step = c.steps_through-step in
-    put_nothing s.args.job.now s.args.from t.result t.ensures s.requires.0.whole step.result step.ensures s.args.variables _ _ c.in-Nothing.is (omega (arith, s.requires.2))
+    put_nothing s.args.job.now s.args.from t.result t.ensures s.requires.0.whole step.result step.ensures s.args.variables _ _ c.in-None.is (omega (arith, s.requires.2))

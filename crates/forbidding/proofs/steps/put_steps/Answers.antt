@@ -2,44 +2,23 @@
 use native.Mathlib.Omega.{arith}
 use Rattle.forbidding.proofs.Stepping.{steps_none, step_room, steps_more, steps_all}
 use Rattle.forbidding.proofs.steps.put_steps.Goals as goal
-use Rattle.forbidding.proofs.steps.put_steps.Lts as lts
-use Rattle.forbidding.proofs.steps.put_steps.Reads as reads
-use Rattle.forbidding.proofs.steps.put_steps.Tie as tie
-
--- ---- places in the code
-
-abbrev In-loop-i : Type 0
-In-loop-i = lts.In-loop tie.the-claims reads.Pre reads.Post goal.the-invariant-loop-i goal.the-decreases-loop-i
-
-abbrev Start : Type 0
-Start = lts.Start tie.the-claims reads.Pre reads.Post goal.the-invariant-loop-i goal.the-decreases-loop-i
-
--- the beginning, in the loop's turn
-abbrev begun : In-loop-i → Start
-begun c = c.before.before.before.before
 
 pub loop-i-init : goal.loop-i-init
 loop-i-init c = steps_none _ _ _ _ _ _ c.requires.2
 
 pub overflow_mul-i : goal.overflow_mul-i
-overflow_mul-i c = omega (arith, ((begun c.before).requires.0 c.loop-i.i (omega arith)).whole)
+overflow_mul-i c = omega (arith, (c.requires.0 c.loop-i.i (omega arith)).whole)
 
 pub overflow_add-first : goal.overflow_add-first
-overflow_add-first c = omega (arith, ((begun c.before).requires.0 c.loop-i.i (omega arith)).whole)
+overflow_add-first c = omega (arith, (c.requires.0 c.loop-i.i (omega arith)).whole)
 
 pub put_step-next-requires : goal.put_step-next-requires
 put_step-next-requires c =
-    let s = begun c.before.before in
-    let l = c.loop-i in (
-      s.requires.0 l.i (omega arith),
-      s.requires.1,
-      step_room _ _ _ _ _ _ s.requires.2 _ _ _ l.invariant (omega arith),
-    )
+    let l = c.loop-i in
+    (c.requires.0 l.i (omega arith), c.requires.1, step_room _ _ _ _ _ _ c.requires.2 _ _ _ l.invariant (omega arith))
 
 pub loop-i-preserved : goal.loop-i-preserved
-loop-i-preserved c =
-    let i = c.before.before.before.before.before in
-    steps_more _ _ _ _ _ _ (begun i).requires.2 _ _ _ i.loop-i.invariant (omega arith) _ _ c.put_step-next.ensures
+loop-i-preserved c = steps_more _ _ _ _ _ _ c.requires.2 _ _ _ c.loop-i.invariant (omega arith) _ _ c.put_step-next.ensures
 
 pub shape_of-bytes : goal.shape_of-bytes
 shape_of-bytes c = c.loop-i.invariant.put.same

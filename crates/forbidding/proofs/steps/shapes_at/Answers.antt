@@ -20,20 +20,20 @@ Start = lts.Start tie.the-claims reads.Pre reads.Post
 abbrev begun : After-transition_at-t → Start
 begun c = c.before.before
 
-pub returns-in-Variable : goal.returns-in-Variable
-returns-in-Variable c =
+pub returns-in-Some : goal.returns-in-Some
+returns-in-Some c =
     let s = begun c.before.before.before in
     let t = c.transition_at-t in
     let step = c.steps_through-step in (
-      λ n. sym (ap length (shapes_through s.args.job.now s.args.at t.result t.ensures s.requires step.result step.ensures n _ c.in-Variable.is)),
+      λ n. sym (ap length (shapes_through s.args.job.now s.args.at t.result t.ensures s.requires step.result step.ensures n _ c.in-Some.is)),
       omega arith,
     )
 
-pub returns-in-Nothing : goal.returns-in-Nothing
-returns-in-Nothing c =
+pub returns-in-None : goal.returns-in-None
+returns-in-None c =
     let s = begun c.before.before.before in
     let t = c.transition_at-t in
     let step = c.steps_through-step in (
-      λ n. sym (ap length (shapes_none s.args.job.now s.args.at t.result t.ensures s.requires step.result step.ensures n c.in-Nothing.is)),
+      λ n. sym (ap length (shapes_none s.args.job.now s.args.at t.result t.ensures s.requires step.result step.ensures n c.in-None.is)),
       omega arith,
     )
