@@ -1,22 +1,51 @@
 // The call for C of joining two jobs: include/vorruda.h declares it.
 #![tactic(auto)]
 
-ghost use Rattle.std.specs.Prelude.{◌↔◌, ◌≡◌};
+ghost use Rattle.std.specs.Prelude.{◌↔◌, ◌≡◌, Err};
 ghost use Rattle.joining.specs.Conditions.{JoinMeans, SafeJoined};
-ghost use Rattle.joining.specs.Join.{Joining, join as join_due};
+ghost use Rattle.joining.specs.Join.{Joining, pair_refused, join as join_due};
 ghost use Rattle.joint.specs.Answer.{joining_of, join_result, Joinable};
 ghost use Rattle.number.specs.CallResult.{lent};
+ghost use Rattle.verdict.specs.Verdict.{reason_of};
 
-use joint::{JoinAnswer, join};
+use joint::{JoinCounts, JoinRefusal, join};
 use lending::lend;
+use verdict::{Refused, refusal_number, rule_name, rule_number};
 
-// Tells a host the answer's number and, in an array that it lends, both sets of counts; or the pair, the place, the broken rule, its name and zeros;
-// beside 24 to 27 zeros.
-fn tell(answer: JoinAnswer, out: &mut [u64]) -> u32
+// Tells a host that a pair, 1 or 2, is refused: the number of the refusal, and the pair, the place, the broken rule, its name and zeros.
+fn tell_pair(pair: u64, refused: Refused, out: &mut [u64]) -> u32
+    ensures number { result ≡ (join_result (pair_refused pair (reason_of refused.refusal) refused.place)).code }
+    ensures values { out.new ≡ lent (join_result (pair_refused pair (reason_of refused.refusal) refused.place)).values out.old }
+{
+    let place = refused.place as u64;
+    let rule = u64::from(rule_number(refused.refusal));
+    let name = u64::from(rule_name(refused.refusal));
+    lend(&[pair, place, rule, name, 0, 0, 0, 0], out);
+    refusal_number(refused.refusal)
+}
+
+// Tells a host why two pairs are not joined: what is told of the pair that is refused; beside 24 to 27 zeros.
+fn tell_refusal(refusal: JoinRefusal, out: &mut [u64]) -> u32
+    ensures { (result ≡ (join_result (joining_of (Err refusal))).code) × (out.new ≡ lent (join_result (joining_of (Err refusal))).values out.old) }
+{
+    match refusal {
+        JoinRefusal::First(refused) => tell_pair(1, refused, out),
+        JoinRefusal::Second(refused) => tell_pair(2, refused, out),
+        JoinRefusal::Joint(joint) => {
+            lend(&[0; 8], out);
+            joint.number()
+        }
+    }
+}
+
+// Tells a host the answer's number and, in an array that it lends, both sets of counts; or why the two are not joined.
+fn tell(answer: Result<JoinCounts, JoinRefusal>, out: &mut [u64]) -> u32
     ensures { (result ≡ (join_result (joining_of answer)).code) × (out.new ≡ lent (join_result (joining_of answer)).values out.old) }
 {
     match answer {
-        JoinAnswer::Both(a, b) => {
+        Ok(counts) => {
+            let a = counts.first;
+            let b = counts.second;
             let values = [
                 a.bads as u64,
                 a.members as u64,
@@ -30,18 +59,7 @@ fn tell(answer: JoinAnswer, out: &mut [u64]) -> u32
             lend(&values, out);
             0
         }
-        JoinAnswer::PairRefused(pair, refusal, place) => {
-            let rule = verdict::rule_number(refusal) as u64;
-            let name = verdict::rule_name(refusal) as u64;
-            let values = [pair as u64, place as u64, rule, name, 0, 0, 0, 0];
-            lend(&values, out);
-            verdict::refusal_number(refusal)
-        }
-        JoinAnswer::Refused(number) => {
-            let values = [0u64; 8];
-            lend(&values, out);
-            number as u32
-        }
+        Err(refusal) => tell_refusal(refusal, out),
     }
 }
 

@@ -1,33 +1,36 @@
 -- The same bytes, and the same facts by their bytes.
-use mathlib.Core.Bool.{Bool, false}
-use mathlib.Core.List.{List}
-use mathlib.Core.Path.{◌≡◌, sym, ap, ◌∙◌}
+use mathlib.Core.Bool.{Bool, true, false, ◌&&◌, not}
+use mathlib.Core.List.{List, [], ◌∷◌}
+use mathlib.Core.Path.{◌≡◌, refl, sym, ap, ◌∙◌}
 use Prim.Native.Nat.{ℕ, zero, suc, ◌+◌, ◌*◌, ◌/◌, ◌%◌, ◌<◌}
 use native.Mathlib.Omega.{arith}
+use borrow.Author.Tests.{not-true, not-false}
 use lib.Dec.{eqb}
 use lib.ListN.{length, get_or}
+use lib.Pointwise.{pointwise}
 use lib.Seq.{ext_get_or}
-use Rattle.lists.specs.Test.{all_from}
 use Rattle.lists.proofs.Range.{length_from, same_table}
-use Rattle.lists.proofs.Reflect.{r_eq, r_all, is_false, same_test}
+use Rattle.lists.proofs.Reflect.{same_test}
 use Rattle.facts.specs.Facts.{Fact}
 use Rattle.factrows.specs.Listed.{count, fact_at, listed}
 use Rattle.joining.specs.Join.{same_numbers, same_facts}
 use Rattle.joining.proofs.Tests.{r_numbers, r_facts}
 
+-- what `==` says of two slices is that they have the same numbers
+pub same_slices : (xs ys : List ℕ) → pointwise eqb xs ys ≡ same_numbers xs ys
+same_slices [] [] = refl
+same_slices [] (y ∷ ys) = refl
+same_slices (x ∷ xs) [] = refl
+same_slices (x ∷ xs) (y ∷ ys) = ap (λ b. eqb x y && b) (same_slices xs ys)
+
+module _ (xs ys : List ℕ) (r : Bool) (e : r ≡ not (pointwise eqb xs ys)) where
+  pub slices_differ : r ≡ true → same_numbers xs ys ≡ false
+  slices_differ t = sym (same_slices xs ys) ∙ not-true (pointwise eqb xs ys) (sym e ∙ t)
+
+  pub slices_same : r ≡ false → same_numbers xs ys ≡ true
+  slices_same t = sym (same_slices xs ys) ∙ not-false (pointwise eqb xs ys) (sym e ∙ t)
+
 module _ (xs ys : List ℕ) where
-  -- the numbers at an index are the same
-  abbrev pub same_at : ℕ → Bool
-  same_at k = eqb (get_or xs k 0) (get_or ys k 0)
-
-  pub other_length : (length xs ≡ length ys → ⊥) → false ≡ same_numbers xs ys
-  other_length n = sym (is_false (same_numbers xs ys) (λ t. n (ap length ((r_numbers xs ys).holds t))))
-
-  pub same_length : length xs ≡ length ys → all_from (length xs) 0 same_at ≡ same_numbers xs ys
-  same_length e =
-      same_test (r_all same_at (length xs) (λ i. r_eq (get_or xs i 0) (get_or ys i 0))) (r_numbers xs ys) (λ h. ext_get_or 0 xs ys e h)
-      (λ d i h. ap (λ (l : List ℕ). get_or l i 0) d)
-
   -- facts are the same if their bytes are
   module _ (m n : ℕ) (x-threes : length xs ≡ 3 * m) (y-threes : length ys ≡ 3 * n) where
     x_count : count xs ≡ m

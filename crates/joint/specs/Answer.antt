@@ -1,5 +1,5 @@
 -- The code's answer on two pairs as that of the definitions, and what a host is told.
-use Rattle.std.specs.Prelude.{Bool, ◌&&◌, ◌||◌, not, List, [], ◌∷◌, ℕ, zero, suc, eqb}
+use Rattle.std.specs.Prelude.{Bool, ◌&&◌, ◌||◌, not, List, [], ◌∷◌, ℕ, eqb, Result, Ok, Err}
 use Rattle.std.proofs.Math.Option.{Option, none, some}
 use Rattle.lists.specs.List.{any_of}
 use Rattle.shape.specs.Shape.{Shape}
@@ -10,19 +10,30 @@ use Rattle.joining.specs.Conditions.{JoinMeans}
 use Rattle.joining.specs.Join.{Joining, both, pair_refused, joint_refused, same_shape}
 use Rattle.number.specs.CallResult.{CallResult}
 use Rattle.verdict.specs.Verdict.{reason_of, counts_told, rule_told, name_told}
-use Rattle.joint.specs.declared.JoinAnswer.{JoinAnswer}
-use Rattle.joint.specs.declared.JoinAnswer.TheVariants.{Both, PairRefused, Refused}
+use Rattle.joint.specs.declared.JoinCounts.{JoinCounts}
+use Rattle.joint.specs.declared.JoinRefusal.{JoinRefusal}
+use Rattle.joint.specs.declared.JoinRefusal.TheVariants.{First, Second, Joint}
+use Rattle.joint.specs.declared.JointRefusal.{JointRefusal}
+use Rattle.joint.specs.declared.JointRefusal.TheVariants.{Outside, VariablesDiffer, GoesOn, NotListed}
+
+-- document 02's number of what falls where both pairs are accepted
+abbrev pub joint_number : JointRefusal → ℕ
+joint_number Outside = 24
+joint_number VariablesDiffer = 25
+joint_number GoesOn = 26
+joint_number NotListed = 27
 
 -- the answer of the definitions that an answer of the code is
-abbrev pub joining_of : JoinAnswer → Joining
-joining_of (Both a b) = both (counts_told a) (counts_told b)
-joining_of (PairRefused n r place) = pair_refused n (reason_of r) place
-joining_of (Refused n) = joint_refused n
+abbrev pub joining_of : Result JoinCounts JoinRefusal → Joining
+joining_of (Ok c) = both (counts_told c.first) (counts_told c.second)
+joining_of (Err (First r)) = pair_refused 1 (reason_of r.refusal) r.place
+joining_of (Err (Second r)) = pair_refused 2 (reason_of r.refusal) r.place
+joining_of (Err (Joint r)) = joint_refused (joint_number r)
 
--- a refusal's number; 0 where there is none
-abbrev pub refusal_or : ℕ → Option ℕ
-refusal_or zero = none
-refusal_or (suc n) = some (suc n)
+-- the number of what falls; none where the two are to be joined
+abbrev pub falls_of : Result (Unit {0}) JointRefusal → Option ℕ
+falls_of (Ok joins) = none
+falls_of (Err r) = some (joint_number r)
 
 -- the shape is one of these at the state
 abbrev pub listed_among : ℕ → List Located → Shape → Bool

@@ -1,50 +1,69 @@
 // Two jobs joined at a hand-over state: one answer for the bytes of both pairs and the state.
 #![tactic(auto)]
 
-ghost use Rattle.std.specs.Prelude.{not, ◌&&◌, List, ◌↔◌, ◌≡◌, ℕ, ◌+◌, ◌*◌, ◌≤◌, ◌<◌, eqb, length, get_or};
+ghost use Rattle.std.specs.Prelude.{not, ◌&&◌, List, ◌↔◌, ◌≡◌, ℕ, ◌+◌, ◌*◌, ◌≤◌, ◌<◌, eqb, length, get_or, OnOk};
 ghost use Rattle.lists.specs.List.{all_of};
 ghost use Rattle.lists.specs.Test.{all_from};
 ghost use Rattle.checker.specs.Jobs.{file_in};
-ghost use Rattle.format.specs.Parser.{parsed};
 ghost use Rattle.format.specs.Verdict.{no_state, verdict_at};
 ghost use Rattle.joining.specs.Conditions.{JoinMeans, SafeJoined};
-ghost use Rattle.joining.specs.Join.{Joining, joint_of, same_numbers, same_shape, joint_refusal, read_joint, after_pairs, after_second, join as join_due};
-ghost use Rattle.joint.specs.Answer.{joining_of, refusal_or, listed_among, is_settled};
-ghost use Rattle.joint.specs.declared.JoinAnswer.TheVariants.{Both};
+ghost use Rattle.joining.specs.Join.{Joining, joint_of, same_shape, joint_refusal, read_joint, after_second, join as join_due};
+ghost use Rattle.joint.specs.Answer.{joint_number, joining_of, falls_of, listed_among, is_settled};
+ghost use Rattle.joint.specs.declared.JoinRefusal.TheVariants.{Joint};
 ghost use Rattle.layout.specs.Entries.{located_at, entries_at, members_at, EntryInRange, EntriesIn, Table};
 ghost use Rattle.reader.specs.Job.{JobRead};
 ghost use Rattle.verdict.specs.Verdict.{counts_told};
-ghost use Rattle.verdict.specs.declared.Counts.{Counts as CountsAnswer};
 
-use checker::{PairVerdict, check_pair};
+use checker::check_pair;
 use layout::{entry_end, fact_span};
 use number::wide;
 use reader::Header;
-use verdict::{Counts, Refusal};
+use verdict::{Counts, Refused};
 
-// Both sets of counts; or the pair that is refused, 1 or 2, why, and the place; or one of 24 to 27.
+// What falls where both pairs are accepted, by document 02's names of 24 to 27, in their order.
 #[derive(Clone, Copy)]
-pub enum JoinAnswer {
-    Both(Counts, Counts),
-    PairRefused(u8, Refusal, usize),
-    Refused(u8),
+pub enum JointRefusal {
+    Outside,
+    VariablesDiffer,
+    GoesOn,
+    NotListed,
 }
 
-// Whether two slices hold the same bytes.
-fn same_bytes(a: &[u8], b: &[u8]) -> bool
-    ensures { result ≡ same_numbers a.now b.now }
-{
-    if a.len() != b.len() {
-        return false;
-    }
-    let mut i = 0;
-    while i < a.len() {
-        if a[i] != b[i] {
-            return false;
+impl JointRefusal {
+    // Document 02's number of it.
+    pub fn number(self) -> u32
+        ensures { result ≡ joint_number self }
+    {
+        match self {
+            JointRefusal::Outside => 24,
+            JointRefusal::VariablesDiffer => 25,
+            JointRefusal::GoesOn => 26,
+            JointRefusal::NotListed => 27,
         }
-        i += 1;
     }
-    true
+}
+
+// Why two pairs are not joined: the first is refused, or the second; or what falls of both.
+#[derive(Clone, Copy)]
+pub enum JoinRefusal {
+    First(Refused),
+    Second(Refused),
+    Joint(JointRefusal),
+}
+
+impl From<JointRefusal> for JoinRefusal {
+    ghost from_gives = { λ refusal r. r ≡ Joint refusal };
+
+    fn from(refusal: JointRefusal) -> JoinRefusal {
+        JoinRefusal::Joint(refusal)
+    }
+}
+
+// The counts of two pairs that are to be joined.
+#[derive(Clone, Copy)]
+pub struct JoinCounts {
+    pub first: Counts,
+    pub second: Counts,
 }
 
 // Whether the entries at two places, of files that need not be of one version, have the same shape.
@@ -60,19 +79,15 @@ fn same_shape(bytes: &[u8], at: usize, others: &[u8], other: usize, variables: u
     let other_vars = other + 2;
     let other_links = other_vars + variables;
     let other_end = other_links + m;
-    if !same_bytes(&bytes[vars..links], &others[other_vars..other_links]) {
+    if bytes[vars..links] != others[other_vars..other_links] {
         return false;
     }
-    if !same_bytes(&bytes[links..end], &others[other_links..other_end]) {
+    if bytes[links..end] != others[other_links..other_end] {
         return false;
     }
     let span = fact_span(bytes, at, variables);
-    let first = span.first;
-    let last = span.end;
     let other_span = fact_span(others, other, variables);
-    let other_first = other_span.first;
-    let other_last = other_span.end;
-    same_bytes(&bytes[first..last], &others[other_first..other_last])
+    bytes[span.first..span.end] == others[other_span.first..other_span.end]
 }
 
 // Whether the forbidden shape at a place is that of a member, and forbidden at the hand-over.
@@ -107,13 +122,11 @@ fn is_listed(
     ensures { result ≡ listed_among state (entries_at job.now variables first bads) (located_at cert.now variables member).shape }
 {
     let mut at = first;
-    let mut i = 0;
-    while i < bads {
+    for _i in 0..bads {
         if forbids(job, at, variables, state, cert, member) {
             return true;
         }
         at = entry_end(job, at, variables);
-        i += 1;
     }
     false
 }
@@ -141,12 +154,10 @@ fn owed_listed(
     requires { (EntriesIn job.now h.variables h.bads_at h.bads) × (Table cert.now h.variables starts.now) }
     ensures { result ≡ all_of (is_settled state (entries_at job.now h.variables h.bads_at h.bads) start) (members_at cert.now h.variables starts.now) }
 {
-    let mut i = 0;
-    while i < starts.len() {
-        if !is_settled(job, h, state, cert, starts[i] as usize, start) {
+    for &member in starts {
+        if !is_settled(job, h, state, cert, member as usize, start) {
             return false;
         }
-        i += 1;
     }
     true
 }
@@ -156,51 +167,39 @@ fn ends(job: &[u8], first: usize, count: usize, state: usize) -> bool
     requires { (i : ℕ) → i < count → first + 5 * i < length job.now }
     ensures { result ≡ all_from count 0 (λ i. not (eqb (get_or job.now (first + 5 * i) 0) state)) }
 {
-    let mut i = 0;
-    while i < count {
+    for i in 0..count {
         if wide(job[first + 5 * i]) == state {
             return false;
         }
-        i += 1;
     }
     true
 }
 
-// Which of 24 to 27 falls first, for members of the second by the table of their places; 0 for none.
-fn joint_refusal(
+// Whether the two are to be joined, for members of the second by the table of their places; else which of 24 to 27 falls first.
+fn check_joint(
     job: &[u8],
     h: Header,
     second: Header,
     cert: &[u8],
     starts: &[u16],
     state: usize,
-) -> u8
+) -> Result<(), JointRefusal>
     requires { (JobRead job.now h) × (Table cert.now second.variables starts.now) }
-    ensures { (job2 : List ℕ) → refusal_or result ≡ joint_refusal (joint_of (file_in job.now h) (file_in job2 second) state) (members_at cert.now second.variables starts.now) }
+    ensures { (job2 : List ℕ) → falls_of result ≡ joint_refusal (joint_of (file_in job.now h) (file_in job2 second) state) (members_at cert.now second.variables starts.now) }
 {
     if h.states <= state {
-        return 24;
+        return Err(JointRefusal::Outside);
     }
     if h.variables != second.variables {
-        return 25;
+        return Err(JointRefusal::VariablesDiffer);
     }
     if !ends(job, h.transitions_at, h.transitions, state) {
-        return 26;
+        return Err(JointRefusal::GoesOn);
     }
     if !owed_listed(job, h, state, cert, starts, second.start) {
-        return 27;
+        return Err(JointRefusal::NotListed);
     }
-    0
-}
-
-// The answer where both pairs are accepted.
-fn tell(a: Counts, b: Counts, refusal: u8) -> JoinAnswer
-    ensures { (next : ℕ) → joining_of result ≡ after_pairs (counts_told a) (counts_told b) (parsed (refusal_or refusal) next) }
-{
-    if refusal == 0 {
-        return JoinAnswer::Both(a, b);
-    }
-    JoinAnswer::Refused(refusal)
+    Ok(())
 }
 
 // The answer where the first pair is accepted.
@@ -211,37 +210,41 @@ fn join_second(
     job2: &[u8],
     cert2: &[u8],
     state: usize,
-) -> JoinAnswer
+) -> Result<JoinCounts, JoinRefusal>
     requires { JobRead job1.now first }
     ensures { joining_of result ≡ after_second (counts_told a) (verdict_at no_state job2.now cert2.now) (read_joint job1.now job2.now cert2.now state) }
 {
     let mut starts = [0u16; 512];
-    let v = check_pair(job2, cert2, false, &mut starts);
-    match v {
-        PairVerdict::Refused(why, place) => JoinAnswer::PairRefused(2, why, place),
-        PairVerdict::Accepted(b, second) => {
-            let members = b.members as usize;
+    match check_pair(job2, cert2, false, &mut starts) {
+        Err(refused) => Err(JoinRefusal::Second(refused)),
+        Ok(pair) => {
+            let members = pair.counts.members as usize;
             let all = &starts[..];
-            tell(
-                a,
-                b,
-                joint_refusal(job1, first, second, cert2, &all[..members], state),
-            )
+            check_joint(job1, first, pair.header, cert2, &all[..members], state)?;
+            Ok(JoinCounts {
+                first: a,
+                second: pair.counts,
+            })
         }
     }
 }
 
 // The answer on two pairs and a hand-over state: both sets of counts exactly if the two are to be joined there, and then no run of the joined program
 // meets a shape that it forbids.
-pub fn join(job1: &[u8], cert1: &[u8], job2: &[u8], cert2: &[u8], state: usize) -> JoinAnswer
+pub fn join(
+    job1: &[u8],
+    cert1: &[u8],
+    job2: &[u8],
+    cert2: &[u8],
+    state: usize,
+) -> Result<JoinCounts, JoinRefusal>
     ensures exact { joining_of result ≡ join_due job1.now cert1.now job2.now cert2.now state }
     ensures means { (j : Joining) → (joining_of result ≡ j) ↔ JoinMeans job1.now cert1.now job2.now cert2.now state j }
-    ensures safe { (a b : CountsAnswer) → result ≡ Both a b → SafeJoined job1.now job2.now state }
+    ensures safe { OnOk result (SafeJoined job1.now job2.now state) }
 {
     let mut starts = [0u16; 512];
-    let v = check_pair(job1, cert1, true, &mut starts);
-    match v {
-        PairVerdict::Refused(why, place) => JoinAnswer::PairRefused(1, why, place),
-        PairVerdict::Accepted(a, first) => join_second(job1, first, a, job2, cert2, state),
+    match check_pair(job1, cert1, true, &mut starts) {
+        Err(refused) => Err(JoinRefusal::First(refused)),
+        Ok(pair) => join_second(job1, pair.header, pair.counts, job2, cert2, state),
     }
 }

@@ -6,29 +6,6 @@ use borrow.Author.Tests.{eq-eqb, ne_eqb}
 use Rattle.lists.proofs.Test.{all_passed, all_failed, all_done}
 use Rattle.joint.proofs.ends.Invariants.{elsewhere}
 use Rattle.joint.proofs.ends.Goals as goal
-use Rattle.joint.proofs.ends.Lts as lts
-use Rattle.joint.proofs.ends.Reads as reads
-use Rattle.joint.proofs.ends.Tie as tie
-
--- ---- places in the code
-
-abbrev After-wide : Type 0
-After-wide = lts.After-wide tie.the-claims reads.Pre reads.Post goal.the-invariant-loop-i goal.the-decreases-loop-i
-
-abbrev In-loop-i : Type 0
-In-loop-i = lts.In-loop tie.the-claims reads.Pre reads.Post goal.the-invariant-loop-i goal.the-decreases-loop-i
-
-abbrev Start : Type 0
-Start = lts.Start tie.the-claims reads.Pre reads.Post goal.the-invariant-loop-i goal.the-decreases-loop-i
-
-abbrev Then-wide-state : Type 0
-Then-wide-state = lts.Then1 tie.the-claims reads.Pre reads.Post goal.the-invariant-loop-i goal.the-decreases-loop-i
-
-abbrev turn : After-wide → In-loop-i
-turn c = c.before.before
-
-abbrev begun : Then-wide-state → Start
-begun c = c.before.before.before.before.before.before
 
 pub loop-i-init : goal.loop-i-init
 loop-i-init c = let all : c.args.count - 0 ≡ c.args.count = omega arith in rw all refl
@@ -47,20 +24,17 @@ wide-requires c = tt
 
 pub returns-then-wide-state : goal.returns-then-wide-state
 returns-then-wide-state c =
-    let a = (begun c.before).args in
-    let l = (turn c.before.before).loop-i in
-    sym (all_failed (elsewhere a.job.now a.first a.state) a.count l.i (turn c.before.before).loop-i-test.true
-    (rw (eq-eqb _ _ (sym c.wide.ensures.0 ∙ c.if-wide-state.true)) refl)) ∙ l.invariant
+    let a = c.args in
+    sym (all_failed (elsewhere a.job.now a.first a.state) a.count c.loop-i.i c.loop-i-test.true
+    (rw (eq-eqb _ _ (sym c.wide.ensures.0 ∙ c.if-wide-state.true)) refl)) ∙ c.loop-i.invariant
 
 pub loop-i-preserved : goal.loop-i-preserved
 loop-i-preserved c =
     let a = c.args in
-    let l = (turn c.before.before).loop-i in
-    sym (all_passed (elsewhere a.job.now a.first a.state) a.count l.i (turn c.before.before).loop-i-test.true
-    (rw (ne_eqb _ _ (λ e. c.if-wide-state.false (c.wide.ensures.0 ∙ e))) refl)) ∙ l.invariant
+    sym (all_passed (elsewhere a.job.now a.first a.state) a.count c.loop-i.i c.loop-i-test.true
+    (rw (ne_eqb _ _ (λ e. c.if-wide-state.false (c.wide.ensures.0 ∙ e))) refl)) ∙ c.loop-i.invariant
 
 pub returns : goal.returns
 returns c =
     let a = c.args in
-    let l = c.loop-i in
-    sym (all_done (elsewhere a.job.now a.first a.state) a.count l.i (omega arith)) ∙ l.invariant
+    sym (all_done (elsewhere a.job.now a.first a.state) a.count c.loop-i.i (omega arith)) ∙ c.loop-i.invariant

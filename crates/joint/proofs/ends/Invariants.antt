@@ -14,6 +14,3 @@ elsewhere job first state i = not (eqb (get_or job (first + 5 * i) 0) state)
 
 abbrev pub invariant-loop-i : goal.invariant-loop-i
 invariant-loop-i l = all_from (l.count - l.i) l.i (elsewhere l.job l.first l.state) ≡ all_from l.count 0 (elsewhere l.job l.first l.state)
-
-abbrev pub decreases-loop-i : goal.decreases-loop-i
-decreases-loop-i l = l.count - l.i

@@ -15,10 +15,7 @@ abbrev pub settled_at : List ℕ → Header → ℕ → List ℕ → List ℕ �
 settled_at job h state cert starts start i =
     is_settled state (entries_at job h.variables h.bads_at h.bads) start (located_at cert h.variables (get_or starts i 0))
 
-abbrev pub invariant-loop-i : goal.invariant-loop-i
-invariant-loop-i l =
+abbrev pub invariant-loop-member : goal.invariant-loop-member
+invariant-loop-member l =
     let test : ℕ → Bool = settled_at l.job l.h l.state l.cert l.starts l.start in
-    all_from (length l.starts - l.i) l.i test ≡ all_from (length l.starts) 0 test
-
-abbrev pub decreases-loop-i : goal.decreases-loop-i
-decreases-loop-i l = length l.starts - l.i
+    all_from (length l.starts - l.member-index) l.member-index test ≡ all_from (length l.starts) 0 test
