@@ -145,6 +145,7 @@ fn check_member(
         return Ok(from);
     }
     let mut t = from;
+    // along the index: behind each transition stands which is the next into the state
     while 0 < k {
         let by = transition_named(job, h.transitions_at, k);
         t = check_transition(cert, starts, h.variables, by, &s, &facts, t)?;

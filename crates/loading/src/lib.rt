@@ -13,6 +13,7 @@ fn read_full(file: &mut impl Read, room: &mut [u8]) -> usize
     ensures prefix { result ≡ length (take result room.new) }
 {
     let mut done = 0;
+    // a read says how many bytes it gave, so there is no index to count
     while done < room.len() {
         match file.read(&mut room[done..]) {
             Ok(n) if n > 0 => done += n,

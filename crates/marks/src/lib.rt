@@ -69,6 +69,7 @@ pub fn walk(s: &[u8; 28], marks: &mut [u8; 28], first: usize) -> WalkEnd
     let n = cells_held(s);
     let mut p = first;
     let mut links = 1;
+    // from link to link, up to a mark: the array says where to, and no index is counted
     while mark_at(marks, n, p) == FREE {
         marks[p] = USED;
         p = wide(s[p]);

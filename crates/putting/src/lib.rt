@@ -26,6 +26,7 @@ pub fn put_number(bytes: &mut [u8], at: usize, n: u64) -> usize
     let mut written = [0u8; 20];
     let mut first: usize = 19;
     let mut left = n;
+    // digits from the last on; how many there are is seen by dividing
     while 10 <= left {
         written[first] = b'0' + (left % 10) as u8;
         left /= 10;

@@ -20,6 +20,7 @@ fn greatest(a: u32, b: u32) -> u32
     ensures { result ≡ gcd a b }
 {
     let (mut x, mut y) = (a, b);
+    // Euclid's turns, as many as it takes
     while y != 0 {
         (x, y) = (y, x % y);
     }
