@@ -61,7 +61,7 @@ pub(crate) fn check_forbidden(
         let mut facts = [0u16; 28];
         load_rows(job, at, variables, &mut facts);
         t = check_cover(cert, starts, variables, job[at], &s, &facts, t)?;
-        at = entry_end(job, at, variables);
+        at = entry_end(job, at, variables).unwrap();
     }
     Ok(t)
 }

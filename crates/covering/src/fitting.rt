@@ -109,8 +109,7 @@ pub(crate) fn fact_missing(
     if version_of(cert) != 2 {
         return None;
     }
-    let span = fact_span(cert, start, variables);
-    let listed = &cert[span.first..span.end];
+    let listed = &cert[fact_span(cert, start, variables)];
     if holds_all(facts, listed, images) {
         return None;
     }

@@ -85,9 +85,9 @@ fn same_shape(bytes: &[u8], at: usize, others: &[u8], other: usize, variables: u
     if bytes[links..end] != others[other_links..other_end] {
         return false;
     }
-    let span = fact_span(bytes, at, variables);
-    let other_span = fact_span(others, other, variables);
-    bytes[span.first..span.end] == others[other_span.first..other_span.end]
+    let facts = &bytes[fact_span(bytes, at, variables)];
+    let other_facts = &others[fact_span(others, other, variables)];
+    facts == other_facts
 }
 
 // Whether the forbidden shape at a place is that of a member, and forbidden at the hand-over.
@@ -126,7 +126,7 @@ fn is_listed(
         if forbids(job, at, variables, state, cert, member) {
             return true;
         }
-        at = entry_end(job, at, variables);
+        at = entry_end(job, at, variables).unwrap();
     }
     false
 }

@@ -1,21 +1,15 @@
 -- The test whether an entry stands whole.
-use mathlib.Core.Bool.{Bool, true, false, not, cond}
+use mathlib.Core.Bool.{Bool, true, false, cond}
 use mathlib.Core.List.{List}
 use mathlib.Core.Path.{◌≡◌, refl, sym, ◌∙◌}
-use Prim.Native.Nat.{ℕ, ◌+◌, ◌*◌, ◌≤◌}
+use Prim.Native.Nat.{ℕ, ◌+◌, ◌≤◌}
 use native.Mathlib.Omega.{arith}
-use borrow.Author.Tests.{eq-eqb, ne_eqb}
-use lib.Dec.{eqb, leb}
+use lib.Dec.{leb}
 use lib.ListN.{length, get_or}
-use Rattle.lists.proofs.Reflect.{Reflect, r_and, r_iff, r_eq, r_le, r_lt, cond_cases, is_true, is_false, same_test, passes, fails}
-use Rattle.layout.specs.Entries.{version_of, fact_count, facts_first, facts_end, links_end, links_inside, entry_end, is_whole, EntryInRange, Whole}
-
--- facts come after the links
-pub facts_after : (bytes : List ℕ) (at : ℕ) → at ≤ facts_end bytes at
-unfolding facts_end facts_first
-facts_after bytes at =
-    cond_cases (λ n. at ≤ n) (r_eq (version_of bytes) 2)
-    (λ _. cond_cases (λ n. at ≤ n + 3 * fact_count bytes at) (r_lt (get_or bytes at 0) 128) (λ _. omega arith) (λ _. omega arith)) (λ _. omega arith)
+use Rattle.std.specs.Prelude.{Option, None, Some, IsSome, is_some}
+use Rattle.std.proofs.lemmas.Option.{none-some, cond_some}
+use Rattle.lists.proofs.Reflect.{Reflect, r_and, r_iff, r_le, is_true, is_false, same_test, passes, fails}
+use Rattle.layout.specs.Entries.{links_end, links_inside, entry_end, is_whole, EntryInRange, Whole}
 
 module _ (bytes : List ℕ) (variables at : ℕ) where
   -- what the test of the links says
@@ -71,30 +65,30 @@ module _ (bytes : List ℕ) (variables at : ℕ) where
   lost_inside e w = fails (links_inside bytes variables at) e (r_inside.tests (record { variables_most = w.variables_most; cells = w.cells; inside = w.inside }))
 
   -- what is told of the entry's end
-  abbrev end_told : ℕ
-  end_told = cond (is_whole bytes variables at) (entry_end bytes variables at) 0
+  abbrev end_told : Option ℕ
+  end_told = cond (is_whole bytes variables at) (Some (entry_end bytes variables at)) None
 
-  pub no_end : (Whole bytes variables at → ⊥) → 0 ≡ end_told
+  pub no_end : (Whole bytes variables at → ⊥) → None ≡ end_told
   no_end n = rw (sym (not_whole n)) refl
 
-  pub end_told_lem : Whole bytes variables at → entry_end bytes variables at ≡ end_told
+  pub end_told_lem : Whole bytes variables at → Some (entry_end bytes variables at) ≡ end_told
   end_told_lem w = rw (is_whole_lem w) refl
 
-  pub end_some : (r : ℕ) → r ≡ end_told → Whole bytes variables at → r ≡ 0 → ⊥
-  end_some r e w z = omega (arith, sym e ∙ z, end_told_lem w, facts_after bytes (links_end bytes variables at))
+  -- where none is told, the entry is not whole
+  pub end_lost : None ≡ end_told → Whole bytes variables at → ⊥
+  end_lost e w = none-some (entry_end bytes variables at) (e ∙ sym (end_told_lem w))
 
-  pub end_whole : (r : ℕ) → r ≡ end_told → (r ≡ 0 → ⊥) → Whole bytes variables at
-  end_whole r e n = go (is_whole bytes variables at) refl
-    where
-      go : (b : Bool) → is_whole bytes variables at ≡ b → Whole bytes variables at
-      go true z = whole z
-      go false z = absurd (n (rw z at e))
+  -- one that is told is a whole entry's
+  pub end_whole : (end : ℕ) → Some end ≡ end_told → Whole bytes variables at × (end ≡ entry_end bytes variables at)
+  end_whole end e = let p = cond_some (is_whole bytes variables at) (entry_end bytes variables at) end (sym e) in (whole p.0, sym p.1)
 
-  -- it is not 0 exactly if the entry is whole
-  pub end_tells : (r : ℕ) → r ≡ end_told → not (eqb r 0) ≡ is_whole bytes variables at
-  end_tells r e = go (is_whole bytes variables at) refl
+  -- one is told exactly if the entry is whole
+  pub end_tells : (r : Option ℕ) → r ≡ end_told → is_some r ≡ is_whole bytes variables at
+  end_tells r e = rw e (go (is_whole bytes variables at))
     where
-      go : (b : Bool) → is_whole bytes variables at ≡ b → not (eqb r 0) ≡ is_whole bytes variables at
-      go true z =
-          rw (z, ne_eqb r 0 (end_some r e (whole z))) refl
-      go false z = rw (z, eq-eqb r 0 (rw z at e)) refl
+      go : (b : Bool) → is_some (cond b (Some (entry_end bytes variables at)) None) ≡ b
+      go true = refl
+      go false = refl
+
+  pub end_stands : (r : Option ℕ) → r ≡ end_told → Whole bytes variables at → IsSome r
+  end_stands r e w = end_tells r e ∙ is_whole_lem w

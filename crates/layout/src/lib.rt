@@ -2,7 +2,7 @@
 // number of its facts, which may be two.
 #![tactic(auto)]
 
-ghost use Rattle.std.specs.Prelude.{cond, ◌≡◌, ◌+◌, ◌-◌, ◌≤◌, length, get_or, take, drop};
+ghost use Rattle.std.specs.Prelude.{cond, None, Some, ◌≡◌, ◌+◌, ◌-◌, ◌≤◌, length, get_or, take, drop};
 ghost use Rattle.std.proofs.Math.Seq.{paste};
 ghost use Rattle.layout.specs.Entries.{version_of, fact_count, facts_first, facts_end, links_inside, entry_end, is_whole};
 ghost use Rattle.layout.specs.ShapeArray.{links_in};
@@ -11,6 +11,7 @@ ghost use Rattle.layout.specs.Loading.{most_inside, loaded_codes, loaded_shape, 
 use factrows::close;
 use number::wide;
 use place::Place;
+use std::ops::Range;
 
 // The version of a file, its first byte; 0 where it has none.
 pub fn version_of(bytes: &[u8]) -> u8
@@ -80,26 +81,26 @@ fn links_inside(bytes: &[u8], at: usize, variables: usize) -> bool
     n <= 12 && n <= left
 }
 
-// The place after the entry of at most 12 cells that stands whole at a place, where an array has room for its variables; else 0.
-pub fn entry_end(bytes: &[u8], at: usize, variables: usize) -> usize
-    ensures { result ≡ cond (is_whole bytes.now variables at) (entry_end bytes.now variables at) 0 }
+// The place after the entry of at most 12 cells that stands whole at a place, where an array has room for its variables; none where no such entry does.
+pub fn entry_end(bytes: &[u8], at: usize, variables: usize) -> Option<usize>
+    ensures { result ≡ cond (is_whole bytes.now variables at) (Some (entry_end bytes.now variables at)) None }
 {
     if !links_inside(bytes, at, variables) {
-        return 0;
+        return None;
     }
     let n = wide(bytes[at + 1]);
     let end = facts_end(bytes, at + 2 + variables + n);
     if bytes.len() < end {
-        return 0;
+        return None;
     }
-    end
+    Some(end)
 }
 
 // Whether such an entry stands whole at a place.
 pub fn is_whole(bytes: &[u8], at: usize, variables: usize) -> bool
     ensures { result ≡ is_whole bytes.now variables at }
 {
-    entry_end(bytes, at, variables) != 0
+    entry_end(bytes, at, variables).is_some()
 }
 
 // Copies so many bytes, from a place on, to a place of a slice. Byte by byte: with `copy_from_slice` a load of a shape took 28 instructions more.
@@ -161,35 +162,26 @@ pub fn load_shape(bytes: &[u8], at: usize, variables: usize, s: &mut [u8; 28])
     s[0] = n;
 }
 
-// Where the bytes of an entry's facts are, from one place up to another.
-#[derive(Clone, Copy)]
-pub struct Span {
-    pub first: usize,
-    pub end: usize,
-}
-
-// The bytes of the facts of the entry at a place: from the first of them up to the entry's end, also where it lists none; from 0 up to 0 in version 1, and where the
-// entry is not whole.
-pub fn fact_span(bytes: &[u8], at: usize, variables: usize) -> Span
-    ensures { (result.first ≤ result.end) × (result.end ≤ length bytes.now) × (take (result.end - result.first) (drop result.first bytes.now) ≡ entry_facts bytes.now variables at) × (result.first ≡ span_first bytes.now variables at) × (result.end ≡ span_end bytes.now variables at) }
+// Where the bytes of the facts of the entry at a place are: from the first of them up to the entry's end, also where it lists none; from 0 up to 0 in version 1,
+// and where the entry is not whole.
+pub fn fact_span(bytes: &[u8], at: usize, variables: usize) -> Range<usize>
+    ensures { (result.start ≤ result.end) × (result.end ≤ length bytes.now) × (take (result.end - result.start) (drop result.start bytes.now) ≡ entry_facts bytes.now variables at) × (result.start ≡ span_first bytes.now variables at) × (result.end ≡ span_end bytes.now variables at) }
 {
-    let end = entry_end(bytes, at, variables);
-    if end == 0 {
-        return Span { first: 0, end: 0 };
-    }
+    let Some(end) = entry_end(bytes, at, variables) else {
+        return 0..0;
+    };
     if version_of(bytes) != 2 {
-        return Span { first: 0, end: 0 };
+        return 0..0;
     }
     let first = facts_first(bytes, at + 2 + variables + wide(bytes[at + 1]));
-    Span { first, end }
+    first..end
 }
 
 // Loads the facts of the entry at a place, and all that follows from them.
 pub fn load_facts(bytes: &[u8], at: usize, variables: usize, rows: &mut [u16; 28])
     ensures { rows.new ≡ loaded_facts bytes.now variables at }
 {
-    let span = fact_span(bytes, at, variables);
-    close(rows, &bytes[span.first..span.end]);
+    close(rows, &bytes[fact_span(bytes, at, variables)]);
 }
 
 // How many cells the shape in an array has: no more than there are slots from the first link on.

@@ -5,7 +5,7 @@ use Prim.Native.Nat.{◌-◌}
 use native.Mathlib.Omega.{arith}
 use Rattle.run.specs.Run.{Located}
 use Rattle.layout.specs.Entries.{located_at}
-use Rattle.layout.proofs.Whole.{end_told_lem, entry_whole}
+use Rattle.layout.proofs.Whole.{end_whole, end_stands, entry_whole}
 use Rattle.checker.proofs.Lists.{entries_next, entry_next, entries_end}
 use Rattle.joint.specs.Answer.{listed_among}
 use Rattle.joint.proofs.Shapes.{listed_here, listed_later}
@@ -26,15 +26,19 @@ returns-then-forbids c =
     listed_here a.state (located_at a.cert.now a.variables a.member).shape (located_at a.job.now a.variables l.at) _ (sym c.forbids.ensures ∙ c.if-forbids.true)
     ∙ (rw (entries_next a.bads l._i c.loop-i-test.true a.job.now a.variables l.at) at l.invariant.1)
 
-pub entry_end-at-requires : goal.entry_end-at-requires
-entry_end-at-requires c = tt
+pub unwrap-at-requires : goal.unwrap-at-requires
+unwrap-at-requires c =
+    let a = c.args in
+    let l = c.loop-i in
+    let (here, _) = entry_next a.bads l._i c.loop-i-test.true a.job.now a.variables l.at l.invariant.0 in
+    end_stands _ _ _ _ c.entry_end.ensures (entry_whole a.job.now a.variables l.at here c.requires.2)
 
 pub loop-i-preserved : goal.loop-i-preserved
 loop-i-preserved c =
     let a = c.args in
     let l = c.loop-i in
     let (here, after) = entry_next a.bads l._i c.loop-i-test.true a.job.now a.variables l.at l.invariant.0 in
-    let next = c.entry_end-at.ensures ∙ sym (end_told_lem a.job.now a.variables l.at (entry_whole a.job.now a.variables l.at here c.requires.2)) in
+    let (_, next) = end_whole a.job.now a.variables l.at _ (sym c.unwrap-at.ensures ∙ c.entry_end.ensures) in
     let passed = listed_later a.state (located_at a.cert.now a.variables a.member).shape (located_at a.job.now a.variables l.at) _ (sym c.forbids.ensures ∙ c.if-forbids.false) in
     rw next (after, passed ∙ (rw (entries_next a.bads l._i c.loop-i-test.true a.job.now a.variables l.at) at l.invariant.1))
 

@@ -1,5 +1,6 @@
 -- Where the links are not inside, or the facts, there is no end.
-use Rattle.std.proofs.Common.{◌∙◌, sym, arith}
+use Rattle.std.proofs.Common.{◌∙◌, sym, ap, arith}
+use Rattle.std.specs.Prelude.{Some}
 use Rattle.layout.proofs.Whole.{inside, no_end, end_told_lem, lost_inside}
 use Rattle.layout.proofs.entry_end.Goals as goal
 
@@ -31,4 +32,4 @@ pub returns : goal.returns
 returns c =
     let i = inside _ _ _ (sym c.if-not-links_inside.ensures) in
     let end = rw c.wide-n.ensures.0 at c.facts_end-end.ensures in
-    end ∙ end_told_lem _ _ _ (record { variables_most = i.variables_most; cells = i.cells; inside = i.inside; facts_inside = omega (arith, end) })
+    ap Some end ∙ end_told_lem _ _ _ (record { variables_most = i.variables_most; cells = i.cells; inside = i.inside; facts_inside = omega (arith, end) })

@@ -6,7 +6,7 @@ use native.Mathlib.Omega.{arith}
 use Rattle.std.proofs.lemmas.Result.{err_from_is_err_and}
 use Rattle.layout.specs.Entries.{located_at}
 use Rattle.layout.specs.Members.{members_from}
-use Rattle.layout.proofs.Whole.{end_told_lem, entry_whole}
+use Rattle.layout.proofs.Whole.{end_whole, end_stands, entry_whole}
 use Rattle.checker.specs.Checking.{ChecksAll}
 use Rattle.checker.proofs.Checking.{begin, advance, halt, finish}
 use Rattle.checker.proofs.Entry.{entry_stands}
@@ -37,6 +37,13 @@ returns-in_err-t c =
     let p = err_from_is_err_and c.from_residual.result c.from_residual.ensures.1 in
     rw (p.1, p.2) (halt (_ ∷ []) _ owing taken c.in_err-t.was)
 
+pub unwrap-at-requires : goal.unwrap-at-requires
+unwrap-at-requires c =
+    let a = c.args in
+    let l = c.loop-i in
+    let (here, _) = entry_next a.bads l._i c.loop-i-test.true a.job.now a.variables l.at l.invariant.0 in
+    end_stands _ _ _ _ c.entry_end.ensures (entry_whole a.job.now a.variables l.at here c.requires.1)
+
 pub loop-i-preserved : goal.loop-i-preserved
 loop-i-preserved c =
     let a = c.args in
@@ -46,7 +53,7 @@ loop-i-preserved c =
     let stands = entry_stands a.job.now a.variables l.at here c.requires.1 _ _ c.load_shape.ensures c.load_rows.ensures in
     let taken : ChecksAll a.cert.now (members_from a.cert.now a.variables a.starts.now) (located_at a.job.now a.variables l.at ∷ []) l.t c.check_cover.result =
     checks_stand a.cert.now (members_from a.cert.now a.variables a.starts.now) _ (_ ∷ []) (_ ∷ []) (stands, tt) l.t c.check_cover.result c.check_cover.ensures in
-    let next = c.entry_end-at.ensures ∙ sym (end_told_lem a.job.now a.variables l.at (entry_whole a.job.now a.variables l.at here c.requires.1)) in
+    let (_, next) = end_whole a.job.now a.variables l.at _ (sym c.unwrap-at.ensures ∙ c.entry_end.ensures) in
     rw next (after, advance (_ ∷ []) _ owing taken c.in_ok-t.was)
 
 pub returns : goal.returns
