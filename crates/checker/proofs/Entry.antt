@@ -25,6 +25,8 @@ use Rattle.layout.proofs.Loaded.{loaded}
 use Rattle.layout.proofs.Whole.{entry_whole}
 use Rattle.undoing.specs.Rowed.{rowed, StandsFor, Settled}
 use Rattle.undoing.proofs.Rowed.{settled_listed}
+use Rattle.checker.specs.Checking.{located, Checked, ChecksAll}
+use Rattle.checker.specs.declared.checked.Position.{Position}
 
 module _ (bytes : List ℕ) (variables at : ℕ) (entry : EntryInRange bytes variables at) (few : variables ≤ 8) where
   abbrev shape : Shape
@@ -60,6 +62,12 @@ module _ (bytes : List ℕ) (variables at : ℕ) (entry : EntryInRange bytes var
 
     pub entry_before : is_consistent rows ≡ true → (o : Op) → predecessors o shape ≡ before o whole
     entry_before ok o = ap (concat_map (before o)) (known.0 ∙ ap (λ (b : Bool). keep b whole) ok) ∙ append-nil (before o whole)
+
+    -- what is checked for the closed shape is checked for its own
+    pub entry_checked : is_consistent rows ≡ true → (ms : List Located) (from : ℕ) (o : Op) (t : Position) (g : Checked)
+        → ((w : Shape) → Settled (rowed rows (shape_in variables s)) w → ChecksAll bytes ms (map (located from) (before o w)) t g)
+        → ChecksAll bytes ms (map (located from) (predecessors o shape)) t g
+    entry_checked ok ms from o t g h = subst (λ (ss : List Shape). ChecksAll bytes ms (map (located from) ss) t g) (sym (entry_before ok o)) (h whole (entry_settled ok))
 
     -- else it has none
     pub entry_none : is_consistent rows ≡ false → (o : Op) → predecessors o shape ≡ []

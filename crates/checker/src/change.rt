@@ -8,6 +8,7 @@ use place::{FIRST_CELL, NOWHERE, NULL};
 
 // Places operand x by choice k: 0 .. n - 1 a cell, n #, n + 1 a fresh cell, n + 2 + j a fresh cell in the middle of the link of cell j. Nothing
 // changes where it has a place.
+#[tactic(auto, unfolding(shapes::specs::Change::placed_in))]
 pub(crate) fn place_operand(s: &mut [u8; 28], x: u8, k: u8)
     requires { (x ≤ 9) × (cell_count s.old ≤ 13) × (k < cell_count s.old + (2 + cell_count s.old)) }
     ensures { s.new ≡ placed_in s.old x k }
@@ -41,6 +42,7 @@ pub(crate) fn place_operand(s: &mut [u8; 28], x: u8, k: u8)
 }
 
 // What the operation changes is put back, both operands being placed. Where b is above the variables it is the helper of kind 4.
+#[tactic(auto, unfolding(shapes::specs::Change::undone_in))]
 pub(crate) fn undo(variables: usize, kind: u8, a: u8, b: u8, s: &mut [u8; 28])
     requires { (a ≤ 9) × (b ≤ 9) × (operand_at s.old a < 17) × (operand_at s.old b < 17) }
     ensures { s.new ≡ undone_in variables kind a b s.old }

@@ -95,6 +95,7 @@ pub(crate) fn check_last_choices(
 }
 
 // Places a by choice k, where both operands are nowhere.
+#[tactic(auto, unfolding(shapes::specs::Operands::first_placed_in))]
 pub(crate) fn place_first(a: u8, b: u8, s: &mut [u8; 28], k: u8)
     requires { (a ≤ 9) × (b ≤ 9) × (cell_count s.old ≤ 13) × (k < cell_count s.old + (2 + cell_count s.old)) }
     ensures { s.new ≡ first_placed_in a b s.old k }

@@ -18,6 +18,7 @@ use verdict::Refused;
 
 // Makes the rows those before, by case k of a prepared array: the cell that was new goes, if it is in no fact. Whether it is in none. There are no facts
 // where the certificate is of version 1.
+#[tactic(auto, unfolding(undoing::specs::Before::rows_before))]
 fn undo_rows(cert: &[u8], kind: u8, prepared: &[u8; 28], k: usize, rows: &mut [u16; 28]) -> bool
     requires { OwnVersion cert.now rows.old }
     ensures is { result ≡ not (is_taken_out kind prepared.now k && has_fact rows.old 1 k k) }
@@ -51,7 +52,7 @@ pub(crate) fn check_cases(
     let mut prepared = *s;
     let cases = prepare_cases(variables, by.kind, by.a, &mut prepared);
     let mut t = from;
-    for case in cases.first..cases.end {
+    for case in cases.start..cases.end {
         let mut v = prepared;
         if undo_case(variables, by.kind, cases.end, case, &mut v) {
             let mut rows = *facts;
