@@ -1,5 +1,5 @@
 -- What the code's answers say of the parsers.
-use mathlib.Core.List.{List, []}
+use mathlib.Core.List.{List}
 use mathlib.Core.Option.{none, some}
 use mathlib.Core.Path.{◌≡◌, refl}
 use mathlib.Core.Bool.{Bool}
@@ -12,9 +12,10 @@ use Rattle.format.specs.Parser.{Parsed, parsed, fault, Buffer, such, ranged}
 use Rattle.format.proofs.Parsing.{ranged_exact}
 use Rattle.verdict.specs.Verdict.{reason_of, reached_of}
 use Rattle.verdict.specs.declared.Refused.{Refused}
-use Rattle.reader.specs.Number.{buffer_of}
+use Rattle.reader.specs.Number.{buffer_of, buffer_in}
 use Rattle.reader.specs.declared.Input.{Input}
 use Rattle.reader.specs.declared.Input.TheVariants.{Job, Certificate}
+use Rattle.reader.specs.declared.Source.{Source}
 
 -- ---- the exit of a `?`: what was refused is handed on
 
@@ -23,17 +24,12 @@ handed r e p h = let q = err_from_is_err_and r p in rw (q.1, q.2) h
 
 -- ---- the buffer that is read
 
-pub bytes_of : (input : Input) (bytes : List ℕ) → (buffer_of input bytes).bytes ≡ bytes
+bytes_of : (input : Input) (bytes : List ℕ) → (buffer_of input bytes).bytes ≡ bytes
 bytes_of Job bytes = refl
 bytes_of Certificate bytes = refl
 
-pub outside_of : (input : Input) (bytes : List ℕ) → (buffer_of input []).outside ≡ (buffer_of input bytes).outside
-outside_of Job bytes = refl
-outside_of Certificate bytes = refl
-
-pub unreadable_of : (input : Input) (bytes : List ℕ) → (buffer_of input []).unreadable ≡ (buffer_of input bytes).unreadable
-unreadable_of Job bytes = refl
-unreadable_of Certificate bytes = refl
+pub bytes_in : (source : Source) → (buffer_in source).bytes ≡ source.bytes.now
+bytes_in source = bytes_of source.input source.bytes.now
 
 -- ---- a number in its range
 

@@ -6,11 +6,16 @@ use Rattle.verdict.specs.declared.Refused.{Refused}
 use Rattle.number.specs.declared.Numeral.{Numeral}
 use Rattle.reader.specs.declared.Input.{Input}
 use Rattle.reader.specs.declared.Input.TheVariants.{Job, Certificate}
+use Rattle.reader.specs.declared.Source.{Source}
 
--- the buffer that is read, with its refusals
+-- the bytes of an input as a buffer, with its refusals
 abbrev pub buffer_of : Input → List ℕ → Buffer
 buffer_of Job bytes = job_buffer bytes
 buffer_of Certificate bytes = certificate_buffer bytes
+
+-- the buffer that is read
+abbrev pub buffer_in : Source → Buffer
+buffer_in s = buffer_of s.input s.bytes.now
 
 abbrev pub ranged_of : Result Numeral Refused → Parsed ℕ
 ranged_of (Ok n) = parsed n.value n.next

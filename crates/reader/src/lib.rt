@@ -10,9 +10,8 @@ ghost use Rattle.layout.specs.Entries.{version_of};
 ghost use Rattle.verdict.specs.Verdict.{reason_of, reached_of};
 ghost use Rattle.reader.specs.Job.{RestAnswered, JobAnswered};
 ghost use Rattle.reader.specs.Members.{places_read, member_places, with_places, tested, MembersAnswered};
-ghost use Rattle.reader.specs.Number.{buffer_of, ranged_of, without_value};
+ghost use Rattle.reader.specs.Number.{buffer_in, ranged_of, without_value};
 
-use crate::factlist::read_facts;
 use crate::start::{may_refuse, test_members};
 use jobreader::{Preamble, Reader, read_preamble};
 use kinds::{least_a, least_b, most_b};
@@ -25,9 +24,16 @@ mod start;
 
 // Which buffer is read: it decides the refusals.
 #[derive(Clone, Copy)]
-pub(crate) enum Input {
+enum Input {
     Job,
     Certificate,
+}
+
+// Where numbers are read: the bytes of a buffer, and which buffer it is.
+#[derive(Clone, Copy)]
+pub(crate) struct Source<'a> {
+    input: Input,
+    bytes: &'a [u8],
 }
 
 // The numbers of a job, and where its transitions and its forbidden shapes start.
@@ -49,53 +55,6 @@ pub struct Members {
     pub end: usize,
 }
 
-impl Input {
-    // The refusal of a number that can't be read.
-    fn unreadable(self) -> Refusal
-        ensures { reason_of result ≡ (buffer_of self []).unreadable }
-    {
-        match self {
-            Input::Job => Refusal::JobUnreadable,
-            Input::Certificate => Refusal::CertificateUnreadable,
-        }
-    }
-
-    // The refusal of a number that breaks its range.
-    pub(crate) fn outside(self) -> Refusal
-        ensures { reason_of result ≡ (buffer_of self []).outside }
-    {
-        match self {
-            Input::Job => Refusal::JobRange,
-            Input::Certificate => Refusal::CertificateRange,
-        }
-    }
-}
-
-// The number at a place, from `low` on and below `limit`.
-pub(crate) fn read_ranged(
-    input: Input,
-    bytes: &[u8],
-    at: usize,
-    low: usize,
-    limit: usize,
-) -> Result<Numeral, Refused>
-    ensures { ranged_of result ≡ ranged (buffer_of input bytes.now) low limit at }
-{
-    let Ok(n) = read_number(bytes, at) else {
-        return Err(Refused {
-            refusal: input.unreadable(),
-            place: at,
-        });
-    };
-    if n.value < low || limit <= n.value {
-        return Err(Refused {
-            refusal: input.outside(),
-            place: at,
-        });
-    }
-    Ok(n)
-}
-
 // So many values, one after the other: `each` reads the one at a place and gives the place after it.
 fn read_many<F: Fn(usize) -> Result<usize, Refused>>(
     count: usize,
@@ -112,39 +71,6 @@ fn read_many<F: Fn(usize) -> Result<usize, Refused>>(
     Ok(at)
 }
 
-// So many numbers below a limit.
-fn read_codes(
-    input: Input,
-    bytes: &[u8],
-    first: usize,
-    count: usize,
-    limit: usize,
-) -> Result<usize, Refused>
-    ensures { reached_of result ≡ without_value (many count (ranged (buffer_of input bytes.now) 0 limit) first) }
-{
-    read_many(count, first, |at| {
-        Ok(read_ranged(input, bytes, at, 0, limit)?.next)
-    })
-}
-
-// A state and a shape: state, n, the places of the variables, n links, and in version 2 facts.
-fn read_entry(
-    input: Input,
-    bytes: &[u8],
-    first: usize,
-    variables: usize,
-    states: usize,
-) -> Result<usize, Refused>
-    ensures { reached_of result ≡ without_value (read_located (version_of bytes.now) (buffer_of input bytes.now) variables states first) }
-{
-    let state = read_ranged(input, bytes, first, 0, states)?;
-    let size = read_ranged(input, bytes, state.next, 0, 13)?;
-    let n = size.value;
-    let links_at = read_codes(input, bytes, size.next, variables, 3 + n)?;
-    let facts_at = read_codes(input, bytes, links_at, n, 3 + n)?;
-    read_facts(input, bytes, facts_at, n)
-}
-
 // The last kind that a job's version has.
 fn last_kind(job: &[u8]) -> usize
     ensures { result ≡ last_kind (version_of job.now) }
@@ -152,56 +78,129 @@ fn last_kind(job: &[u8]) -> usize
     if version_of(job) == 2 { 13 } else { 7 }
 }
 
-// One transition: from, kind, a, b, to.
-fn read_transition(
-    job: &[u8],
-    first: usize,
-    variables: usize,
-    states: usize,
-) -> Result<usize, Refused>
-    requires { variables ≤ 8 }
-    ensures { reached_of result ≡ without_value (read_transition (version_of job.now) (job_buffer job.now) variables states first) }
-{
-    let from = read_ranged(Input::Job, job, first, 0, states)?;
-    let kind = read_ranged(Input::Job, job, from.next, 1, 1 + last_kind(job))?;
-    let least = least_a(kind.value);
-    let a = read_ranged(Input::Job, job, kind.next, least, variables + 1)?;
-    let least = least_b(kind.value);
-    let most = most_b(kind.value, variables);
-    let b = read_ranged(Input::Job, job, a.next, least, most + 1)?;
-    let to = read_ranged(Input::Job, job, b.next, 0, states)?;
-    Ok(to.next)
-}
+impl<'a> Source<'a> {
+    // The bytes of a job.
+    fn job(bytes: &'a [u8]) -> Source<'a>
+        ensures buffer { buffer_in result ≡ job_buffer bytes.now }
+        ensures bytes { result.bytes ≡ bytes.entry }
+    {
+        Source {
+            input: Input::Job,
+            bytes,
+        }
+    }
 
-// The transitions of a job.
-fn read_transitions(
-    job: &[u8],
-    first: usize,
-    count: usize,
-    variables: usize,
-    states: usize,
-) -> Result<usize, Refused>
-    requires { variables ≤ 8 }
-    ensures { reached_of result ≡ without_value (many count (read_transition (version_of job.now) (job_buffer job.now) variables states) first) }
-{
-    read_many(count, first, |at| {
-        read_transition(job, at, variables, states)
-    })
-}
+    // The bytes of a certificate.
+    pub(crate) fn certificate(bytes: &'a [u8]) -> Source<'a>
+        ensures buffer { buffer_in result ≡ certificate_buffer bytes.now }
+        ensures bytes { result.bytes ≡ bytes.entry }
+    {
+        Source {
+            input: Input::Certificate,
+            bytes,
+        }
+    }
 
-// The forbidden shapes of a job.
-fn read_forbidden(
-    job: &[u8],
-    first: usize,
-    count: usize,
-    variables: usize,
-    states: usize,
-) -> Result<usize, Refused>
-    ensures { reached_of result ≡ without_value (many count (read_located (version_of job.now) (job_buffer job.now) variables states) first) }
-{
-    read_many(count, first, |at| {
-        read_entry(Input::Job, job, at, variables, states)
-    })
+    // The refusal of a number that can't be read.
+    fn unreadable(self) -> Refusal
+        ensures { reason_of result ≡ (buffer_in self.entry).unreadable }
+    {
+        match self.input {
+            Input::Job => Refusal::JobUnreadable,
+            Input::Certificate => Refusal::CertificateUnreadable,
+        }
+    }
+
+    // The refusal of a number that breaks its range.
+    fn outside(self) -> Refusal
+        ensures { reason_of result ≡ (buffer_in self.entry).outside }
+    {
+        match self.input {
+            Input::Job => Refusal::JobRange,
+            Input::Certificate => Refusal::CertificateRange,
+        }
+    }
+
+    // The number at a place, from `low` on and below `limit`.
+    pub(crate) fn ranged(self, at: usize, low: usize, limit: usize) -> Result<Numeral, Refused>
+        ensures { ranged_of result ≡ ranged (buffer_in self.entry) low limit at }
+    {
+        let Ok(n) = read_number(self.bytes, at) else {
+            return Err(Refused {
+                refusal: self.unreadable(),
+                place: at,
+            });
+        };
+        if n.value < low || limit <= n.value {
+            return Err(Refused {
+                refusal: self.outside(),
+                place: at,
+            });
+        }
+        Ok(n)
+    }
+
+    // So many numbers below a limit.
+    fn codes(self, first: usize, count: usize, limit: usize) -> Result<usize, Refused>
+        ensures { reached_of result ≡ without_value (many count (ranged (buffer_in self.entry) 0 limit) first) }
+    {
+        read_many(count, first, |at| Ok(self.ranged(at, 0, limit)?.next))
+    }
+
+    // A state and a shape: state, n, the places of the variables, n links, and in version 2 facts.
+    fn entry(self, first: usize, variables: usize, states: usize) -> Result<usize, Refused>
+        ensures { reached_of result ≡ without_value (read_located (version_of self.entry.bytes.now) (buffer_in self.entry) variables states first) }
+    {
+        let state = self.ranged(first, 0, states)?;
+        let size = self.ranged(state.next, 0, 13)?;
+        let n = size.value;
+        let links_at = self.codes(size.next, variables, 3 + n)?;
+        let facts_at = self.codes(links_at, n, 3 + n)?;
+        self.facts(facts_at, n)
+    }
+
+    // One transition: from, kind, a, b, to.
+    fn transition(self, first: usize, variables: usize, states: usize) -> Result<usize, Refused>
+        requires { variables ≤ 8 }
+        ensures { reached_of result ≡ without_value (read_transition (version_of self.entry.bytes.now) (buffer_in self.entry) variables states first) }
+    {
+        let from = self.ranged(first, 0, states)?;
+        let kind = self.ranged(from.next, 1, 1 + last_kind(self.bytes))?;
+        let least = least_a(kind.value);
+        let a = self.ranged(kind.next, least, variables + 1)?;
+        let least = least_b(kind.value);
+        let most = most_b(kind.value, variables);
+        let b = self.ranged(a.next, least, most + 1)?;
+        let to = self.ranged(b.next, 0, states)?;
+        Ok(to.next)
+    }
+
+    // The transitions of a job.
+    fn transitions(
+        self,
+        first: usize,
+        count: usize,
+        variables: usize,
+        states: usize,
+    ) -> Result<usize, Refused>
+        requires { variables ≤ 8 }
+        ensures { reached_of result ≡ without_value (many count (read_transition (version_of self.entry.bytes.now) (buffer_in self.entry) variables states) first) }
+    {
+        read_many(count, first, |at| self.transition(at, variables, states))
+    }
+
+    // The forbidden shapes of a job.
+    fn forbidden(
+        self,
+        first: usize,
+        count: usize,
+        variables: usize,
+        states: usize,
+    ) -> Result<usize, Refused>
+        ensures { reached_of result ≡ without_value (many count (read_located (version_of self.entry.bytes.now) (buffer_in self.entry) variables states) first) }
+    {
+        read_many(count, first, |at| self.entry(at, variables, states))
+    }
 }
 
 // What stands in a job after its transitions, and nothing behind it.
@@ -211,7 +210,7 @@ fn read_rest(job: &[u8], preamble: Preamble, at: usize) -> Result<Header, Refuse
     let mut rest = Reader::new(job, at);
     let bads = rest.next(1, 65)?;
     let bads_at = rest.at;
-    let end = read_forbidden(job, bads_at, bads, preamble.variables, preamble.states)?;
+    let end = Source::job(job).forbidden(bads_at, bads, preamble.variables, preamble.states)?;
     if end < job.len() {
         return Err(Refused {
             refusal: Refusal::JobLeft,
@@ -234,8 +233,7 @@ pub fn read_job(job: &[u8]) -> Result<Header, Refused>
     ensures { JobAnswered job.now result }
 {
     let preamble = read_preamble(job)?;
-    let at = read_transitions(
-        job,
+    let at = Source::job(job).transitions(
         preamble.at,
         preamble.transitions,
         preamble.variables,
@@ -286,13 +284,13 @@ fn read_member(cert: &[u8], at: usize, variables: usize, states: usize) -> Resul
     ensures { reached_of result ≡ without_value (read_located (version_of cert.now) (certificate_buffer cert.now) variables states at) }
 {
     let Some(links_end) = quick_entry(cert, at, variables, states) else {
-        return read_entry(Input::Certificate, cert, at, variables, states);
+        return Source::certificate(cert).entry(at, variables, states);
     };
     // here too, so that version 1 makes no call
     if version_of(cert) != 2 {
         return Ok(links_end);
     }
-    read_facts(Input::Certificate, cert, links_end, cert[at + 1] as usize)
+    Source::certificate(cert).facts(links_end, cert[at + 1] as usize)
 }
 
 // The members of a certificate, all of them read and then tested at the start state; the place where each starts goes to the table. The walk that
@@ -339,14 +337,15 @@ pub fn read_members(
     ensures answer { MembersAnswered cert.now version variables states start starts.new result }
     ensures starts { starts.new ≡ with_places (member_places (certificate_buffer cert.now) version variables states) starts.old }
 {
-    let own = read_ranged(Input::Certificate, cert, 0, 1, 3)?;
+    let source = Source::certificate(cert);
+    let own = source.ranged(0, 1, 3)?;
     if version_of(cert) != version {
         return Err(Refused {
             refusal: Refusal::VersionsDiffer,
             place: 0,
         });
     }
-    let number = read_ranged(Input::Certificate, cert, own.next, 1, 513)?;
+    let number = source.ranged(own.next, 1, 513)?;
     let count = number.value;
     let end = read_entries(cert, number.next, count, variables, states, start, starts)?;
     Ok(Members { count, end })

@@ -9,8 +9,7 @@ ghost use Rattle.verdict.specs.Verdict.{reached_of};
 ghost use Rattle.reader.specs.Members.{empty_at, tested};
 ghost use Rattle.reader.specs.Number.{without_value};
 
-use crate::factlist::read_facts;
-use crate::{Input, read_ranged};
+use crate::Source;
 use place::{Place, none_at};
 use verdict::{Refusal, Refused};
 
@@ -54,7 +53,8 @@ fn test_member(
     requires { (l : Located) × (next : ℕ) × (read_located (version_of cert.now) (certificate_buffer cert.now) variables states at ≡ parsed l next) }
     ensures { (l : Located) (next : ℕ) → read_located (version_of cert.now) (certificate_buffer cert.now) variables states at ≡ parsed l next → reached_of result ≡ test_start start (record { first = at; located = l }) next }
 {
-    let state = read_ranged(Input::Certificate, cert, at, 0, states)?;
+    let source = Source::certificate(cert);
+    let state = source.ranged(at, 0, states)?;
     let n_at = state.next;
     if state.value == start && empty_at(cert, n_at, variables) {
         return Err(Refused {
@@ -63,12 +63,7 @@ fn test_member(
         });
     }
     let cells = cert[n_at] as usize;
-    read_facts(
-        Input::Certificate,
-        cert,
-        n_at + 1 + variables + cells,
-        cells,
-    )
+    source.facts(n_at + 1 + variables + cells, cells)
 }
 
 // Tests so many members that were read, the first of them at a place.

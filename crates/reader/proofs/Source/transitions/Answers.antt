@@ -1,13 +1,12 @@
 -- What the closure reads at a place is what the parser of a transition reads there.
 use Rattle.std.proofs.Common.{◌∙◌, rules}
 use Rattle.format.specs.Job.{read_transition}
-use Rattle.format.specs.Parser.{job_buffer}
 use Rattle.layout.specs.Entries.{version_of}
-use Rattle.reader.specs.Number.{without_value}
+use Rattle.reader.specs.Number.{buffer_in, without_value}
 use Rattle.reader.proofs.Many.{many_places}
-use Rattle.reader.proofs.read_transitions.Goals as goal
+use Rattle.reader.proofs.Source.transitions.Goals as goal
 
 pub returns : goal.returns
 returns c =
-    let p = read_transition (version_of c.args.job.now) (job_buffer c.args.job.now) c.args.variables c.args.states in
+    let p = read_transition (version_of c.args.self.bytes.now) (buffer_in c.args.self) c.args.variables c.args.states in
     c.read_many.ensures (λ at. without_value (p at)) (λ at r k. search rules) ∙ many_places p c.args.count c.args.first
