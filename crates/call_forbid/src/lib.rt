@@ -6,41 +6,24 @@ ghost use Rattle.number.specs.CallResult.{lent};
 ghost use Rattle.forbidden.specs.Written.{not_list, lost_block, bad_steps, rewrite, rewrite_result, output_after, ReadyIn};
 ghost use Rattle.forbidding.specs.Answers.{answer_result};
 
-use forbidding::{Asked, Rewritten};
+use forbidding::{Asked, RewriteRefusal};
 use lending::lend;
+use verdict::refusal_number;
 
 // Hands the value of an answer to the host; gives its number.
-fn tell(answer: Rewritten, out: &mut [u64]) -> u32
+fn tell(answer: Result<usize, RewriteRefusal>, out: &mut [u64]) -> u32
     ensures code { result ≡ (answer_result answer).code }
     ensures values { out.new ≡ lent (answer_result answer).values out.old }
 {
-    match answer {
-        Rewritten::Filled(k) => {
-            let values = [k as u64];
-            lend(&values, out);
-            0
-        }
-        Rewritten::Job(refusal, place) => {
-            let values = [place as u64];
-            lend(&values, out);
-            verdict::refusal_number(refusal)
-        }
-        Rewritten::Outside => {
-            let values = [0];
-            lend(&values, out);
-            16
-        }
-        Rewritten::TooMany => {
-            let values = [0];
-            lend(&values, out);
-            31
-        }
-        Rewritten::TooShort(k) => {
-            let values = [k as u64];
-            lend(&values, out);
-            12
-        }
-    }
+    let (code, value) = match answer {
+        Ok(filled) => (0, filled),
+        Err(RewriteRefusal::Job(refused)) => (refusal_number(refused.refusal), refused.place),
+        Err(RewriteRefusal::Outside) => (16, 0),
+        Err(RewriteRefusal::TooMany) => (31, 0),
+        Err(RewriteRefusal::TooShort(needed)) => (12, needed),
+    };
+    lend(&[value as u64], out);
+    code
 }
 
 // The job written again with "not a proper list" of a variable at a state forbidden after its own.

@@ -1,5 +1,5 @@
 -- What is answered, test by test.
-use mathlib.Core.Bool.{true, false, ◌&&◌, cond}
+use mathlib.Core.Bool.{true, false, cond}
 use mathlib.Core.List.Memᴰ
 use mathlib.Core.List.{List, ◌++◌}
 use mathlib.Core.Path.{◌≡◌, sym, ap, ap₂, ◌∙◌, subst}
@@ -20,7 +20,7 @@ use Rattle.heap.proofs.Operands.{named_allowed}
 use Rattle.format.specs.Job.{read_whole_job}
 use Rattle.format.specs.JobBytes.{IsJob}
 use Rattle.format.specs.JobNumbers.{located_numbers, job_numbers}
-use Rattle.format.specs.Parser.{job_buffer, within}
+use Rattle.format.specs.Parser.{job_buffer}
 use Rattle.format.proofs.Guarantee.{job_bytes}
 use Rattle.forbidden.specs.Written.{ReadySet, shapes_of, is_inside, Inside, with_set, Rewritten, written, refused, rewrite_file, rewrite_read, rewrite}
 use Rattle.forbidden.proofs.Runs.{through_range}
@@ -43,15 +43,6 @@ use Rattle.forbidding.proofs.Shapes.{set_length}
 -- ---- one of n variables, and a state below S
 
 module _ (x q n states : ℕ) where
-  pub point_zero : x < 1 → false ≡ within 1 (suc n) x && ltb q states
-  point_zero h = simp (lt-leb 1 x h)
-
-  pub point_above : 1 ≤ x → n < x → false ≡ within 1 (suc n) x && ltb q states
-  point_above l h = simp (le-leb 1 x l, le-ltb x (suc n) h)
-
-  pub point_there : 1 ≤ x → x ≤ n → ltb q states ≡ within 1 (suc n) x && ltb q states
-  point_there l h = let m : x < suc n = omega arith in simp (le-leb 1 x l, lt-ltb x (suc n) m)
-
   pub point_in : (version : ℕ) → n ≤ 8 → states ≤ 64 → ((1 ≤ x) × (x < suc n)) × (q < states) → PointIn (record { version = version; variables = n; variable = x; state = q })
   point_in version a b ((c, d), e) = record { most = a; some = c; variable = omega arith; state = omega arith }
 

@@ -1,5 +1,6 @@
 -- The sets that are asked for and the answers, in the terms of the definitions.
 use Rattle.std.specs.Prelude.{cond, List, [], ◌∷◌, ◌++◌, ℕ, ◌+◌, ◌*◌, ◌≤◌, ◌<◌, eqb, length, set, replicate}
+use Rattle.std.specs.Prelude.{Result, Ok, Err}
 use Rattle.lists.specs.List.{concat_map}
 use Rattle.heap.specs.Place.{nowhere}
 use Rattle.shape.specs.Shape.{Shape}
@@ -15,8 +16,8 @@ use Rattle.verdict.specs.Verdict.{reason_of}
 use Rattle.forbidding.specs.declared.Asked.{Asked}
 use Rattle.forbidding.specs.declared.Asked.TheVariants.{NotList, LostBlock, BadSteps}
 use Rattle.forbidding.specs.declared.put.Point.{Point}
-use Rattle.forbidding.specs.declared.Rewritten.{Rewritten}
-use Rattle.forbidding.specs.declared.Rewritten.TheVariants.{Filled, Job, Outside, TooMany, TooShort}
+use Rattle.forbidding.specs.declared.RewriteRefusal.{RewriteRefusal}
+use Rattle.forbidding.specs.declared.RewriteRefusal.TheVariants.{Job, Outside, TooMany, TooShort}
 
 -- the set of the definitions that is asked for
 abbrev pub set_of : Asked → ReadySet
@@ -26,12 +27,12 @@ set_of BadSteps = bad_steps
 
 -- Document 02's number of each answer, with the value told: "16 for a variable or state outside it, 31 for more than 64 forbidden shapes in
 -- all, 12 for short room"; "new numbers [..] stand at place 0".
-abbrev pub answer_result : Rewritten → CallResult
-answer_result (Filled k) = record { code = 0; values = k ∷ [] }
-answer_result (Job why place) = record { code = reason_number (reason_of why); values = place ∷ [] }
-answer_result Outside = record { code = 16; values = 0 ∷ [] }
-answer_result TooMany = record { code = 31; values = 0 ∷ [] }
-answer_result (TooShort k) = record { code = 12; values = k ∷ [] }
+abbrev pub answer_result : Result ℕ RewriteRefusal → CallResult
+answer_result (Ok k) = record { code = 0; values = k ∷ [] }
+answer_result (Err (Job r)) = record { code = reason_number (reason_of r.refusal); values = r.place ∷ [] }
+answer_result (Err Outside) = record { code = 16; values = 0 ∷ [] }
+answer_result (Err TooMany) = record { code = 31; values = 0 ∷ [] }
+answer_result (Err (TooShort k)) = record { code = 12; values = k ∷ [] }
 
 -- a variable and a state of a job
 pub record PointIn (p : Point) : Type 0 where

@@ -14,7 +14,7 @@ use crate::steps::{count_steps, put_steps};
 use layout::version_of;
 use putting::put_all;
 use reader::{Header, read_job};
-use verdict::Refusal;
+use verdict::{Refusal, Refused};
 
 mod put;
 mod steps;
@@ -27,28 +27,33 @@ pub enum Asked {
     BadSteps,
 }
 
-// How many bytes were filled, or why none was: the job's own refusal with its place; a variable or state outside it; more than 64 forbidden
-// shapes in all; an output that is too short, with the length needed.
+// Why no byte is filled: the job's own refusal with its place; a variable or state outside it; more than 64 forbidden shapes in all; an output
+// that is too short, with the length needed.
 #[derive(Clone, Copy)]
-pub enum Rewritten {
-    Filled(usize),
-    Job(Refusal, usize),
+pub enum RewriteRefusal {
+    Job(Refused),
     Outside,
     TooMany,
     TooShort(usize),
 }
 
+impl From<Refused> for RewriteRefusal {
+    ghost use Rattle.std.specs.Prelude.{◌≡◌};
+    ghost use Rattle.forbidding.specs.declared.RewriteRefusal.TheVariants.{Job};
+
+    ghost from_gives = { λ refused r. r ≡ Job refused };
+
+    fn from(refused: Refused) -> RewriteRefusal {
+        RewriteRefusal::Job(refused)
+    }
+}
+
 // Whether a variable, from 1, and a state, from 0, are among so many.
+#[tactic(auto, using(std::proofs::lemmas::Bool::Decides::nat_tests))]
 fn is_point(variable: usize, state: usize, variables: usize, states: usize) -> bool
     ensures { result ≡ within 1 (suc variables) variable && ltb state states }
 {
-    if variable < 1 {
-        return false;
-    }
-    if variables < variable {
-        return false;
-    }
-    state < states
+    (1..=variables).contains(&variable) && state < states
 }
 
 // Whether the variable and the state that are asked for are the job's.
@@ -139,40 +144,42 @@ fn fill(job: &[u8], h: Header, asked: Asked, count: usize, bytes: &mut [u8]) -> 
 }
 
 // The same of a job that was read.
-fn rewrite_read(job: &[u8], h: Header, asked: Asked, bytes: &mut [u8]) -> Rewritten
+fn rewrite_read(
+    job: &[u8],
+    h: Header,
+    asked: Asked,
+    bytes: &mut [u8],
+) -> Result<usize, RewriteRefusal>
     requires { (JobRead job.now h) × (1 ≤ length job.now) × (length job.now ≤ 65536) }
     ensures { Rewrites job.now (set_of asked) bytes.old (answer_result result) bytes.new }
 {
     if !is_inside(asked, h.variables, h.states) {
-        return Rewritten::Outside;
+        return Err(RewriteRefusal::Outside);
     }
     let shapes = shapes_of(job, h, asked);
     let count = h.bads + shapes;
     if 64 < count {
-        return Rewritten::TooMany;
+        return Err(RewriteRefusal::TooMany);
     }
     let entry = 2 + h.variables + count_bytes(version_of(job));
     let needed = job.len() + shapes * entry + cells_of(asked);
     if bytes.len() < needed {
-        return Rewritten::TooShort(needed);
+        return Err(RewriteRefusal::TooShort(needed));
     }
     fill(job, h, asked, count, bytes);
-    Rewritten::Filled(needed)
+    Ok(needed)
 }
 
 // The job written again with the set after its own, or refused; a refusal leaves the output as it is.
-pub fn rewrite_job(job: &[u8], asked: Asked, bytes: &mut [u8]) -> Rewritten
+pub fn rewrite_job(job: &[u8], asked: Asked, bytes: &mut [u8]) -> Result<usize, RewriteRefusal>
     ensures { Rewrites job.now (set_of asked) bytes.old (answer_result result) bytes.new }
 {
-    if job.len() == 0 {
-        return Rewritten::Job(Refusal::JobLength, 0);
+    if job.is_empty() || 65536 < job.len() {
+        return Err(RewriteRefusal::Job(Refused {
+            refusal: Refusal::JobLength,
+            place: 0,
+        }));
     }
-    if 65536 < job.len() {
-        return Rewritten::Job(Refusal::JobLength, 0);
-    }
-    let answer = read_job(job);
-    match answer {
-        Err(r) => Rewritten::Job(r.refusal, r.place),
-        Ok(h) => rewrite_read(job, h, asked, bytes),
-    }
+    let h = read_job(job)?;
+    rewrite_read(job, h, asked, bytes)
 }
