@@ -1,8 +1,6 @@
 -- A length, a job that is not read, or what the certificate gives: each is the verdict of the bytes, and with it what acceptance says.
-use mathlib.Core.List.{List}
 use mathlib.Core.Path.{◌≡◌, ◌∙◌, sym}
-use Prim.Native.Nat.{ℕ}
-use Rattle.std.specs.Prelude.{Result, Err}
+use Rattle.std.specs.Prelude.{Err}
 use Rattle.std.proofs.lemmas.Result.{err_from_is_err_and}
 use Rattle.format.specs.Verdict.{start_of, verdict}
 use Rattle.verdict.specs.Verdict.{verdict_of}
