@@ -15,9 +15,9 @@ use verdict::Refused;
 impl Source<'_> {
     // A fact about n cells at a place, as its rank and the place after it. Facts rise by their ranks, 256 for the kind, 16 for the first cell, 1
     // for the second; one below the least rank that is due is refused at its second cell.
-    fn fact(self, first: usize, n: usize, least: usize) -> Result<Numeral, Refused>
+    fn fact(&self, first: usize, n: usize, least: usize) -> Result<Numeral, Refused>
         requires { n ≤ 12 }
-        ensures { FactAnswered (buffer_in self.entry) n least first result }
+        ensures { FactAnswered (buffer_in self.now) n least first result }
     {
         let kind = self.ranged(first, 0, 2)?;
         let left = self.ranged(kind.next, 0, n)?;
@@ -36,9 +36,9 @@ impl Source<'_> {
     }
 
     // So many facts about n cells, strictly rising.
-    fn fact_list(self, first: usize, n: usize, count: usize) -> Result<usize, Refused>
+    fn fact_list(&self, first: usize, n: usize, count: usize) -> Result<usize, Refused>
         requires { n ≤ 12 }
-        ensures { reached_of result ≡ without_value (facts_after (buffer_in self.entry) n count none first) }
+        ensures { reached_of result ≡ without_value (facts_after (buffer_in self.now) n count none first) }
     {
         // a loop, for the least rank that is due goes from each fact to the next
         let mut at = first;
@@ -52,18 +52,18 @@ impl Source<'_> {
     }
 
     // The number of facts about n cells and the facts, in version 2.
-    fn counted(self, at: usize, n: usize) -> Result<usize, Refused>
-        requires { (n ≤ 12) × (version_of self.bytes.now ≡ 2) }
-        ensures { reached_of result ≡ without_value (read_facts (buffer_in self.entry) n (version_of self.entry.bytes.now) at) }
+    fn counted(&self, at: usize, n: usize) -> Result<usize, Refused>
+        requires { (n ≤ 12) × (version_of self.now.bytes.now ≡ 2) }
+        ensures { reached_of result ≡ without_value (read_facts (buffer_in self.now) n (version_of self.now.bytes.now) at) }
     {
         let number = self.ranged(at, 0, 289)?;
         self.fact_list(number.next, n, number.value)
     }
 
     // The same, and nothing in version 1. It is short, so that it costs the reading of members of version 1 no call.
-    pub(crate) fn facts(self, at: usize, n: usize) -> Result<usize, Refused>
+    pub(crate) fn facts(&self, at: usize, n: usize) -> Result<usize, Refused>
         requires { n ≤ 12 }
-        ensures { reached_of result ≡ without_value (read_facts (buffer_in self.entry) n (version_of self.entry.bytes.now) at) }
+        ensures { reached_of result ≡ without_value (read_facts (buffer_in self.now) n (version_of self.now.bytes.now) at) }
     {
         if version_of(self.bytes) != 2 {
             return Ok(at);

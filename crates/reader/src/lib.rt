@@ -102,8 +102,8 @@ impl<'a> Source<'a> {
     }
 
     // The refusal of a number that can't be read.
-    fn unreadable(self) -> Refusal
-        ensures { reason_of result ≡ (buffer_in self.entry).unreadable }
+    fn unreadable(&self) -> Refusal
+        ensures { reason_of result ≡ (buffer_in self.now).unreadable }
     {
         match self.input {
             Input::Job => Refusal::JobUnreadable,
@@ -112,8 +112,8 @@ impl<'a> Source<'a> {
     }
 
     // The refusal of a number that breaks its range.
-    fn outside(self) -> Refusal
-        ensures { reason_of result ≡ (buffer_in self.entry).outside }
+    fn outside(&self) -> Refusal
+        ensures { reason_of result ≡ (buffer_in self.now).outside }
     {
         match self.input {
             Input::Job => Refusal::JobRange,
@@ -122,8 +122,8 @@ impl<'a> Source<'a> {
     }
 
     // The number at a place, from `low` on and below `limit`.
-    pub(crate) fn ranged(self, at: usize, low: usize, limit: usize) -> Result<Numeral, Refused>
-        ensures { ranged_of result ≡ ranged (buffer_in self.entry) low limit at }
+    pub(crate) fn ranged(&self, at: usize, low: usize, limit: usize) -> Result<Numeral, Refused>
+        ensures { ranged_of result ≡ ranged (buffer_in self.now) low limit at }
     {
         let Ok(n) = read_number(self.bytes, at) else {
             return Err(Refused {
@@ -141,15 +141,15 @@ impl<'a> Source<'a> {
     }
 
     // So many numbers below a limit.
-    fn codes(self, first: usize, count: usize, limit: usize) -> Result<usize, Refused>
-        ensures { reached_of result ≡ without_value (many count (ranged (buffer_in self.entry) 0 limit) first) }
+    fn codes(&self, first: usize, count: usize, limit: usize) -> Result<usize, Refused>
+        ensures { reached_of result ≡ without_value (many count (ranged (buffer_in self.now) 0 limit) first) }
     {
         read_many(count, first, |at| Ok(self.ranged(at, 0, limit)?.next))
     }
 
     // A state and a shape: state, n, the places of the variables, n links, and in version 2 facts.
-    fn entry(self, first: usize, variables: usize, states: usize) -> Result<usize, Refused>
-        ensures { reached_of result ≡ without_value (read_located (version_of self.entry.bytes.now) (buffer_in self.entry) variables states first) }
+    fn entry(&self, first: usize, variables: usize, states: usize) -> Result<usize, Refused>
+        ensures { reached_of result ≡ without_value (read_located (version_of self.now.bytes.now) (buffer_in self.now) variables states first) }
     {
         let state = self.ranged(first, 0, states)?;
         let size = self.ranged(state.next, 0, 13)?;
@@ -160,9 +160,9 @@ impl<'a> Source<'a> {
     }
 
     // One transition: from, kind, a, b, to.
-    fn transition(self, first: usize, variables: usize, states: usize) -> Result<usize, Refused>
+    fn transition(&self, first: usize, variables: usize, states: usize) -> Result<usize, Refused>
         requires { variables ≤ 8 }
-        ensures { reached_of result ≡ without_value (read_transition (version_of self.entry.bytes.now) (buffer_in self.entry) variables states first) }
+        ensures { reached_of result ≡ without_value (read_transition (version_of self.now.bytes.now) (buffer_in self.now) variables states first) }
     {
         let from = self.ranged(first, 0, states)?;
         let kind = self.ranged(from.next, 1, 1 + last_kind(self.bytes))?;
@@ -177,27 +177,27 @@ impl<'a> Source<'a> {
 
     // The transitions of a job.
     fn transitions(
-        self,
+        &self,
         first: usize,
         count: usize,
         variables: usize,
         states: usize,
     ) -> Result<usize, Refused>
         requires { variables ≤ 8 }
-        ensures { reached_of result ≡ without_value (many count (read_transition (version_of self.entry.bytes.now) (buffer_in self.entry) variables states) first) }
+        ensures { reached_of result ≡ without_value (many count (read_transition (version_of self.now.bytes.now) (buffer_in self.now) variables states) first) }
     {
         read_many(count, first, |at| self.transition(at, variables, states))
     }
 
     // The forbidden shapes of a job.
     fn forbidden(
-        self,
+        &self,
         first: usize,
         count: usize,
         variables: usize,
         states: usize,
     ) -> Result<usize, Refused>
-        ensures { reached_of result ≡ without_value (many count (read_located (version_of self.entry.bytes.now) (buffer_in self.entry) variables states) first) }
+        ensures { reached_of result ≡ without_value (many count (read_located (version_of self.now.bytes.now) (buffer_in self.now) variables states) first) }
     {
         read_many(count, first, |at| self.entry(at, variables, states))
     }

@@ -7,5 +7,5 @@ use Rattle.reader.proofs.Source.codes.Goals as goal
 
 pub returns : goal.returns
 returns c =
-    let p = ranged (buffer_in c.args.self) 0 c.args.limit in
+    let p = ranged (buffer_in c.args.self.now) 0 c.args.limit in
     c.read_many.ensures (λ at. without_value (p at)) (λ at r k. search rules) ∙ many_places p c.args.count c.args.first

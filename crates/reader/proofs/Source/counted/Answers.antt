@@ -9,9 +9,9 @@ use Rattle.reader.proofs.Source.counted.Goals as goal
 pub returns-in_err-number : goal.returns-in_err-number
 returns-in_err-number c =
     handed _ _ c.from_residual.ensures.1
-    (lost_count (buffer_in c.args.self) c.args.n (version_of c.args.self.bytes.now) c.args.at c.requires.1 (sym c.in_err-number.ensures))
+    (lost_count (buffer_in c.args.self.now) c.args.n (version_of c.args.self.now.bytes.now) c.args.at c.requires.1 (sym c.in_err-number.ensures))
 
 pub returns : goal.returns
 returns c =
     c.fact_list.ensures
-    ∙ facts_listed (buffer_in c.args.self) c.args.n (version_of c.args.self.bytes.now) c.args.at c.requires.1 (sym c.in_ok-number.ensures)
+    ∙ facts_listed (buffer_in c.args.self.now) c.args.n (version_of c.args.self.now.bytes.now) c.args.at c.requires.1 (sym c.in_ok-number.ensures)

@@ -8,4 +8,4 @@ use Rattle.reader.proofs.Source.facts.Goals as goal
 pub returns-then-version_of-ne2 : goal.returns-then-version_of-ne2
 returns-then-version_of-ne2 c =
     let a = c.args in
-    facts_none (buffer_in a.self) a.n (version_of a.self.bytes.now) a.at (λ e. c.if-version_of-ne2.true (c.version_of.ensures ∙ e))
+    facts_none (buffer_in a.self.now) a.n (version_of a.self.now.bytes.now) a.at (λ e. c.if-version_of-ne2.true (c.version_of.ensures ∙ e))

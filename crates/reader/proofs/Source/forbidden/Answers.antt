@@ -8,5 +8,5 @@ use Rattle.reader.proofs.Source.forbidden.Goals as goal
 
 pub returns : goal.returns
 returns c =
-    let p = read_located (version_of c.args.self.bytes.now) (buffer_in c.args.self) c.args.variables c.args.states in
+    let p = read_located (version_of c.args.self.now.bytes.now) (buffer_in c.args.self.now) c.args.variables c.args.states in
     c.read_many.ensures (λ at. without_value (p at)) (λ at r k. search rules) ∙ many_places p c.args.count c.args.first

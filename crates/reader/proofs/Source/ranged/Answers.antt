@@ -11,15 +11,15 @@ use Rattle.reader.proofs.Source.ranged.Goals.{then-n-low-via-then-n-low, then-n-
 pub returns-in_default : goal.returns-in_default
 returns-in_default c =
     let a = c.args in
-    let s = buffer_in a.self in
-    let g : number_at s.bytes a.at ≡ no_numeral c.in_default.field-0.at = rw (bytes_in a.self) (sym c.in_default.ensures) in
+    let s = buffer_in a.self.now in
+    let g : number_at s.bytes a.at ≡ no_numeral c.in_default.field-0.at = rw (bytes_in a.self.now) (sym c.in_default.ensures) in
     ap (λ k. fault k a.at) c.unreadable.ensures ∙ unread s a.at a.low a.limit g
 
 pub returns-then-n-low : goal.returns-then-n-low
 returns-then-n-low c =
     let a = c.args in
-    let s = buffer_in a.self in
-    let g : number_at s.bytes a.at ≡ numeral c.in-Ok.n.value c.in-Ok.n.next = rw (bytes_in a.self) (sym c.in-Ok.ensures) in
+    let s = buffer_in a.self.now in
+    let g : number_at s.bytes a.at ≡ numeral c.in-Ok.n.value c.in-Ok.n.next = rw (bytes_in a.self.now) (sym c.in-Ok.ensures) in
     ap (λ k. fault k a.at) c.outside.ensures
     ∙ outside s a.at a.low a.limit g
     (λ (l, h). elim c.then-n-low.branch [
@@ -30,6 +30,6 @@ returns-then-n-low c =
 pub returns : goal.returns
 returns c =
     let a = c.args in
-    let s = buffer_in a.self in
-    let g : number_at s.bytes a.at ≡ numeral c.in-Ok.n.value c.in-Ok.n.next = rw (bytes_in a.self) (sym c.in-Ok.ensures) in
+    let s = buffer_in a.self.now in
+    let g : number_at s.bytes a.at ≡ numeral c.in-Ok.n.value c.in-Ok.n.next = rw (bytes_in a.self.now) (sym c.in-Ok.ensures) in
     value s a.at a.low a.limit g (omega arith) (omega arith)
