@@ -32,6 +32,7 @@ pub(crate) fn check_last_quickly(
     let wanted = wanted_of_last(by.kind, by.a, by.b, s);
     let c = choices_of(s[0], wanted);
     let mut t = from;
+    // `step_by` in a `for` was tried: it divides by the step ahead of each such loop
     let mut k = c.from;
     while k < c.to {
         let j = k as u8;
@@ -67,6 +68,7 @@ pub(crate) fn check_first_quickly(
     let wanted = wanted_of_first(by.a, by.b, s);
     let c = choices_of(s[0], wanted);
     let mut t = from;
+    // `step_by` in a `for` was tried: it divides by the step ahead of each such loop
     let mut k = c.from;
     while k < c.to {
         let j = k as u8;
