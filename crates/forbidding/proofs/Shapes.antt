@@ -40,6 +40,9 @@ start_taken q k n (suc v) p a b c =
 pub start_length : (q k x p : ℕ) → length (started q k x p) ≡ 10
 start_length q k x p = length-set (q ∷ k ∷ replicate 8 nowhere) (1 + x) p
 
+pub starts : (q k n x p : ℕ) → n ≤ 8 → length (take (2 + n) (started q k x p)) ≡ 2 + n
+starts q k n x p h = length-take-le (2 + n) (started q k x p) (omega (arith, start_length q k x p))
+
 -- loose cells, and then the number of no facts, in a file of this version
 none_taken : (version loose count : ℕ) → loose ≤ 1 → count ≤ 1 → count ≡ count_bytes version
     → take (loose + count) (replicate 2 nowhere) ≡ replicate loose nowhere ++ facts_numbers version []

@@ -61,8 +61,9 @@ fn is_inside(asked: Asked, variables: usize, states: usize) -> bool
     ensures { result ≡ is_inside (set_of asked) variables states }
 {
     match asked {
-        Asked::NotList(variable, state) => is_point(variable, state, variables, states),
-        Asked::LostBlock(variable, state) => is_point(variable, state, variables, states),
+        Asked::NotList(variable, state) | Asked::LostBlock(variable, state) => {
+            is_point(variable, state, variables, states)
+        }
         Asked::BadSteps => true,
     }
 }
@@ -95,30 +96,14 @@ fn put_set(job: &[u8], h: Header, asked: Asked, bytes: &mut [u8], at: usize) -> 
     requires { (JobRead job.now h) × (Inside (set_of asked) h.variables h.states) × (at + length (set_bytes job.now h (set_of asked)) ≤ length bytes.old) }
     ensures { Put at bytes.old (set_bytes job.now h (set_of asked)) result bytes.new }
 {
-    let version = version_of(job);
-    let variables = h.variables;
     match asked {
-        Asked::NotList(variable, state) => put_not_list(
-            bytes,
-            at,
-            Point {
-                version,
-                variables,
-                variable,
-                state,
-            },
-        ),
-        Asked::LostBlock(variable, state) => put_lost_block(
-            bytes,
-            at,
-            Point {
-                version,
-                variables,
-                variable,
-                state,
-            },
-        ),
-        Asked::BadSteps => put_steps(job, h.transitions_at, h.transitions, variables, bytes, at),
+        Asked::NotList(variable, state) => {
+            put_not_list(bytes, at, Point::of(job, h.variables, variable, state))
+        }
+        Asked::LostBlock(variable, state) => {
+            put_lost_block(bytes, at, Point::of(job, h.variables, variable, state))
+        }
+        Asked::BadSteps => put_steps(job, h.transitions_at, h.transitions, h.variables, bytes, at),
     }
 }
 

@@ -3,9 +3,11 @@ ghost use Rattle.std.specs.Prelude.{[], map, ◌≡◌, ◌+◌, ◌*◌, ◌≤
 ghost use Rattle.lists.specs.List.{concat_map};
 ghost use Rattle.forbidden.specs.Sets.{only, not_list_shapes, lost_block_shapes, bad_step_shapes, at_state};
 ghost use Rattle.format.specs.JobNumbers.{located_numbers};
+ghost use Rattle.layout.specs.Entries.{version_of};
 ghost use Rattle.forbidding.specs.Answers.{count_bytes, PointIn, with_loose};
 ghost use Rattle.putting.specs.Put.{Put};
 
+use layout::version_of;
 use place::{DANGLING, FIRST_CELL, NOWHERE, NULL};
 use putting::put_all;
 
@@ -19,6 +21,20 @@ pub struct Point {
     pub variables: usize,
     pub variable: usize,
     pub state: usize,
+}
+
+impl Point {
+    // A variable at a state, in a job with so many variables.
+    pub(crate) fn of(job: &[u8], variables: usize, variable: usize, state: usize) -> Point
+        ensures { result ≡ record { version = version_of job.now; variables = variables; variable = variable; state = state } }
+    {
+        Point {
+            version: version_of(job),
+            variables,
+            variable,
+            state,
+        }
+    }
 }
 
 // How many bytes the number of facts of a shape has, which is 0: one in version 2, else none.

@@ -11,7 +11,6 @@ ghost use Rattle.putting.specs.Put.{Put};
 ghost use Rattle.forbidding.specs.Steps.{StepIn, StepsIn};
 
 use crate::put::{Point, put_bad_step};
-use layout::version_of;
 use transitions::transition_at;
 
 // The variable that an operation steps through, if it does: for kind 4 its b, for kind 5 its a.
@@ -33,8 +32,7 @@ fn shapes_at(job: &[u8], at: usize) -> usize
     ensures { ((n : ℕ) → result ≡ length (bad_steps_of n (transition_at job.now at))) × (result ≤ 2) }
 {
     let t = transition_at(job, at);
-    let step = steps_through(t.kind, t.a, t.b);
-    match step {
+    match steps_through(t.kind, t.a, t.b) {
         Some(_) => 2,
         None => 0,
     }
@@ -58,21 +56,10 @@ fn put_step(job: &[u8], from: usize, variables: usize, bytes: &mut [u8], at: usi
     ensures { Put at bytes.old (concat_map (located_numbers (version_of job.now)) (bad_steps_of variables (transition_at job.now from))) result bytes.new }
 {
     let t = transition_at(job, from);
-    let step = steps_through(t.kind, t.a, t.b);
-    match step {
+    match steps_through(t.kind, t.a, t.b) {
         Some(variable) => {
-            let version = version_of(job);
-            let state = t.from as usize;
-            put_bad_step(
-                bytes,
-                at,
-                Point {
-                    version,
-                    variables,
-                    variable,
-                    state,
-                },
-            )
+            let p = Point::of(job, variables, variable, t.from as usize);
+            put_bad_step(bytes, at, p)
         }
         None => at,
     }

@@ -8,12 +8,11 @@ use Rattle.forbidding.proofs.Answers.{steps_in}
 use Rattle.forbidding.proofs.shapes_of.Goals as goal
 
 pub count_steps-requires : goal.count_steps-requires
-count_steps-requires c = let s = c.before.before.before in (steps_in s.args.job.now s.args.h s.requires, s.requires.transitions_number)
+count_steps-requires c = (steps_in c.args.job.now c.args.h c.requires, c.requires.transitions_number)
 
 pub returns-in-BadSteps : goal.returns-in-BadSteps
 returns-in-BadSteps c =
-    let s = c.before.before.before.before in (
-      c.count_steps.ensures.0
-          ∙ ap (λ a. length (shapes_of (set_of a) s.args.h.variables (transitions_in s.args.job.now s.args.h))) (sym c.in-BadSteps.is),
+    let a = c.args in (
+      c.count_steps.ensures.0 ∙ ap (λ s. length (shapes_of (set_of s) a.h.variables (transitions_in a.job.now a.h))) (sym c.in-BadSteps.is),
       c.count_steps.ensures.1,
     )
