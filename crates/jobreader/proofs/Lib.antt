@@ -1,2 +1,3 @@
 pub mod OneNumber
 pub mod PreambleNumbers
+pub mod Readers

@@ -1,5 +1,6 @@
 -- Reading a job, part after part.
 use mathlib.Core.List.{List}
+use mathlib.Core.Logic.{◌⊎◌}
 use mathlib.Core.Path.{◌≡◌, refl}
 use Prim.Native.Nat.{ℕ, ◌+◌, ◌≤◌, ◌<◌}
 use native.Mathlib.Omega.{arith}
@@ -7,12 +8,13 @@ use borrow.Author.Tests.{le-leb, lt-leb}
 use lib.ListN.{length}
 use Rattle.format.specs.Job.{read_located}
 use Rattle.format.specs.Parser.{Reason, refusal, parsed, fault, many, Buffer, job_buffer, ranged, end}
-use Rattle.format.proofs.Parsing.{then, ranged_exact}
+use Rattle.format.proofs.Parsing.{then, then_fault, ranged_exact}
 use Rattle.format.proofs.Sequence.{reads_one}
 use Rattle.layout.specs.Entries.{version_of}
 use Rattle.number.specs.Number.{number_at, numeral}
 use Rattle.reader.specs.Job.{read_rest}
 use Rattle.jobreader.specs.Reader.{preamble_read}
+use Rattle.jobreader.proofs.PreambleNumbers.{ranged_fault}
 use Rattle.jobreader.specs.declared.Preamble.{Preamble}
 use Rattle.reader.specs.Number.{without_value}
 use Rattle.reader.proofs.Answers.{in_range}
@@ -28,6 +30,17 @@ one_byte s low limit at n next h small =
     (single s.bytes at n next (reads_one g) (omega arith)).after
 
 module _ (s : Buffer) (at : ℕ) where
+  pub preamble_fault : (why : Reason) (place : ℕ) → preamble_read s at ≡ fault why place → (why ≡ s.unreadable) ⊎ (why ≡ s.outside)
+  unfolding preamble_read
+  preamble_fault why place =
+      then_fault (ranged s 1 3 at) _
+      (λ version p₁ h₁. then_fault (ranged s 1 9 p₁) _
+      (λ variables p₂ h₂. then_fault (ranged s 1 65 p₂) _
+      (λ states p₃ h₃. then_fault (ranged s 0 states p₃) _
+      (λ start p₄ h₄. then_fault (ranged s 0 257 p₄) _
+      (λ transitions p₅ h₅ e. let z : ◌≡◌ {A = ℕ} 0 1 = cc in absurd (omega arith)) (ranged_fault s 0 257 p₄ why place))
+      (ranged_fault s 0 states p₃ why place)) (ranged_fault s 1 65 p₂ why place)) (ranged_fault s 1 9 p₁ why place)) (ranged_fault s 1 3 at why place)
+
   pub preamble_variables : (f : Preamble) (next : ℕ) → preamble_read s at ≡ parsed f next → f.variables ≤ 8
   unfolding preamble_read
   preamble_variables f next =
