@@ -11,7 +11,7 @@ ghost use Rattle.tally.specs.Numbers.{numbers_after};
 
 use lending::lend;
 use sheet::report;
-use tally::{NUMBERS, Untaken, take_in_numbers};
+use tally::{NUMBERS, take_in_numbers};
 use telling::{tell, verdict_number};
 
 // Judges a pair and takes the verdict into the tally that the host lends.
@@ -29,14 +29,14 @@ pub extern "C" fn vorruda_tally_verdict(
     ensures accepted { result ≡ 0 → Acceptable job.now cert.now }
     ensures safe { result ≡ 0 → SafeBytes job.now }
 {
+    if tally.len() < NUMBERS {
+        lend(&[35, 0, 0, 0], out);
+        return 12;
+    }
     let judged = checker::check(job, cert);
     match take_in_numbers(tally, judged) {
         Ok(()) => tell(judged, out),
-        Err(Untaken::TooFew) => {
-            lend(&[35, 0, 0, 0], out);
-            12
-        }
-        Err(Untaken::Full) => {
+        Err(_) => {
             lend(&[verdict_number(judged) as u64, 0, 0, 0], out);
             23
         }

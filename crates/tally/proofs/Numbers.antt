@@ -15,6 +15,7 @@ use Rattle.tally.specs.Numbers.{numbers_of, tally_from, untaken, numbers_after, 
 use Rattle.tally.specs.Release.{tallied}
 use Rattle.tally.specs.Tally.{begun, after, fits, take_in, tally_after}
 use Rattle.tally.specs.declared.Tally.{Tally}
+use Rattle.tally.specs.declared.Untaken.{Untaken}
 use Rattle.tally.specs.declared.Untaken.TheVariants.{TooFew, Full}
 use Rattle.std.proofs.Common.{Option, None, Some, unwrap_or, Bool, true, false, cond}
 
@@ -87,6 +88,14 @@ module _ (v : Verdict) (l : List ℕ) where
 
     enough_after : 35 ≤ length (numbers_after v l)
     enough_after = omega (arith, size, ap length (sym numbers_enough) ∙ length-append (numbers_of (tally_after v (tally_from l))) (drop 35 l))
+
+    -- where they are enough, nothing but a full tally refuses
+    pub enough_full : {u : Untaken} → Some u ≡ untaken v l → Some Full ≡ untaken v l
+    enough_full e = by_take (take_in v (tally_from l)) refl
+      where
+        by_take : (o : Option Tally) → take_in v (tally_from l) ≡ o → Some Full ≡ untaken v l
+        by_take None is = (full_told is).0
+        by_take (Some t) is = let z = e ∙ sym (taken_told t is).0 in cc
 
   -- a refusal leaves them as they are
   pub numbers_same : ¬ (untaken v l ≡ None) → numbers_after v l ≡ l
