@@ -1,6 +1,6 @@
 -- Decimal digits.
 use mathlib.Core.Bool.{cond}
-use mathlib.Core.List.{List, [], ◌∷◌, ◌++◌, append_assoc}
+use mathlib.Core.List.{List, [], ◌∷◌, ◌++◌, append_assoc, append-nil}
 use mathlib.Core.Path.{◌≡◌, refl, sym, ap, ◌∙◌}
 use Prim.Native.Nat.{ℕ, zero, suc, ◌+◌, ◌-◌, ◌*◌, ◌/◌, ◌%◌, ◌^◌, ◌<◌, ◌≤◌}
 use native.Mathlib.Decide.{dec_lt}
@@ -10,7 +10,7 @@ use native.Mathlib.Omega.{arith}
 use borrow.Author.Tests.{lt-ltb, le-ltb}
 use lib.Dec.{ltb}
 use lib.ListN.{length, get_or, set, take, drop, length-append, length-drop, length-set, get_or-append}
-use lib.Seq.{set_split, drop_at, length-take-le, take-length}
+use lib.Seq.{drop-length, set_split, drop_at, length-take-le, take-length}
 use Rattle.putting.specs.Digits.{digits_from, digits, value_from, value, Digits}
 
 -- more turns change nothing
@@ -72,6 +72,14 @@ pub record Writing (n : ℕ) (written : List ℕ) (first left : ℕ) : Type 0 wh
   pub upto : first < 20
   pub so_far : digits n ≡ digits left ++ drop (first + 1) written
 
+pub writing_none : (n : ℕ) (written : List ℕ) → length written ≡ 20 → Writing n written 19 n
+writing_none n written e =
+    record {
+      all = e;
+      upto = omega arith;
+      so_far = sym (ap (λ (l : List ℕ). digits n ++ l) (ap (λ (k : ℕ). drop k written) (sym e) ∙ drop-length written) ∙ append-nil (digits n));
+    }
+
 module _ (n : ℕ) (written : List ℕ) (first left : ℕ) (w : Writing n written first left) where
   -- a digit stored stands before those that were there
   stored : (v : ℕ) → drop first (set written first v) ≡ v ∷ drop (first + 1) written
@@ -79,6 +87,18 @@ module _ (n : ℕ) (written : List ℕ) (first left : ℕ) (w : Writing n writte
       ap (drop first) (set_split written first v (omega (arith, w.all, w.upto)))
       ∙ drop_at (take first written) (v ∷ drop (suc first) written) first (length-take-le first written (omega (arith, w.all, w.upto)))
       ∙ ap (λ (k : ℕ). v ∷ drop k written) (sym (add-one first))
+
+  -- there is room for what is left
+  pub digits_left : n < 18446744073709551616 → length (digits left) ≤ first + 1
+  digits_left h =
+      omega (
+        arith,
+        w.all,
+        w.upto,
+        twenty_digits n h,
+        ap length w.so_far ∙ length-append (digits left) (drop (first + 1) written),
+        length-drop (first + 1) written,
+      )
 
   -- where more than one digit is left, there is room before
   pub more_room : n < 18446744073709551616 → 10 ≤ left → 1 ≤ first

@@ -14,9 +14,11 @@ pub fn put_all(bytes: &mut [u8], at: usize, copied: &[u8]) -> usize
     if bytes.len() - at < copied.len() {
         return at;
     }
-    let next = at + copied.len();
-    bytes[at..next].copy_from_slice(copied);
-    next
+    // byte by byte: of `copy_from_slice` the compiler makes `memmove` here, and the calls for C need no more of a host than `memcpy` and `memset`
+    for (i, byte) in copied.iter().enumerate() {
+        bytes[at + i] = *byte;
+    }
+    at + copied.len()
 }
 
 // Writes a number in decimal digits to a place of the output, if there is room for them; gives the place after them.
