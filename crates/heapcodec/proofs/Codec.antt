@@ -1,5 +1,5 @@
 -- What the code reads and writes of a heap's bytes and values.
-use mathlib.Core.Bool.{Bool, true, false}
+use mathlib.Core.Bool.{Bool, true, false, ◌&&◌}
 use mathlib.Core.List.{List}
 use mathlib.Core.Path.{◌≡◌, refl, sym, subst, ◌∙◌}
 use Prim.Native.Nat.{ℕ, ◌+◌, ◌-◌, ◌<◌}
@@ -12,7 +12,7 @@ use Rattle.std.proofs.lemmas.List.{get_or-take, get_or-drop, get_or-append_right
 use Rattle.std.specs.Prelude.{◌++◌, ◌↔◌, min, nat_eq, Some, None, EachIndex, IsTrue}
 use Rattle.lists.specs.Test.{all_from}
 use Rattle.lists.proofs.Range.{Filled, length_from, get_or_from, tabled, fill_more}
-use Rattle.lists.proofs.Test.{and_left, all_made, all_at}
+use Rattle.lists.proofs.Test.{and_left, and_right, and_both, all_made, all_at}
 use Rattle.stepper.specs.declared.Heap64.{Heap64}
 use Rattle.heapbytes.specs.HeapBytes.{bytes_readable, codes_from, heap_from, byte_of, heap_bytes, no_values}
 use Rattle.heapcodec.specs.Codec.{read_heap, heap_written, values_written}
@@ -58,6 +58,17 @@ module _ (bytes : List ℕ) where
           let t : false ≡ true = h (λ k b. ltb-true (get_or marks k 0) 2 (rw (at k (omega (arith, size))) (all_at mark_fits 64 0 k z (omega arith) (omega (arith, size))))) in
           cc
       go false fit h false z = refl
+
+-- one mark more is tested
+abbrev pub MarksFit : List ℕ → ℕ → Type 0
+MarksFit marks n = (k : ℕ) → k < n → get_or marks k 0 < 2
+
+pub mark_tested : (marks : List ℕ) (i : ℕ) (b : Bool) → IsTrue b ↔ MarksFit marks i → IsTrue (b && ltb (get_or marks i 0) 2) ↔ MarksFit marks (i + 1)
+mark_tested marks i b t = (λ e k h. there e k h (dec_lt k i), λ f. and_both b _ (t.1 (λ k h. f k (omega arith))) (lt-ltb (get_or marks i 0) 2 (f i (omega arith))))
+  where
+    there : b && ltb (get_or marks i 0) 2 ≡ true → (k : ℕ) → k < i + 1 → Dec (k < i) → get_or marks k 0 < 2
+    there e k h (yes l) = t.0 (and_left b _ e) k l
+    there e k h (no n) = let last : k ≡ i = omega arith in rw last (ltb-true (get_or marks i 0) 2 (and_right b _ e))
 
 -- ---- the numbers: as many as there are, at most 64, and zeros after them
 

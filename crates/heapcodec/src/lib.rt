@@ -20,11 +20,15 @@ const LINKS: usize = 73;
 // How many cells have values.
 const CELLS: usize = 64;
 
-// Whether the used marks are all 0 or 1.
+// Whether the used marks are all 0 or 1. The loop isn't left early, so that it compares several at once.
 fn are_marks(marks: &[u8]) -> bool
     ensures { IsTrue result ↔ EachIndex marks.now (λ k. slice_index marks.now k < 2) }
 {
-    marks.iter().all(|mark| *mark < 2)
+    let mut fit = true;
+    for mark in marks {
+        fit &= *mark < 2;
+    }
+    fit
 }
 
 // Whether bytes can be a heap's: 137, the used marks 0 or 1.

@@ -65,15 +65,16 @@ pub fn outcome_code(outcome: Outcome) -> u32
 }
 
 // Whether a place, if it is a cell, is a used one. Its code is compared here, and not asked for by `cell_index`: that takes three instructions more a place, of
-// which a step tests 72.
+// which a step tests 72. It is compared before that of the first cell is taken from it, which saves two more.
 fn is_aimed(used: &[bool], p: Place) -> bool
     ensures { result ≡ aimed used.now p.code }
 {
     if p.code < FIRST_CELL {
         return true;
     }
-    let i = (p.code - FIRST_CELL) as usize;
-    i < used.len() && used[i]
+    let first = FIRST_CELL as usize;
+    let i = p.code as usize;
+    i < first + used.len() && used[i - first]
 }
 
 // Whether each of the places that is a cell is a used one.
@@ -114,20 +115,19 @@ fn codes_differ(larger: bool, v: u32, w: u32) -> bool
     }
 }
 
-// Each of the places that is that one becomes *.
+// Each of the places that is that one becomes *. Each is written, changed or not: so the loop changes several at once.
 fn dangle(places: &mut [Place], at: Place)
     ensures { places.new ≡ map (dangle_place at.code) places.old }
 {
     for p in places.iter_mut() {
-        if *p == at {
-            *p = Place::DANGLING;
-        }
+        *p = if *p == at { Place::DANGLING } else { *p };
     }
 }
 
 impl Heap64 {
     // Whether the slots of variables are right: nowhere just where there is no variable, and at used cells. The first is tested of all of them, here and
-    // in the next two: a loop that isn't left early compares several at once.
+    // in the next two: a loop that isn't left early compares several at once. All three read copies of the arrays: the compiler then keeps these in registers,
+    // and drops the test of the values where they are constants.
     fn slots_fit(&self) -> bool
         ensures { result ≡ all_from 8 0 (slot_fits self.now) }
     {
@@ -139,30 +139,35 @@ impl Heap64 {
         if !marked {
             return false;
         }
-        all_aimed(&self.used, &self.vars)
+        let used = self.used;
+        all_aimed(&used, &self.vars)
     }
 
     // Whether the links of cells are right: nowhere just where a cell is unused, and at used cells.
     fn cells_fit(&self) -> bool
         ensures { result ≡ all_from 64 0 (cell_fits self.now) }
     {
+        let used = self.used;
+        let links = self.links;
         let mut marked = true;
         for i in 0..64 {
-            marked &= self.used[i] == (self.links[i] != Place::NOWHERE);
+            marked &= used[i] == (links[i] != Place::NOWHERE);
         }
         if !marked {
             return false;
         }
-        all_aimed(&self.used, &self.links)
+        all_aimed(&used, &links)
     }
 
     // Whether the codes of values are right: at most 65,536 where a cell is used, else 0.
     fn values_fit(&self) -> bool
         ensures { result ≡ all_from 64 0 (value_fits self.now) }
     {
+        let used = self.used;
+        let values = self.values;
         let mut fits = true;
         for i in 0..64 {
-            fits &= self.values[i] <= most_code(self.used[i]);
+            fits &= values[i] <= most_code(used[i]);
         }
         fits
     }
