@@ -93,7 +93,7 @@ module _ (cert : List ℕ) (variables start n : ℕ) (s : List ℕ) (whole : Who
   pub taken_linking : Linking member (shape_in variables s) cert (start + 2 + variables) count codes marks s
   taken_linking = linking_read cert variables start codes s tested count read marks t.marked
 
-  taken_embed : member.facts ≡ [] → lowest variables 0 (var_fits_in cert (start + 2) codes s) ≡ none
+  pub taken_embed : member.facts ≡ [] → lowest variables 0 (var_fits_in cert (start + 2) codes s) ≡ none
       → (links : ℕ) → PathsFit member (shape_in variables s) (images_in count codes) count links → ImagesEmbed cert start variables first count s links
   taken_embed bare vars links paths =
       let cells = get_or cert (start + 1) 0 in

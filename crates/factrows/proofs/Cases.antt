@@ -1,14 +1,28 @@
--- Steps of the code: a test of a run of numbers, and listed facts closed from the last on.
-use mathlib.Core.Bool.{Bool, ◌&&◌}
+-- Steps of the code: a kind of which there are no facts, a test of a run of numbers, and listed facts closed from the last on.
+use mathlib.Core.Bool.{Bool, false, ◌&&◌}
 use mathlib.Core.List.{List}
+use mathlib.Core.Logic.{◌≢◌}
 use mathlib.Core.Path.{◌≡◌, refl, ap}
 use Prim.Native.Nat.{ℕ, zero, suc, ◌-◌, ◌≤◌, ◌<◌}
 use native.Mathlib.Omega.{arith}
 use Rattle.std.specs.List.{list_all, range_with_len}
 use Rattle.std.proofs.Common.{add-one}
 use Rattle.lists.specs.Test.{all_from}
-use Rattle.factrows.specs.Rows.{no_facts, with_fact}
+use Rattle.factrows.specs.Rows.{no_facts, with_kind, with_fact, clash_of}
 use Rattle.factrows.specs.Listed.{kind_at, left_at, right_at, closed_from}
+
+-- ---- kinds from 2 on
+
+module _ (l : List ℕ) (c d : ℕ) where
+  pub no_kind : (k : ℕ) → k ≢ 0 → k ≢ 1 → l ≡ with_kind l k c d
+  no_kind zero a b = absurd (a refl)
+  no_kind (suc zero) a b = absurd (b refl)
+  no_kind (suc (suc k)) a b = refl
+
+  pub no_clash : (k : ℕ) → k ≢ 0 → k ≢ 1 → false ≡ clash_of l k c d
+  no_clash zero a b = absurd (a refl)
+  no_clash (suc zero) a b = absurd (b refl)
+  no_clash (suc (suc k)) a b = refl
 
 -- ---- a test of all numbers from i on, n of them
 

@@ -2,14 +2,21 @@
 use mathlib.Core.Bool.{Bool, true, false, cond}
 use mathlib.Core.List.{List}
 use mathlib.Core.Path.{◌≡◌, refl, sym, ◌∙◌}
-use Prim.Native.Nat.{ℕ, ◌+◌, ◌≤◌}
+use Prim.Native.Nat.{ℕ, ◌+◌, ◌*◌, ◌≤◌}
 use native.Mathlib.Omega.{arith}
 use lib.Dec.{leb}
 use lib.ListN.{length, get_or}
 use Rattle.std.specs.Prelude.{Option, None, Some, IsSome, is_some}
 use Rattle.std.proofs.lemmas.Option.{none-some, cond_some}
-use Rattle.lists.proofs.Reflect.{Reflect, r_and, r_iff, r_le, is_true, is_false, same_test, passes, fails}
-use Rattle.layout.specs.Entries.{links_end, links_inside, entry_end, is_whole, EntryInRange, Whole}
+use Rattle.lists.proofs.Reflect.{Reflect, r_and, r_iff, r_eq, r_le, r_lt, cond_cases, is_true, is_false, same_test, passes, fails}
+use Rattle.layout.specs.Entries.{version_of, fact_count, facts_first, facts_end, links_end, links_inside, entry_end, is_whole, EntryInRange, Whole}
+
+-- facts come after the links
+pub facts_after : (bytes : List ℕ) (at : ℕ) → at ≤ facts_end bytes at
+unfolding facts_end facts_first
+facts_after bytes at =
+    cond_cases (λ n. at ≤ n) (r_eq (version_of bytes) 2)
+    (λ _. cond_cases (λ n. at ≤ n + 3 * fact_count bytes at) (r_lt (get_or bytes at 0) 128) (λ _. omega arith) (λ _. omega arith)) (λ _. omega arith)
 
 module _ (bytes : List ℕ) (variables at : ℕ) where
   -- what the test of the links says

@@ -4,7 +4,7 @@ use mathlib.Core.List.Memᴰ
 use mathlib.Core.List.{List, [], append-nil}
 use mathlib.Core.Logic.{◌≢◌}
 use mathlib.Core.Path.{◌≡◌, refl, ap, ◌∙◌}
-use Prim.Native.Nat.{ℕ, zero, suc, ◌≤◌, ◌<◌}
+use Prim.Native.Nat.{ℕ, zero, suc, ◌-◌, ◌≤◌, ◌<◌}
 use native.Mathlib.Omega.{arith}
 use Rattle.std.proofs.lemmas.Bool.Decides.{nat_tests}
 use lib.ListN.{length}
@@ -41,6 +41,15 @@ chosen_fresh n k h = grind (arith, nat_tests)
 pub choice_of_null : (n p : ℕ) → p ≡ null → choice_of n p ≡ n
 unfolding choice_of
 choice_of_null n p e = grind (arith, nat_tests)
+
+pub choice_of_cell : (n p : ℕ) → p ≢ null → choice_of n p ≡ p - 3
+unfolding choice_of
+choice_of_cell n p e = grind (arith, nat_tests)
+
+-- the fresh cell is in use after a choice above #
+pub chosen_inside : (n k m : ℕ) → n ≤ m → (n < k → m ≡ suc n) → chosen n k < cell m
+unfolding chosen
+chosen_inside n k m l fresh = grind (arith, nat_tests)
 
 -- ---- where variables stand
 

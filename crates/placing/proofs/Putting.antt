@@ -1,6 +1,6 @@
 -- A variable is placed by a choice.
 use mathlib.Core.Logic.{◌≢◌}
-use mathlib.Core.Path.{◌≡◌, refl}
+use mathlib.Core.Path.{◌≡◌, refl, ap, ◌∙◌}
 use Prim.Native.Nat.{ℕ, ◌≤◌}
 use native.Mathlib.Decide.{ℕ_discrete}
 use borrow.Author.Tests.{eq-eqb, ne_eqb}
@@ -19,6 +19,13 @@ unfolding put
 put_made v s k e = simp (eq-eqb (var_at s v) nowhere e)
 
 -- ---- where variables stand after that
+
+pub put_keeps : (v : ℕ) (s : Shape) (k u : ℕ) → var_at s u ≢ nowhere → var_at (put v s k) u ≡ var_at s u
+put_keeps v s k u n = go (ℕ_discrete (var_at s v) nowhere)
+  where
+    go : Dec (var_at s v ≡ nowhere) → var_at (put v s k) u ≡ var_at s u
+    go (yes e) = rw (put_made v s k e) (made_other v s k u (λ z. n (ap (var_at s) z ∙ e)))
+    go (no e) = rw (put_nothing v s k e) refl
 
 pub put_other : (v : ℕ) (s : Shape) (k u : ℕ) → u ≢ v → var_at (put v s k) u ≡ var_at s u
 put_other v s k u n = go (ℕ_discrete (var_at s v) nowhere)

@@ -53,7 +53,7 @@ count_most (p ∷ ps) = go (ℕ_discrete p dangling) (count_most ps)
     go (yes e) h = rw (count_dangling p ps e) (omega arith)
     go (no n) h = rw (count_other p ps n) (omega arith)
 
-count_fits : (l : List ℕ) → length l ≤ 9 → case_count l ≤ 512
+pub count_fits : (l : List ℕ) → length l ≤ 9 → case_count l ≤ 512
 count_fits l h = let a = count_most l in let b = most_grows (length l) h in omega arith
 
 -- a power of two

@@ -1,5 +1,5 @@
 -- The call's promise, by its outcome.
-use mathlib.Core.Bool.{true, false}
+use mathlib.Core.Bool.{Bool, true, false}
 use mathlib.Core.List.{List}
 use mathlib.Core.Path.{◌≡◌, refl, subst}
 use Prim.Native.Nat.{ℕ}
@@ -34,3 +34,17 @@ left (Refused r) k t bytes values = (refl, refl)
 -- moved: those of the heap after the step
 pub went : (o : Outcome) → o ≡ Moved → (t : Heap64) (bytes values : List ℕ) → (heap_bytes t ≡ bytes_after o t bytes) × (t.values ≡ values_after o t values)
 went o e t bytes values = rw e (refl, refl)
+
+-- where 0 is not told, the values stay
+pub kept : (bytes values : List ℕ) (kind a b value code : ℕ) (bytes' values' : List ℕ) → StepsBytes bytes values kind a b value code bytes' values'
+    → (code ≡ 0 → ⊥) → values' ≡ values
+kept bytes values kind a b value code bytes' values' m n = go (readable bytes values) refl
+  where
+    by_outcome : (o : Outcome) (t : Heap64) → code ≡ outcome_code o → values' ≡ values_after o t values → values' ≡ values
+    by_outcome Moved t c v = absurd (n c)
+    by_outcome Blocked t c v = v
+    by_outcome (Refused r) t c v = v
+
+    go : (r : Bool) → readable bytes values ≡ r → values' ≡ values
+    go false e = (m.unreadable e).2
+    go true e = let (s, _, c, _, v) = m.stepped e in by_outcome s.outcome s.heap c v

@@ -11,8 +11,16 @@ use native.Mathlib.Omega.{arith}
 use Rattle.std.specs.Option.{MatchOption, is_some}
 use Rattle.std.specs.Prelude.{Option, None, Some}
 use Rattle.std.proofs.lemmas.List.{get_or-take, get_or-drop, length-take-le, length-drop}
-use Rattle.lists.proofs.Reflect.{Reflect, r_and, r_le, is_true, is_false}
+use Rattle.lists.proofs.Reflect.{Reflect, r_and, r_le, is_true, is_false, same_test}
 use Rattle.transitions.specs.Transitions.{zeros, transition_from, transition_bytes, transition_ending, transition_named, are_there}
+
+-- the tests whether bytes are there
+module _ (at size most : ℕ) where
+  pub beyond : most < at → false ≡ leb (at + size) most
+  beyond h = sym (is_false (leb (at + size) most) (λ t. omega (arith, (r_le (at + size) most).holds t)))
+
+  pub fits_left : at ≤ most → leb size (most - at) ≡ leb (at + size) most
+  fits_left h = same_test (r_le size (most - at)) (r_le (at + size) most) (λ a. omega arith) (λ a. omega arith)
 
 -- so many of the job's bytes, from a place on
 pub record Part (job : List ℕ) (at size : ℕ) (bytes : List ℕ) : Type 0 where
