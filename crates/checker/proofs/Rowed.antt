@@ -22,7 +22,7 @@ use Rattle.layout.specs.ShapeArray.{cell_count, operand_at, shape_in, ShapeArray
 use Rattle.layout.proofs.Facts.{facts_none}
 use Rattle.placing.proofs.Ranges.{stretch}
 use Rattle.shapes.specs.Change.{cases_of, array_prepared, is_before, array_before}
-use Rattle.std.specs.declared.ops.Range.{Range}
+use Rattle.shapes.specs.declared.Cases.{Cases}
 use Rattle.shapes.proofs.Slots.{var_in_lem}
 use Rattle.undoing.specs.Rowed.{Rowed, StandsFor, AllStandFor, rowed}
 use Rattle.undoing.specs.Undone.{is_undone, rows_undone}
@@ -87,8 +87,8 @@ module _ (variables kind count : ℕ) (s rows : List ℕ) (k : ℕ) where
     case_one e v l v_is l_is = rw (b, e, v_is, l_is) refl
 
 -- all cases
-pub cases_all : (variables kind a : ℕ) (s rows : List ℕ) (cases : Range ℕ) (t : List ℕ) → cases ≡ cases_of variables kind a s → t ≡ array_prepared variables kind a s
-    → stretch (before_rowed variables kind cases.end t rows) cases.start cases.end ≡ cases_rowed variables kind a s rows
+pub cases_all : (variables kind a : ℕ) (s rows : List ℕ) (cases : Cases) (t : List ℕ) → cases ≡ cases_of variables kind a s → t ≡ array_prepared variables kind a s
+    → stretch (before_rowed variables kind cases.end t rows) cases.first cases.end ≡ cases_rowed variables kind a s rows
 unfolding cases_rowed
 cases_all variables kind a s rows cases t c_is t_is = rw (c_is, t_is) refl
 

@@ -52,7 +52,7 @@ pub(crate) fn check_cases(
     let mut prepared = *s;
     let cases = prepare_cases(variables, by.kind, by.a, &mut prepared);
     let mut t = from;
-    for case in cases.start..cases.end {
+    for case in cases.first..cases.end {
         let mut v = prepared;
         if undo_case(variables, by.kind, cases.end, case, &mut v) {
             let mut rows = *facts;

@@ -109,7 +109,8 @@ pub(crate) fn fact_missing(
     if version_of(cert) != 2 {
         return None;
     }
-    let listed = &cert[fact_span(cert, start, variables)];
+    let span = fact_span(cert, start, variables);
+    let listed = &cert[span.first..span.end];
     if holds_all(facts, listed, images) {
         return None;
     }

@@ -85,8 +85,10 @@ fn same_shape(bytes: &[u8], at: usize, others: &[u8], other: usize, variables: u
     if bytes[links..end] != others[other_links..other_end] {
         return false;
     }
-    let facts = &bytes[fact_span(bytes, at, variables)];
-    let other_facts = &others[fact_span(others, other, variables)];
+    let span = fact_span(bytes, at, variables);
+    let other_span = fact_span(others, other, variables);
+    let facts = &bytes[span.first..span.end];
+    let other_facts = &others[other_span.first..other_span.end];
     facts == other_facts
 }
 

@@ -11,7 +11,6 @@ ghost use Rattle.layout.specs.Loading.{most_inside, loaded_codes, loaded_shape, 
 use factrows::close;
 use number::wide;
 use place::Place;
-use std::ops::Range;
 
 // The version of a file, its first byte; 0 where it has none.
 pub fn version_of(bytes: &[u8]) -> u8
@@ -162,26 +161,34 @@ pub fn load_shape(bytes: &[u8], at: usize, variables: usize, s: &mut [u8; 28])
     s[0] = n;
 }
 
-// Where the bytes of the facts of the entry at a place are: from the first of them up to the entry's end, also where it lists none; from 0 up to 0 in version 1,
-// and where the entry is not whole.
-pub fn fact_span(bytes: &[u8], at: usize, variables: usize) -> Range<usize>
-    ensures { (result.start ≤ result.end) × (result.end ≤ length bytes.now) × (take (result.end - result.start) (drop result.start bytes.now) ≡ entry_facts bytes.now variables at) × (result.start ≡ span_first bytes.now variables at) × (result.end ≡ span_end bytes.now variables at) }
+// Where the bytes of an entry's facts are, from one place up to another.
+#[derive(Clone, Copy)]
+pub struct Span {
+    pub first: usize,
+    pub end: usize,
+}
+
+// The bytes of the facts of the entry at a place: from the first of them up to the entry's end, also where it lists none; from 0 up to 0 in version 1, and where the
+// entry is not whole.
+pub fn fact_span(bytes: &[u8], at: usize, variables: usize) -> Span
+    ensures { (result.first ≤ result.end) × (result.end ≤ length bytes.now) × (take (result.end - result.first) (drop result.first bytes.now) ≡ entry_facts bytes.now variables at) × (result.first ≡ span_first bytes.now variables at) × (result.end ≡ span_end bytes.now variables at) }
 {
     let Some(end) = entry_end(bytes, at, variables) else {
-        return 0..0;
+        return Span { first: 0, end: 0 };
     };
     if version_of(bytes) != 2 {
-        return 0..0;
+        return Span { first: 0, end: 0 };
     }
     let first = facts_first(bytes, at + 2 + variables + wide(bytes[at + 1]));
-    first..end
+    Span { first, end }
 }
 
 // Loads the facts of the entry at a place, and all that follows from them.
 pub fn load_facts(bytes: &[u8], at: usize, variables: usize, rows: &mut [u16; 28])
     ensures { rows.new ≡ loaded_facts bytes.now variables at }
 {
-    close(rows, &bytes[fact_span(bytes, at, variables)]);
+    let span = fact_span(bytes, at, variables);
+    close(rows, &bytes[span.first..span.end]);
 }
 
 // How many cells the shape in an array has: no more than there are slots from the first link on.

@@ -16,7 +16,7 @@ use Rattle.layout.specs.ShapeArray.{cell_count, operand_at, shape_in, ShapeArray
 use Rattle.placing.proofs.Ranges.{stretch}
 use Rattle.shapes.specs.Change.{set_operand, array_restored, case_count, array_by_case, cases_of_delete, operand_forgotten, array_prepared, is_before, array_before, before_by_case}
 use Rattle.shapes.specs.Without.{without}
-use Rattle.std.specs.declared.ops.Range.{Range}
+use Rattle.shapes.specs.declared.Cases.{Cases}
 use Rattle.shapes.proofs.Free.{by_array, Restorable, restorable, not_restorable}
 use Rattle.shapes.proofs.Restored.{array_restored_lem, delete_some, delete_none}
 use Rattle.shapes.proofs.Slots.{count_operand, array_operand}
@@ -31,8 +31,8 @@ module _ (variables kind count : ℕ) (s : List ℕ) (k : ℕ) (r : Bool) (r-is 
 -- ---- all cases
 
 -- the shapes before, by these cases of a prepared array
-abbrev pub by_cases : ℕ → ℕ → List ℕ → Range ℕ → List Shape
-by_cases variables kind s cases = stretch (before_by_case variables kind cases.end s) cases.start cases.end
+abbrev pub by_cases : ℕ → ℕ → List ℕ → Cases → List Shape
+by_cases variables kind s cases = stretch (before_by_case variables kind cases.end s) cases.first cases.end
 
 module _ (variables : ℕ) (s : List ℕ) (h : ShapeArray variables s) (small : cell_count s ≤ 12) (a : ℕ) (some : 1 ≤ a) (most : a ≤ variables) where
   abbrev shape : Shape

@@ -1,6 +1,5 @@
 -- A shape in an array (layout/specs/ShapeArray.antt), changed in place.
 use Rattle.std.specs.Prelude.{Bool, ◌&&◌, ◌||◌, not, cond, List, [], ◌∷◌, ◌++◌, map, ℕ, suc, ◌+◌, ◌-◌, ◌/◌, eqb, ltb, leb, get_or, set, take, drop}
-use Rattle.std.specs.declared.ops.Range.{Range}
 use Rattle.lists.specs.List.{keep}
 use Rattle.lists.specs.Range.{range}
 use Rattle.heap.specs.Place.{nowhere, null, dangling, cell}
@@ -8,6 +7,7 @@ use Rattle.shape.specs.Shape.{Shape}
 use Rattle.backward.specs.Predecessors.{lower, forget}
 use Rattle.layout.specs.ShapeArray.{cell_count, operand_at, shape_in}
 use Rattle.shapes.specs.Without.{is_free}
+use Rattle.shapes.specs.declared.Cases.{Cases}
 
 -- ---- one change
 
@@ -106,19 +106,19 @@ array_by_case variables count k s =
 -- ---- kinds 6 and 7 by cases. Of kind 6: which cell was the new one; case n of a shape of n cells is one that the shape lacks. Of kind 7: where
 -- the variables stood.
 
-abbrev cases_from : ℕ → ℕ → Range ℕ
-cases_from start end = record { start = start; end = end }
+abbrev cases_from : ℕ → ℕ → Cases
+cases_from first end = record { first = first; end = end }
 
 -- the cases of kind 6, where a stands at x in a shape of n cells
-unfoldable pub cases_of_new : ℕ → ℕ → Range ℕ
+unfoldable pub cases_of_new : ℕ → ℕ → Cases
 cases_of_new n x = cond (eqb x nowhere) (cases_from 0 (suc n)) (cond (ltb x 3) (cases_from 0 0) (cases_from (x - 3) (suc (x - 3))))
 
 -- the cases of kind 7
-unfoldable pub cases_of_delete : ℕ → ℕ → List ℕ → Range ℕ
+unfoldable pub cases_of_delete : ℕ → ℕ → List ℕ → Cases
 cases_of_delete variables a s =
     cond (is_restorable variables a s) (cases_from 0 (case_count (take variables (drop 18 (array_restored s a))))) (cases_from 0 0)
 
-unfoldable pub cases_of : ℕ → ℕ → ℕ → List ℕ → Range ℕ
+unfoldable pub cases_of : ℕ → ℕ → ℕ → List ℕ → Cases
 cases_of variables kind a s = cond (eqb kind 7) (cases_of_delete variables a s) (cases_of_new (cell_count s) (operand_at s a))
 
 -- a is nowhere, if it has a slot

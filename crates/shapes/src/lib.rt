@@ -11,7 +11,6 @@ use crate::restore::{prepare_delete, stand_by_case};
 use kinds::DELETE;
 use number::wide;
 use place::{DANGLING, FIRST_CELL, NOWHERE, NULL, Place, link_at, none_at};
-use std::ops::Range;
 
 mod restore;
 
@@ -121,10 +120,17 @@ fn forget_operand(s: &mut [u8; 28], a: u8)
     }
 }
 
+// Numbers of cases, from one on, before another.
+#[derive(Clone, Copy)]
+pub struct Cases {
+    pub first: usize,
+    pub end: usize,
+}
+
 // The cases of kind 6, by the cell that was new: a's cell, or any where a is nowhere; the case after the last cell is one that the shape lacks. Puts
 // a nowhere.
 #[tactic(auto, unfolding(crate::specs::Change::cases_of_new))]
-fn prepare_new(a: u8, s: &mut [u8; 28]) -> Range<usize>
+fn prepare_new(a: u8, s: &mut [u8; 28]) -> Cases
     ensures cases { result ≡ cases_of_new (cell_count s.old) (operand_at s.old a) }
     ensures shape { s.new ≡ operand_forgotten s.old a }
 {
@@ -132,11 +138,17 @@ fn prepare_new(a: u8, s: &mut [u8; 28]) -> Range<usize>
     let x = operand_at(s, a);
     forget_operand(s, a);
     match x {
-        NOWHERE => 0..n + 1,
-        NULL | DANGLING => 0..0,
+        NOWHERE => Cases {
+            first: 0,
+            end: n + 1,
+        },
+        NULL | DANGLING => Cases { first: 0, end: 0 },
         FIRST_CELL.. => {
             let k = wide(x - FIRST_CELL);
-            k..k + 1
+            Cases {
+                first: k,
+                end: k + 1,
+            }
         }
     }
 }
@@ -144,7 +156,7 @@ fn prepare_new(a: u8, s: &mut [u8; 28]) -> Range<usize>
 // The cases of the shapes before: by kind 7 where the variables stood, by any other kind, which is taken for 6, which cell was new. Changes s as is
 // common to them: by kind 7 no link stands at * and a stands at a fresh cell, by 6 a is nowhere.
 #[tactic(auto, unfolding(crate::specs::Change::cases_of, crate::specs::Change::array_prepared))]
-pub fn prepare_cases(variables: usize, kind: u8, a: u8, s: &mut [u8; 28]) -> Range<usize>
+pub fn prepare_cases(variables: usize, kind: u8, a: u8, s: &mut [u8; 28]) -> Cases
     ensures cases { result ≡ cases_of variables kind a s.old }
     ensures shape { s.new ≡ array_prepared variables kind a s.old }
 {

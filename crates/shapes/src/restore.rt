@@ -3,9 +3,8 @@ ghost use Rattle.std.specs.Prelude.{cond, count_by, ◌&&◌, ◌==◌, ◌≡�
 ghost use Rattle.layout.specs.ShapeArray.{cell_count};
 ghost use Rattle.shapes.specs.Change.{is_restorable, slot_forgotten, array_forgotten, array_restored, case_count, vars_by_case, array_by_case, cases_of_delete};
 
-use crate::fill_slots;
+use crate::{Cases, fill_slots};
 use place::{DANGLING, FIRST_CELL, NOWHERE};
-use std::ops::Range;
 
 // Slot i of a shape in which no link stands at *.
 #[tactic(auto, unfolding(crate::specs::Change::slot_forgotten))]
@@ -65,15 +64,18 @@ fn count_cases(vars: &[u8]) -> usize
 // The cases of where the variables stood. Changes s as is common to them: no link stands at *, and a stands at a fresh cell; without a shape before
 // there is no case, and s stays.
 #[tactic(auto, unfolding(crate::specs::Change::cases_of_delete))]
-pub(crate) fn prepare_delete(variables: usize, a: u8, s: &mut [u8; 28]) -> Range<usize>
+pub(crate) fn prepare_delete(variables: usize, a: u8, s: &mut [u8; 28]) -> Cases
     ensures cases { result ≡ cases_of_delete variables a s.old }
     ensures shape { s.new ≡ cond (is_restorable variables a s.old) (array_restored s.old a) s.old }
 {
     let old = *s;
     if !restore_deleted(variables, a, &old, s) {
-        return 0..0;
+        return Cases { first: 0, end: 0 };
     }
-    0..count_cases(&s[18..18 + variables])
+    Cases {
+        first: 0,
+        end: count_cases(&s[18..18 + variables]),
+    }
 }
 
 // Puts variables where they stood by case k of so many, `gone` being the deleted cell. In the first half of the cases a variable at * was there

@@ -29,7 +29,7 @@ use Rattle.factrows.specs.Rows.{has_fact, lowered}
 use Rattle.factrows.proofs.Predecessors.{unspoken_rows, remove_stands}
 use Rattle.layout.specs.ShapeArray.{cell_count, operand_at, shape_in, ShapeArray}
 use Rattle.shapes.specs.Change.{cases_of_new, cases_of_delete, cases_of, array_prepared, is_before, array_before, before_by_case}
-use Rattle.std.specs.declared.ops.Range.{Range}
+use Rattle.shapes.specs.declared.Cases.{Cases}
 use Rattle.shapes.specs.Without.{is_free, without}
 use Rattle.shapes.proofs.Before.{s₀, prepared_new, without_cell, unchanged, delete_all}
 use Rattle.shapes.proofs.New.{new_at_cell, new_at_null, new_at_dangling, new_at_nowhere}
@@ -103,11 +103,11 @@ module _ (variables : ℕ) (s rows : List ℕ) (array : ShapeArray variables s) 
   unfolding before_rowed is_before_rowed rows_before before_by_case
   left count t k = grind (arith, nat_tests)
 
-  abbrev cases : Range ℕ
+  abbrev cases : Cases
   cases = cases_of_delete variables a s
 
   abbrev numbers : List ℕ
-  numbers = range cases.start (cases.end - cases.start)
+  numbers = range cases.first (cases.end - cases.first)
 
   rowed_all : cases_rowed variables 7 a s rows ≡ map (rowed rows) (backward.before (delete a) bare)
   unfolding cases_rowed cases_of
@@ -194,7 +194,7 @@ module _ (variables : ℕ) (s rows : List ℕ) (array : ShapeArray variables s) 
   abbrev by_numbers : ℕ → ℕ → List Rowed
   by_numbers first end = concat_map (before_rowed variables 6 end t rows) (range first (end - first))
 
-  cases_new : (first end : ℕ) → cases_of_new n x ≡ record { start = first; end = end } → cases_rowed variables 6 a s rows ≡ by_numbers first end
+  cases_new : (first end : ℕ) → cases_of_new n x ≡ record { first = first; end = end } → cases_rowed variables 6 a s rows ≡ by_numbers first end
   unfolding cases_rowed cases_of
   cases_new first end e = rw (e, prepared_new variables s array few a some most) refl
 

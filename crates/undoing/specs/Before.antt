@@ -52,4 +52,4 @@ before_rowed variables kind count s rows k =
 unfoldable pub cases_rowed : ℕ → ℕ → ℕ → List ℕ → List ℕ → List Rowed
 cases_rowed variables kind a s rows =
     let cases = cases_of variables kind a s in
-    concat_map (before_rowed variables kind cases.end (array_prepared variables kind a s) rows) (range cases.start (cases.end - cases.start))
+    concat_map (before_rowed variables kind cases.end (array_prepared variables kind a s) rows) (range cases.first (cases.end - cases.first))

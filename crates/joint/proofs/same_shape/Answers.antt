@@ -31,4 +31,4 @@ returns c =
     (a.at + 2 + a.variables - (a.at + 2)) (a.other + 2 + a.variables - (a.other + 2)) (omega arith) (omega arith) _ c.ne.ensures c.if-ne.false
     (a.at + 2 + a.variables + c.wide-n.result - (a.at + 2 + a.variables)) (a.other + 2 + a.variables + c.wide-m.result - (a.other + 2 + a.variables))
     (omega (arith, c.wide-n.ensures.0)) (omega (arith, c.wide-m.ensures.0)) _ c.ne-2.ensures c.if-ne-2.false _
-    (c.eq.ensures ∙ ap₂ (pointwise eqb) c.fact_span.ensures.2 c.fact_span-2.ensures.2)
+    (c.eq.ensures ∙ ap₂ (pointwise eqb) c.fact_span-span.ensures.2 c.fact_span-other_span.ensures.2)

@@ -8,4 +8,4 @@ use Rattle.checker.proofs.removal.check_cases.Given as goal
 abbrev pub invariant-loop-case : goal.invariant-loop-case
 invariant-loop-case l =
     ChoiceLoop l.cert (members_from l.cert l.variables l.starts) l.by.from (before_rowed l.variables l.by.kind l.cases.end l.prepared l.facts)
-    (one_by_one l.cases.start l.cases.end) l.cases.start l.cases.end l.initial.t l.case l.t
+    (one_by_one l.cases.first l.cases.end) l.cases.first l.cases.end l.initial.t l.case l.t

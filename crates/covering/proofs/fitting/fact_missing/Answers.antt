@@ -17,16 +17,16 @@ returns-then-version_of-ne2 c = λ covered.
 pub returns-then-holds_all : goal.returns-then-holds_all
 returns-then-holds_all c = λ covered.
     let (w, (n, m)) = c.requires in
-    sym (missing_none _ _ _ w _ n _ m c.args.facts.now _ c.fact_span.ensures.2 covered (sym c.holds_all.ensures ∙ c.if-holds_all.true))
+    sym (missing_none _ _ _ w _ n _ m c.args.facts.now _ c.fact_span-span.ensures.2 covered (sym c.holds_all.ensures ∙ c.if-holds_all.true))
 
 pub returns-then-missing-cells : goal.returns-then-missing-cells
 returns-then-missing-cells c = λ covered.
     let (w, (n, m)) = c.requires in
-    let found = missing_found _ _ _ w _ n _ m c.args.facts.now _ c.fact_span.ensures.2 covered _ c.first_missing-missing.ensures in
+    let found = missing_found _ _ _ w _ n _ m c.args.facts.now _ c.fact_span-span.ensures.2 covered _ c.first_missing-missing.ensures in
     sym (found_at _ _ _ found c.if-missing-cells.true)
 
 pub returns-else-missing-cells : goal.returns-else-missing-cells
 returns-else-missing-cells c = λ covered.
     let (w, (n, m)) = c.requires in
-    let found = missing_found _ _ _ w _ n _ m c.args.facts.now _ c.fact_span.ensures.2 covered _ c.first_missing-missing.ensures in
+    let found = missing_found _ _ _ w _ n _ m c.args.facts.now _ c.fact_span-span.ensures.2 covered _ c.first_missing-missing.ensures in
     sym (found_none _ _ _ found (omega arith))
