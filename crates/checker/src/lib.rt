@@ -84,6 +84,16 @@ fn check_certificate(
     check_covers(job, h, cert, &all[..members.count], members.end)
 }
 
+// The verdict on a certificate for a job that was read. The table stands here, since a function fills its tables where it begins: what is refused ahead of it
+// does not pay for one.
+fn check_read(job: &[u8], h: Header, cert: &[u8]) -> Verdict
+    requires { (JobRead job.now h) × (length cert.now ≤ 65536) }
+    ensures { verdict_of result ≡ conclude (read_certificate h.start (certificate_buffer cert.now) (file_in job.now h) 0) }
+{
+    let mut starts = [0u16; 512];
+    check_certificate(job, h, h.start, cert, &mut starts)
+}
+
 // The verdict on a job and a certificate: accepted with these counts exactly if the conditions of document 01 hold with them. An accepted job is
 // safe.
 pub fn check(job: &[u8], cert: &[u8]) -> Verdict
@@ -104,8 +114,7 @@ pub fn check(job: &[u8], cert: &[u8]) -> Verdict
         });
     }
     let h = read_job(job)?;
-    let mut starts = [0u16; 512];
-    check_certificate(job, h, h.start, cert, &mut starts)
+    check_read(job, h, cert)
 }
 
 // The state at which 8 is judged: the start, or the first number that is no state, where no member is.

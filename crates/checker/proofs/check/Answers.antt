@@ -29,12 +29,12 @@ returns-in_err-h c =
     let p = promised c.args.job.now c.args.cert.now c.from_residual.result e in
     record { exact = p.0; accepted = p.1.0; safe = p.1.1 }
 
-pub check_certificate-requires : goal.check_certificate-requires
-check_certificate-requires c = (c.in_ok-h.ensures, fits_most c.args.cert.now (sym c.fits-2.ensures ∙ c.if-not-fits-2.false))
+pub check_read-requires : goal.check_read-requires
+check_read-requires c = (c.in_ok-h.ensures, fits_most c.args.cert.now (sym c.fits-2.ensures ∙ c.if-not-fits-2.false))
 
 pub returns : goal.returns
 returns c =
-    let p = promised c.args.job.now c.args.cert.now c.check_certificate.result
-    (c.check_certificate.ensures.verdict
+    let p = promised c.args.job.now c.args.cert.now c.check_read.result
+    (c.check_read.ensures
     ∙ job_read start_of c.args.job.now c.args.cert.now (sym c.fits.ensures ∙ c.if-not-fits.false) (sym c.fits-2.ensures ∙ c.if-not-fits-2.false) c.in_ok-h.h c.in_ok-h.ensures) in
     record { exact = p.0; accepted = p.1.0; safe = p.1.1 }
