@@ -36,6 +36,7 @@ pub extern "C" fn vorruda_tally_verdict(
     let judged = checker::check(job, cert);
     match take_in_numbers(tally, judged) {
         Ok(()) => tell(judged, out),
+        // they are enough, so it is full
         Err(_) => {
             lend(&[verdict_number(judged) as u64, 0, 0, 0], out);
             23
